@@ -1,0 +1,4 @@
+pub mod Choice
+pub mod Ring
+pub mod Bound
+pub mod Sums
