@@ -2,3 +2,4 @@ pub mod Choice
 pub mod Ring
 pub mod Bound
 pub mod Sums
+pub mod Tabulate

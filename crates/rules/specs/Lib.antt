@@ -1,0 +1,16 @@
+pub mod Bounds
+pub mod Exchange
+pub mod Holdings
+pub mod WellFormed
+pub mod Command
+pub mod Matching
+pub mod Margin
+pub mod Settlement
+pub mod Answers
+pub mod Step
+pub mod Memory
+pub mod Condition3
+pub mod DayFile
+pub mod Lines
+pub mod Examples
+pub mod PaperDay
