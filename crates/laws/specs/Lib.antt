@@ -1,4 +1,5 @@
+-- The definitions that the crates share, each with its laws. Assumes nothing.
+pub mod Bound
 pub mod Choice
 pub mod Ring
-pub mod Bound
 pub mod Sums
