@@ -1,0 +1,28 @@
+-- The list of a function's values at 0, 1, .. : for rules that say what stands at each place. Assumes nothing.
+use mathlib.Core.Path.{_≡_, refl, ap}
+use mathlib.Core.List.{List, [], _∷_}
+use Prim.Native.Nat.{ℕ, zero, suc, _<_}
+use native.Mathlib.Nat.{le-of-suc-le-suc, not-suc-le-zero}
+use lib.ListN.{length, getD}
+use lib.Seq.{ext-getD}
+
+-- f 0, f 1, .., up to n values
+unfoldable pub tabulate : {A : Type 0} → ℕ → (ℕ → A) → List A
+tabulate zero f = []
+tabulate (suc n) f = f 0 ∷ tabulate n (λ i. f (suc i))
+
+module _ {A : Type 0} where
+  pub length-tabulate : (n : ℕ) (f : ℕ → A) → length (tabulate n f) ≡ n
+  unfolding tabulate
+  length-tabulate zero f = refl
+  length-tabulate (suc n) f = ap suc (length-tabulate n (λ i. f (suc i)))
+
+  pub getD-tabulate : (n i : ℕ) (f : ℕ → A) (d : A) → i < n → getD (tabulate n f) i d ≡ f i
+  unfolding tabulate
+  getD-tabulate zero i f d h = absurd (not-suc-le-zero h)
+  getD-tabulate (suc n) zero f d h = refl
+  getD-tabulate (suc n) (suc i) f d h = getD-tabulate n i (λ i. f (suc i)) d (le-of-suc-le-suc h)
+
+  -- a list that has f's values at its places is the table of f
+  pub tabulate-eq : (n : ℕ) (f : ℕ → A) (l : List A) (d : A) → length l ≡ n → ((i : ℕ) → i < n → getD l i d ≡ f i) → l ≡ tabulate n f
+  tabulate-eq n f l d e h = ext-getD d l (tabulate n f) (rw length-tabulate e) (λ i k. let k′ : i < n = rw e at k in rw (getD-tabulate n i f d k′) (h i k′))

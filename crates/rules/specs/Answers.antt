@@ -1,0 +1,224 @@
+-- "Numbers given back": the table of answers, and for each kind the order in which its refusals are tried. A refusal stands
+-- in a kind's list as `code when test`; the code given is the first whose test holds. Assumes nothing.
+use mathlib.Core.Bool.{Bool, true, false, not, _&&_, _||_}
+use mathlib.Core.List.{List, [], _∷_, _++_}
+use Prim.Native.Nat.{ℕ, zero, suc, _+_, _-_, _*_}
+use lib.Dec.{leb, ltb, eqb}
+use lib.IntN.{ℤ, pos, _+ℤ_, _-ℤ_}
+use lib.Signed.{leZ, ltZ}
+use lib.ListN.{length}
+use Rattle.laws.specs.Choice.{pick, allOf}
+use Rattle.rules.specs.Bounds.{within, allowedToday, maxLots, maxResting, maxTrades, maxSettlements, numbersEnd, maxAmount, maxBalance}
+use Rattle.rules.specs.Exchange.{Exchange, Listing, listingAt, accountAt, holdingAt, placeOf, absent, own, opposite, bestPrice, restingOpens, restingCloses}
+use Rattle.rules.specs.Margin.{charge, available}
+use Rattle.rules.specs.Matching.{sweep, fillable}
+use Rattle.rules.specs.declared.Contract.{Contract}
+use Rattle.rules.specs.declared.Holding.{Holding}
+use Rattle.rules.specs.declared.NewOrder.{NewOrder}
+use Rattle.rules.specs.declared.Order.{Order}
+use Rattle.rules.specs.declared.PriceCondition.{PriceCondition}
+use Rattle.rules.specs.declared.PriceCondition.the-variants.{Limit, Market, Best}
+use Rattle.rules.specs.declared.TimeCondition.{TimeCondition}
+use Rattle.rules.specs.declared.TimeCondition.the-variants.{GoodForDay, ImmediateOrCancel, FillOrKill}
+use Rattle.rules.specs.declared.Taker.{Taker}
+use Rattle.rules.specs.declared.Command.{Command}
+use Rattle.rules.specs.declared.Command.the-variants.{Malformed, Deposit, Withdraw, Insert, Cancel, Pull, Phase, Settle}
+
+infix 20 _when_
+pub data Refusal : Type 0 where
+  _when_ : ℕ → Bool → Refusal
+
+-- "given exactly when (first in the order below)"; 0 when "none below applies"
+unfoldable pub firstOf : List Refusal → ℕ
+firstOf [] = 0
+firstOf ((code when test) ∷ rs) = pick test code (firstOf rs)
+
+-- ---- an order on arrival
+
+abbrev pub isGoodForDay : TimeCondition → Bool
+isGoodForDay GoodForDay = true
+isGoodForDay ImmediateOrCancel = false
+isGoodForDay FillOrKill = false
+
+abbrev pub isFillOrKill : TimeCondition → Bool
+isFillOrKill GoodForDay = false
+isFillOrKill ImmediateOrCancel = false
+isFillOrKill FillOrKill = true
+
+abbrev pub isLimit : PriceCondition → Bool
+isLimit (Limit price) = true
+isLimit Market = false
+isLimit Best = false
+
+-- a mark: 1 for a close, 0 for an open
+abbrev pub mark : Bool → ℕ
+mark true = 1
+mark false = 0
+
+unfoldable pub listingOf : Exchange → NewOrder → Listing
+listingOf x o = listingAt x (placeOf (o .contract))
+
+-- the order with the number it would get
+unfoldable pub takerOf : Exchange → NewOrder → Taker
+takerOf x o =
+    record {
+      account = placeOf (o .account);
+      contract = placeOf (o .contract);
+      sell = o .sell;
+      close = mark (o .close);
+      number = x .next;
+      condition = o .condition;
+      best = bestPrice (opposite (o .sell) (listingOf x o));
+    }
+
+unfoldable pub fillableLots : Exchange → NewOrder → ℕ
+fillableLots x o = fillable (takerOf x o) (opposite (o .sell) (listingOf x o))
+
+-- how many trades the order would make
+unfoldable pub tradesNeeded : Exchange → NewOrder → ℕ
+tradesNeeded x o = length (sweep (takerOf x o) (o .lots) (listingOf x o .contract .last) (opposite (o .sell) (listingOf x o)) .trades)
+
+-- ---- the tests of an insert
+
+-- 7: "limit price off tick or outside low to high; market or best with a price not 0"
+unfoldable pub priceRefused : Contract → NewOrder → Bool
+priceRefused c o = pick (isLimit (o .condition)) (not (allowedToday c (o .price))) (not (eqb (o .price) 0))
+
+-- 8, open: "holding, resting opens on that side and lots exceed the limit"
+unfoldable pub overLimit : Listing → ℕ → Holding → Bool → ℕ → Bool
+overLimit l a h sell lots =
+    ltb (l .contract .limit) (pick sell (h .short) (h .long) + restingOpens a (own sell l) + lots)
+
+-- 8, close: "lots exceed holding less own resting closes on it": a sell closes long lots, a buy short ones
+unfoldable pub overHolding : Listing → ℕ → Holding → Bool → ℕ → Bool
+overHolding l a h sell lots =
+    ltb (pick sell (h .long) (h .short)) (restingCloses a (own sell l) + lots)
+
+unfoldable pub lotsRefused : Exchange → NewOrder → Bool
+lotsRefused x o =
+    pick (o .close)
+    (overHolding (listingOf x o) (placeOf (o .account)) (holdingAt (x .accounts) (placeOf (o .account)) (placeOf (o .contract))) (o .sell) (o .lots))
+    (overLimit (listingOf x o) (placeOf (o .account)) (holdingAt (x .accounts) (placeOf (o .account)) (placeOf (o .contract))) (o .sell) (o .lots))
+
+-- 9: "open .. too little available"; "An open needs charge times lots."
+unfoldable pub moneyRefused : Exchange → NewOrder → Bool
+moneyRefused x o =
+    not (o .close) && ltZ (available x (placeOf (o .account))) (pos (charge (listingOf x o .contract) * o .lots))
+
+-- ---- the refusals of each kind, "Order: 21, 1, then .."
+
+-- "for insert 2 to 13 rising"
+unfoldable pub insertRefusals : Exchange → NewOrder → List Refusal
+insertRefusals x o =
+    (2 when absent (o .account) (x .accounts))
+    ∷ (3 when absent (o .contract) (x .listings))
+    ∷ (4 when not (eqb (listingOf x o .contract .phase) 1))
+    ∷ (5 when not (within 1 maxLots (o .lots)))
+    ∷ (6 when (not (isLimit (o .condition)) && isGoodForDay (o .time)))
+    ∷ (7 when priceRefused (listingOf x o .contract) o)
+    ∷ (8 when lotsRefused x o)
+    ∷ (9 when moneyRefused x o)
+    ∷ (10 when leb numbersEnd (x .next))
+    ∷ (11 when (isFillOrKill (o .time) && ltb (fillableLots x o) (o .lots)))
+    ∷ (12 when ltb maxTrades (length (x .trades) + tradesNeeded x o))
+    ∷ (13 when (isGoodForDay (o .time) && leb maxResting (length (own (o .sell) (listingOf x o))) && ltb (fillableLots x o) (o .lots)))
+    ∷ []
+
+-- 4: "Cancel and pull need continuous, or no trading with the operator bit (001, table 2)."
+unfoldable pub removalRefused : Contract → Bool → Bool
+removalRefused c operator = not (eqb (c .phase) 1 || eqb (c .phase) 2 && operator)
+
+-- the resting order with a number, buys first; order number 0 where there is none
+unfoldable pub numbered : ℕ → List Order → List Order
+numbered n [] = []
+numbered n (o ∷ os) = pick (eqb (o .number) n) (o ∷ []) (numbered n os)
+
+unfoldable pub restingOrder : Listing → ℕ → List Order
+restingOrder l n = numbered n (l .buys ++ l .sells)
+
+unfoldable pub noSuchOrder : List Order → Bool
+noSuchOrder [] = true
+noSuchOrder (o ∷ os) = false
+
+unfoldable pub ofAnother : ℕ → List Order → Bool
+ofAnother a [] = false
+ofAnother a (o ∷ os) = not (eqb (o .account) a)
+
+-- "cancel 2, 3, 4, 14, 15"
+unfoldable pub cancelRefusals : Exchange → ℕ → ℕ → Bool → ℕ → List Refusal
+cancelRefusals x account contract operator number =
+    (2 when absent account (x .accounts))
+    ∷ (3 when absent contract (x .listings))
+    ∷ (4 when removalRefused (listingAt x (placeOf contract) .contract) operator)
+    ∷ (14 when noSuchOrder (restingOrder (listingAt x (placeOf contract)) number))
+    ∷ (15 when ofAnother (placeOf account) (restingOrder (listingAt x (placeOf contract)) number))
+    ∷ []
+
+-- "pull 2, 3, 4"
+unfoldable pub pullRefusals : Exchange → ℕ → ℕ → Bool → List Refusal
+pullRefusals x account contract operator =
+    (2 when absent account (x .accounts))
+    ∷ (3 when absent contract (x .listings))
+    ∷ (4 when removalRefused (listingAt x (placeOf contract) .contract) operator)
+    ∷ []
+
+-- 16: "amount not 1 to 10^15, or deposit lifts the balance above 10^18"
+unfoldable pub amountRefused : ℕ → Bool
+amountRefused amount = not (within 1 maxAmount amount)
+
+unfoldable pub liftsTooHigh : Exchange → ℕ → ℕ → Bool
+liftsTooHigh x account amount = ltZ (pos maxBalance) (accountAt (x .accounts) (placeOf account) .balance +ℤ pos amount)
+
+-- "deposit 2, 16"
+unfoldable pub depositRefusals : Exchange → ℕ → ℕ → List Refusal
+depositRefusals x account amount =
+    (2 when absent account (x .accounts))
+    ∷ (16 when (amountRefused amount || liftsTooHigh x account amount))
+    ∷ []
+
+-- "withdraw 2, 16, 9"
+unfoldable pub withdrawRefusals : Exchange → ℕ → ℕ → List Refusal
+withdrawRefusals x account amount =
+    (2 when absent account (x .accounts))
+    ∷ (16 when amountRefused amount)
+    ∷ (9 when ltZ (available x (placeOf account)) (pos amount))
+    ∷ []
+
+-- 17: "State changes (house ..): 0 to 1, 0 to 3, 1 to 2, 2 to 1, 1 to 3, 2 to 3."
+unfoldable pub changeListed : ℕ → ℕ → Bool
+changeListed from to =
+    eqb from 0 && eqb to 1
+    || eqb from 0 && eqb to 3
+    || eqb from 1 && eqb to 2
+    || eqb from 2 && eqb to 1
+    || eqb from 1 && eqb to 3
+    || eqb from 2 && eqb to 3
+
+-- "state 3, 17"
+unfoldable pub phaseRefusals : Exchange → ℕ → ℕ → List Refusal
+phaseRefusals x contract phase =
+    (3 when absent contract (x .listings))
+    ∷ (17 when not (changeListed (listingAt x (placeOf contract) .contract .phase) phase))
+    ∷ []
+
+-- "settle 18, 19"
+unfoldable pub settleRefusals : Exchange → List Refusal
+settleRefusals x =
+    (18 when not (allOf (λ l. eqb (l .contract .phase) 3) (x .listings)))
+    ∷ (19 when leb maxSettlements (x .settlements))
+    ∷ []
+
+-- 1 comes first of all but 21: a malformed command has no other refusal
+unfoldable pub refusals : Exchange → Command → List Refusal
+refusals x Malformed = (1 when true) ∷ []
+refusals x (Deposit account amount) = depositRefusals x account amount
+refusals x (Withdraw account amount) = withdrawRefusals x account amount
+refusals x (Insert o) = insertRefusals x o
+refusals x (Cancel account contract operator number) = cancelRefusals x account contract operator number
+refusals x (Pull account contract operator) = pullRefusals x account contract operator
+refusals x (Phase contract phase) = phaseRefusals x contract phase
+refusals x Settle = settleRefusals x
+
+-- the code that a command gets
+unfoldable pub codeOf : Exchange → Command → ℕ
+codeOf x command = firstOf (refusals x command)

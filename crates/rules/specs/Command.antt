@@ -1,0 +1,107 @@
+-- A command's record: kinds, flags, fields that are not used (document 01, "The day file"). Assumes nothing.
+use mathlib.Core.Bool.{Bool, true, false, not, _&&_, _||_}
+use mathlib.Core.List.{List, [], _∷_}
+use Prim.Native.Nat.{ℕ, zero, suc, _/_, _%_, _^_}
+use lib.Dec.{leb, ltb, eqb}
+use Rattle.laws.specs.Choice.{pick, allOf}
+use Rattle.rules.specs.declared.Record.{Record}
+use Rattle.rules.specs.declared.NewOrder.{NewOrder}
+use Rattle.rules.specs.declared.PriceCondition.{PriceCondition}
+use Rattle.rules.specs.declared.PriceCondition.the-variants.{Limit, Market, Best}
+use Rattle.rules.specs.declared.TimeCondition.{TimeCondition}
+use Rattle.rules.specs.declared.TimeCondition.the-variants.{GoodForDay, ImmediateOrCancel, FillOrKill}
+use Rattle.rules.specs.declared.Command.{Command}
+use Rattle.rules.specs.declared.Command.the-variants.{Malformed, Deposit, Withdraw, Insert, Cancel, Pull, Phase, Settle}
+
+-- "Fields not used are zero."
+unfoldable pub zeros : List ℕ → Bool
+zeros fields = allOf (λ n. eqb n 0) fields
+
+-- w bits of a flags byte from bit k on
+unfoldable pub bits : ℕ → ℕ → ℕ → ℕ
+bits k w flags = flags / 2 ^ k % 2 ^ w
+
+abbrev pub bit : ℕ → ℕ → Bool
+bit k flags = eqb (bits k 1 flags) 1
+
+-- "limit 0, market 1, best 2 .. Value 3 is unknown"; a limit holds its price
+unfoldable pub priceCondition : ℕ → ℕ → PriceCondition
+priceCondition value price = pick (eqb value 0) (Limit price) (pick (eqb value 1) Market Best)
+
+-- "good for day 0, immediate or cancel 1, fill or kill 2. Value 3 is unknown"
+unfoldable pub timeCondition : ℕ → TimeCondition
+timeCondition value = pick (eqb value 0) GoodForDay (pick (eqb value 1) ImmediateOrCancel FillOrKill)
+
+-- "bit 0 sell, bit 1 close, bits 2 and 3 price condition, bits 4 and 5 time condition, bits 6 and 7 zero"
+unfoldable pub insertFlags : ℕ → Bool
+insertFlags flags = eqb (bits 6 2 flags) 0 && ltb (bits 2 2 flags) 3 && ltb (bits 4 2 flags) 3
+
+unfoldable pub newOrder : Record → NewOrder
+newOrder r =
+    record {
+      account = r .account;
+      contract = r .contract;
+      sell = bit 0 (r .flags);
+      close = bit 1 (r .flags);
+      lots = r .lots;
+      price = r .price;
+      condition = priceCondition (bits 2 2 (r .flags)) (r .price);
+      time = timeCondition (bits 4 2 (r .flags));
+    }
+
+-- the fields that each kind uses, and its flags
+unfoldable pub depositOf : Record → Command
+depositOf r =
+    pick (zeros (r .contract ∷ r .flags ∷ r .lots ∷ r .price ∷ r .number ∷ [])) (Deposit (r .account) (r .amount)) Malformed
+
+unfoldable pub withdrawOf : Record → Command
+withdrawOf r =
+    pick (zeros (r .contract ∷ r .flags ∷ r .lots ∷ r .price ∷ r .number ∷ [])) (Withdraw (r .account) (r .amount)) Malformed
+
+unfoldable pub insertOf : Record → Command
+insertOf r = pick (zeros (r .number ∷ r .amount ∷ []) && insertFlags (r .flags)) (Insert (newOrder r)) Malformed
+
+-- "Cancel and pull flags: bit 0 operator, the rest zero."
+unfoldable pub cancelOf : Record → Command
+cancelOf r =
+    pick (zeros (r .lots ∷ r .price ∷ r .amount ∷ []) && leb (r .flags) 1)
+    (Cancel (r .account) (r .contract) (bit 0 (r .flags)) (r .number))
+    Malformed
+
+unfoldable pub pullOf : Record → Command
+pullOf r =
+    pick (zeros (r .lots ∷ r .price ∷ r .number ∷ r .amount ∷ []) && leb (r .flags) 1)
+    (Pull (r .account) (r .contract) (bit 0 (r .flags)))
+    Malformed
+
+-- "State flags: 0 pre-open, 1 continuous, 2 no trading, 3 closed; above 3 unknown."
+unfoldable pub phaseOf : Record → Command
+phaseOf r =
+    pick (zeros (r .account ∷ r .lots ∷ r .price ∷ r .number ∷ r .amount ∷ []) && leb (r .flags) 3)
+    (Phase (r .contract) (r .flags))
+    Malformed
+
+unfoldable pub settleOf : Record → Command
+settleOf r =
+    pick (zeros (r .account ∷ r .contract ∷ r .flags ∷ r .lots ∷ r .price ∷ r .number ∷ r .amount ∷ [])) Settle Malformed
+
+-- code 1: "kind, flag value or unused field is wrong"
+unfoldable pub commandOf : Record → Command
+commandOf r =
+    pick (eqb (r .kind) 1) (depositOf r)
+    (pick (eqb (r .kind) 2) (withdrawOf r)
+    (pick (eqb (r .kind) 3) (insertOf r)
+    (pick (eqb (r .kind) 4) (cancelOf r)
+    (pick (eqb (r .kind) 5) (pullOf r)
+    (pick (eqb (r .kind) 6) (phaseOf r)
+    (pick (eqb (r .kind) 7) (settleOf r) Malformed))))))
+
+abbrev pub isSettle : Command → Bool
+isSettle Malformed = false
+isSettle (Deposit account amount) = false
+isSettle (Withdraw account amount) = false
+isSettle (Insert o) = false
+isSettle (Cancel account contract operator number) = false
+isSettle (Pull account contract operator) = false
+isSettle (Phase contract phase) = false
+isSettle Settle = true

@@ -1,0 +1,98 @@
+-- The lines that the day runner prints, as bytes (document 01, "Examples"). Assumes nothing.
+use mathlib.Core.Bool.{Bool, true, false, _&&_}
+use mathlib.Core.List.{List, [], _∷_, _++_}
+use Prim.Native.Nat.{ℕ, zero, suc, _+_, _/_, _%_}
+use lib.Dec.{ltb, eqb}
+use lib.IntN.{ℤ, pos, negsuc}
+use lib.ListN.{length, drop}
+use Rattle.laws.specs.Choice.{pick}
+use Rattle.rules.specs.Command.{commandOf, isSettle}
+use Rattle.rules.specs.DayFile.{sound, opening, recordsOf}
+use Rattle.rules.specs.Exchange.{Exchange, accountAt}
+use Rattle.rules.specs.Margin.{charged}
+use Rattle.rules.specs.Settlement.{settlementPrice, closingProfit, holdingProfit}
+use Rattle.rules.specs.Step.{Stepped, step}
+use Rattle.rules.specs.declared.Answer.{Answer}
+use Rattle.rules.specs.declared.Record.{Record}
+use Rattle.rules.specs.declared.Trade.{Trade}
+use Rattle.rules.specs.declared.Command.{Command}
+
+-- ---- numbers
+
+-- the digits of n, at most `places` of them
+unfoldable pub digits : ℕ → ℕ → List ℕ
+digits zero n = []
+digits (suc places) n = pick (ltb n 10) ((48 + n) ∷ []) (digits places (n / 10) ++ ((48 + n % 10) ∷ []))
+
+-- twenty digits hold every number of 64 bits
+unfoldable pub decimal : ℕ → List ℕ
+decimal n = digits 20 n
+
+unfoldable pub signed : ℤ → List ℕ
+signed (pos n) = decimal n
+signed (negsuc n) = 45 ∷ decimal (suc n)
+
+-- a letter, the fields with a space before each, a newline
+unfoldable pub fieldsOf : List (List ℕ) → List ℕ
+fieldsOf [] = 10 ∷ []
+fieldsOf (f ∷ fs) = 32 ∷ (f ++ fieldsOf fs)
+
+abbrev pub line : ℕ → List (List ℕ) → List ℕ
+line letter fields = letter ∷ fieldsOf fields
+
+-- ---- "C: command, code, order, traded, rested or removed."
+unfoldable pub answerLine : ℕ → Answer → List ℕ
+answerLine k a =
+    line 67 (decimal k ∷ decimal (a .code) ∷ decimal (a .number) ∷ decimal (a .traded) ∷ decimal (a .lots) ∷ [])
+
+-- "T: trade of the day, contract, price, lots, buy order, sell order."
+unfoldable pub tradeLine : ℕ → Trade → List ℕ
+tradeLine k t =
+    line 84 (decimal k ∷ decimal (t .contract + 1) ∷ decimal (t .price) ∷ decimal (t .lots) ∷ decimal (t .buyorder) ∷ decimal (t .sellorder) ∷ [])
+
+-- the trades in turn, the first of them number k of the day
+unfoldable pub tradeLines : ℕ → List Trade → List ℕ
+tradeLines k [] = []
+tradeLines k (t ∷ ts) = tradeLine k t ++ tradeLines (k + 1) ts
+
+-- "P: contract, settlement price."
+unfoldable pub priceLines : Exchange → ℕ → List ℕ
+priceLines x zero = []
+priceLines x (suc c) = priceLines x c ++ line 80 (decimal (c + 1) ∷ decimal (settlementPrice x c) ∷ [])
+
+-- "B: account, closing and holding profit, balance, charged margin": profit of the day settled, balance and margin after it
+unfoldable pub accountLines : Exchange → Exchange → ℕ → List ℕ
+accountLines x after zero = []
+accountLines x after (suc a) =
+    accountLines x after a
+    ++ line 66 (decimal (a + 1) ∷ signed (closingProfit x a) ∷ signed (holdingProfit x a) ∷ signed (accountAt (after .accounts) a .balance) ∷ decimal (charged after a) ∷ [])
+
+-- "After an accepted settlement come all P, then all B, by number."
+unfoldable pub settlementLines : Exchange → Command → Stepped → List ℕ
+settlementLines x command s =
+    pick (isSettle command && eqb (s .answer .code) 0)
+    (priceLines x (length (x .listings)) ++ accountLines x (s .exchange) (length (x .accounts)))
+    []
+
+-- the trades that a step added to the day's
+unfoldable pub newTrades : Exchange → Stepped → List Trade
+newTrades x s = drop (length (x .trades)) (s .exchange .trades)
+
+-- command k's lines
+unfoldable pub stepLines : ℕ → Exchange → Command → List ℕ
+stepLines k x command =
+    answerLine k (step x command .answer)
+    ++ (tradeLines (length (x .trades) + 1) (newTrades x (step x command)) ++ settlementLines x command (step x command))
+
+-- ---- the whole output: the commands in turn, each on the state that the last one left
+
+unfoldable pub runLines : ℕ → Exchange → List Record → List ℕ
+runLines k x [] = []
+runLines k x (r ∷ rs) = stepLines k x (commandOf r) ++ runLines (k + 1) (step x (commandOf r) .exchange) rs
+
+-- "A broken file prints `X 20`."
+abbrev pub brokenLine : List ℕ
+brokenLine = 88 ∷ 32 ∷ 50 ∷ 48 ∷ 10 ∷ []
+
+unfoldable pub output : List ℕ → List ℕ
+output file = pick (sound file) (runLines 1 (opening file) (recordsOf file)) brokenLine

@@ -1,0 +1,186 @@
+-- How the state lies in memory: the declared State and the three areas lent with it; what room beyond a count is; the
+-- counts and the room that a well-formed state needs; the whole step on it. Assumes nothing.
+use mathlib.Core.Bool.{Bool, true, false, _&&_}
+use mathlib.Core.List.{List, [], _∷_, _++_, map}
+use Prim.Native.Nat.{ℕ, zero, suc, _*_}
+use lib.Dec.{leb}
+use lib.ListN.{length, getD, take, drop}
+use Rattle.laws.specs.Choice.{pick, all}
+use Rattle.laws.specs.Tabulate.{tabulate}
+use Rattle.areas.specs.Lists.{padded}
+use Rattle.areas.specs.Records.{records, store}
+use Rattle.rules.specs.Bounds.{within, maxContracts, maxAccounts, maxResting, maxTrades}
+use Rattle.rules.specs.Command.{commandOf}
+use Rattle.rules.specs.Exchange.{Exchange, Listing, listingAt, noContract, noOrder, noTrade}
+use Rattle.rules.specs.Step.{Stepped, step, answerOf}
+use Rattle.rules.specs.WellFormed.{wellFormed}
+use Rattle.rules.specs.declared.Account.{Account}
+use Rattle.rules.specs.declared.Answer.{Answer}
+use Rattle.rules.specs.declared.Contract.{Contract}
+use Rattle.rules.specs.declared.Order.{Order}
+use Rattle.rules.specs.declared.Record.{Record}
+use Rattle.rules.specs.declared.State.{State}
+use Rattle.rules.specs.declared.Trade.{Trade}
+
+-- ---- the areas
+
+-- a queue area holds five words for each order, 64 places for each contract
+abbrev pub orderStride : ℕ
+orderStride = 5
+
+abbrev pub queueStride : ℕ
+queueStride = 320
+
+abbrev pub orderWords : Order → List ℕ
+orderWords o = o .price ∷ o .number ∷ o .account ∷ o .lots ∷ o .close ∷ []
+
+abbrev pub orderFrom : List ℕ → Order
+orderFrom ws = record { price = getD ws 0 0; number = getD ws 1 0; account = getD ws 2 0; lots = getD ws 3 0; close = getD ws 4 0 }
+
+-- the trade area holds nine words for each trade of the day
+abbrev pub tradeStride : ℕ
+tradeStride = 9
+
+abbrev pub tradeWords : Trade → List ℕ
+tradeWords t =
+    t .contract ∷ t .price ∷ t .lots ∷ t .buyorder ∷ t .sellorder ∷ t .buyer ∷ t .seller ∷ t .buyclose ∷ t .sellclose ∷ []
+
+abbrev pub tradeFrom : List ℕ → Trade
+tradeFrom ws =
+    record {
+      contract = getD ws 0 0;
+      price = getD ws 1 0;
+      lots = getD ws 2 0;
+      buyorder = getD ws 3 0;
+      sellorder = getD ws 4 0;
+      buyer = getD ws 5 0;
+      seller = getD ws 6 0;
+      buyclose = getD ws 7 0;
+      sellclose = getD ws 8 0;
+    }
+
+-- the first n orders of contract c's queue, and the first n trades
+unfoldable pub queueIn : List ℕ → ℕ → ℕ → List Order
+queueIn area c n = records orderStride orderFrom area (queueStride * c) n
+
+unfoldable pub recordedTrades : List ℕ → ℕ → List Trade
+recordedTrades area n = records tradeStride tradeFrom area 0 n
+
+-- ---- the state in memory
+
+pub record Memory : Type 0 where
+  pub state : State
+  pub buys : List ℕ
+  pub sells : List ℕ
+  pub trades : List ℕ
+
+-- a contract in use with its queues
+unfoldable pub listingIn : Memory → ℕ → Listing
+listingIn m c =
+    record {
+      contract = getD (m .state .contracts) c noContract;
+      buys = queueIn (m .buys) c (getD (m .state .buys) c 0);
+      sells = queueIn (m .sells) c (getD (m .state .sells) c 0);
+    }
+
+-- an account with its holdings in the contracts in use
+abbrev pub inUse : ℕ → Account → Account
+inUse contracts a = record { balance = a .balance; holdings = take contracts (a .holdings) }
+
+-- what of the memory is in use: all that an answer may depend on
+unfoldable pub exchangeOf : Memory → Exchange
+exchangeOf m =
+    record {
+      listings = tabulate (m .state .contractcount) (listingIn m);
+      accounts = map (inUse (m .state .contractcount)) (take (m .state .accountcount) (m .state .accounts));
+      trades = recordedTrades (m .trades) (m .state .tradecount);
+      next = m .state .next;
+      settlements = m .state .settlements;
+    }
+
+-- ---- "Room beyond a count .. is unaltered, except that places newly in use are written, and places no longer in use are
+-- set to zero."
+
+-- contract c's queue written over one of n orders
+unfoldable pub putQueue : List ℕ → ℕ → ℕ → List Order → List ℕ
+putQueue area c n queue = store orderWords area (queueStride * c) (padded n noOrder queue)
+
+-- the queues of the contracts below c, each over one of as many orders as its count says
+unfoldable pub putQueues : List ℕ → List ℕ → (ℕ → List Order) → ℕ → List ℕ
+putQueues area counts queues zero = area
+putQueues area counts queues (suc c) = putQueue (putQueues area counts queues c) c (getD counts c 0) (queues c)
+
+unfoldable pub putTrades : List ℕ → ℕ → List Trade → List ℕ
+putTrades area n trades = store tradeWords area 0 (padded n noTrade trades)
+
+-- values in the first places of a list, the rest as it was
+abbrev pub putFirst : {A : Type 0} → List A → List A → List A
+putFirst values room = values ++ drop (length values) room
+
+-- an account's values, its holdings in contracts past the count as they were
+abbrev pub putAccount : Account → Account → Account
+putAccount a room = record { balance = a .balance; holdings = putFirst (a .holdings) (room .holdings) }
+
+unfoldable pub putAccounts : List Account → List Account → List Account
+putAccounts [] rooms = rooms
+putAccounts (a ∷ as′) [] = []
+putAccounts (a ∷ as′) (room ∷ rooms) = putAccount a room ∷ putAccounts as′ rooms
+
+unfoldable pub putState : State → Exchange → State
+putState s x =
+    record {
+      contracts = putFirst (map (λ l. l .contract) (x .listings)) (s .contracts);
+      accounts = putAccounts (x .accounts) (s .accounts);
+      buys = putFirst (map (λ l. length (l .buys)) (x .listings)) (s .buys);
+      sells = putFirst (map (λ l. length (l .sells)) (x .listings)) (s .sells);
+      contractcount = s .contractcount;
+      accountcount = s .accountcount;
+      tradecount = length (x .trades);
+      next = x .next;
+      settlements = x .settlements;
+    }
+
+-- a state of the same contracts and accounts written into the memory
+unfoldable pub put : Memory → Exchange → Memory
+put m x =
+    record {
+      state = putState (m .state) x;
+      buys = putQueues (m .buys) (m .state .buys) (λ c. listingAt x c .buys) (m .state .contractcount);
+      sells = putQueues (m .sells) (m .state .sells) (λ c. listingAt x c .sells) (m .state .contractcount);
+      trades = putTrades (m .trades) (m .state .tradecount) (x .trades);
+    }
+
+-- ---- well formed: "counts .. keep the ranges above"; "each queue area has room for 64 orders and the trade area for 1,024
+-- trades", the queue areas for each contract in use
+
+unfoldable pub countsInRange : State → Bool
+countsInRange s =
+    within 1 maxContracts (s .contractcount)
+    && within 1 maxAccounts (s .accountcount)
+    && leb (s .tradecount) maxTrades
+    && all (λ c. leb (getD (s .buys) c 0) maxResting) (s .contractcount)
+    && all (λ c. leb (getD (s .sells) c 0) maxResting) (s .contractcount)
+
+unfoldable pub hasRoom : Memory → Bool
+hasRoom m =
+    leb (queueStride * m .state .contractcount) (length (m .buys))
+    && leb (queueStride * m .state .contractcount) (length (m .sells))
+    && leb (tradeStride * maxTrades) (length (m .trades))
+
+unfoldable pub wellFormedMemory : Memory → Bool
+wellFormedMemory m = countsInRange (m .state) && hasRoom m && wellFormed (exchangeOf m)
+
+-- ---- the whole step: code 21 before all others, then the rules
+
+pub record Responded : Type 0 where
+  pub answer : Answer
+  pub memory : Memory
+
+abbrev pub inMemory : Memory → Stepped → Responded
+inMemory m s = record { answer = s .answer; memory = put m (s .exchange) }
+
+abbrev pub malformed : Memory → Responded
+malformed m = record { answer = answerOf 21 0 0 0; memory = m }
+
+unfoldable pub respond : Memory → Record → Responded
+respond m r = pick (wellFormedMemory m) (inMemory m (step (exchangeOf m) (commandOf r))) (malformed m)

@@ -1,0 +1,150 @@
+-- One command: what an accepted one does, and the whole step (document 01). Assumes nothing.
+use mathlib.Core.Bool.{Bool, true, false, not, _&&_}
+use mathlib.Core.List.{List, [], _∷_, _++_}
+use Prim.Native.Nat.{ℕ, zero, suc, _+_, _-_}
+use lib.Dec.{ltb, eqb}
+use lib.IntN.{ℤ, pos, _+ℤ_, _-ℤ_}
+use lib.ListN.{length, set, drop}
+use Rattle.laws.specs.Choice.{pick}
+use Rattle.rules.specs.Answers.{codeOf, takerOf, listingOf, isGoodForDay}
+use Rattle.rules.specs.Exchange.{Exchange, Listing, listingAt, accountAt, placeOf, own, opposite, withQueues, lotsWhere}
+use Rattle.rules.specs.Holdings.{bookTrades}
+use Rattle.rules.specs.Matching.{Entered, enter, tradedLots, lastPrice}
+use Rattle.rules.specs.Settlement.{settled}
+use Rattle.rules.specs.declared.Account.{Account}
+use Rattle.rules.specs.declared.Answer.{Answer}
+use Rattle.rules.specs.declared.Contract.{Contract}
+use Rattle.rules.specs.declared.NewOrder.{NewOrder}
+use Rattle.rules.specs.declared.Order.{Order}
+use Rattle.rules.specs.declared.Trade.{Trade}
+use Rattle.rules.specs.declared.Command.{Command}
+use Rattle.rules.specs.declared.Command.the-variants.{Malformed, Deposit, Withdraw, Insert, Cancel, Pull, Phase, Settle}
+
+-- an answer, and the state after it
+pub record Stepped : Type 0 where
+  pub answer : Answer
+  pub exchange : Exchange
+
+-- "Each answer holds a code, an order number, lots traded and lots rested .. or removed. .. Numbers not named are 0; a
+-- refusal gives three zeros and changes nothing."
+abbrev pub answerOf : ℕ → ℕ → ℕ → ℕ → Answer
+answerOf code number traded lots = record { code = code; number = number; traded = traded; lots = lots }
+
+abbrev pub refused : Exchange → ℕ → Stepped
+refused x code = record { answer = answerOf code 0 0 0; exchange = x }
+
+abbrev pub accepted : ℕ → ℕ → ℕ → Exchange → Stepped
+accepted number traded lots x = record { answer = answerOf 0 number traded lots; exchange = x }
+
+-- ---- states with a part replaced
+
+abbrev pub withListing : Exchange → ℕ → Listing → Exchange
+withListing x c l =
+    record { listings = set (x .listings) c l; accounts = x .accounts; trades = x .trades; next = x .next; settlements = x .settlements }
+
+abbrev pub withBalance : Account → ℤ → Account
+withBalance a balance = record { balance = balance; holdings = a .holdings }
+
+abbrev pub withContract : Listing → Contract → Listing
+withContract l c = record { contract = c; buys = l .buys; sells = l .sells }
+
+abbrev pub withLast : Contract → ℕ → Contract
+withLast c last =
+    record { multiplier = c .multiplier; tick = c .tick; reference = c .reference; band = c .band; limit = c .limit; rate = c .rate; phase = c .phase; last = last }
+
+abbrev pub withPhase : Contract → ℕ → Contract
+withPhase c phase =
+    record { multiplier = c .multiplier; tick = c .tick; reference = c .reference; band = c .band; limit = c .limit; rate = c .rate; phase = phase; last = c .last }
+
+-- ---- deposit and withdraw
+
+unfoldable pub paid : Exchange → ℕ → ℤ → Exchange
+paid x a balance =
+    record {
+      listings = x .listings;
+      accounts = set (x .accounts) a (withBalance (accountAt (x .accounts) a) balance);
+      trades = x .trades;
+      next = x .next;
+      settlements = x .settlements;
+    }
+
+unfoldable pub deposited : Exchange → ℕ → ℕ → Stepped
+deposited x a amount = accepted 0 0 0 (paid x a (accountAt (x .accounts) a .balance +ℤ pos amount))
+
+unfoldable pub withdrawn : Exchange → ℕ → ℕ → Stepped
+withdrawn x a amount = accepted 0 0 0 (paid x a (accountAt (x .accounts) a .balance -ℤ pos amount))
+
+-- ---- insert
+
+unfoldable pub enteredOf : Exchange → NewOrder → Entered
+enteredOf x o =
+    enter (takerOf x o) (o .lots) (o .price) (isGoodForDay (o .time)) (listingOf x o .contract .last)
+    (own (o .sell) (listingOf x o))
+    (opposite (o .sell) (listingOf x o))
+
+-- the listing with an order entered, and the state
+unfoldable pub listingAfter : Listing → Bool → Entered → Listing
+listingAfter l sell e = withQueues sell (withLast (l .contract) (lastPrice (l .contract .last) (e .trades))) (e .own) (e .opposite)
+
+unfoldable pub exchangeAfter : Exchange → NewOrder → Entered → Exchange
+exchangeAfter x o e =
+    record {
+      listings = set (x .listings) (placeOf (o .contract)) (listingAfter (listingOf x o) (o .sell) e);
+      accounts = bookTrades (x .accounts) (e .trades);
+      trades = x .trades ++ e .trades;
+      next = x .next + 1;
+      settlements = x .settlements;
+    }
+
+unfoldable pub inserted : Exchange → NewOrder → Stepped
+inserted x o =
+    accepted (x .next) (tradedLots (enteredOf x o .trades)) (enteredOf x o .rested) (exchangeAfter x o (enteredOf x o))
+
+-- ---- cancel and pull
+
+-- the orders that do not satisfy a test
+unfoldable pub without : (Order → Bool) → List Order → List Order
+without test [] = []
+without test (o ∷ os) = pick (test o) (without test os) (o ∷ without test os)
+
+abbrev pub listingWithout : (Order → Bool) → Listing → Listing
+listingWithout test l = record { contract = l .contract; buys = without test (l .buys); sells = without test (l .sells) }
+
+abbrev pub hasNumber : ℕ → Order → Bool
+hasNumber n o = eqb (o .number) n
+
+abbrev pub isOf : ℕ → Order → Bool
+isOf a o = eqb (o .account) a
+
+-- the orders that satisfy a test taken out of a contract's queues: the number answered, and the lots removed
+unfoldable pub removed : Exchange → ℕ → (Order → Bool) → ℕ → Stepped
+removed x c test number =
+    accepted number 0 (lotsWhere test (listingAt x c .buys) + lotsWhere test (listingAt x c .sells)) (withListing x c (listingWithout test (listingAt x c)))
+
+-- "Cancel gives the cancelled number."
+unfoldable pub cancelled : Exchange → ℕ → ℕ → Stepped
+cancelled x c number = removed x c (hasNumber number) number
+
+-- "A pull removes all orders of that account in that contract, perhaps none, and gives order number 0."
+unfoldable pub pulled : Exchange → ℕ → ℕ → Stepped
+pulled x a c = removed x c (isOf a) 0
+
+-- ---- state and settle
+
+unfoldable pub rephased : Exchange → ℕ → ℕ → Stepped
+rephased x c phase = accepted 0 0 0 (withListing x c (withContract (listingAt x c) (withPhase (listingAt x c .contract) phase)))
+
+-- what an accepted command does
+unfoldable pub carriedOut : Exchange → Command → Stepped
+carriedOut x Malformed = refused x 1
+carriedOut x (Deposit account amount) = deposited x (placeOf account) amount
+carriedOut x (Withdraw account amount) = withdrawn x (placeOf account) amount
+carriedOut x (Insert o) = inserted x o
+carriedOut x (Cancel account contract operator number) = cancelled x (placeOf contract) number
+carriedOut x (Pull account contract operator) = pulled x (placeOf account) (placeOf contract)
+carriedOut x (Phase contract phase) = rephased x (placeOf contract) phase
+carriedOut x Settle = accepted 0 0 0 (settled x)
+
+-- THE STEP of a well-formed state: the first refusal that holds, or else what the command does
+unfoldable pub step : Exchange → Command → Stepped
+step x command = pick (eqb (codeOf x command) 0) (carriedOut x command) (refused x (codeOf x command))

@@ -1,0 +1,134 @@
+-- "A state is well formed when": the clauses in the paper's order. The counts and the room of the areas are tested in
+-- Memory.antt, on the state as it lies. Assumes nothing.
+use mathlib.Core.Bool.{Bool, true, false, not, _&&_, _||_}
+use mathlib.Core.List.{List, [], _∷_, _++_}
+use Prim.Native.Nat.{ℕ, zero, suc, _+_, _*_}
+use lib.Dec.{leb, ltb, eqb}
+use lib.IntN.{natAbs}
+use lib.ListN.{length}
+use Rattle.laws.specs.Choice.{pick, all, allOf}
+use Rattle.rules.specs.Bounds.{within, termsInRange, tickMultiple, allowedToday, numbersEnd, maxLots, maxSettlements, maxBalance, maxDayProfit}
+use Rattle.rules.specs.Exchange.{Exchange, Listing, listingAt, accountAt, holdingAt, worse, restingOpens, restingCloses}
+use Rattle.rules.specs.Holdings.{bookTrades, neverBelowZero, startOfDay, sameHoldings}
+use Rattle.rules.specs.declared.Account.{Account}
+use Rattle.rules.specs.declared.Contract.{Contract}
+use Rattle.rules.specs.declared.Holding.{Holding}
+use Rattle.rules.specs.declared.Order.{Order}
+use Rattle.rules.specs.declared.Trade.{Trade}
+
+-- ---- "counts, numbers, parameters and prices keep the ranges above, the next order number 1 to 1,000,000; references and
+-- last prices are tick multiples"
+
+unfoldable pub contractInRange : Contract → Bool
+contractInRange c = termsInRange c && leb (c .phase) 3 && tickMultiple (c .tick) (c .last)
+
+unfoldable pub countersInRange : Exchange → Bool
+countersInRange x = within 1 numbersEnd (x .next) && leb (x .settlements) maxSettlements
+
+-- ---- "each queue is sorted best price first, then lower order number; the two are uncrossed (best buy below best sell)"
+
+unfoldable pub ahead : Bool → Order → Order → Bool
+ahead sell o p = worse sell (p .price) (o .price) || eqb (o .price) (p .price) && ltb (o .number) (p .number)
+
+unfoldable pub aheadOfFirst : Bool → Order → List Order → Bool
+aheadOfFirst sell o [] = true
+aheadOfFirst sell o (p ∷ ps) = ahead sell o p
+
+unfoldable pub sorted : Bool → List Order → Bool
+sorted sell [] = true
+sorted sell (o ∷ os) = aheadOfFirst sell o os && sorted sell os
+
+unfoldable pub uncrossed : List Order → List Order → Bool
+uncrossed [] sells = true
+uncrossed (b ∷ bs) [] = true
+uncrossed (b ∷ bs) (s ∷ ss) = ltb (b .price) (s .price)
+
+-- ---- "resting orders have 1 to 1,000 lots, an existing account, a price allowed today, and a number below the next, used
+-- once over all queues"
+
+unfoldable pub orderInRange : ℕ → ℕ → Contract → Order → Bool
+orderInRange accounts next c o =
+    within 1 maxLots (o .lots)
+    && ltb (o .account) accounts
+    && allowedToday c (o .price)
+    && leb 1 (o .number)
+    && ltb (o .number) next
+    && leb (o .close) 1
+
+unfoldable pub listingInRange : ℕ → ℕ → Listing → Bool
+listingInRange accounts next l =
+    contractInRange (l .contract)
+    && sorted false (l .buys)
+    && sorted true (l .sells)
+    && uncrossed (l .buys) (l .sells)
+    && allOf (orderInRange accounts next (l .contract)) (l .buys)
+    && allOf (orderInRange accounts next (l .contract)) (l .sells)
+
+unfoldable pub numbers : List Order → List ℕ
+numbers [] = []
+numbers (o ∷ os) = o .number ∷ numbers os
+
+unfoldable pub allNumbers : List Listing → List ℕ
+allNumbers [] = []
+allNumbers (l ∷ ls) = numbers (l .buys) ++ (numbers (l .sells) ++ allNumbers ls)
+
+unfoldable pub usedOnce : List ℕ → Bool
+usedOnce [] = true
+usedOnce (n ∷ ns) = allOf (λ k. not (eqb n k)) ns && usedOnce ns
+
+-- ---- "recorded trades have existing contract and accounts, two different order numbers below the next, a price allowed
+-- today, 1 to 1,000 lots, and for each leg open or close"
+
+unfoldable pub tradeInRange : Exchange → Trade → Bool
+tradeInRange x t =
+    ltb (t .contract) (length (x .listings))
+    && ltb (t .buyer) (length (x .accounts))
+    && ltb (t .seller) (length (x .accounts))
+    && not (eqb (t .buyorder) (t .sellorder))
+    && leb 1 (t .buyorder)
+    && ltb (t .buyorder) (x .next)
+    && leb 1 (t .sellorder)
+    && ltb (t .sellorder) (x .next)
+    && allowedToday (listingAt x (t .contract) .contract) (t .price)
+    && within 1 maxLots (t .lots)
+    && leb (t .buyclose) 1
+    && leb (t .sellclose) 1
+
+-- ---- "replaying the day's trades over the starting holdings never goes below zero and gives the holdings now"
+
+unfoldable pub replays : Exchange → Bool
+replays x =
+    neverBelowZero (startOfDay (x .accounts)) (x .trades)
+    && sameHoldings (bookTrades (startOfDay (x .accounts)) (x .trades)) (x .accounts)
+
+-- ---- "starting holdings, and holdings now plus resting opens on that side, keep the limit; resting closes are covered by
+-- holdings"
+
+unfoldable pub holdingInRange : Listing → ℕ → Holding → Bool
+holdingInRange l a h =
+    leb (h .startlong) (l .contract .limit)
+    && leb (h .startshort) (l .contract .limit)
+    && leb (h .long + restingOpens a (l .buys)) (l .contract .limit)
+    && leb (h .short + restingOpens a (l .sells)) (l .contract .limit)
+    && leb (restingCloses a (l .sells)) (h .long)
+    && leb (restingCloses a (l .buys)) (h .short)
+
+unfoldable pub holdingsInRange : Exchange → ℕ → Bool
+holdingsInRange x a = all (λ c. holdingInRange (listingAt x c) a (holdingAt (x .accounts) a c)) (length (x .listings))
+
+-- ---- "each balance is within 10^18 plus settlements so far times 3 x 10^15, either sign"
+
+unfoldable pub balanceInRange : ℕ → Account → Bool
+balanceInRange settlements a = leb (natAbs (a .balance)) (maxBalance + settlements * maxDayProfit)
+
+-- ---- all clauses but those of Memory.antt
+
+unfoldable pub wellFormed : Exchange → Bool
+wellFormed x =
+    countersInRange x
+    && allOf (listingInRange (length (x .accounts)) (x .next)) (x .listings)
+    && usedOnce (allNumbers (x .listings))
+    && allOf (tradeInRange x) (x .trades)
+    && replays x
+    && all (holdingsInRange x) (length (x .accounts))
+    && allOf (balanceInRange (x .settlements)) (x .accounts)

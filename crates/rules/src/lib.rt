@@ -1,0 +1,153 @@
+// The records of document 01: what the rules in specs/ speak of and the engine works on. No rule is coded here.
+//
+// A place counts from 0, a number from 1: the account with number 1 stands at place 0. Commands and printed lines speak
+// of numbers, the records below of places, except where they say "number".
+
+// A contract's terms for the day, its phase (the paper's contract state) and its last price.
+pub struct Contract {
+    pub multiplier: u32,
+    pub tick: u32,
+    pub reference: u32,
+    pub band: u32,
+    pub limit: u32,
+    pub rate: u32,
+    pub phase: u32,
+    pub last: u32,
+}
+
+// What one account holds in one contract: lots now, and lots at the start of the day.
+pub struct Holding {
+    pub long: u32,
+    pub short: u32,
+    pub startlong: u32,
+    pub startshort: u32,
+}
+
+pub struct Account {
+    pub balance: i64,
+    pub holdings: [Holding; 4],
+}
+
+// A resting order: its remaining lots, the account's place, 1 for a close and 0 for an open.
+pub struct Order {
+    pub price: u32,
+    pub number: u32,
+    pub account: u32,
+    pub lots: u32,
+    pub close: u32,
+}
+
+// A trade: the contract's place, the two orders' numbers, the two accounts' places, and for each leg 1 for a close and 0
+// for an open.
+pub struct Trade {
+    pub contract: u32,
+    pub price: u32,
+    pub lots: u32,
+    pub buyorder: u32,
+    pub sellorder: u32,
+    pub buyer: u32,
+    pub seller: u32,
+    pub buyclose: u32,
+    pub sellclose: u32,
+}
+
+// All of the state that does not lie in lent areas. The areas hold the queues and the day's trades, the counts here say
+// how many of each are in use: orders by contract, contracts, accounts, trades of the day.
+pub struct State {
+    pub contracts: [Contract; 4],
+    pub accounts: [Account; 32],
+    pub buys: [usize; 4],
+    pub sells: [usize; 4],
+    pub contractcount: usize,
+    pub accountcount: usize,
+    pub tradecount: usize,
+    pub next: u32,
+    pub settlements: u32,
+}
+
+// A command's 24 bytes, field by field.
+pub struct Record {
+    pub kind: u8,
+    pub account: u8,
+    pub contract: u8,
+    pub flags: u8,
+    pub lots: u32,
+    pub price: u32,
+    pub number: u32,
+    pub amount: u64,
+}
+
+// "An order carries one of three price conditions": limit holds its price, market and best hold none.
+pub enum PriceCondition {
+    Limit(u32),
+    Market,
+    Best,
+}
+
+pub enum TimeCondition {
+    GoodForDay,
+    ImmediateOrCancel,
+    FillOrKill,
+}
+
+// An order as it is sent in. Its price field stays beside the price condition: code 7 looks at it after code 1.
+pub struct NewOrder {
+    pub account: u32,
+    pub contract: u32,
+    pub sell: bool,
+    pub close: bool,
+    pub lots: u32,
+    pub price: u32,
+    pub condition: PriceCondition,
+    pub time: TimeCondition,
+}
+
+// A command as it is understood; account and contract are numbers as given.
+pub enum Command {
+    Malformed,
+    Deposit {
+        account: u32,
+        amount: u64,
+    },
+    Withdraw {
+        account: u32,
+        amount: u64,
+    },
+    Insert(NewOrder),
+    Cancel {
+        account: u32,
+        contract: u32,
+        operator: bool,
+        number: u32,
+    },
+    Pull {
+        account: u32,
+        contract: u32,
+        operator: bool,
+    },
+    Phase {
+        contract: u32,
+        phase: u32,
+    },
+    Settle,
+}
+
+// An accepted order as it meets the book: account and contract by place, its number, and the best opposite price standing
+// on its arrival (0 where the opposite side is empty).
+pub struct Taker {
+    pub account: u32,
+    pub contract: u32,
+    pub sell: bool,
+    pub close: u32,
+    pub number: u32,
+    pub condition: PriceCondition,
+    pub best: u32,
+}
+
+// "Each answer holds a code, an order number, lots traded and lots rested (insert) or removed (cancel, pull)."
+pub struct Answer {
+    pub code: u32,
+    pub number: u32,
+    pub traded: u32,
+    pub lots: u32,
+}
