@@ -1,18 +1,17 @@
 -- The sweep turn by turn: what it makes of the first order of a queue, for the loop that walks it, and an induction by which
 -- a theorem about every sweep is three short cases. Assumes nothing.
 use mathlib.Core.Bool.{Bool, true, false, _&&_}
-use mathlib.Core.List.{List, [], _∷_, _++_}
-use mathlib.Core.Logic.{_⊎_, inl, inr, ⊎-elim}
-use mathlib.Core.Path.{_≡_, refl, sym, ap, subst, _∙_}
-use Prim.Native.Nat.{ℕ, zero, suc, _+_, _-_, _<_, _≤_, min}
+use mathlib.Core.List.{List, [], _∷_}
+use mathlib.Core.Logic.{_⊎_, inl, inr}
+use mathlib.Core.Path.{_≡_, refl, _∙_}
+use Prim.Native.Nat.{ℕ, zero, suc, _-_, _<_, _≤_, min}
 use native.Mathlib.Omega.{arith}
-use borrow.Author.Tests.{lt-ltb, le-ltb, ltb-true, ltb-false}
+use borrow.Author.Tests.{lt-ltb, ltb-true, ltb-false}
 use lib.Dec.{ltb}
 use Rattle.laws.specs.Choice.{pick-true, pick-false, true-both, both-false}
 use Rattle.rules.specs.Matching.{counterpart, tradePrice, tradeWith, withLots, stays, Swept, untouched, afterTrade, sweep}
 use Rattle.rules.specs.declared.Order.{Order}
 use Rattle.rules.specs.declared.Taker.{Taker}
-use Rattle.rules.specs.declared.Trade.{Trade}
 
 -- ---- a trade's lots and price
 
