@@ -4,20 +4,21 @@ use mathlib.Core.Bool.{Bool, true, false}
 use mathlib.Core.List.{List, _++_, append-assoc, append-nil}
 use mathlib.Core.Logic.{_⊎_, inl, inr, ⊎-elim}
 use mathlib.Core.Path.{_≡_, refl, sym, ap, _∙_}
-use Prim.Native.Nat.{ℕ, _+_, _-_, _*_, _<_, _≤_, max}
-use native.Mathlib.Nat.{add-zero, zero-add, mul-le-mul-left, eq-or-lt-of-le}
+use Prim.Native.Nat.{ℕ, zero, suc, _+_, _-_, _*_, _<_, _≤_, max}
+use native.Mathlib.Nat.{add-zero, zero-add, mul-le-mul-left, eq-or-lt-of-le, le-of-suc-le-suc}
 use native.Mathlib.Omega.{arith}
-use borrow.Author.Tests.{leb-true, leb-false, ltb-true, ltb-false}
-use lib.Dec.{leb, ltb}
-use lib.ListN.{length, getD, take, drop, replicate, length-append, length-take, length-replicate, take-append-drop, replicate-append-replicate}
-use lib.Seq.{getD-take, getD-drop, length-take-le}
+use borrow.Author.Tests.{leb-true, leb-false, ltb-true, ltb-false, eqb-true, eqb-false}
+use lib.Dec.{leb, ltb, eqb}
+use lib.ListN.{length, getD, take, drop, set, replicate, length-append, length-take, length-drop, length-set, length-replicate, take-append-drop, replicate-append-replicate}
+use lib.Seq.{take-set-le, drop-set-add, drop-drop, getD-take, getD-drop, length-take-le}
 use Rattle.laws.specs.Tabulate.{tabulate, tabulate-eq}
-use Rattle.areas.specs.Lists.{over, padded}
+use Rattle.areas.specs.Lists.{over, insertAt, removeAt, padded}
 use Rattle.areas.specs.Records.{Codec, encode, records, store}
-use Rattle.areas.proofs.Lists.{take-over, drop-over, drop-padded, padded-full}
-use Rattle.areas.proofs.Records.{length-encode, length-records, getD-records, take-records, length-store, store-front, store-append, store-records, records-store-front, records-store-before, records-store-after, store-comm}
+use Rattle.areas.proofs.Lists.{length-insertAt, removeAt-padded, take-over, drop-over, drop-padded, padded-full}
+use Rattle.areas.proofs.Records.{length-encode, encode-zeros, set-store, insert-store, remove-store, removeAt-store, length-records, getD-records, take-records, length-store, store-front, store-append, store-records, records-store-front, records-store-before, records-store-after, store-comm}
 use Rattle.rules.specs.Exchange.{noOrder, noTrade}
-use Rattle.rules.specs.Memory.{orderWords, orderFrom, tradeWords, tradeFrom, queueIn, recordedTrades, putQueue, putTrades}
+use Rattle.rules.specs.Memory.{orderWords, orderFrom, tradeWords, tradeFrom, queueIn, recordedTrades, putQueue, putQueues, putTrades}
+use Rattle.rules.specs.Matching.{withLots}
 use Rattle.rules.specs.declared.Order.{Order}
 use Rattle.rules.specs.declared.Trade.{Trade}
 
@@ -56,6 +57,10 @@ module _ {A : Type 0} where
   filled-up n z os h =
       let e : n - length os ≡ 0 = omega arith in
       rw (e, append-nil)
+
+  filled-with : (n k : ℕ) (z : A) (os : List A) → n - length os ≡ k → padded n z os ≡ os ++ replicate k z
+  unfolding padded
+  filled-with n k z os e = rw e
 
   -- places that are filled either way
   same-fill : (m n : ℕ) (z : A) (os : List A) → m - length os ≡ n - length os → padded m z os ≡ padded n z os
@@ -194,6 +199,126 @@ module _ (area : List ℕ) (c n : ℕ) (q : List Order) where
         (λ (k : c < d). store-comm order-codec order-codec area (320 * c) (padded n noOrder q) (320 * d) (padded m noOrder r) (rw length-filled (omega arith)) (rw length-filled (omega arith)))
         (λ (k : d < c). sym (store-comm order-codec order-codec area (320 * d) (padded m noOrder r) (320 * c) (padded n noOrder q) (rw length-filled (omega arith)) (rw length-filled (omega arith))))
         (before-or-after c d apart)
+
+-- the fourth word of an order set, and the order written with new lots
+set-fourth : (area : List ℕ) (k lots : ℕ) → k + 5 ≤ length area → set area (k + 3) lots ≡ over area k (orderWords (withLots (orderFrom (drop k area)) lots))
+unfolding over
+set-fourth area k lots h =
+    let xs : List ℕ = drop k area in
+    let e : xs ≡ orderWords (orderFrom xs) ++ drop 5 xs = sym (take-append-drop 5 xs) ∙ ap (λ (l : List ℕ). l ++ drop 5 xs) (sym (order-codec .forth xs (rw length-drop (omega arith)))) in
+    sym (take-append-drop k (set area (k + 3) lots))
+    ∙ rw (take-set-le k area (k + 3) lots (omega arith), drop-set-add k area 3 lots)
+    (ap (λ (l : List ℕ). take k area ++ set l 3 lots) e ∙ rw drop-drop)
+
+-- ---- one order of a queue written, put in or taken out, as the words are moved
+
+module _ (area : List ℕ) (c n : ℕ) (room : 320 * c + 5 * n ≤ length area) where
+  pub set-order : (i : ℕ) (o : Order) → i < n → over area (320 * c + 5 * i) (orderWords o) ≡ putQueue area c n (set (queueIn area c n) i o)
+  unfolding putQueue queueIn
+  set-order i o h =
+      let q : List Order = records 5 orderFrom area (320 * c) n in
+      let e : padded n noOrder (set q i o) ≡ set q i o = filled-up n noOrder (set q i o) (rw (length-set, length-records order-codec area (320 * c) n) (omega arith)) in
+      rw e (set-store order-codec area (320 * c) n i o h room)
+
+  -- an order's lots are its fourth word
+  pub set-lots : (i lots : ℕ) → i < n → set area (320 * c + 5 * i + 3) lots ≡ putQueue area c n (set (queueIn area c n) i (withLots (getD (queueIn area c n) i noOrder) lots))
+  set-lots i lots h = rw (← set-order i (withLots (getD (queueIn area c n) i noOrder) lots) h, order-at area c n i h) (set-fourth area (320 * c + 5 * i) lots (omega arith))
+
+  pub remove-order : (i : ℕ) → i < n
+      → over area (320 * c + 5 * i) (take (5 * (n - suc i)) (drop (320 * c + 5 * suc i) area) ++ orderWords noOrder) ≡ putQueue area c n (removeAt i (queueIn area c n))
+  unfolding putQueue queueIn
+  remove-order i h =
+      removeAt-store order-codec area (320 * c) n i noOrder h room
+      ∙ ap (λ (q : List Order). store orderWords area (320 * c) q) (removeAt-padded i n noOrder (records 5 orderFrom area (320 * c) n) h (length-records order-codec area (320 * c) n))
+
+  -- the first k orders leave, and k places are cleared
+  pub remove-front : (k : ℕ) → k ≤ n → over area (320 * c) (take (5 * (n - k)) (drop (320 * c + 5 * k) area) ++ replicate (5 * k) 0) ≡ putQueue area c n (drop k (queueIn area c n))
+  unfolding putQueue queueIn
+  remove-front k h =
+      let q : List Order = records 5 orderFrom area (320 * c) n in
+      let zs : List Order = replicate k noOrder in
+      let z : encode orderWords zs ≡ replicate (5 * k) 0 = encode-zeros order-codec k noOrder refl in
+      let m : n - length (drop k q) ≡ k = rw (length-drop, length-records order-codec area (320 * c) n) (omega arith) in
+      let p : padded n noOrder (drop k q) ≡ drop k q ++ zs = filled-with n k noOrder (drop k q) m in
+      rw (p, ← z) (rw (zero-add k, add-zero (320 * c)) at (remove-store order-codec area (320 * c) n 0 k zs (omega arith) (length-replicate k noOrder) room))
+
+  pub insert-order : (i : ℕ) (o : Order) → i ≤ n → 320 * c + 5 * n + 5 ≤ length area
+      → over area (320 * c + 5 * i) (orderWords o ++ take (5 * (n - i)) (drop (320 * c + 5 * i) area)) ≡ putQueue area c n (insertAt i o (queueIn area c n))
+  unfolding putQueue queueIn
+  insert-order i o h more =
+      let q : List Order = records 5 orderFrom area (320 * c) n in
+      let e : padded n noOrder (insertAt i o q) ≡ insertAt i o q = filled-up n noOrder (insertAt i o q) (rw (length-insertAt, length-records order-codec area (320 * c) n) (omega arith)) in
+      rw e (insert-store order-codec area (320 * c) n i o h more)
+
+-- ---- the queues of all contracts
+
+apart-below : (b c : ℕ) → suc b ≤ c → b ≡ c → ⊥
+apart-below b c h e = omega arith
+
+module _ (area counts : List ℕ) (queues : ℕ → List Order) where
+  pub putQueues-same : (n : ℕ) → ((c : ℕ) → c < n → queues c ≡ queueIn area c (getD counts c 0)) → ((c : ℕ) → c < n → getD counts c 0 ≤ 64) → 320 * n ≤ length area
+      → putQueues area counts queues n ≡ area
+  unfolding putQueues
+  putQueues-same zero same few room = refl
+  putQueues-same (suc c) same few room =
+      rw (putQueues-same c (λ d h. same d (omega arith)) (λ d h. few d (omega arith)) (omega arith), same c (omega arith))
+      (put-queue area c (getD counts c 0) (omega (arith, few c (omega arith))))
+
+  -- one contract's queue alone has changed
+  pub putQueues-one : (n d : ℕ) → d < n → ((c : ℕ) → c < n → (d ≡ c → ⊥) → queues c ≡ queueIn area c (getD counts c 0)) → ((c : ℕ) → c < n → getD counts c 0 ≤ 64)
+      → length (queues d) ≤ 64 → 320 * n ≤ length area → putQueues area counts queues n ≡ putQueue area d (getD counts d 0) (queues d)
+  unfolding putQueues
+  putQueues-one zero d h same few short room = absurd (omega arith)
+  putQueues-one (suc c) d h same few short room = go (eqb d c) refl (λ l. putQueues-one c d l (λ b k. same b (omega arith)) (λ b k. few b (omega arith)) short (omega arith))
+    where
+      before : (b : ℕ) → d ≡ c → b < c → d ≡ b → ⊥
+      before b e l k = omega arith
+
+      go : (t : Bool) → eqb d c ≡ t → (d < c → putQueues area counts queues c ≡ putQueue area d (getD counts d 0) (queues d))
+          → putQueue (putQueues area counts queues c) c (getD counts c 0) (queues c) ≡ putQueue area d (getD counts d 0) (queues d)
+      go true e ih =
+          let k : d ≡ c = eqb-true d c e in
+          rw (putQueues-same c (λ b l. same b (omega arith) (before b k l)) (λ b l. few b (omega arith)) (omega arith), k)
+      go false e ih =
+          let apart : d ≡ c → ⊥ = eqb-false d c e in
+          let l : d < c = ⊎-elim (λ k. absurd (apart k)) (λ k. k) (eq-or-lt-of-le (le-of-suc-le-suc h)) in
+          let wide : length (putQueue area d (getD counts d 0) (queues d)) ≡ length area = length-putQueue area d (getD counts d 0) (queues d) (few d (omega arith)) short (omega arith) in
+          let other : queueIn (putQueue area d (getD counts d 0) (queues d)) c (getD counts c 0) ≡ queueIn area c (getD counts c 0)
+          = queue-put-other area d (getD counts d 0) (queues d) (few d (omega arith)) short c apart (getD counts c 0) (few c (omega arith)) (omega arith) in
+          rw (ih l, same c (omega arith) apart, ← other) (put-queue (putQueue area d (getD counts d 0) (queues d)) c (getD counts c 0) (omega (arith, few c (omega arith))))
+
+  -- each within 64 orders, before and after
+  module _ (contracts : ℕ) (few : (c : ℕ) → c < contracts → getD counts c 0 ≤ 64) (short : (c : ℕ) → c < contracts → length (queues c) ≤ 64) (room : 320 * contracts ≤ length area) where
+    pub length-putQueues : (n : ℕ) → n ≤ contracts → length (putQueues area counts queues n) ≡ length area
+    unfolding putQueues
+    length-putQueues zero k = refl
+    length-putQueues (suc c) k =
+        let ih : length (putQueues area counts queues c) ≡ length area = length-putQueues c (omega arith) in
+        length-putQueue (putQueues area counts queues c) c (getD counts c 0) (queues c) (few c k) (short c k) (omega arith) ∙ ih
+
+    -- a contract that they are not of
+    pub queue-putQueues-past : (n c m : ℕ) → n ≤ contracts → n ≤ c → m ≤ 64 → queueIn (putQueues area counts queues n) c m ≡ queueIn area c m
+    unfolding putQueues
+    queue-putQueues-past zero c m k past h = refl
+    queue-putQueues-past (suc b) c m k past h =
+        queue-put-other (putQueues area counts queues b) b (getD counts b 0) (queues b) (few b k) (short b k) c (apart-below b c past) m h (rw (length-putQueues b (omega arith)) (omega arith))
+        ∙ queue-putQueues-past b c m (omega arith) (omega arith) h
+
+    pub queue-putQueues : (n c : ℕ) → n ≤ contracts → c < n → queueIn (putQueues area counts queues n) c (length (queues c)) ≡ queues c
+    unfolding putQueues
+    queue-putQueues zero c k h = absurd (omega arith)
+    queue-putQueues (suc b) c k h = go (eqb b c) refl (λ l. queue-putQueues b c (omega arith) l)
+      where
+        fits : 320 * b ≤ length (putQueues area counts queues b)
+        fits = rw (length-putQueues b (omega arith)) (omega arith)
+
+        go : (t : Bool) → eqb b c ≡ t → (c < b → queueIn (putQueues area counts queues b) c (length (queues c)) ≡ queues c)
+            → queueIn (putQueue (putQueues area counts queues b) b (getD counts b 0) (queues b)) c (length (queues c)) ≡ queues c
+        go true e ih = rw (← eqb-true b c e) (queue-put (putQueues area counts queues b) b (getD counts b 0) (queues b) fits)
+        go false e ih =
+            let apart : b ≡ c → ⊥ = eqb-false b c e in
+            let l : c < b = ⊎-elim (λ p. absurd (apart (sym p))) (λ p. p) (eq-or-lt-of-le (le-of-suc-le-suc h)) in
+            queue-put-other (putQueues area counts queues b) b (getD counts b 0) (queues b) (few b k) (short b k) c apart (length (queues c)) (short c (omega arith)) fits ∙ ih l
 
 -- ---- the day's trades
 
