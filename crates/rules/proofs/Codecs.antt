@@ -9,16 +9,15 @@ use native.Mathlib.Nat.{add-zero, zero-add, mul-le-mul-left, eq-or-lt-of-le, le-
 use native.Mathlib.Omega.{arith}
 use borrow.Author.Tests.{leb-true, leb-false, ltb-true, ltb-false, eqb-true, eqb-false}
 use lib.Dec.{leb, ltb, eqb}
-use lib.ListN.{length, getD, take, drop, set, replicate, length-append, length-take, length-drop, length-set, length-replicate, take-append-drop, replicate-append-replicate}
-use lib.Seq.{take-set-le, drop-set-add, drop-drop, getD-take, getD-drop, length-take-le}
+use lib.ListN.{length, getD, take, drop, replicate, length-append, length-take, length-replicate, take-append-drop, replicate-append-replicate}
+use lib.Seq.{getD-take, getD-drop, length-take-le}
 use Rattle.laws.specs.Tabulate.{tabulate, tabulate-eq}
-use Rattle.areas.specs.Lists.{over, insertAt, removeAt, padded}
+use Rattle.areas.specs.Lists.{over, padded}
 use Rattle.areas.specs.Records.{Codec, encode, records, store}
-use Rattle.areas.proofs.Lists.{length-insertAt, removeAt-padded, take-over, drop-over, drop-padded, padded-full}
-use Rattle.areas.proofs.Records.{length-encode, encode-zeros, set-store, insert-store, remove-store, removeAt-store, length-records, getD-records, take-records, length-store, store-front, store-append, store-records, records-store-front, records-store-before, records-store-after, store-comm}
+use Rattle.areas.proofs.Lists.{take-over, drop-over, drop-padded, padded-full}
+use Rattle.areas.proofs.Records.{length-encode, length-records, getD-records, take-records, length-store, store-front, store-append, store-records, records-store-front, records-store-before, records-store-after, store-comm}
 use Rattle.rules.specs.Exchange.{noOrder, noTrade}
 use Rattle.rules.specs.Memory.{orderWords, orderFrom, tradeWords, tradeFrom, queueIn, recordedTrades, putQueue, putQueues, putTrades}
-use Rattle.rules.specs.Matching.{withLots}
 use Rattle.rules.specs.declared.Order.{Order}
 use Rattle.rules.specs.declared.Trade.{Trade}
 
@@ -57,10 +56,6 @@ module _ {A : Type 0} where
   filled-up n z os h =
       let e : n - length os ≡ 0 = omega arith in
       rw (e, append-nil)
-
-  filled-with : (n k : ℕ) (z : A) (os : List A) → n - length os ≡ k → padded n z os ≡ os ++ replicate k z
-  unfolding padded
-  filled-with n k z os e = rw e
 
   -- places that are filled either way
   same-fill : (m n : ℕ) (z : A) (os : List A) → m - length os ≡ n - length os → padded m z os ≡ padded n z os
@@ -199,56 +194,6 @@ module _ (area : List ℕ) (c n : ℕ) (q : List Order) where
         (λ (k : c < d). store-comm order-codec order-codec area (320 * c) (padded n noOrder q) (320 * d) (padded m noOrder r) (rw length-filled (omega arith)) (rw length-filled (omega arith)))
         (λ (k : d < c). sym (store-comm order-codec order-codec area (320 * d) (padded m noOrder r) (320 * c) (padded n noOrder q) (rw length-filled (omega arith)) (rw length-filled (omega arith))))
         (before-or-after c d apart)
-
--- the fourth word of an order set, and the order written with new lots
-set-fourth : (area : List ℕ) (k lots : ℕ) → k + 5 ≤ length area → set area (k + 3) lots ≡ over area k (orderWords (withLots (orderFrom (drop k area)) lots))
-unfolding over
-set-fourth area k lots h =
-    let xs : List ℕ = drop k area in
-    let e : xs ≡ orderWords (orderFrom xs) ++ drop 5 xs = sym (take-append-drop 5 xs) ∙ ap (λ (l : List ℕ). l ++ drop 5 xs) (sym (order-codec .forth xs (rw length-drop (omega arith)))) in
-    sym (take-append-drop k (set area (k + 3) lots))
-    ∙ rw (take-set-le k area (k + 3) lots (omega arith), drop-set-add k area 3 lots)
-    (ap (λ (l : List ℕ). take k area ++ set l 3 lots) e ∙ rw drop-drop)
-
--- ---- one order of a queue written, put in or taken out, as the words are moved
-
-module _ (area : List ℕ) (c n : ℕ) (room : 320 * c + 5 * n ≤ length area) where
-  pub set-order : (i : ℕ) (o : Order) → i < n → over area (320 * c + 5 * i) (orderWords o) ≡ putQueue area c n (set (queueIn area c n) i o)
-  unfolding putQueue queueIn
-  set-order i o h =
-      let q : List Order = records 5 orderFrom area (320 * c) n in
-      let e : padded n noOrder (set q i o) ≡ set q i o = filled-up n noOrder (set q i o) (rw (length-set, length-records order-codec area (320 * c) n) (omega arith)) in
-      rw e (set-store order-codec area (320 * c) n i o h room)
-
-  -- an order's lots are its fourth word
-  pub set-lots : (i lots : ℕ) → i < n → set area (320 * c + 5 * i + 3) lots ≡ putQueue area c n (set (queueIn area c n) i (withLots (getD (queueIn area c n) i noOrder) lots))
-  set-lots i lots h = rw (← set-order i (withLots (getD (queueIn area c n) i noOrder) lots) h, order-at area c n i h) (set-fourth area (320 * c + 5 * i) lots (omega arith))
-
-  pub remove-order : (i : ℕ) → i < n
-      → over area (320 * c + 5 * i) (take (5 * (n - suc i)) (drop (320 * c + 5 * suc i) area) ++ orderWords noOrder) ≡ putQueue area c n (removeAt i (queueIn area c n))
-  unfolding putQueue queueIn
-  remove-order i h =
-      removeAt-store order-codec area (320 * c) n i noOrder h room
-      ∙ ap (λ (q : List Order). store orderWords area (320 * c) q) (removeAt-padded i n noOrder (records 5 orderFrom area (320 * c) n) h (length-records order-codec area (320 * c) n))
-
-  -- the first k orders leave, and k places are cleared
-  pub remove-front : (k : ℕ) → k ≤ n → over area (320 * c) (take (5 * (n - k)) (drop (320 * c + 5 * k) area) ++ replicate (5 * k) 0) ≡ putQueue area c n (drop k (queueIn area c n))
-  unfolding putQueue queueIn
-  remove-front k h =
-      let q : List Order = records 5 orderFrom area (320 * c) n in
-      let zs : List Order = replicate k noOrder in
-      let z : encode orderWords zs ≡ replicate (5 * k) 0 = encode-zeros order-codec k noOrder refl in
-      let m : n - length (drop k q) ≡ k = rw (length-drop, length-records order-codec area (320 * c) n) (omega arith) in
-      let p : padded n noOrder (drop k q) ≡ drop k q ++ zs = filled-with n k noOrder (drop k q) m in
-      rw (p, ← z) (rw (zero-add k, add-zero (320 * c)) at (remove-store order-codec area (320 * c) n 0 k zs (omega arith) (length-replicate k noOrder) room))
-
-  pub insert-order : (i : ℕ) (o : Order) → i ≤ n → 320 * c + 5 * n + 5 ≤ length area
-      → over area (320 * c + 5 * i) (orderWords o ++ take (5 * (n - i)) (drop (320 * c + 5 * i) area)) ≡ putQueue area c n (insertAt i o (queueIn area c n))
-  unfolding putQueue queueIn
-  insert-order i o h more =
-      let q : List Order = records 5 orderFrom area (320 * c) n in
-      let e : padded n noOrder (insertAt i o q) ≡ insertAt i o q = filled-up n noOrder (insertAt i o q) (rw (length-insertAt, length-records order-codec area (320 * c) n) (omega arith)) in
-      rw e (insert-store order-codec area (320 * c) n i o h more)
 
 -- ---- the queues of all contracts
 
