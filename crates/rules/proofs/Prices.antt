@@ -4,14 +4,14 @@ use mathlib.Core.Bool.{Bool, true, false, not}
 use mathlib.Core.List.{List, [], _∷_, _++_, map}
 use mathlib.Core.Logic.{_⊎_, inl, inr, ⊎-elim}
 use mathlib.Core.Path.{_≡_, refl, ap, ap₂, _∙_}
-use Prim.Native.Nat.{ℕ, _≤_, min, max}
+use Prim.Native.Nat.{ℕ, _<_, _≤_, min, max}
 use native.Mathlib.Omega.{arith}
 use borrow.Author.Tests.{leb-true, leb-false, le-leb, eqb-true, eq-eqb}
 use lib.Dec.{leb, eqb}
 use lib.ListN.{length, take}
-use Rattle.laws.specs.Choice.{allOf, both, both-true, true-both}
+use Rattle.laws.specs.Choice.{allOf, allOf-true, both-true, true-both}
 use Rattle.rules.specs.Bounds.{onTick, allowedToday, dayLow, dayHigh, within}
-use Rattle.rules.specs.Exchange.{bestPrice}
+use Rattle.rules.specs.Exchange.{bestPrice, noOrder}
 use Rattle.rules.specs.Matching.{meets, counterpart, middle, tradePrice, tradeWith, sweep, lastPrice}
 use Rattle.rules.specs.WellFormed.{sorted}
 use Rattle.rules.specs.declared.Contract.{Contract}
@@ -21,7 +21,7 @@ use Rattle.rules.specs.declared.PriceCondition.the-variants.{Limit, Mark
 use Rattle.rules.specs.declared.Taker.{Taker}
 use Rattle.rules.specs.declared.Trade.{Trade}
 use Rattle.rules.proofs.Sorted.{Behind, AllBehind, behind-trans, sorted-tail, sorted-behind, best-first}
-use Rattle.rules.proofs.Sweep.{trade-price, sweep-ind}
+use Rattle.rules.proofs.Sweep.{trade-price, sweep-ind, swept-each}
 
 -- ---- the middle of three prices
 
@@ -168,18 +168,12 @@ prices-on-arrival t left last os s = prices-from t last left last os (bestPrice 
 
 -- a best-price order trades at the price standing on its arrival, and at no other
 pub best-prices : (t : Taker) (left last : ℕ) (os : List Order) → t .condition ≡ Best → allOf (λ tr. eqb (tr .price) (t .best)) (sweep t left last os .trades) ≡ true
-unfolding allOf
-best-prices t left last os e =
-    sweep-ind t (λ left last os s. allOf (λ tr. eqb (tr .price) (t .best)) (s .trades) ≡ true)
-    (λ left last os w. refl)
-    (λ left last o os some met short. true-both (eqb (tradeWith t o left last .price) (t .best)) true (at-best left last o met) refl)
-    (λ left last o os s some met enough ih. true-both (eqb (tradeWith t o left last .price) (t .best)) (allOf (λ tr. eqb (tr .price) (t .best)) (s .trades)) (at-best left last o met) ih)
-    left last os
+best-prices t left last os e = swept-each t (λ tr. eqb (tr .price) (t .best)) (λ o. true) (λ n. Unit {0}) one left last os tt (allOf-true (λ o. true) os noOrder (λ i b. refl))
   where
-    at-best : (left last : ℕ) (o : Order) → counterpart t o ≡ true → eqb (tradeWith t o left last .price) (t .best) ≡ true
-    at-best left last o met =
+    one : (o : Order) (left last : ℕ) → 0 < left → counterpart t o ≡ true → true ≡ true → Unit {0} → (eqb (tradeWith t o left last .price) (t .best) ≡ true) × Unit {0}
+    one o left last some met h u =
         let m : meets Best (t .sell) (t .best) (o .price) ≡ true = rw e at met in
-        rw (trade-price t o left last, e, price-best (o .price) last) (eq-eqb (o .price) (t .best) (best-meets (t .sell) (t .best) (o .price) m))
+        (rw (trade-price t o left last, e, price-best (o .price) last) (eq-eqb (o .price) (t .best) (best-meets (t .sell) (t .best) (o .price) m)), tt)
 
 -- ---- ticks and the day's range
 
@@ -227,20 +221,13 @@ price-allowed c Best price last pl pp pc = pp
 -- every price of a sweep is allowed today
 pub swept-allowed : (c : Contract) (t : Taker) (left last : ℕ) (os : List Order) → ((limit : ℕ) → t .condition ≡ Limit limit → allowedToday c limit ≡ true) → onTick (c .tick) last ≡ true
     → allOf (λ o. allowedToday c (o .price)) os ≡ true → allOf (λ tr. allowedToday c (tr .price)) (sweep t left last os .trades) ≡ true
-unfolding allOf
-swept-allowed c t left last os limits =
-    sweep-ind t
-    (λ left last os s. onTick (c .tick) last ≡ true → allOf (λ o. allowedToday c (o .price)) os ≡ true → allOf (λ tr. allowedToday c (tr .price)) (s .trades) ≡ true)
-    (λ left last os w tick h. refl)
-    (λ left last o os some met short tick h. true-both (allowedToday c (tradeWith t o left last .price)) true (rw (trade-price t o left last) (one last o os tick h)) refl)
-    (λ left last o os s some met enough ih tick h.
-    true-both (allowedToday c (tradeWith t o left last .price)) (allOf (λ tr. allowedToday c (tr .price)) (s .trades)) (rw (trade-price t o left last) (one last o os tick h))
-    (ih (allowed-facts c (tradePrice (t .condition) (o .price) last) (one last o os tick h) .tick) (both-true (allowedToday c (o .price)) (allOf (λ o. allowedToday c (o .price)) os) h .1)))
-    left last os
+swept-allowed c t left last os limits = swept-each t (λ tr. allowedToday c (tr .price)) (λ o. allowedToday c (o .price)) (λ n. onTick (c .tick) n ≡ true) one left last os
   where
-    one : (last : ℕ) (o : Order) (os : List Order) → onTick (c .tick) last ≡ true → both (allowedToday c (o .price)) (allOf (λ o. allowedToday c (o .price)) os) ≡ true
-        → allowedToday c (tradePrice (t .condition) (o .price) last) ≡ true
-    one last o os tick h = price-allowed c (t .condition) (o .price) last limits (both-true (allowedToday c (o .price)) (allOf (λ o. allowedToday c (o .price)) os) h .0) tick
+    one : (o : Order) (left last : ℕ) → 0 < left → counterpart t o ≡ true → allowedToday c (o .price) ≡ true → onTick (c .tick) last ≡ true
+        → (allowedToday c (tradeWith t o left last .price) ≡ true) × (onTick (c .tick) (tradePrice (t .condition) (o .price) last) ≡ true)
+    one o left last some met h tick =
+        let a = price-allowed c (t .condition) (o .price) last limits h tick in
+        (rw (trade-price t o left last) a, allowed-facts c (tradePrice (t .condition) (o .price) last) a .tick)
 
 -- ---- the last price after trades
 

@@ -8,10 +8,11 @@ use Prim.Native.Nat.{ℕ, zero, suc, _-_, _<_, _≤_, min}
 use native.Mathlib.Omega.{arith}
 use borrow.Author.Tests.{lt-ltb, ltb-true, ltb-false}
 use lib.Dec.{ltb}
-use Rattle.laws.specs.Choice.{pick-true, pick-false, true-both, both-false}
+use Rattle.laws.specs.Choice.{pick-true, pick-false, allOf, both-true, true-both, both-false}
 use Rattle.rules.specs.Matching.{counterpart, tradePrice, tradeWith, withLots, stays, Swept, untouched, afterTrade, sweep}
 use Rattle.rules.specs.declared.Order.{Order}
 use Rattle.rules.specs.declared.Taker.{Taker}
+use Rattle.rules.specs.declared.Trade.{Trade}
 
 -- ---- a trade's lots and price
 
@@ -114,3 +115,19 @@ module _ (t : Taker) (P : ℕ → ℕ → List Order → Swept → Type 0)
   pub sweep-ind : (left last : ℕ) (os : List Order) → P left last os (sweep t left last os)
   sweep-ind left last [] = rw (sweep-end t left last) (stop left last [] (inr tt))
   sweep-ind left last (o ∷ os) = turn left last o os _ _ _ refl refl refl (λ k p. sweep-ind k p os)
+
+-- What holds of every trade with an order of the queue, at a last price of which something holds that every trade's price keeps:
+-- holds of every trade of the sweep.
+pub swept-each : (t : Taker) (test : Trade → Bool) (fit : Order → Bool) (Last : ℕ → Type 0)
+    → ((o : Order) (left last : ℕ) → 0 < left → counterpart t o ≡ true → fit o ≡ true → Last last → (test (tradeWith t o left last) ≡ true) × Last (tradePrice (t .condition) (o .price) last))
+    → (left last : ℕ) (os : List Order) → Last last → allOf fit os ≡ true → allOf test (sweep t left last os .trades) ≡ true
+unfolding allOf
+swept-each t test fit Last each =
+    sweep-ind t (λ left last os s. Last last → allOf fit os ≡ true → allOf test (s .trades) ≡ true)
+    (λ left last os w l h. refl)
+    (λ left last o os some met short l h.
+    true-both (test (tradeWith t o left last)) true (each o left last some met (both-true (fit o) (allOf fit os) h .0) l .0) refl)
+    (λ left last o os s some met enough ih l h.
+    let b = both-true (fit o) (allOf fit os) h in
+    let e = each o left last some met (b .0) l in
+    true-both (test (tradeWith t o left last)) (allOf test (s .trades)) (e .0) (ih (e .1) (b .1)))
