@@ -103,7 +103,8 @@ unfolding meets
 best-meets sell best price e = eqb-true price best e
 
 -- what holds of the limit, the resting price and the last price holds of the trade's
-pub price-any : (P : ℕ → Type 0) (condition : PriceCondition) (price last : ℕ) → ((limit : ℕ) → condition ≡ Limit limit → P limit) → P price → P last → P (tradePrice condition price last)
+pub price-any : (P : ℕ → Type 0) (condition : PriceCondition) (price last : ℕ) → ((limit : ℕ) → condition ≡ Limit limit → P limit) → P price → P last
+    → P (tradePrice condition price last)
 unfolding tradePrice
 price-any P (Limit limit) price last pl pp pc = middle-any P limit price last (pl limit refl) pp pc
 price-any P Market price last pl pp pc = pp
@@ -119,7 +120,8 @@ upper-again : (l l′ u c : ℕ) → l ≤ l′ → l′ ≤ u → max l′ (min
 upper-again l l′ u c h k = omega arith
 
 -- A price further from the best, worked out from the last price just made or from the one before it, is the same.
-pub price-again : (condition : PriceCondition) (sell : Bool) (best price further last : ℕ) → meets condition sell best price ≡ true → meets condition sell best further ≡ true
+pub price-again : (condition : PriceCondition) (sell : Bool) (best price further last : ℕ) → meets condition sell best price ≡ true
+    → meets condition sell best further ≡ true
     → Behind (not sell) further price → tradePrice condition further (tradePrice condition price last) ≡ tradePrice condition further last
 unfolding meets tradePrice
 price-again (Limit limit) true best price further last m m′ h =
@@ -145,11 +147,13 @@ Alike t price last arrival =
     (further : ℕ) → meets (t .condition) (t .sell) (t .best) further ≡ true → Behind (not (t .sell)) further price → tradePrice (t .condition) further last ≡ tradePrice (t .condition) further arrival
 
 module _ (t : Taker) (arrival : ℕ) where
-  alike-on : (price last : ℕ) (o : Order) → counterpart t o ≡ true → Behind (not (t .sell)) (o .price) price → Alike t price last arrival → Alike t (o .price) (tradePrice (t .condition) (o .price) last) arrival
+  alike-on : (price last : ℕ) (o : Order) → counterpart t o ≡ true → Behind (not (t .sell)) (o .price) price → Alike t price last arrival
+      → Alike t (o .price) (tradePrice (t .condition) (o .price) last) arrival
   alike-on price last o met h same further m k =
       price-again (t .condition) (t .sell) (t .best) (o .price) further last met m k ∙ same further m (behind-trans (not (t .sell)) further (o .price) price k h)
 
-  prices-from : (left last : ℕ) (os : List Order) (price : ℕ) → sorted (not (t .sell)) os ≡ true → AllBehind (not (t .sell)) price os → Alike t price last arrival
+  prices-from : (left last : ℕ) (os : List Order) (price : ℕ) → sorted (not (t .sell)) os ≡ true → AllBehind (not (t .sell)) price os
+      → Alike t price last arrival
       → map (λ tr. tr .price) (sweep t left last os .trades) ≡ arrivalPrices t arrival (length (sweep t left last os .trades)) os
   prices-from =
       sweep-ind t
@@ -167,10 +171,12 @@ pub prices-on-arrival : (t : Taker) (left last : ℕ) (os : List Order) → sort
 prices-on-arrival t left last os s = prices-from t last left last os (bestPrice os) s (best-first (not (t .sell)) os s) (λ further m k. refl)
 
 -- a best-price order trades at the price standing on its arrival, and at no other
-pub best-prices : (t : Taker) (left last : ℕ) (os : List Order) → t .condition ≡ Best → allOf (λ tr. eqb (tr .price) (t .best)) (sweep t left last os .trades) ≡ true
+pub best-prices : (t : Taker) (left last : ℕ) (os : List Order) → t .condition ≡ Best
+    → allOf (λ tr. eqb (tr .price) (t .best)) (sweep t left last os .trades) ≡ true
 best-prices t left last os e = swept-each t (λ tr. eqb (tr .price) (t .best)) (λ o. true) (λ n. Unit {0}) one left last os tt (allOf-true (λ o. true) os noOrder (λ i b. refl))
   where
-    one : (o : Order) (left last : ℕ) → 0 < left → counterpart t o ≡ true → true ≡ true → Unit {0} → (eqb (tradeWith t o left last .price) (t .best) ≡ true) × Unit {0}
+    one : (o : Order) (left last : ℕ) → 0 < left → counterpart t o ≡ true → true ≡ true → Unit {0}
+        → (eqb (tradeWith t o left last .price) (t .best) ≡ true) × Unit {0}
     one o left last some met h u =
         let m : meets Best (t .sell) (t .best) (o .price) ≡ true = rw e at met in
         (rw (trade-price t o left last, e, price-best (o .price) last) (eq-eqb (o .price) (t .best) (best-meets (t .sell) (t .best) (o .price) m)), tt)
@@ -200,7 +206,8 @@ allowed-true {c} {price} f =
     (true-both (leb (dayLow c) price) (leb price (dayHigh c)) (le-leb (dayLow c) price (f .low)) (le-leb price (dayHigh c) (f .high)))
 
 -- two prices allowed today and a last price that may lie outside the day's range
-pub middle-allowed : (c : Contract) (a b last : ℕ) → allowedToday c a ≡ true → allowedToday c b ≡ true → onTick (c .tick) last ≡ true → allowedToday c (middle a b last) ≡ true
+pub middle-allowed : (c : Contract) (a b last : ℕ) → allowedToday c a ≡ true → allowedToday c b ≡ true → onTick (c .tick) last ≡ true
+    → allowedToday c (middle a b last) ≡ true
 middle-allowed c a b last pa pb pl =
     let fa = allowed-facts c a pa in
     let fb = allowed-facts c b pb in
@@ -211,7 +218,8 @@ middle-allowed c a b last pa pb pl =
       high = omega (arith, middle-high a b last, fa .high, fb .high);
     }
 
-pub price-allowed : (c : Contract) (condition : PriceCondition) (price last : ℕ) → ((limit : ℕ) → condition ≡ Limit limit → allowedToday c limit ≡ true) → allowedToday c price ≡ true → onTick (c .tick) last ≡ true
+pub price-allowed : (c : Contract) (condition : PriceCondition) (price last : ℕ)
+    → ((limit : ℕ) → condition ≡ Limit limit → allowedToday c limit ≡ true) → allowedToday c price ≡ true → onTick (c .tick) last ≡ true
     → allowedToday c (tradePrice condition price last) ≡ true
 unfolding tradePrice
 price-allowed c (Limit limit) price last pl pp pc = middle-allowed c limit price last (pl limit refl) pp pc
@@ -219,7 +227,8 @@ price-allowed c Market price last pl pp pc = pp
 price-allowed c Best price last pl pp pc = pp
 
 -- every price of a sweep is allowed today
-pub swept-allowed : (c : Contract) (t : Taker) (left last : ℕ) (os : List Order) → ((limit : ℕ) → t .condition ≡ Limit limit → allowedToday c limit ≡ true) → onTick (c .tick) last ≡ true
+pub swept-allowed : (c : Contract) (t : Taker) (left last : ℕ) (os : List Order)
+    → ((limit : ℕ) → t .condition ≡ Limit limit → allowedToday c limit ≡ true) → onTick (c .tick) last ≡ true
     → allOf (λ o. allowedToday c (o .price)) os ≡ true → allOf (λ tr. allowedToday c (tr .price)) (sweep t left last os .trades) ≡ true
 swept-allowed c t left last os limits = swept-each t (λ tr. allowedToday c (tr .price)) (λ o. allowedToday c (o .price)) (λ n. onTick (c .tick) n ≡ true) one left last os
   where
@@ -240,21 +249,10 @@ unfolding lastPrice
 last-append last [] us = refl
 last-append last (t ∷ ts) us = last-append (t .price) ts us
 
-pub last-test : (test : ℕ → Bool) (last : ℕ) (ts : List Trade) → test last ≡ true → allOf (λ t. test (t .price)) ts ≡ true → test (lastPrice last ts) ≡ true
+pub last-test : (test : ℕ → Bool) (last : ℕ) (ts : List Trade) → test last ≡ true → allOf (λ t. test (t .price)) ts ≡ true
+    → test (lastPrice last ts) ≡ true
 unfolding lastPrice allOf
 last-test test last [] p h = p
 last-test test last (t ∷ ts) p h =
     let b = both-true (test (t .price)) (allOf (λ t. test (t .price)) ts) h in
     last-test test (t .price) ts (b .0) (b .1)
-
--- "worked out again for each trade": sells of 7 at 110 and 5 at 111, last price 100, and a buy of 12 at limit 111
-abbrev buyer : Taker
-buyer = record { account = 0; contract = 0; sell = false; close = 0; number = 3; condition = Limit 111; best = 110 }
-
-abbrev twoLevels : List Order
-twoLevels =
-    record { price = 110; number = 1; account = 1; lots = 7; close = 0 } ∷ record { price = 111; number = 2; account = 1; lots = 5; close = 0 } ∷ []
-
-pub a-price-for-each-trade : map (λ tr. tr .price) (sweep buyer 12 100 twoLevels .trades) ≡ 110 ∷ 111 ∷ []
-unfolding sweep meets tradeWith tradePrice middle
-a-price-for-each-trade = refl

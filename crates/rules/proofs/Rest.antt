@@ -25,7 +25,8 @@ use Rattle.rules.proofs.Sweep.{Unmet, trade-lots, sweep-end, sweep-ind,
 -- ---- why it stopped
 
 -- all lots are traded, or the first order left, if there is one, is no counterpart
-pub sweep-stops : (t : Taker) (left last : ℕ) (os : List Order) → (tradedLots (sweep t left last os .trades) ≡ left) ⊎ Unmet t (sweep t left last os .rest)
+pub sweep-stops : (t : Taker) (left last : ℕ) (os : List Order)
+    → (tradedLots (sweep t left last os .trades) ≡ left) ⊎ Unmet t (sweep t left last os .rest)
 sweep-stops t =
     sweep-ind t (λ left last os s. (tradedLots (s .trades) ≡ left) ⊎ Unmet t (s .rest))
     (λ left last os w. ⊎-elim (λ e. inl (traded-nil ∙ sym e)) (λ u. inr u) w)
@@ -41,14 +42,16 @@ unfolding sorted aheadOfFirst ahead
 sorted-lots sell o lots [] = refl
 sorted-lots sell o lots (p ∷ ps) = refl
 
-pub rest-sorted : (sell : Bool) (t : Taker) (left last : ℕ) (os : List Order) → sorted sell os ≡ true → sorted sell (sweep t left last os .rest) ≡ true
+pub rest-sorted : (sell : Bool) (t : Taker) (left last : ℕ) (os : List Order) → sorted sell os ≡ true
+    → sorted sell (sweep t left last os .rest) ≡ true
 rest-sorted sell t =
     sweep-ind t (λ left last os s. sorted sell os ≡ true → sorted sell (s .rest) ≡ true)
     (λ left last os w h. h)
     (λ left last o os some met short h. sorted-lots sell o (o .lots - left) os ∙ h)
     (λ left last o os s some met enough ih h. ih (sorted-tail sell o os h))
 
-pub rest-behind : (sell : Bool) (t : Taker) (left last : ℕ) (os : List Order) (price : ℕ) → AllBehind sell price os → AllBehind sell price (sweep t left last os .rest)
+pub rest-behind : (sell : Bool) (t : Taker) (left last : ℕ) (os : List Order) (price : ℕ) → AllBehind sell price os
+    → AllBehind sell price (sweep t left last os .rest)
 rest-behind sell t =
     sweep-ind t (λ left last os s. (price : ℕ) → AllBehind sell price os → AllBehind sell price (s .rest))
     (λ left last os w price h. h)
@@ -94,11 +97,13 @@ rest-numbers t =
 -- ---- the trades
 
 -- every trade has from one lot to as many as its resting order
-pub swept-trade-lots : (t : Taker) (most left last : ℕ) (os : List Order) → allOf (λ o. within 1 most (o .lots)) os ≡ true → allOf (λ tr. within 1 most (tr .lots)) (sweep t left last os .trades) ≡ true
+pub swept-trade-lots : (t : Taker) (most left last : ℕ) (os : List Order) → allOf (λ o. within 1 most (o .lots)) os ≡ true
+    → allOf (λ tr. within 1 most (tr .lots)) (sweep t left last os .trades) ≡ true
 swept-trade-lots t most left last os =
     swept-each t (λ tr. within 1 most (tr .lots)) (λ o. within 1 most (o .lots)) (λ n. Unit {0}) one left last os tt
   where
-    one : (o : Order) (left last : ℕ) → 0 < left → counterpart t o ≡ true → within 1 most (o .lots) ≡ true → Unit {0} → (within 1 most (tradeWith t o left last .lots) ≡ true) × Unit {0}
+    one : (o : Order) (left last : ℕ) → 0 < left → counterpart t o ≡ true → within 1 most (o .lots) ≡ true → Unit {0}
+        → (within 1 most (tradeWith t o left last .lots) ≡ true) × Unit {0}
     one o left last some met h u =
         let b = both-true (leb 1 (o .lots)) (leb (o .lots) most) h in
         let l : 1 ≤ o .lots = leb-true 1 (o .lots) (b .0) in
@@ -126,12 +131,14 @@ abbrev pub uncrossedFrom : Bool → List Order → List Order → Bool
 uncrossedFrom sell own opposite = uncrossed (pick sell opposite own) (pick sell own opposite)
 
 -- the first orders alone count
-firsts-clear : (sell : Bool) (o : Order) (os : List Order) (p : Order) (ps : List Order) → uncrossedFrom sell (o ∷ os) (p ∷ ps) ≡ true → Clear sell (o .price) (p .price)
+firsts-clear : (sell : Bool) (o : Order) (os : List Order) (p : Order) (ps : List Order) → uncrossedFrom sell (o ∷ os) (p ∷ ps) ≡ true
+    → Clear sell (o .price) (p .price)
 unfolding uncrossed
 firsts-clear true o os p ps h = ltb-true (p .price) (o .price) h
 firsts-clear false o os p ps h = ltb-true (o .price) (p .price) h
 
-clear-firsts : (sell : Bool) (o : Order) (os : List Order) (p : Order) (ps : List Order) → Clear sell (o .price) (p .price) → uncrossedFrom sell (o ∷ os) (p ∷ ps) ≡ true
+clear-firsts : (sell : Bool) (o : Order) (os : List Order) (p : Order) (ps : List Order) → Clear sell (o .price) (p .price)
+    → uncrossedFrom sell (o ∷ os) (p ∷ ps) ≡ true
 unfolding uncrossed
 clear-firsts true o os p ps h = lt-ltb (p .price) (o .price) h
 clear-firsts false o os p ps h = lt-ltb (o .price) (p .price) h
@@ -154,14 +161,16 @@ ClearOf sell price [] = Unit {0}
 ClearOf sell price (p ∷ ps) = Clear sell price (p .price)
 
 -- orders further from one's own than the first opposite one
-further-uncrossed : (sell : Bool) (os : List Order) (p : Order) (ps rs : List Order) → uncrossedFrom sell os (p ∷ ps) ≡ true → AllBehind (not sell) (p .price) rs → uncrossedFrom sell os rs ≡ true
+further-uncrossed : (sell : Bool) (os : List Order) (p : Order) (ps rs : List Order) → uncrossedFrom sell os (p ∷ ps) ≡ true
+    → AllBehind (not sell) (p .price) rs → uncrossedFrom sell os rs ≡ true
 further-uncrossed sell [] p ps rs h b = none-own sell rs
 further-uncrossed sell (o ∷ os) p ps [] h b = none-opposite sell (o ∷ os)
 further-uncrossed sell (o ∷ os) p ps (r ∷ rs) h b =
     clear-firsts sell o os r rs (clear-behind sell (o .price) (p .price) (r .price) (firsts-clear sell o os p ps h) (b .0))
 
 -- an order that comes to rest, clear of the opposite queue
-pub restIn-uncrossed : (sell : Bool) (o : Order) (os rs : List Order) → uncrossedFrom sell os rs ≡ true → ClearOf sell (o .price) rs → uncrossedFrom sell (restIn sell o os) rs ≡ true
+pub restIn-uncrossed : (sell : Bool) (o : Order) (os rs : List Order) → uncrossedFrom sell os rs ≡ true → ClearOf sell (o .price) rs
+    → uncrossedFrom sell (restIn sell o os) rs ≡ true
 unfolding restIn
 restIn-uncrossed sell o os [] h c = none-opposite sell (restIn sell o os)
 restIn-uncrossed sell o [] (r ∷ rs) h c = clear-firsts sell o [] r rs c
@@ -175,14 +184,16 @@ module _ (t : Taker) (left last : ℕ) (own opposite : List Order) (before : unc
   pub rest-uncrossed : uncrossedFrom (t .sell) own (sweep t left last opposite .rest) ≡ true
   rest-uncrossed = go opposite before order
     where
-      go : (opposite : List Order) → uncrossedFrom (t .sell) own opposite ≡ true → sorted (not (t .sell)) opposite ≡ true → uncrossedFrom (t .sell) own (sweep t left last opposite .rest) ≡ true
+      go : (opposite : List Order) → uncrossedFrom (t .sell) own opposite ≡ true → sorted (not (t .sell)) opposite ≡ true
+          → uncrossedFrom (t .sell) own (sweep t left last opposite .rest) ≡ true
       go [] h s = rw (sweep-end t left last) h
       go (p ∷ ps) h s =
           further-uncrossed (t .sell) own p ps (sweep t left last (p ∷ ps) .rest) h
           (rest-behind (not (t .sell)) t left last (p ∷ ps) (p .price) (behind-refl (not (t .sell)) (p .price), sorted-behind (not (t .sell)) p ps s))
 
   -- lots are left over: their limit stands clear of the orders left
-  pub remainder-clear : (limit : ℕ) → t .condition ≡ Limit limit → tradedLots (sweep t left last opposite .trades) < left → ClearOf (t .sell) limit (sweep t left last opposite .rest)
+  pub remainder-clear : (limit : ℕ) → t .condition ≡ Limit limit → tradedLots (sweep t left last opposite .trades) < left
+      → ClearOf (t .sell) limit (sweep t left last opposite .rest)
   remainder-clear limit e some = go (sweep t left last opposite .rest) (⊎-elim (λ k. absurd (less k)) (λ u. u) (sweep-stops t left last opposite))
     where
       less : tradedLots (sweep t left last opposite .trades) ≡ left → ⊥
@@ -206,7 +217,8 @@ unfolding remainder
 remainder-price t price lots = refl
 
 -- "the two are uncrossed", after an order that is entered as before it
-pub entered-uncrossed : (t : Taker) (lots price : ℕ) (goodForDay : Bool) (last : ℕ) (own opposite : List Order) → (goodForDay ≡ true → t .condition ≡ Limit price)
+pub entered-uncrossed : (t : Taker) (lots price : ℕ) (goodForDay : Bool) (last : ℕ) (own opposite : List Order)
+    → (goodForDay ≡ true → t .condition ≡ Limit price)
     → sorted (not (t .sell)) opposite ≡ true → uncrossedFrom (t .sell) own opposite ≡ true
     → uncrossedFrom (t .sell) (enter t lots price goodForDay last own opposite .own) (enter t lots price goodForDay last own opposite .opposite) ≡ true
 unfolding enter restedLots

@@ -97,7 +97,8 @@ module _ (t : Taker) (P : ℕ → ℕ → List Order → Swept → Type 0)
     → P left last (o ∷ os) (partFilled t o left last os))
     (full : (left last : ℕ) (o : Order) (os : List Order) (s : Swept) → 0 < left → counterpart t o ≡ true → o .lots ≤ left
     → P (left - o .lots) (tradePrice (t .condition) (o .price) last) os s → P left last (o ∷ os) (filled t o left last s)) where
-  turn : (left last : ℕ) (o : Order) (os : List Order) (some met short : Bool) → ltb 0 left ≡ some → counterpart t o ≡ met → ltb left (o .lots) ≡ short
+  turn : (left last : ℕ) (o : Order) (os : List Order) (some met short : Bool) → ltb 0 left ≡ some → counterpart t o ≡ met
+      → ltb left (o .lots) ≡ short
       → ((k p : ℕ) → P k p os (sweep t k p os)) → P left last (o ∷ os) (sweep t left last (o ∷ os))
   turn left last o os false met short a b c ih =
       let z : left ≡ 0 = omega (arith, ltb-false 0 left a) in
