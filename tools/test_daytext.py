@@ -101,8 +101,8 @@ class Messages(unittest.TestCase):
     def test_first_word(self):
         self.assert_message(
             "inset 1",
-            "'inset' where contract, account, state, insert, cancel, pull, deposit, withdraw, settle, raw, repeat or end"
-            " should stand",
+            "'inset' where contract, account, state, insert, cancel, pull, deposit, withdraw, settle, raw, repeat"
+            " or end should stand",
         )
 
     def test_other_words(self):

@@ -88,15 +88,9 @@ class Case:
     @cached_property
     def better_or_equal(self):
         """How many orders stand before this one once it rests."""
-        return sum(
-            model.place_in_queue(self.order.side, resting)[0] <= model.place_in_queue(self.order.side, self.as_rester)[0]
-            for resting in self.own_side
-        )
-
-    @cached_property
-    def as_rester(self):
-        order = self.order
-        return model.Resting(self.state.next_order_number, order.account, order.effect, order.price, order.lots)
+        if self.order.side == "buy":
+            return sum(resting.price >= self.order.price for resting in self.own_side)
+        return sum(resting.price <= self.order.price for resting in self.own_side)
 
     @cached_property
     def trade_prices(self):

@@ -303,7 +303,7 @@ def settle(day):
 REASONABLE = {
     some_insert: 70,
     some_cancel: 6,
-    some_pull: 2,
+    some_pull: 3,
     some_deposit: 3,
     some_withdrawal: 4,
     some_state_change: 4,
@@ -336,7 +336,7 @@ def trade(day, commands, chance_of_end=0.0):
     for _ in range(commands):
         if day.rng.random() < chance_of_end:
             end_of_day(day)
-            if day.rng.random() < 0.95:
+            if day.rng.random() < 0.9:
                 open_all(day)
         day.give(pick(day.rng, ANY)(day))
 
@@ -355,7 +355,7 @@ def rest_many(day, number, side, orders):
 
 def trading_file(rng):
     day = some_day(rng)
-    if rng.random() < 0.9:
+    if rng.random() < 0.8:
         open_all(day)
     trade(day, rng.randint(0, 160), chance_of_end=rng.choice((0, 0.01, 0.05, 0.2)))
     if rng.random() < 0.7:
@@ -552,7 +552,7 @@ FILES = {
     swinging_file: 3,
     senseless_file: 3,
     empty_file: 1,
-    broken_file: 12,
+    broken_file: 24,
     torn_file: 5,
 }
 

@@ -111,7 +111,8 @@ class PaperExamples(unittest.TestCase):
             insert 2 contract 1 buy open limit 103 lots 2 day
             """
         self.assertEqual(model.settlement_price(state_after(trades), 1), 102)
-        quotes = OPEN_DAY.replace("reference 100", "reference 105") + "insert 1 contract 1 buy open limit 99 lots 1 day\n"
+        quotes = OPEN_DAY.replace("reference 100", "reference 105")
+        quotes += "insert 1 contract 1 buy open limit 99 lots 1 day\n"
         self.assertEqual(model.settlement_price(state_after(quotes), 1), 105)
         quotes += "insert 1 contract 1 sell open limit 103 lots 1 day\n"
         self.assertEqual(model.settlement_price(state_after(quotes), 1), 103)
