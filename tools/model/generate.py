@@ -449,7 +449,7 @@ def many_settlements_file(rng):
     contracts = pick(rng, {1: 5, 2: 2, 4: 1})
     day = Day(rng, [some_contract(rng) for _ in range(contracts)], [10**15] * 2)
     commands_a_day = rng.randint(contracts + 1, MOST_COMMANDS // (MOST_SETTLEMENTS + 2))
-    while day.state.settlements < MOST_SETTLEMENTS:
+    while day.state.settlements < MOST_SETTLEMENTS and not day.is_full():
         spare = commands_a_day - 2 * contracts - 1
         if spare > 0:
             open_all(day)
