@@ -1,3 +1,4 @@
 pub mod Tests
 pub mod Clauses
 pub mod Accepted
+pub mod Replay
