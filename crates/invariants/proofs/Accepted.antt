@@ -38,7 +38,6 @@ present number places e =
     let p = either-false (eqb number 0) (ltb (length places) number) e in
     let l = ltb-false (length places) number (p .1) in
     let n : number ≢ 0 = eqb-false number 0 (p .0) in
-
     omega arith
 
 -- ---- a step is either a refusal, which changes nothing, or what the command does
