@@ -1,19 +1,19 @@
 -- How many lots a sweep trades and how many trades it makes, and that a sorted queue need be read only as far as the first
 -- order that is no counterpart. Assumes nothing.
-use mathlib.Core.Bool.{Bool, true, false, not, _&&_, true≢false, false≢true}
+use mathlib.Core.Bool.{Bool, true, false, not, _&&_, true≢false}
 use mathlib.Core.List.{List, [], _∷_}
 use mathlib.Core.Logic.{_⊎_, inl, inr, ⊎-elim}
-use mathlib.Core.Path.{_≡_, refl, sym, ap, _∙_}
-use Prim.Native.Nat.{ℕ, zero, suc, _+_, _-_, _<_, _≤_, min}
+use mathlib.Core.Path.{_≡_, refl, sym, _∙_}
+use Prim.Native.Nat.{ℕ, _+_, _-_, _<_, _≤_, min}
 use native.Mathlib.Omega.{arith}
 use borrow.Author.Tests.{leb-false, lt-leb, eqb-false, ne-eqb, lt-ltb}
-use lib.Dec.{leb, ltb, eqb}
+use lib.Dec.{ltb}
 use lib.ListN.{length}
-use Rattle.laws.specs.Choice.{pick, pick-true, pick-false, true-both, both-false}
+use Rattle.laws.specs.Choice.{pick-true, pick-false, true-both, both-false}
 use Rattle.laws.specs.Sums.{sumOf}
 use Rattle.rules.specs.EarlyStop.{fillableFront, countTrades}
 use Rattle.rules.specs.Exchange.{lotsWhere, bestPrice}
-use Rattle.rules.specs.Matching.{meets, counterpart, fillable, tradeWith, Swept, sweep, tradedLots}
+use Rattle.rules.specs.Matching.{meets, counterpart, fillable, tradeWith, sweep, tradedLots}
 use Rattle.rules.specs.WellFormed.{sorted}
 use Rattle.rules.specs.declared.Order.{Order}
 use Rattle.rules.specs.declared.PriceCondition.{PriceCondition}
@@ -22,7 +22,7 @@ use Rattle.rules.specs.declared.Taker.{Taker}
 use Rattle.rules.specs.declared.Trade.{Trade}
 use Rattle.rules.proofs.Queue.{lots-nil, lots-met, lots-unmet}
 use Rattle.rules.proofs.Sorted.{Behind, AllBehind, behind-antisym, sorted-tail, sorted-behind, best-first}
-use Rattle.rules.proofs.Sweep.{Unmet, partFilled, filled, trade-lots, sweep-ind}
+use Rattle.rules.proofs.Sweep.{Unmet, trade-lots, sweep-ind}
 
 -- ---- turns of the early-stop readers
 

@@ -1,12 +1,12 @@
 -- What the order of a queue says of its prices: each stands at or behind the one before. Assumes nothing.
-use mathlib.Core.Bool.{Bool, true, false, _&&_, _||_, true≢false, false≢true}
+use mathlib.Core.Bool.{Bool, true, false, _&&_, _||_}
 use mathlib.Core.List.{List, [], _∷_}
-use mathlib.Core.Path.{_≡_, refl, sym, ap, _∙_}
-use Prim.Native.Nat.{ℕ, zero, suc, _≤_, _<_}
+use mathlib.Core.Path.{_≡_, refl}
+use Prim.Native.Nat.{ℕ, _≤_}
 use native.Mathlib.Omega.{arith}
 use borrow.Author.Tests.{ltb-true, ltb-false, eqb-true}
 use lib.Dec.{ltb, eqb}
-use Rattle.laws.specs.Choice.{pick, both-true}
+use Rattle.laws.specs.Choice.{both-true}
 use Rattle.rules.specs.Exchange.{worse, bestPrice}
 use Rattle.rules.specs.WellFormed.{ahead, aheadOfFirst, sorted}
 use Rattle.rules.specs.declared.Order.{Order}

@@ -5,6 +5,7 @@ pub mod WellFormed
 pub mod Command
 pub mod Matching
 pub mod EarlyStop
+pub mod Places
 pub mod Margin
 pub mod Settlement
 pub mod Answers
