@@ -4,3 +4,8 @@ pub mod Accepted
 pub mod Replay
 pub mod Carry
 pub mod Payments
+pub mod Numbers
+pub mod OneListing
+pub mod Phases
+pub mod Sorting
+pub mod Removal

@@ -24,7 +24,7 @@ use Rattle.rules.specs.declared.Holding.{Holding}
 use Rattle.rules.specs.declared.Command.the-variants.{Deposit, Withdraw}
 use Rattle.invariants.proofs.Accepted.{failed, present}
 use Rattle.invariants.proofs.Carry.{trades-carried}
-use Rattle.invariants.proofs.Clauses.{ListingOk, HoldingOk, WellFormed}
+use Rattle.invariants.proofs.Clauses.{ListingOk, HoldingOk, WellFormed, Counted}
 use Rattle.invariants.proofs.Replay.{map-set, lotsOf, lotsOnly, same-holdings, holdings-same, book-same, never-same}
 use Rattle.invariants.proofs.Tests.{at-set}
 
@@ -71,6 +71,10 @@ module _ (x : Exchange) (k : WellFormed x) (a : ℕ) (there : a < length (x .acc
         balance = λ b lb. at-set (λ (j : ℕ) (d : Account). natAbs (d .balance) ≤ maxBalance + x .settlements * maxDayProfit) (x .accounts) a _ noAccount there bound b (λ n. k .balance b (rw same-count at lb));
       }
 
+pub paid-counted : (x : Exchange) (a : ℕ) (balance : ℤ) → Counted x → Counted (paid x a balance)
+unfolding paid listingAt
+paid-counted x a balance n = record { contracts = n .contracts; trades = n .trades; queues = n .queues }
+
 -- ---- the two bounds
 
 -- a deposit passes code 16 only where the balance stays within 10^18
@@ -105,3 +109,11 @@ module _ (x : Exchange) (k : WellFormed x) (account amount : ℕ) where
       let f = failed (withdrawRefusals x account amount) (omega arith) e in
       let there = present account (x .accounts) (f .0) in
       paid-keeps x k (placeOf account) there _ (withdraw-bound (accountAt (x .accounts) (placeOf account) .balance) amount (charged x (placeOf account)) _ (k .balance _ there) (f .1 .1 .0))
+
+  pub deposit-counted : Counted x → Counted (carriedOut x (Deposit account amount) .exchange)
+  unfolding carriedOut deposited
+  deposit-counted n = paid-counted x (placeOf account) _ n
+
+  pub withdraw-counted : Counted x → Counted (carriedOut x (Withdraw account amount) .exchange)
+  unfolding carriedOut withdrawn
+  withdraw-counted n = paid-counted x (placeOf account) _ n
