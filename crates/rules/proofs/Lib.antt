@@ -3,3 +3,4 @@ pub mod Sweep
 pub mod Queue
 pub mod Sorted
 pub mod Fillable
+pub mod Prices
