@@ -9,3 +9,5 @@ pub mod OneListing
 pub mod Phases
 pub mod Sorting
 pub mod Removal
+pub mod Ticks
+pub mod Settle

@@ -110,6 +110,7 @@ module _ (x : Exchange) (k : WellFormed x) (account amount : ℕ) where
       let there = present account (x .accounts) (f .0) in
       paid-keeps x k (placeOf account) there _ (withdraw-bound (accountAt (x .accounts) (placeOf account) .balance) amount (charged x (placeOf account)) _ (k .balance _ there) (f .1 .1 .0))
 
+module _ (x : Exchange) (account amount : ℕ) where
   pub deposit-counted : Counted x → Counted (carriedOut x (Deposit account amount) .exchange)
   unfolding carriedOut deposited
   deposit-counted n = paid-counted x (placeOf account) _ n
