@@ -170,6 +170,10 @@ unfolding afterLegs
 afterLegs-append d [] ms = refl
 afterLegs-append d (l ∷ ls) ms = afterLegs-append (afterDayLeg d l) ls ms
 
+pub covered-nil : (d : Day) → AllCovered d []
+unfolding AllCovered
+covered-nil d = tt
+
 pub covered-append : (d : Day) (ls ms : List Leg) → AllCovered d ls → AllCovered (afterLegs d ls) ms → AllCovered d (ls ++ ms)
 unfolding AllCovered afterLegs
 covered-append d [] ms c e = e

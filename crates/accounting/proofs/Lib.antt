@@ -1,1 +1,3 @@
 pub mod DayProfit
+pub mod Booking
+pub mod Replay

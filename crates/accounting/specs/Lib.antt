@@ -1,1 +1,2 @@
 pub mod Article32
+pub mod Shape
