@@ -1,3 +1,6 @@
 pub mod DayProfit
+pub mod Trades
 pub mod Booking
 pub mod Replay
+pub mod Facts
+pub mod Identity

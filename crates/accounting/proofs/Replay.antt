@@ -12,7 +12,7 @@ use lib.ListN.{length, getD}
 use Rattle.laws.specs.Choice.{pick, both-true}
 use Rattle.rules.specs.Exchange.{Exchange, noAccount, noHolding, listingAt, accountAt, holdingAt}
 use Rattle.rules.specs.Holdings.{afterLeg, bookLeg, bookBuyer, bookSeller, bookTrade, bookTrades, legCovered, neverBelowZero, startOfDay, sameLots, sameHoldings}
-use Rattle.rules.specs.Settlement.{Leg, leg, Day, dayStart, buyLeg, sellLeg, only, legs, afterDayLeg, afterLegs, dayOf}
+use Rattle.rules.specs.Settlement.{Leg, leg, Day, dayStart, only, legs, afterDayLeg, afterLegs, dayOf}
 use Rattle.rules.specs.WellFormed.{replays}
 use Rattle.rules.specs.declared.Account.{Account}
 use Rattle.rules.specs.declared.Holding.{Holding}
@@ -21,13 +21,7 @@ use Rattle.accounting.specs.Article32.{lotsOf, Covered, AllCovered}
 use Rattle.accounting.specs.Shape.{Placed}
 use Rattle.accounting.proofs.Booking.{booked-here, booked-elsewhere, booked-or-none, booked-placed, start-holding, start-placed}
 use Rattle.accounting.proofs.DayProfit.{lots-opened, lots-other, lots-start, afterLegs-append, covered-nil, covered-append}
-
--- a trade's two legs, as account a in contract c sees them
-abbrev boughtBy : ℕ → ℕ → Trade → List Leg
-boughtBy a c t = only (eqb (t .contract) c && eqb (t .buyer) a) (buyLeg t)
-
-abbrev soldBy : ℕ → ℕ → Trade → List Leg
-soldBy a c t = only (eqb (t .contract) c && eqb (t .seller) a) (sellLeg t)
+use Rattle.accounting.proofs.Trades.{boughtBy, soldBy}
 
 -- ---- how the lots of a holding and the open lots of a day compare, side by side: equal, or no more
 
