@@ -15,6 +15,7 @@ use Rattle.rules.specs.Exchange.{Exchange, Listing, noListing, listingAt, holdi
 use Rattle.rules.specs.WellFormed.{contractInRange, sorted, uncrossed, orderInRange, listingInRange, tradeInRange, replays, holdingInRange, holdingsInRange, balanceInRange, countersInRange, usedOnce, allNumbers, wellFormed}
 use Rattle.rules.specs.declared.Contract.{Contract}
 use Rattle.rules.specs.declared.Holding.{Holding}
+use Rattle.rules.specs.declared.Order.{Order}
 use Rattle.rules.specs.declared.Trade.{Trade}
 use Rattle.accounting.specs.Money.{AllKnown}
 
@@ -44,6 +45,13 @@ allowed-price c p h =
     let q = both-true (onTick (c .tick) p) (within (dayLow c) (dayHigh c) p) h in
     let r = leb-true p (dayHigh c) (both-true (leb (dayLow c) p) (leb p (dayHigh c)) (q .1) .1) in
     omega (arith, r, div-add-mod' maxPrice (c .tick))
+
+pub order-price : (accounts next : ℕ) (c : Contract) (o : Order) → orderInRange accounts next c o ≡ true → o .price ≤ maxPrice
+unfolding orderInRange
+order-price accounts next c o h =
+    allowed-price c (o .price)
+    (passed (within 1 maxLots (o .lots))
+    (ltb (o .account) accounts ∷ allowedToday c (o .price) ∷ leb 1 (o .number) ∷ ltb (o .number) next ∷ leb (o .close) 1 ∷ []) h .1 .1 .0)
 
 -- ---- a contract's terms
 

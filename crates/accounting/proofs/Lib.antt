@@ -4,3 +4,6 @@ pub mod Booking
 pub mod Replay
 pub mod Facts
 pub mod Identity
+pub mod Reach
+pub mod PriceBound
+pub mod ProfitBound
