@@ -11,3 +11,4 @@ pub mod Sorting
 pub mod Removal
 pub mod Ticks
 pub mod Settle
+pub mod Legs

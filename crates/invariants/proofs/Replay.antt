@@ -1,5 +1,5 @@
 -- The replay of a day's trades depends on lots alone: two lists of accounts with the same lots book the same trades to the same
--- lots, and booking leaves starting lots and balances as they were. Assumes nothing.
+-- lots. Assumes nothing.
 use mathlib.Core.Bool.{Bool, true, false, _&&_, false≢true}
 use mathlib.Core.List.{List, [], _∷_, _++_, map}
 use mathlib.Core.Path.{_≡_, refl, sym, ap, ap₂, subst, _∙_}
@@ -130,82 +130,3 @@ module _ (as′ bs : List Account) (same : lotsOnly as′ ≡ lotsOnly bs) (ts :
 
   pub never-same : neverBelowZero as′ ts ≡ neverBelowZero bs ts
   never-same = sym (never-lots as′ ts) ∙ ap (λ (l : List Account). neverBelowZero l ts) same ∙ never-lots bs ts
-
--- ---- one list of trades after another
-
-pub book-append : (accounts : List Account) (ts us : List Trade) → bookTrades accounts (ts ++ us) ≡ bookTrades (bookTrades accounts ts) us
-unfolding bookTrades
-book-append accounts [] us = refl
-book-append accounts (t ∷ ts) us = book-append (bookTrade accounts t) ts us
-
-pub never-append :
-    (accounts : List Account) (ts us : List Trade) → neverBelowZero accounts ts ≡ true → neverBelowZero (bookTrades accounts ts) us ≡ true →
-    neverBelowZero accounts (ts ++ us) ≡ true
-unfolding bookTrades neverBelowZero
-never-append accounts [] us p q = q
-never-append accounts (t ∷ ts) us p q =
-    let b : Bool = legCovered accounts (t .buyer) (t .contract) false (t .buyclose) (t .lots) in
-    let s : Bool = legCovered (bookBuyer accounts t) (t .seller) (t .contract) true (t .sellclose) (t .lots) in
-    let r = both-true (b && s) (neverBelowZero (bookTrade accounts t) ts) p in
-    true-both (b && s) (neverBelowZero (bookTrade accounts t) (ts ++ us)) (r .0) (never-append (bookTrade accounts t) ts us (r .1) q)
-
--- ---- what booking leaves as it was
-
--- a part of an account that no change of its holdings by a leg alters
-module _ {B : Type 0} (f : Account → B)
-    (kept : (a : Account) (c : ℕ) (sell : Bool) (close lots : ℕ) → f (withHolding a c (afterLeg (getD (a .holdings) c noHolding) sell close lots)) ≡ f a) where
-  pub leg-keeps : (accounts : List Account) (a c : ℕ) (sell : Bool) (close lots : ℕ) → map f (bookLeg accounts a c sell close lots) ≡ map f accounts
-  unfolding bookLeg holdingAt accountAt
-  leg-keeps accounts a c sell close lots = map-set-same f accounts a _ noAccount (kept (accountAt accounts a) c sell close lots)
-
-  pub booking-keeps : (accounts : List Account) (ts : List Trade) → map f (bookTrades accounts ts) ≡ map f accounts
-  unfolding bookTrades bookTrade
-  booking-keeps accounts [] = refl
-  booking-keeps accounts (t ∷ ts) =
-      booking-keeps (bookTrade accounts t) ts
-      ∙ leg-keeps (bookBuyer accounts t) (t .seller) (t .contract) true (t .sellclose) (t .lots)
-      ∙ leg-keeps accounts (t .buyer) (t .contract) false (t .buyclose) (t .lots)
-
-start-kept : (h : Holding) (sell : Bool) (close lots : ℕ) → startHolding (afterLeg h sell close lots) ≡ startHolding h
-unfolding afterLeg
-start-kept h sell close lots = go sell (eqb close 0)
-  where
-    go : (s o : Bool) → startHolding (pick s (pick o (withShort h (h .short + lots)) (withLong h (h .long - lots))) (pick o (withLong h (h .long + lots)) (withShort h (h .short - lots)))) ≡ startHolding h
-    go false false = refl
-    go false true = refl
-    go true false = refl
-    go true true = refl
-
-pub start-at : (accounts : List Account) (a c : ℕ) → holdingAt (startOfDay accounts) a c ≡ startHolding (holdingAt accounts a c)
-unfolding startOfDay holdingAt accountAt
-start-at accounts a c = rw (List·getD-map startAccount accounts a noAccount) (List·getD-map startHolding (accountAt accounts a .holdings) c noHolding)
-
-module _ (accounts : List Account) (ts : List Trade) where
-  pub start-booked : startOfDay (bookTrades accounts ts) ≡ startOfDay accounts
-  unfolding startOfDay
-  start-booked =
-      booking-keeps startAccount
-      (λ a c sell close lots. ap (λ (hs : List Holding). record { balance = a .balance; holdings = hs }) (map-set-same startHolding (a .holdings) c _ noHolding (start-kept (getD (a .holdings) c noHolding) sell close lots)))
-      accounts ts
-
-  pub length-booked : length (bookTrades accounts ts) ≡ length accounts
-  unfolding startOfDay
-  length-booked = sym (length-map (bookTrades accounts ts) startAccount) ∙ ap length start-booked ∙ length-map accounts startAccount
-
-  pub balance-booked : (a : ℕ) → accountAt (bookTrades accounts ts) a .balance ≡ accountAt accounts a .balance
-  unfolding accountAt
-  balance-booked a =
-      sym (List·getD-map (λ (b : Account). b .balance) (bookTrades accounts ts) a noAccount)
-      ∙ ap (λ (l : List ℤ). getD l a (pos 0)) (booking-keeps (λ (b : Account). b .balance) (λ b c sell close lots. refl) accounts ts)
-      ∙ List·getD-map (λ (b : Account). b .balance) accounts a noAccount
-
-  pub places-booked : (a : ℕ) → length (accountAt (bookTrades accounts ts) a .holdings) ≡ length (accountAt accounts a .holdings)
-  unfolding accountAt
-  places-booked a =
-      sym (List·getD-map (λ (b : Account). length (b .holdings)) (bookTrades accounts ts) a noAccount)
-      ∙ ap (λ (l : List ℕ). getD l a 0) (booking-keeps (λ (b : Account). length (b .holdings)) (λ b c sell close lots. length-set (b .holdings) c _) accounts ts)
-      ∙ List·getD-map (λ (b : Account). length (b .holdings)) accounts a noAccount
-
-  -- the starting lots of a holding
-  pub start-booked-at : (a c : ℕ) → startHolding (holdingAt (bookTrades accounts ts) a c) ≡ startHolding (holdingAt accounts a c)
-  start-booked-at a c = sym (start-at (bookTrades accounts ts) a c) ∙ ap (λ (l : List Account). holdingAt l a c) start-booked ∙ start-at accounts a c
