@@ -12,3 +12,4 @@ pub mod Removal
 pub mod Ticks
 pub mod Settle
 pub mod Legs
+pub mod SweptQueue
