@@ -13,7 +13,7 @@ use Rattle.laws.specs.Choice.{pick, all, allOf, all-at, all-true, allOf-at, all
 use Rattle.rules.specs.Bounds.{within, termsInRange, tickMultiple, allowedToday, numbersEnd, maxContracts, maxTrades, maxResting, maxLots, maxSettlements, maxBalance, maxDayProfit}
 use Rattle.rules.specs.Exchange.{Exchange, Listing, listingAt, accountAt, holdingAt, own, restingOpens, restingCloses, noListing, noAccount}
 use Rattle.rules.specs.Holdings.{bookTrades, neverBelowZero, startOfDay, sameHoldings}
-use Rattle.rules.specs.WellFormed.{contractInRange, countersInRange, sorted, uncrossed, orderInRange, listingInRange, allNumbers, usedOnce, tradeInRange, replays, holdingInRange, holdingsInRange, balanceInRange, wellFormed}
+use Rattle.rules.specs.WellFormed.{contractInRange, countersInRange, sorted, uncrossed, orderInRange, listingInRange, allNumbers, usedOnce, tradeInRange, replays, holdingInRange, holdingsInRange, balanceInRange, wellFormedContents}
 use Rattle.rules.specs.declared.Account.{Account}
 use Rattle.rules.specs.declared.Contract.{Contract}
 use Rattle.rules.specs.declared.Holding.{Holding}
@@ -250,8 +250,8 @@ module _ (x : Exchange) where
   abbrev replayTests : List Bool
   replayTests = sameHoldings (bookTrades (startOfDay (x .accounts)) (x .trades)) (x .accounts) ∷ []
 
-  pub well-formed : wellFormed x ≡ true → WellFormed x
-  unfolding wellFormed countersInRange replays holdingsInRange balanceInRange listingAt accountAt
+  pub well-formed : wellFormedContents x ≡ true → WellFormed x
+  unfolding wellFormedContents countersInRange replays holdingsInRange balanceInRange listingAt accountAt
   well-formed h =
       let p = passed (countersInRange x) stateTests h in
       let q = passed (leb 1 (x .next)) (leb (x .next) numbersEnd ∷ leb (x .settlements) maxSettlements ∷ []) (p .0) in
@@ -269,8 +269,8 @@ module _ (x : Exchange) where
         balance = λ a l. leb-true _ _ (allOf-at (balanceInRange (x .settlements)) (x .accounts) a noAccount (p .1 .1 .1 .1 .1 .1) l);
       }
 
-  pub well-formed-test : WellFormed x → wellFormed x ≡ true
-  unfolding wellFormed countersInRange replays holdingsInRange balanceInRange listingAt accountAt
+  pub well-formed-test : WellFormed x → wellFormedContents x ≡ true
+  unfolding wellFormedContents countersInRange replays holdingsInRange balanceInRange listingAt accountAt
   well-formed-test k =
       join (countersInRange x) stateTests (
         join (leb 1 (x .next)) (leb (x .next) numbersEnd ∷ leb (x .settlements) maxSettlements ∷ []) (le-leb _ _ (k .next-low), (le-leb _ _ (k .next-high), le-leb _ _ (k .settlements))),
@@ -292,7 +292,7 @@ module _ (x : Exchange) where
         ),
       )
 
--- ---- the counts, which `countsInRange` of Memory.antt tests: not part of `wellFormed`
+-- ---- the counts, which `countsInRange` of Memory.antt tests: not part of `wellFormedContents`
 
 pub record Counted (x : Exchange) : Type 0 where
   pub contracts : length (x .listings) ≤ maxContracts

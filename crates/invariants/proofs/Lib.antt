@@ -13,3 +13,4 @@ pub mod Ticks
 pub mod Settle
 pub mod Legs
 pub mod SweptQueue
+pub mod SweptHoldings

@@ -12,7 +12,7 @@ use Rattle.laws.specs.Choice.{both-false}
 use Rattle.rules.specs.Answers.{codeOf, refusals, phaseRefusals, changeListed}
 use Rattle.rules.specs.Bounds.{termsInRange, tickMultiple, allowedToday, dayLow, dayHigh}
 use Rattle.rules.specs.Exchange.{Exchange, Listing, listingAt, placeOf, own}
-use Rattle.rules.specs.Step.{withContract, withPhase, rephased, carriedOut}
+use Rattle.rules.specs.Step.{withContract, withPhase, phaseChanged, carriedOut}
 use Rattle.rules.specs.WellFormed.{contractInRange}
 use Rattle.rules.specs.declared.Contract.{Contract}
 use Rattle.rules.specs.declared.Command.the-variants.{Phase}
@@ -66,7 +66,7 @@ module _ (x : Exchange) (contract phase : ℕ) (e : codeOf x (Phase contract pha
       (present contract (x .listings) (f .0), known _ phase (not-false _ (f .1 .0)))
 
   pub phase-keeps : WellFormed x → WellFormed (carriedOut x (Phase contract phase) .exchange)
-  unfolding carriedOut rephased usesIn
+  unfolding carriedOut phaseChanged usesIn
   phase-keeps k =
       relisted-keeps x k (placeOf contract) (passes .0) _
       (listing-phase _ _ _ phase (passes .1) (k .listing (placeOf contract) (passes .0)))
@@ -75,5 +75,5 @@ module _ (x : Exchange) (contract phase : ℕ) (e : codeOf x (Phase contract pha
       (λ n. le-refl _)
 
   pub phase-counted : Counted x → Counted (carriedOut x (Phase contract phase) .exchange)
-  unfolding carriedOut rephased
+  unfolding carriedOut phaseChanged
   phase-counted n = relisted-counted x (placeOf contract) (passes .0) _ n (λ sell. le-refl _)
