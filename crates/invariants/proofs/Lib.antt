@@ -14,3 +14,4 @@ pub mod Settle
 pub mod Legs
 pub mod SweptQueue
 pub mod SweptHoldings
+pub mod SweptTrades
