@@ -15,3 +15,4 @@ pub mod Legs
 pub mod SweptQueue
 pub mod SweptHoldings
 pub mod SweptTrades
+pub mod InsertAccepted
