@@ -16,3 +16,4 @@ pub mod SweptQueue
 pub mod SweptHoldings
 pub mod SweptTrades
 pub mod InsertAccepted
+pub mod InsertQueues

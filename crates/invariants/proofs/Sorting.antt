@@ -10,6 +10,7 @@ use native.Mathlib.Omega.{arith}
 use borrow.Author.Tests.{eqb-true, eq-eqb, ltb-true, ltb-false, lt-ltb}
 use lib.Dec.{leb, eqb, ltb}
 use Rattle.laws.specs.Choice.{pick, allOf, allOf-imp, both-true, true-both, true-either, either-true}
+use Rattle.laws.specs.Sums.{sumOf}
 use Rattle.rules.specs.Exchange.{worse}
 use Rattle.rules.specs.Matching.{restIn}
 use Rattle.rules.specs.WellFormed.{ahead, aheadOfFirst, sorted, uncrossed}
@@ -123,6 +124,15 @@ rest-sorted sell o (p ∷ ps) s n = go (worse sell (p .price) (o .price)) refl (
         ahead-sorted sell p (restIn sell o ps)
         (rest-all (ahead sell p) sell o ps (is-ahead sell p o (not-worse sell p o w (ltb-true (p .number) (o .number) (q .0)))) (sorted-ahead sell p ps s)) ih
 
+pub rest-sum : (f : Order → ℕ) (sell : Bool) (o : Order) (os : List Order) → sumOf f (restIn sell o os) ≡ f o + sumOf f os
+unfolding restIn sumOf
+rest-sum f sell o [] = refl
+rest-sum f sell o (p ∷ ps) = go (worse sell (p .price) (o .price)) (rest-sum f sell o ps)
+  where
+    go : (b : Bool) → sumOf f (restIn sell o ps) ≡ f o + sumOf f ps → sumOf f (pick b (o ∷ p ∷ ps) (p ∷ restIn sell o ps)) ≡ f o + (f p + sumOf f ps)
+    go true ih = refl
+    go false ih = omega arith
+
 -- ---- uncrossed, as a fact of every buy and every sell
 
 abbrev pub below : Order → Order → Bool
@@ -143,6 +153,19 @@ unfolding allOf
 above-all price s ss l h =
     true-both (ltb price (s .price)) (allOf (λ r. ltb price (r .price)) ss) (lt-ltb price (s .price) l)
     (allOf-imp (ahead true s) (λ r. ltb price (r .price)) ss (λ r e. lt-ltb price (r .price) (omega (arith, ahead-price true s r (ahead-is true s r e)))) (sorted-ahead true s ss h))
+
+-- orders opposite to a side, strictly beyond a price of it: none of them meets a limit there
+abbrev pub beyond : Bool → ℕ → Order → Bool
+beyond sell price o = pick sell (ltb (o .price) price) (ltb price (o .price))
+
+-- where the first is, all are
+pub beyond-all : (sell : Bool) (price : ℕ) (o : Order) (os : List Order) → beyond sell price o ≡ true → sorted (not sell) (o ∷ os) ≡ true → allOf (beyond sell price) (o ∷ os) ≡ true
+unfolding allOf
+beyond-all false price o os e h = above-all price o os (ltb-true price (o .price) e) h
+beyond-all true price o os e h =
+    true-both (ltb (o .price) price) (allOf (λ r. ltb (r .price) price) os) e
+    (allOf-imp (ahead false o) (λ r. ltb (r .price) price) os
+    (λ r a. lt-ltb (r .price) price (omega (arith, ahead-price false o r (ahead-is false o r a), ltb-true (o .price) price e))) (sorted-ahead false o os h))
 
 none-above : (buys : List Order) → allOf (λ b. allOf (below b) []) buys ≡ true
 unfolding allOf
@@ -165,3 +188,25 @@ apart-uncrossed [] sells h = refl
 apart-uncrossed (b ∷ bs) [] h = refl
 apart-uncrossed (b ∷ bs) (s ∷ ss) h =
     both-true (below b s) (allOf (below b) ss) (both-true (below b s && allOf (below b) ss) (allOf (λ r. allOf (below r) (s ∷ ss)) bs) h .0) .0
+
+-- ---- the same by side: a side's own queue and the opposite one
+
+abbrev pub apartBy : Bool → List Order → List Order → Bool
+apartBy sell own opposite = apart (pick sell opposite own) (pick sell own opposite)
+
+pub allOf-and : {A : Type 0} (p q : A → Bool) (l : List A) → allOf p l ≡ true → allOf q l ≡ true → allOf (λ x. p x && q x) l ≡ true
+unfolding allOf
+allOf-and p q [] h k = refl
+allOf-and p q (x ∷ xs) h k =
+    let a = both-true (p x) (allOf p xs) h in
+    let b = both-true (q x) (allOf q xs) k in
+    true-both (p x && q x) (allOf (λ y. p y && q y) xs) (true-both (p x) (q x) (a .0) (b .0)) (allOf-and p q xs (a .1) (b .1))
+
+-- an order that comes to rest at a price which all opposite orders are beyond
+pub apart-rested : (sell : Bool) (o : Order) (own opposite : List Order) → allOf (beyond sell (o .price)) opposite ≡ true → apartBy sell own opposite ≡ true → apartBy sell (restIn sell o own) opposite ≡ true
+unfolding apart
+apart-rested false o own opposite e h = rest-all (λ b. allOf (below b) opposite) false o own e h
+apart-rested true o own opposite e h =
+    allOf-imp (λ b. ltb (b .price) (o .price) && allOf (below b) own) (λ b. allOf (below b) (restIn true o own)) opposite
+    (λ b k. let p = both-true (ltb (b .price) (o .price)) (allOf (below b) own) k in rest-all (below b) true o own (p .0) (p .1))
+    (allOf-and (λ b. ltb (b .price) (o .price)) (λ b. allOf (below b) own) opposite e h)
