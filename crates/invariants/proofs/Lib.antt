@@ -17,3 +17,4 @@ pub mod SweptHoldings
 pub mod SweptTrades
 pub mod InsertAccepted
 pub mod InsertQueues
+pub mod InsertListing
