@@ -18,3 +18,4 @@ pub mod SweptTrades
 pub mod InsertAccepted
 pub mod InsertQueues
 pub mod InsertListing
+pub mod Insert

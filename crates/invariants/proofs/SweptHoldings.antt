@@ -90,6 +90,11 @@ fewer-none o os close a = omega (arith, resting-cons close a o os)
 fewer-same : (os : List Order) → Fewer os os
 fewer-same os close a = omega arith
 
+-- a whole sweep: no trade closes what is not held, and limits and coverage are kept with what is left of the lots
+pub record SweptKept (accounts limit price : ℕ) (t : Taker) (own : List Order) (l : List Account) (left : ℕ) (s : Swept) : Type 0 where
+  pub never : neverBelowZero l (s .trades) ≡ true
+  pub kept : KeptBy (t .sell) accounts limit (t .contract) (bookTrades l (s .trades)) (remainder t price (left - tradedLots (s .trades)) ∷ own) (s .rest)
+
 module _ (accounts limit price next : ℕ) (contract : Contract) (t : Taker) (own : List Order) (here : t .account < accounts) (mark : t .close ≤ 1) where
   abbrev test : Order → Bool
   test = orderInRange accounts next contract
@@ -101,10 +106,6 @@ module _ (accounts limit price next : ℕ) (contract : Contract) (t : Taker) (ow
       let k = order-ok accounts next contract o (both-true (test o) (allOf test os) h .0) in
       turn-by accounts limit price (t .account) (t .contract) (t .close) (t .number) (t .best) (t .condition) own l here mark (t .sell) left last o os (k .account) (k .close)
 
-  pub record SweptKept (l : List Account) (left : ℕ) (s : Swept) : Type 0 where
-    pub never : neverBelowZero l (s .trades) ≡ true
-    pub kept : KeptBy (t .sell) accounts limit (t .contract) (bookTrades l (s .trades)) (remainder t price (left - tradedLots (s .trades)) ∷ own) (s .rest)
-
   module _ (l : List Account) (left last : ℕ) (o : Order) (os : List Order) (q : TradeKept accounts limit t price own l left last o os) where
     -- the trade in front of those that are covered behind it
     never-on : (ts : List Trade) → neverBelowZero (bookTrade l (tradeWith t o left last)) ts ≡ true → neverBelowZero l (tradeWith t o left last ∷ ts) ≡ true
@@ -115,7 +116,7 @@ module _ (accounts limit price next : ℕ) (contract : Contract) (t : Taker) (ow
         ∷ neverBelowZero (bookTrade l (tradeWith t o left last)) ts ∷ [])
         (q .buy, (q .sell, h))
 
-    part-kept : left < o .lots → SweptKept l left (partFilled t o left last os)
+    part-kept : left < o .lots → SweptKept accounts limit price t own l left (partFilled t o left last os)
     unfolding bookTrades
     part-kept short =
         let m : min left (o .lots) ≡ left = omega arith in
@@ -123,8 +124,8 @@ module _ (accounts limit price next : ℕ) (contract : Contract) (t : Taker) (ow
         record { never = never-on [] (never-nil (bookTrade l (tradeWith t o left last))); kept = rw e (rw m at (q .kept)) }
 
     full-kept : (s : Swept) → o .lots ≤ left →
-        (KeptBy (t .sell) accounts limit (t .contract) (bookTrade l (tradeWith t o left last)) (remainder t price (left - o .lots) ∷ own) os → SweptKept (bookTrade l (tradeWith t o left last)) (left - o .lots) s) →
-        SweptKept l left (filled t o left last s)
+        (KeptBy (t .sell) accounts limit (t .contract) (bookTrade l (tradeWith t o left last)) (remainder t price (left - o .lots) ∷ own) os → SweptKept accounts limit price t own (bookTrade l (tradeWith t o left last)) (left - o .lots) s) →
+        SweptKept accounts limit price t own l left (filled t o left last s)
     unfolding bookTrades
     full-kept s enough on =
         let m : min left (o .lots) ≡ o .lots = omega arith in
@@ -136,11 +137,11 @@ module _ (accounts limit price next : ℕ) (contract : Contract) (t : Taker) (ow
         record { never = never-on (s .trades) (r .never); kept = rw e (r .kept) }
 
   pub swept-kept : (left last : ℕ) (os : List Order) (l : List Account) → allOf test os ≡ true →
-      KeptBy (t .sell) accounts limit (t .contract) l (remainder t price left ∷ own) os → SweptKept l left (sweep t left last os)
+      KeptBy (t .sell) accounts limit (t .contract) l (remainder t price left ∷ own) os → SweptKept accounts limit price t own l left (sweep t left last os)
   unfolding allOf bookTrades
   swept-kept =
       sweep-ind t
-      (λ left last os s. (l : List Account) → allOf test os ≡ true → KeptBy (t .sell) accounts limit (t .contract) l (remainder t price left ∷ own) os → SweptKept l left s)
+      (λ left last os s. (l : List Account) → allOf test os ≡ true → KeptBy (t .sell) accounts limit (t .contract) l (remainder t price left ∷ own) os → SweptKept accounts limit price t own l left s)
       (λ left last os w l h k.
       let e : left - tradedLots [] ≡ left = omega (arith, traded-nil) in
       record { never = never-nil l; kept = rw e k })
