@@ -31,7 +31,7 @@ use Rattle.invariants.proofs.Carry.{Allows, orders-carried, trades-carr
 use Rattle.invariants.proofs.Clauses.{ListingOk, held, HoldingOk, WellFormed, Counted}
 use Rattle.invariants.proofs.InsertAccepted.{Passes, passes, itsHolding}
 use Rattle.invariants.proofs.InsertListing.{allows-last, mark-low, contractOf, swept, rested, listing-ok, sides, last-on-tick, contractAfter, rested-left, listing-after}
-use Rattle.invariants.proofs.InsertQueues.{SidesOk, rested-sum, rested-length-one, rested-fewer}
+use Rattle.invariants.proofs.InsertQueues.{SidesOk, rested-sum, rested-length, rested-length-one, rested-fewer}
 use Rattle.invariants.proofs.Legs.{resting-cons, KeptAt, Kept}
 use Rattle.invariants.proofs.Numbers.{occurs, uses, usesIn, once-count, once-changed, next-unused}
 use Rattle.invariants.proofs.SweptHoldings.{KeptBy, SweptKept, swept-kept, fewer-by}
@@ -245,3 +245,65 @@ module _ (x : Exchange) (k : WellFormed x) (o : NewOrder) (p : Passes x o) where
         holding = λ a c la lc. holdings-after a c (omega (arith, same-accounts)) (omega (arith, same-listings));
         balance = λ a l. rw (booked-balance (x .accounts) (lots-swept .trades) a) (k .balance a (omega (arith, same-accounts)));
       }
+
+  -- ---- the counts
+
+  filled : o .lots ≤ fillableLots x o → tradedLots (lots-swept .trades) ≡ o .lots
+  unfolding takerOf fillableLots
+  filled h = omega (arith, swept-fillable (takerOf x o) (o .lots) (contractOf x k o p .last) others (sides x k o p .others-sorted) refl)
+
+  -- code 13: with 64 on its own side nothing rests
+  none-rests : maxResting ≤ length mine → rested x k o p ≡ 0
+  none-rests full = go (isGoodForDay (o .time)) refl
+    where
+      go : (b : Bool) → isGoodForDay (o .time) ≡ b → rested x k o p ≡ 0
+      go true e = omega (arith, rested-left x k o p, filled (p .room e full))
+      go false e = rw e (unfold restedLots in refl)
+
+  mine-length : length mine ≤ maxResting → length (restLots (takerOf x o) (limitOf (o .condition)) (rested x k o p) mine) ≤ maxResting
+  mine-length h = go (leb maxResting (length mine)) refl
+    where
+      go : (b : Bool) → leb maxResting (length mine) ≡ b → length (restLots (takerOf x o) (limitOf (o .condition)) (rested x k o p) mine) ≤ maxResting
+      go true e = omega (arith, rested-length (takerOf x o) (limitOf (o .condition)) (rested x k o p) mine, none-rests (leb-true _ _ e))
+      go false e = omega (arith, rested-length-one (takerOf x o) (limitOf (o .condition)) (rested x k o p) mine, leb-false maxResting (length mine) e)
+
+  others-length : length (lots-swept .rest) ≤ length others
+  others-length = Rest.rest-length (takerOf x o) (o .lots) (contractOf x k o p .last) others
+
+  queue-after : ((sell : Bool) → length (own sell (listingOf x o)) ≤ maxResting) → (sell : Bool) → length (own sell after) ≤ maxResting
+  unfolding listingAfter enteredOf enter
+  queue-after h = by (o .sell) _ _ (mine-length (h (o .sell))) (omega (arith, others-length, either (o .sell)))
+    where
+      by : (s : Bool) (us vs : List Order) → length us ≤ maxResting → length vs ≤ maxResting → (sell : Bool) → length (pick sell (pick s us vs) (pick s vs us)) ≤ maxResting
+      by true us vs p q true = p
+      by true us vs p q false = q
+      by false us vs p q true = q
+      by false us vs p q false = p
+
+      either : (s : Bool) → length (opposite s (listingOf x o)) ≤ maxResting
+      either true = h false
+      either false = h true
+
+  -- code 12
+  trades-length : length (x .trades ++ lots-swept .trades) ≤ maxTrades
+  unfolding tradesNeeded
+  trades-length = rw length-append (p .trades)
+
+  pub inserted-counted : Counted x → Counted afterwards
+  unfolding exchangeAfter enteredOf enter listingAt listingOf
+  inserted-counted n =
+      record {
+        contracts = omega (arith, same-listings, n .contracts);
+        trades = trades-length;
+        queues = λ c sell l. at-set (λ (j : ℕ) (m : Listing). length (own sell m) ≤ maxResting) (x .listings) place after noListing (p .contract)
+            (queue-after (λ s. n .queues place s (p .contract)) sell) c (λ q. n .queues c sell (omega (arith, same-listings)));
+      }
+
+module _ (x : Exchange) (o : NewOrder) (e : codeOf x (Insert o) ≡ 0) (k : WellFormed x) where
+  pub insert-keeps : WellFormed (carriedOut x (Insert o) .exchange)
+  unfolding carriedOut inserted
+  insert-keeps = inserted-keeps x k o (passes x o e)
+
+  pub insert-counted : Counted x → Counted (carriedOut x (Insert o) .exchange)
+  unfolding carriedOut inserted
+  insert-counted = inserted-counted x k o (passes x o e)

@@ -19,3 +19,4 @@ pub mod InsertAccepted
 pub mod InsertQueues
 pub mod InsertListing
 pub mod Insert
+pub mod Keeps
