@@ -7,3 +7,4 @@ pub mod Identity
 pub mod Reach
 pub mod PriceBound
 pub mod ProfitBound
+pub mod BooksLaws

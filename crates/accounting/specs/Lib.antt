@@ -1,3 +1,4 @@
 pub mod Article32
 pub mod Shape
 pub mod Money
+pub mod Books
