@@ -171,6 +171,12 @@ brought-after contracts s (pays u z) a ts = refl
 brought-after contracts s (makes us) a ts = refl
 brought-after contracts s (settles price) a ts = refl
 
+multiplier-after : (contracts : ℕ) (s : Books) (m : Move) (c : ℕ) → after contracts s m .multiplier c ≡ s .multiplier c
+unfolding after
+multiplier-after contracts s (pays u z) c = refl
+multiplier-after contracts s (makes us) c = refl
+multiplier-after contracts s (settles price) c = refl
+
 -- ---- any list of moves
 
 regroup : (x p q b e : ℤ) → x +ℤ (p +ℤ b) +ℤ (q +ℤ e) ≡ x +ℤ (p +ℤ q +ℤ (b +ℤ e))
@@ -209,3 +215,30 @@ module _ (accounts contracts : ℕ) where
       (sym (same-total accounts contracts (after contracts s m) s₁ e) ∙ total-after accounts contracts s known h m)
       ∙ +ℤ-assoc (sumTo accounts (s .balance)) (sumTo accounts (λ a. paidBy a m)) (sumTo accounts (λ a. paid a ms))
       ∙ ap (λ (z : ℤ). sumTo accounts (s .balance) +ℤ z) (sym (sumTo-add accounts (λ a. paidBy a m) (λ a. paid a ms)))
+
+  pub reached-multiplier : {s s′ : Books} {ms : List Move} → Reached accounts contracts s ms s′ → (c : ℕ) → c < contracts → s′ .multiplier c ≡ s .multiplier c
+  reached-multiplier (stay {s = s}) c k = refl
+  reached-multiplier (move {s = s} {s₁ = s₁} {m = m} {ms = ms} known e r) c k =
+      reached-multiplier r c k ∙ sym (e .multiplier c k) ∙ multiplier-after contracts s m c
+
+-- ---- right after a settlement, and at an opening: without trades today the balance is the cash with the holdings as marked
+
+put-back : (m r : ℕ) (n : ℤ) → pos 0 ≡ pos m *ℤ (pos 0 -ℤ pos r *ℤ n) +ℤ pos m *ℤ (pos r *ℤ n)
+put-back m r n = rw (split n) (simp ring (d-eq _ _ _ _ (omega arith)))
+
+pub balance-is : (contracts : ℕ) (s : Books) (a : ℕ) → s .trades ≡ [] →
+    s .balance a ≡ cash contracts s a +ℤ sumTo contracts (λ c. pos (s .multiplier c) *ℤ (pos (s .reference c) *ℤ s .start a c))
+unfolding cash
+balance-is contracts s a e =
+    sym (+ℤ-idr (s .balance a))
+    ∙ ap (λ (z : ℤ). s .balance a +ℤ z)
+    (sym (sumTo-zero contracts)
+    ∙ sumTo-ext contracts _ (λ c. off c +ℤ on c) (λ c l. rw (e, proceeds-nil a c) (put-back (s .multiplier c) (s .reference c) (s .start a c)))
+    ∙ sumTo-add contracts off on)
+    ∙ sym (+ℤ-assoc (s .balance a) (sumTo contracts off) (sumTo contracts on))
+  where
+    off : ℕ → ℤ
+    off c = pos (s .multiplier c) *ℤ (proceeds a c (s .trades) -ℤ pos (s .reference c) *ℤ s .start a c)
+
+    on : ℕ → ℤ
+    on c = pos (s .multiplier c) *ℤ (pos (s .reference c) *ℤ s .start a c)

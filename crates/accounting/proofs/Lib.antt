@@ -8,3 +8,6 @@ pub mod Reach
 pub mod PriceBound
 pub mod ProfitBound
 pub mod BooksLaws
+pub mod StepMoves
+pub mod StepShape
+pub mod Condition3

@@ -2,3 +2,4 @@ pub mod Article32
 pub mod Shape
 pub mod Money
 pub mod Books
+pub mod Moves
