@@ -1,6 +1,6 @@
 -- CONDITION 3: marking to market never makes or loses money. Proved of the rules for every list of commands, from every opening
--- state, well formed or not. It rests on two facts about one command that are parameters here, and on `Shaped`: that each
--- account has a holding for each contract, as the declared arrays do. Assumes nothing else.
+-- state whose arrays have the places of their types, well formed or not. It rests on two facts about one command, `kept` and
+-- `read-back`, which are parameters of the last section. Assumes nothing else.
 use mathlib.Core.Bool.{Bool, true, false, _&&_, false≢true}
 use mathlib.Core.List.{List, [], _∷_, _++_, append-nil}
 use mathlib.Core.Path.{_≡_, refl, sym, ap, ap₂, subst, _∙_}
@@ -16,10 +16,10 @@ use Rattle.rules.specs.Answers.{_when_, firstOf, refusals, codeOf}
 use Rattle.rules.specs.Command.{commandOf, isSettle}
 use Rattle.rules.specs.Condition3.{run, isAccepted, depositTo, withdrawalFrom, paidIn, paidOut, tradesOf, tradesMade, sales, costs, netHolding, worth, balanceIn, accountsOf, contractsOf, Opening, EndsSettled, Condition3}
 use Rattle.rules.specs.Exchange.{Exchange, listingAt, accountAt, holdingAt, placeOf}
-use Rattle.rules.specs.Memory.{Memory, exchangeOf, countsInRange, hasRoom, wellFormedMemory, inMemory, malformed, respond}
+use Rattle.rules.specs.Memory.{Memory, exchangeOf, Declared, countsInRange, hasRoom, wellFormedMemory, refusedIn, inMemory, stepIn, respond}
 use Rattle.rules.specs.Settlement.{settlementPrice}
-use Rattle.rules.specs.Step.{deposited, withdrawn, inserted, removed, cancelled, pulled, rephased, refused, carriedOut, step}
-use Rattle.rules.specs.WellFormed.{wellFormed}
+use Rattle.rules.specs.Step.{deposited, withdrawn, inserted, removed, cancelled, pulled, phaseChanged, refused, carriedOut, step}
+use Rattle.rules.specs.WellFormed.{wellFormedContents}
 use Rattle.rules.specs.declared.Record.{Record}
 use Rattle.rules.specs.declared.Trade.{Trade}
 use Rattle.rules.specs.declared.Command.{Command}
@@ -29,16 +29,17 @@ use Rattle.accounting.specs.Money.{proceeds, netAtStart, netNow, AllKnow
 use Rattle.accounting.specs.Moves.{booksOf, moveBy, moveOf, movesOf}
 use Rattle.accounting.specs.Shape.{Shaped}
 use Rattle.accounting.proofs.BooksLaws.{reached-cash, reached-position, reached-total, reached-multiplier, balance-is}
+use Rattle.accounting.proofs.Declared.{declared-shaped, declared-kept}
 use Rattle.accounting.proofs.Facts.{facts, known-trades}
 use Rattle.accounting.proofs.Identity.{net-moves, placed}
 use Rattle.accounting.proofs.StepMoves.{Makes, unchanged, step-moves}
-use Rattle.accounting.proofs.StepShape.{SameShape, step-shape, shaped-after}
+use Rattle.accounting.proofs.StepShape.{SameShape, same-shape, shape-trans, step-shape}
 use Rattle.accounting.proofs.Trades.{sumTo-sub, known-nil, netHolding-nil}
 
 -- ---- acceptance
 
 carried-code : (x : Exchange) (command : Command) → eqb (codeOf x command) 0 ≡ true → eqb (carriedOut x command .answer .code) 0 ≡ true
-unfolding codeOf refusals firstOf carriedOut deposited withdrawn inserted cancelled pulled removed rephased
+unfolding codeOf refusals firstOf carriedOut deposited withdrawn inserted cancelled pulled removed phaseChanged
 carried-code x Malformed e = e
 carried-code x (Deposit account amount) e = refl
 carried-code x (Withdraw account amount) e = refl
@@ -48,19 +49,19 @@ carried-code x (Pull account contract operator) e = refl
 carried-code x (Phase contract phase) e = refl
 carried-code x Settle e = refl
 
-step-code : (x : Exchange) (command : Command) → eqb (step x command .answer .code) 0 ≡ eqb (codeOf x command) 0
-unfolding step
-step-code x command = by (eqb (codeOf x command) 0) refl
+stepIn-code : (m : Memory) (command : Command) → eqb (stepIn m command .answer .code) 0 ≡ eqb (codeOf (exchangeOf m) command) 0
+unfolding stepIn
+stepIn-code m command = by (eqb (codeOf (exchangeOf m) command) 0) refl
   where
-    by : (accepted : Bool) → eqb (codeOf x command) 0 ≡ accepted →
-        eqb (pick accepted (carriedOut x command) (refused x (codeOf x command)) .answer .code) 0 ≡ accepted
-    by true e = carried-code x command e
+    by : (accepted : Bool) → eqb (codeOf (exchangeOf m) command) 0 ≡ accepted →
+        eqb (pick accepted (inMemory m (carriedOut (exchangeOf m) command)) (refusedIn m (codeOf (exchangeOf m) command)) .answer .code) 0 ≡ accepted
+    by true e = carried-code (exchangeOf m) command e
     by false e = e
 
 module _ (m : Memory) (r : Record) where
   accepted-is : wellFormedMemory m ≡ true → isAccepted m r ≡ eqb (codeOf (exchangeOf m) (commandOf r)) 0
   unfolding isAccepted respond
-  accepted-is w = rw w (step-code (exchangeOf m) (commandOf r))
+  accepted-is w = rw w (stepIn-code m (commandOf r))
 
   -- a state that is not well formed accepts nothing and stays as it is
   never-accepted : wellFormedMemory m ≡ false → isAccepted m r ≡ false
@@ -71,9 +72,9 @@ module _ (m : Memory) (r : Record) where
   unfolding respond
   stays-so w = rw w
 
-in-wellformed : (m : Memory) → wellFormedMemory m ≡ true → wellFormed (exchangeOf m) ≡ true
+in-wellformed : (m : Memory) → wellFormedMemory m ≡ true → wellFormedContents (exchangeOf m) ≡ true
 unfolding wellFormedMemory
-in-wellformed m w = both-true (countsInRange (m .state) && hasRoom m) (wellFormed (exchangeOf m)) w .1
+in-wellformed m w = both-true (countsInRange (m .state) && hasRoom m) (wellFormedContents (exchangeOf m)) w .1
 
 -- ---- what a run keeps of its states: trades are between accounts in use, and the holdings are the positions
 
@@ -81,7 +82,7 @@ record Sound (x : Exchange) : Type 0 where
   known : AllKnown (length (x .accounts)) (x .trades)
   net : (a c : ℕ) → a < length (x .accounts) → c < length (x .listings) → netNow x a c ≡ position (booksOf x) a c
 
-sound : (x : Exchange) → wellFormed x ≡ true → Shaped x → Sound x
+sound : (x : Exchange) → wellFormedContents x ≡ true → Shaped x → Sound x
 unfolding position booksOf
 sound x w h = record {
   known = known-trades x (x .trades) (facts x w .trades);
@@ -191,25 +192,24 @@ abbrev next : Memory → Record → Exchange
 next m r = exchangeOf (respond m r .memory)
 
 module _
-    (kept : (m : Memory) (r : Record) → Shaped (exchangeOf m) → wellFormedMemory m ≡ true → wellFormedMemory (respond m r .memory) ≡ true)
-    (read-back : (m : Memory) (r : Record) → Shaped (exchangeOf m) → wellFormedMemory m ≡ true →
+    (kept : (m : Memory) (r : Record) → Declared (m .state) → wellFormedMemory m ≡ true → wellFormedMemory (respond m r .memory) ≡ true)
+    (read-back : (m : Memory) (r : Record) → Declared (m .state) → wellFormedMemory m ≡ true →
     exchangeOf (respond m r .memory) ≡ step (exchangeOf m) (commandOf r) .exchange) where
-  module _ (m : Memory) (r : Record) (h : Shaped (exchangeOf m)) where
+  module _ (m : Memory) (r : Record) (d : Declared (m .state)) where
     one-shape : SameShape (exchangeOf m) (next m r)
     one-shape = by (wellFormedMemory m) refl
       where
         by : (w : Bool) → wellFormedMemory m ≡ w → SameShape (exchangeOf m) (next m r)
-        by true w = rw (read-back m r h w) (step-shape (exchangeOf m) (commandOf r))
-        by false w = rw (stays-so m r w) (record { listings = refl; accounts = refl; wide = λ a l. refl })
-
-    next-shaped : Shaped (next m r)
-    next-shaped = shaped-after (exchangeOf m) (next m r) one-shape h
+        by true w = rw (read-back m r d w) (step-shape (exchangeOf m) (commandOf r))
+        by false w = rw (stays-so m r w) (same-shape (exchangeOf m))
 
     next-sound : Sound (exchangeOf m) → Sound (next m r)
     next-sound s = by (wellFormedMemory m) refl
       where
         by : (w : Bool) → wellFormedMemory m ≡ w → Sound (next m r)
-        by true w = sound _ (in-wellformed (respond m r .memory) (kept m r h w)) next-shaped
+        by true w =
+            let k = kept m r d w in
+            sound _ (in-wellformed (respond m r .memory) k) (declared-shaped (respond m r .memory) (declared-kept m r d) k)
         by false w = rw (stays-so m r w) s
 
     one-move : Makes (exchangeOf m) (moveOf m r) (next m r)
@@ -219,38 +219,36 @@ module _
         by : (w : Bool) → wellFormedMemory m ≡ w →
             Makes (exchangeOf m) (pick (isAccepted m r) (moveBy (exchangeOf m) (commandOf r)) (makes [])) (next m r)
         by true w =
-            rw (read-back m r h w, accepted-is m r w)
-            (step-moves (exchangeOf m) (facts (exchangeOf m) (in-wellformed m w) .replay) h (commandOf r))
+            rw (read-back m r d w, accepted-is m r w)
+            (step-moves (exchangeOf m) (facts (exchangeOf m) (in-wellformed m w) .replay) (declared-shaped m d w) (commandOf r))
         by false w = rw (stays-so m r w, never-accepted m r w) (unchanged (exchangeOf m))
 
-  end-shape : (m : Memory) (rs : List Record) → Shaped (exchangeOf m) → SameShape (exchangeOf m) (exchangeOf (run m rs))
+  end-declared : (m : Memory) (rs : List Record) → Declared (m .state) → Declared (run m rs .state)
   unfolding run
-  end-shape m [] h = record { listings = refl; accounts = refl; wide = λ a l. refl }
-  end-shape m (r ∷ rs) h =
-      let s = one-shape m r h in
-      let t = end-shape (respond m r .memory) rs (next-shaped m r h) in
-      record {
-        listings = t .listings ∙ s .listings;
-        accounts = t .accounts ∙ s .accounts;
-        wide = λ a l. t .wide a (rw (s .accounts) l) ∙ s .wide a l;
-      }
+  end-declared m [] d = d
+  end-declared m (r ∷ rs) d = end-declared (respond m r .memory) rs (declared-kept m r d)
 
-  end-sound : (m : Memory) (rs : List Record) → Shaped (exchangeOf m) → Sound (exchangeOf m) → Sound (exchangeOf (run m rs))
+  end-shape : (m : Memory) (rs : List Record) → Declared (m .state) → SameShape (exchangeOf m) (exchangeOf (run m rs))
   unfolding run
-  end-sound m [] h s = s
-  end-sound m (r ∷ rs) h s = end-sound (respond m r .memory) rs (next-shaped m r h) (next-sound m r h s)
+  end-shape m [] d = same-shape (exchangeOf m)
+  end-shape m (r ∷ rs) d = shape-trans (one-shape m r d) (end-shape (respond m r .memory) rs (declared-kept m r d))
+
+  end-sound : (m : Memory) (rs : List Record) → Declared (m .state) → Sound (exchangeOf m) → Sound (exchangeOf (run m rs))
+  unfolding run
+  end-sound m [] d s = s
+  end-sound m (r ∷ rs) d s = end-sound (respond m r .memory) rs (declared-kept m r d) (next-sound m r d s)
 
   end-reached : (accounts contracts : ℕ) (m : Memory) (rs : List Record) → accountsOf m ≡ accounts → contractsOf m ≡ contracts →
-      Shaped (exchangeOf m) → Sound (exchangeOf m) → Reached accounts contracts (booksOf (exchangeOf m)) (movesOf m rs) (booksOf (exchangeOf (run m rs)))
+      Declared (m .state) → Sound (exchangeOf m) → Reached accounts contracts (booksOf (exchangeOf m)) (movesOf m rs) (booksOf (exchangeOf (run m rs)))
   unfolding run movesOf booksOf
-  end-reached accounts contracts m [] e f h s = stay
-  end-reached accounts contracts m (r ∷ rs) e f h s =
-      move (rw e at (s .known)) (rw (e, f) at (one-move m r h))
-      (end-reached accounts contracts (respond m r .memory) rs (one-shape m r h .accounts ∙ e) (one-shape m r h .listings ∙ f) (next-shaped m r h) (next-sound m r h s))
+  end-reached accounts contracts m [] e f d s = stay
+  end-reached accounts contracts m (r ∷ rs) e f d s =
+      move (rw e at (s .known)) (rw (e, f) at (one-move m r d))
+      (end-reached accounts contracts (respond m r .memory) rs (one-shape m r d .accounts ∙ e) (one-shape m r d .listings ∙ f) (declared-kept m r d) (next-sound m r d s))
 
   -- ---- from an opening
 
-  module _ (m : Memory) (h : Shaped (exchangeOf m)) (o : Opening m) (rs : List Record) where
+  module _ (m : Memory) (d : Declared (m .state)) (o : Opening m) (rs : List Record) where
     first : Books
     first = booksOf (exchangeOf m)
 
@@ -259,7 +257,7 @@ module _
 
     reached : Reached (accountsOf m) (contractsOf m) first (movesOf m rs) last
     unfolding first last
-    reached = end-reached (accountsOf m) (contractsOf m) m rs refl refl h (opening-sound m o)
+    reached = end-reached (accountsOf m) (contractsOf m) m rs refl refl d (opening-sound m o)
 
     no-start : (a c : ℕ) → first .start a c ≡ pos 0
     unfolding first booksOf netAtStart
@@ -315,8 +313,8 @@ module _
         ≡ netHolding a c (tradesMade m rs)
     unfolding netNow last
     net a c l k =
-        let s = end-shape m rs h in
-        end-sound m rs h (opening-sound m o) .net a c (rw (s .accounts) l) (rw (s .listings) k)
+        let s = end-shape m rs d in
+        end-sound m rs d (opening-sound m o) .net a c (rw (s .accounts) l) (rw (s .listings) k)
         ∙ end-position a c l k
 
     -- ---- a list that ends with an accepted settlement
@@ -336,9 +334,9 @@ module _
       last-settled : Same (accountsOf m) (contractsOf m) (after (contractsOf m) (booksOf found) (settles price)) last
       unfolding found last
       last-settled =
-          let s = end-shape m before h in
+          let s = end-shape m before d in
           rw (settlement-moves, s .accounts, s .listings, ← (run-last m before r), ← (e .ends))
-          at (one-move (run m before) r (shaped-after (exchangeOf m) found s h))
+          at (one-move (run m before) r (end-declared m before d))
 
       no-trades : last .trades ≡ []
       unfolding after
@@ -396,9 +394,9 @@ module _
 
   -- ---- THE CLAIM
 
-  pub condition3 : (m : Memory) → Shaped (exchangeOf m) → Opening m → (rs : List Record) → Condition3 m rs
-  condition3 m h o rs = record {
-    together = together m h o rs;
-    each = λ before r e a l. each m h o rs before r e a l;
-    net = net m h o rs;
+  pub condition3 : (m : Memory) → Declared (m .state) → Opening m → (rs : List Record) → Condition3 m rs
+  condition3 m d o rs = record {
+    together = together m d o rs;
+    each = λ before r e a l. each m d o rs before r e a l;
+    net = net m d o rs;
   }

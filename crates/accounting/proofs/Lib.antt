@@ -10,4 +10,5 @@ pub mod ProfitBound
 pub mod BooksLaws
 pub mod StepMoves
 pub mod StepShape
+pub mod Declared
 pub mod Condition3

@@ -19,8 +19,8 @@ use Rattle.rules.specs.Condition3.{netHolding}
 use Rattle.rules.specs.Exchange.{Exchange, Listing, noAccount, noHolding, noListing, listingAt, accountAt, holdingAt, placeOf}
 use Rattle.rules.specs.Holdings.{bookTrades}
 use Rattle.rules.specs.Settlement.{dayOf, holdingGain, settlementPrice, closingProfit, holdingProfit, carriedHolding, settledAccount, settledContract, settledListing, settled}
-use Rattle.rules.specs.Step.{withListing, withBalance, paid, deposited, withdrawn, enteredOf, listingAfter, exchangeAfter, inserted, removed, cancelled, pulled, rephased, refused, carriedOut, step}
-use Rattle.rules.specs.WellFormed.{replays, wellFormed}
+use Rattle.rules.specs.Step.{withListing, withBalance, paid, deposited, withdrawn, enteredOf, listingAfter, exchangeAfter, inserted, removed, cancelled, pulled, phaseChanged, refused, carriedOut, step}
+use Rattle.rules.specs.WellFormed.{replays, wellFormedContents}
 use Rattle.rules.specs.declared.Account.{Account}
 use Rattle.rules.specs.declared.Contract.{Contract}
 use Rattle.rules.specs.declared.Holding.{Holding}
@@ -175,7 +175,7 @@ module _ (x : Exchange) (r : replays x ≡ true) (shaped : Shaped x) where
   -- ---- EACH COMMAND, accepted or refused
 
   carried-moves : (command : Command) → Makes x (moveBy x command) (carriedOut x command .exchange)
-  unfolding moveBy carriedOut deposited withdrawn inserted cancelled pulled removed rephased
+  unfolding moveBy carriedOut deposited withdrawn inserted cancelled pulled removed phaseChanged
   carried-moves Malformed = unchanged x
   carried-moves (Deposit account amount) = paid-moves x (placeOf account) (pos amount)
   carried-moves (Withdraw account amount) = paid-moves x (placeOf account) (negℤ (pos amount))

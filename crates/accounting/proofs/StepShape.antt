@@ -11,12 +11,11 @@ use Rattle.laws.specs.Tabulate.{length-tabulate, getD-tabulate}
 use Rattle.rules.specs.Answers.{codeOf}
 use Rattle.rules.specs.Exchange.{Exchange, Listing, noAccount, accountAt, placeOf}
 use Rattle.rules.specs.Settlement.{carriedHolding, settledAccount, settledListing, settled}
-use Rattle.rules.specs.Step.{withListing, paid, deposited, withdrawn, enteredOf, exchangeAfter, inserted, removed, cancelled, pulled, rephased, refused, carriedOut, step}
+use Rattle.rules.specs.Step.{withListing, paid, deposited, withdrawn, enteredOf, exchangeAfter, inserted, removed, cancelled, pulled, phaseChanged, refused, carriedOut, step}
 use Rattle.rules.specs.declared.Account.{Account}
 use Rattle.rules.specs.declared.Command.{Command}
 use Rattle.rules.specs.declared.NewOrder.{NewOrder}
 use Rattle.rules.specs.declared.Command.the-variants.{Malformed, Deposit, Withdraw, Insert, Cancel, Pull, Phase, Settle}
-use Rattle.accounting.specs.Shape.{Shaped}
 use Rattle.accounting.proofs.Booking.{set-keeps, all-booked-length, all-booked-wide}
 
 pub record SameShape (x x′ : Exchange) : Type 0 where
@@ -24,10 +23,17 @@ pub record SameShape (x x′ : Exchange) : Type 0 where
   pub accounts : length (x′ .accounts) ≡ length (x .accounts)
   pub wide : (a : ℕ) → a < length (x .accounts) → length (accountAt (x′ .accounts) a .holdings) ≡ length (accountAt (x .accounts) a .holdings)
 
-module _ (x : Exchange) where
-  unchanged : SameShape x x
-  unchanged = record { listings = refl; accounts = refl; wide = λ a l. refl }
+pub same-shape : (x : Exchange) → SameShape x x
+same-shape x = record { listings = refl; accounts = refl; wide = λ a l. refl }
 
+pub shape-trans : {x y z : Exchange} → SameShape x y → SameShape y z → SameShape x z
+shape-trans s t = record {
+  listings = t .listings ∙ s .listings;
+  accounts = t .accounts ∙ s .accounts;
+  wide = λ a l. t .wide a (rw (s .accounts) l) ∙ s .wide a l;
+}
+
+module _ (x : Exchange) where
   listing-replaced : (c : ℕ) (l : Listing) → SameShape x (withListing x c l)
   listing-replaced c l = record { listings = length-set (x .listings) c l; accounts = refl; wide = λ a k. refl }
 
@@ -57,9 +63,9 @@ module _ (x : Exchange) where
         ∙ length-map (getD (x .accounts) a noAccount .holdings) carriedHolding;
   }
 
-  carried-shape : (command : Command) → SameShape x (carriedOut x command .exchange)
-  unfolding carriedOut deposited withdrawn inserted cancelled pulled removed rephased
-  carried-shape Malformed = unchanged
+  pub carried-shape : (command : Command) → SameShape x (carriedOut x command .exchange)
+  unfolding carriedOut deposited withdrawn inserted cancelled pulled removed phaseChanged
+  carried-shape Malformed = same-shape x
   carried-shape (Deposit account amount) = paid-shape (placeOf account) _
   carried-shape (Withdraw account amount) = paid-shape (placeOf account) _
   carried-shape (Insert o) = inserted-shape o
@@ -74,8 +80,4 @@ module _ (x : Exchange) where
     where
       by : (accepted : Bool) → SameShape x (pick accepted (carriedOut x command) (refused x (codeOf x command)) .exchange)
       by true = carried-shape command
-      by false = unchanged
-
-pub shaped-after : (x x′ : Exchange) → SameShape x x′ → Shaped x → Shaped x′
-unfolding Shaped
-shaped-after x x′ s h = λ a l. let k : a < length (x .accounts) = rw (s .accounts) at l in s .wide a k ∙ h a k ∙ sym (s .listings)
+      by false = same-shape x
