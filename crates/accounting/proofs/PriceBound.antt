@@ -13,7 +13,7 @@ use Rattle.rules.specs.Bounds.{within, allowedToday, maxPrice, maxLots}
 use Rattle.rules.specs.Exchange.{Exchange, listingAt}
 use Rattle.rules.specs.Matching.{middle, tradedLots}
 use Rattle.rules.specs.Settlement.{tradesIn, tradedValue, weightedPrice, quotedPrice, priceFrom, settlementPrice}
-use Rattle.rules.specs.WellFormed.{orderInRange, tradeInRange, wellFormed}
+use Rattle.rules.specs.WellFormed.{orderInRange, tradeInRange, wellFormedContents}
 use Rattle.rules.specs.declared.Contract.{Contract}
 use Rattle.rules.specs.declared.Order.{Order}
 use Rattle.rules.specs.declared.Trade.{Trade}
@@ -69,7 +69,7 @@ unfolding priceFrom
 price-to reference tick accounts next c [] buys sells t h q = quoted-to maxPrice reference accounts next c buys sells (omega arith) h q
 price-to reference tick accounts next c (t ∷ ts) buys sells q h o = weighted-to maxPrice tick (t ∷ ts) q
 
-pub settlement-price-bound : (x : Exchange) → wellFormed x ≡ true → (c : ℕ) → c < length (x .listings) → settlementPrice x c ≤ maxPrice
+pub settlement-price-bound : (x : Exchange) → wellFormedContents x ≡ true → (c : ℕ) → c < length (x .listings) → settlementPrice x c ≤ maxPrice
 unfolding settlementPrice
 settlement-price-bound x w c l =
     let f = facts x w in

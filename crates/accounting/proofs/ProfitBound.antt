@@ -1,5 +1,5 @@
 -- A day's profit or loss of one account is within 3 x 10^15: closing profit, holding profit and both, over all contracts or the
--- first few of them, and in one contract after any number of the day's trades. `wellFormed` leaves the numbers of contracts
+-- first few of them, and in one contract after any number of the day's trades. `wellFormedContents` leaves the numbers of contracts
 -- and of trades to the counts, so these are hypotheses here. Assumes nothing.
 use mathlib.Core.Bool.{Bool, true, false, not, _&&_}
 use mathlib.Core.List.{List, [], _∷_, _++_}
@@ -20,7 +20,7 @@ use Rattle.rules.specs.Bounds.{maxContracts, maxTrades, maxLots, maxPrice, maxB
 use Rattle.rules.specs.Exchange.{Exchange, listingAt, accountAt, holdingAt}
 use Rattle.rules.specs.Matching.{tradedLots}
 use Rattle.rules.specs.Settlement.{Leg, leg, Day, dayStart, buyLeg, sellLeg, only, legs, afterLegs, dayOf, holdingGain, settlementPrice, closingProfit, holdingProfit, settledAccount}
-use Rattle.rules.specs.WellFormed.{tradeInRange, replays, wellFormed}
+use Rattle.rules.specs.WellFormed.{tradeInRange, replays, wellFormedContents}
 use Rattle.rules.specs.declared.Trade.{Trade}
 use Rattle.accounting.specs.Article32.{AllCovered}
 use Rattle.accounting.specs.Money.{dayAfter, maxContractProfit}
@@ -164,7 +164,7 @@ multiplied {n} {z} k K h w = rw (*ℤ-comm (pos k) z) (within-le (omega (arith, 
 
 -- ---- in a well-formed state
 
-module _ (x : Exchange) (w : wellFormed x ≡ true) (few : length (x .trades) ≤ maxTrades) (a : ℕ) (la : a < length (x .accounts)) where
+module _ (x : Exchange) (w : wellFormedContents x ≡ true) (few : length (x .trades) ≤ maxTrades) (a : ℕ) (la : a < length (x .accounts)) where
   start : ℕ → Day
   start c = dayStart (listingAt x c .contract .reference) (holdingAt (x .accounts) a c .startlong) (holdingAt (x .accounts) a c .startshort)
 
@@ -288,7 +288,7 @@ module _ (x : Exchange) (w : wellFormed x ≡ true) (few : length (x .trades) �
         both-sum-bound
 
 -- THE BOUNDS over all contracts, as the balance takes them
-module _ (x : Exchange) (w : wellFormed x ≡ true) (four : length (x .listings) ≤ maxContracts) (few : length (x .trades) ≤ maxTrades)
+module _ (x : Exchange) (w : wellFormedContents x ≡ true) (four : length (x .listings) ≤ maxContracts) (few : length (x .trades) ≤ maxTrades)
     (a : ℕ) (la : a < length (x .accounts)) where
   pub closing-profit-within : Within maxDayProfit (closingProfit x a)
   unfolding closingProfit
