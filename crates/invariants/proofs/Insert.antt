@@ -27,6 +27,7 @@ use Rattle.rules.specs.declared.Taker.{Taker}
 use Rattle.rules.specs.declared.Trade.{Trade}
 use Rattle.rules.proofs.Fillable.{swept-fillable}
 use Rattle.rules.proofs.Holdings.{length-bookTrades, booked-balance, booked-start-holding, replay-more, never-more}
+use Rattle.rules.proofs.Rest.{rest-sum, length-rest}
 use Rattle.invariants.proofs.Carry.{Allows, orders-carried, trades-carried}
 use Rattle.invariants.proofs.Clauses.{ListingOk, held, HoldingOk, WellFormed, Counted}
 use Rattle.invariants.proofs.InsertAccepted.{Passes, passes, itsHolding}
@@ -35,7 +36,6 @@ use Rattle.invariants.proofs.InsertQueues.{SidesOk, rested-sum, rested-
 use Rattle.invariants.proofs.Legs.{resting-cons, KeptAt, Kept}
 use Rattle.invariants.proofs.Numbers.{occurs, uses, usesIn, once-count, once-changed, next-unused}
 use Rattle.invariants.proofs.SweptHoldings.{KeptBy, SweptKept, swept-kept, fewer-by}
-use Rattle.invariants.proofs.SweptQueue as Rest
 use Rattle.invariants.proofs.SweptTrades.{ofContract, swept-in-range, swept-contract, other-holding}
 use Rattle.invariants.proofs.Tests.{at-set}
 
@@ -160,7 +160,7 @@ module _ (x : Exchange) (k : WellFormed x) (o : NewOrder) (p : Passes x o) where
 
   others-uses : (n : ℕ) → uses n (lots-swept .rest) ≤ uses n others
   unfolding uses
-  others-uses n = Rest.rest-sum (takerOf x o) (λ r. pick (eqb n (r .number)) 1 0) (λ r m. refl) (o .lots) (contractOf x k o p .last) others
+  others-uses n = rest-sum (λ r. pick (eqb n (r .number)) 1 0) (λ r m low high. omega arith) (takerOf x o) (o .lots) (contractOf x k o p .last) others
 
   uses-after : (n : ℕ) → usesIn n after ≤ usesIn n (listingOf x o) + pick (eqb n (x .next)) 1 0
   unfolding usesIn listingAfter enteredOf enter
@@ -268,7 +268,7 @@ module _ (x : Exchange) (k : WellFormed x) (o : NewOrder) (p : Passes x o) where
       go false e = omega (arith, rested-length-one (takerOf x o) (limitOf (o .condition)) (rested x k o p) mine, leb-false maxResting (length mine) e)
 
   others-length : length (lots-swept .rest) ≤ length others
-  others-length = Rest.rest-length (takerOf x o) (o .lots) (contractOf x k o p .last) others
+  others-length = length-rest (takerOf x o) (o .lots) (contractOf x k o p .last) others
 
   queue-after : ((sell : Bool) → length (own sell (listingOf x o)) ≤ maxResting) → (sell : Bool) → length (own sell after) ≤ maxResting
   unfolding listingAfter enteredOf enter

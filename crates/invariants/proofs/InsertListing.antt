@@ -24,13 +24,11 @@ use Rattle.rules.specs.declared.Taker.{Taker}
 use Rattle.rules.specs.declared.Trade.{Trade}
 use Rattle.rules.proofs.Fillable.{swept-at-most}
 use Rattle.rules.proofs.Prices.{swept-allowed, last-test}
-use Rattle.rules.proofs.Sweep.{Unmet}
+use Rattle.rules.proofs.Rest.{rest-sorted, uncrossedFrom, entered-uncrossed}
 use Rattle.invariants.proofs.Carry.{Allows, orders-carried}
 use Rattle.invariants.proofs.Clauses.{OrderOk, order-ok, order-test, ListingOk, WellFormed}
 use Rattle.invariants.proofs.InsertAccepted.{Passes}
-use Rattle.invariants.proofs.InsertQueues.{SidesOk, listing-sides, sides-listing, rested-all, rested-sorted, rested-apart, unmet-beyond, rest-apart}
-use Rattle.invariants.proofs.Sorting.{beyond, apartBy}
-use Rattle.invariants.proofs.SweptQueue as Rest
+use Rattle.invariants.proofs.InsertQueues.{SidesOk, listing-sides, sides-listing, rested-all, rested-sorted, rest-orders}
 use Rattle.invariants.proofs.Tests.{passed, join}
 use Rattle.invariants.proofs.Ticks.{Multiple, multiple, multiple-test, allowed-multiple}
 
@@ -116,14 +114,6 @@ module _ (x : Exchange) (k : WellFormed x) (o : NewOrder) (p : Passes x o) where
   pub rested-left : rested ≤ o .lots - tradedLots (swept .trades)
   rested-left = rested-most (isGoodForDay (o .time)) (o .lots) (swept .trades)
 
-  rest-beyond : 0 < rested → allOf (beyond (o .sell) (limitOf (o .condition))) (swept .rest) ≡ true
-  unfolding takerOf
-  rest-beyond some =
-      ⊎-elim (λ (e : tradedLots (swept .trades) ≡ o .lots). absurd (omega (arith, rested-left)))
-      (λ u. unmet-beyond (takerOf x o) (limitOf (o .condition)) (swept .rest) (limit-rests some)
-      (Rest.rest-sorted (takerOf x o) (not (o .sell)) (o .lots) (contractOf .last) (opposite (o .sell) (listingOf x o)) (sides .others-sorted)) u)
-      (Rest.sweep-stops (takerOf x o) (o .lots) (contractOf .last) (opposite (o .sell) (listingOf x o)))
-
   remainder-ok : 0 < rested → orderInRange (length (x .accounts)) (x .next + 1) contractAfter (remainder (takerOf x o) (limitOf (o .condition)) rested) ≡ true
   unfolding takerOf remainder
   remainder-ok some =
@@ -141,6 +131,12 @@ module _ (x : Exchange) (k : WellFormed x) (o : NewOrder) (p : Passes x o) where
   carried : (queue : List Order) → allOf (orderInRange (length (x .accounts)) (x .next) contractOf) queue ≡ true → allOf (orderInRange (length (x .accounts)) (x .next + 1) contractAfter) queue ≡ true
   carried = orders-carried (length (x .accounts)) (x .next) (x .next + 1) contractOf contractAfter (omega arith) (allows-last contractOf (lastPrice (contractOf .last) (swept .trades)))
 
+  uncrossed-after : uncrossedFrom (o .sell) (restLots (takerOf x o) (limitOf (o .condition)) rested (own (o .sell) (listingOf x o))) (swept .rest) ≡ true
+  unfolding takerOf enter
+  uncrossed-after =
+      entered-uncrossed (takerOf x o) (o .lots) (limitOf (o .condition)) (isGoodForDay (o .time)) (contractOf .last) (own (o .sell) (listingOf x o)) (opposite (o .sell) (listingOf x o))
+      (λ g. is-limit (o .condition) (p .limited g)) (sides .others-sorted) (sides .sides-uncrossed)
+
   sides-after : SidesOk (length (x .accounts)) (x .next + 1) contractAfter (o .sell) (restLots (takerOf x o) (limitOf (o .condition)) rested (own (o .sell) (listingOf x o))) (swept .rest)
   unfolding takerOf
   sides-after =
@@ -148,11 +144,10 @@ module _ (x : Exchange) (k : WellFormed x) (o : NewOrder) (p : Passes x o) where
         mine-sorted = rested-sorted (takerOf x o) (limitOf (o .condition)) rested (own (o .sell) (listingOf x o)) (sides .mine-sorted)
             (allOf-imp (orderInRange (length (x .accounts)) (x .next) contractOf) (λ r. ltb (r .number) (x .next)) (own (o .sell) (listingOf x o))
             (λ r h. lt-ltb (r .number) (x .next) (order-ok (length (x .accounts)) (x .next) contractOf r h .number-high)) (sides .mine-orders));
-        others-sorted = Rest.rest-sorted (takerOf x o) (not (o .sell)) (o .lots) (contractOf .last) (opposite (o .sell) (listingOf x o)) (sides .others-sorted);
-        sides-apart = rested-apart (takerOf x o) (limitOf (o .condition)) rested (own (o .sell) (listingOf x o)) (swept .rest) rest-beyond
-            (rest-apart (takerOf x o) (o .sell) (o .lots) (contractOf .last) (own (o .sell) (listingOf x o)) (opposite (o .sell) (listingOf x o)) (sides .sides-apart));
+        others-sorted = rest-sorted (not (o .sell)) (takerOf x o) (o .lots) (contractOf .last) (opposite (o .sell) (listingOf x o)) (sides .others-sorted);
+        sides-uncrossed = uncrossed-after;
         mine-orders = rested-all (takerOf x o) (limitOf (o .condition)) _ rested (own (o .sell) (listingOf x o)) remainder-ok (carried (own (o .sell) (listingOf x o)) (sides .mine-orders));
-        others-orders = carried (swept .rest) (Rest.rest-orders (takerOf x o) (length (x .accounts)) (x .next) contractOf (o .lots) (contractOf .last) (opposite (o .sell) (listingOf x o)) (sides .others-orders));
+        others-orders = carried (swept .rest) (rest-orders (length (x .accounts)) (x .next) contractOf (takerOf x o) (o .lots) (contractOf .last) (opposite (o .sell) (listingOf x o)) (sides .others-orders));
       }
 
   pub listing-after : ListingOk (length (x .accounts)) (x .next + 1) (listingAfter (listingOf x o) (o .sell) (enteredOf x o))

@@ -12,7 +12,6 @@ pub mod Removal
 pub mod Ticks
 pub mod Settle
 pub mod Legs
-pub mod SweptQueue
 pub mod SweptHoldings
 pub mod SweptTrades
 pub mod InsertAccepted

@@ -15,6 +15,7 @@ use Rattle.rules.specs.Exchange.{worse}
 use Rattle.rules.specs.Matching.{restIn}
 use Rattle.rules.specs.WellFormed.{ahead, aheadOfFirst, sorted, uncrossed}
 use Rattle.rules.specs.declared.Order.{Order}
+use Rattle.rules.proofs.Sorted.{sorted-tail}
 
 -- ---- ahead: at a better price, or at the same one with a lower number
 
@@ -77,22 +78,12 @@ unfolding sorted aheadOfFirst allOf
 ahead-sorted sell o [] h s = refl
 ahead-sorted sell o (p ∷ ps) h s = true-both (ahead sell o p) (sorted sell (p ∷ ps)) (both-true (ahead sell o p) (allOf (ahead sell o) ps) h .0) s
 
-pub sorted-behind : (sell : Bool) (o : Order) (os : List Order) → sorted sell (o ∷ os) ≡ true → sorted sell os ≡ true
-unfolding sorted
-sorted-behind sell o os h = both-true (aheadOfFirst sell o os) (sorted sell os) h .1
-
--- the lots of the first order play no part
-pub sorted-same : (sell : Bool) (o p : Order) (os : List Order) → o .price ≡ p .price → o .number ≡ p .number → sorted sell (o ∷ os) ≡ true → sorted sell (p ∷ os) ≡ true
-unfolding sorted aheadOfFirst ahead
-sorted-same sell o p [] e f h = h
-sorted-same sell o p (q ∷ qs) e f h = rw (← e, ← f) h
-
 -- ---- an order that comes to rest
 
-pub rest-all : (test : Order → Bool) (sell : Bool) (o : Order) (os : List Order) → test o ≡ true → allOf test os ≡ true → allOf test (restIn sell o os) ≡ true
+pub restIn-all : (test : Order → Bool) (sell : Bool) (o : Order) (os : List Order) → test o ≡ true → allOf test os ≡ true → allOf test (restIn sell o os) ≡ true
 unfolding restIn allOf
-rest-all test sell o [] e h = true-both (test o) true e refl
-rest-all test sell o (p ∷ ps) e h = go (worse sell (p .price) (o .price)) (rest-all test sell o ps e (q .1))
+restIn-all test sell o [] e h = true-both (test o) true e refl
+restIn-all test sell o (p ∷ ps) e h = go (worse sell (p .price) (o .price)) (restIn-all test sell o ps e (q .1))
   where
     q : (test p ≡ true) × (allOf test ps ≡ true)
     q = both-true (test p) (allOf test ps) h
@@ -106,11 +97,11 @@ not-worse : (sell : Bool) (p o : Order) → worse sell (p .price) (o .price) ≡
 not-worse true p o e l = ⊎-elim (λ (q : p .price ≡ o .price). earlier q l) (λ (h : p .price < o .price). better h) (eq-or-lt-of-le (ltb-false (o .price) (p .price) e))
 not-worse false p o e l = ⊎-elim (λ (q : o .price ≡ p .price). earlier (sym q) l) (λ (h : o .price < p .price). better h) (eq-or-lt-of-le (ltb-false (p .price) (o .price) e))
 
-pub rest-sorted :
+pub restIn-sorted :
     (sell : Bool) (o : Order) (os : List Order) → sorted sell os ≡ true → allOf (λ p. ltb (p .number) (o .number)) os ≡ true → sorted sell (restIn sell o os) ≡ true
 unfolding restIn
-rest-sorted sell o [] s n = unfold sorted aheadOfFirst in refl
-rest-sorted sell o (p ∷ ps) s n = go (worse sell (p .price) (o .price)) refl (rest-sorted sell o ps (sorted-behind sell p ps s) (q .1))
+restIn-sorted sell o [] s n = unfold sorted aheadOfFirst in refl
+restIn-sorted sell o (p ∷ ps) s n = go (worse sell (p .price) (o .price)) refl (restIn-sorted sell o ps (sorted-tail sell p ps s) (q .1))
   where
     q : (ltb (p .number) (o .number) ≡ true) × (allOf (λ r. ltb (r .number) (o .number)) ps ≡ true)
     q = both-true (ltb (p .number) (o .number)) (allOf (λ r. ltb (r .number) (o .number)) ps) (unfold allOf in n)
@@ -122,12 +113,12 @@ rest-sorted sell o (p ∷ ps) s n = go (worse sell (p .price) (o .price)) refl (
     go true w ih = front (better (worse-better sell (o .price) (p .price) w))
     go false w ih =
         ahead-sorted sell p (restIn sell o ps)
-        (rest-all (ahead sell p) sell o ps (is-ahead sell p o (not-worse sell p o w (ltb-true (p .number) (o .number) (q .0)))) (sorted-ahead sell p ps s)) ih
+        (restIn-all (ahead sell p) sell o ps (is-ahead sell p o (not-worse sell p o w (ltb-true (p .number) (o .number) (q .0)))) (sorted-ahead sell p ps s)) ih
 
-pub rest-sum : (f : Order → ℕ) (sell : Bool) (o : Order) (os : List Order) → sumOf f (restIn sell o os) ≡ f o + sumOf f os
+pub restIn-sum : (f : Order → ℕ) (sell : Bool) (o : Order) (os : List Order) → sumOf f (restIn sell o os) ≡ f o + sumOf f os
 unfolding restIn sumOf
-rest-sum f sell o [] = refl
-rest-sum f sell o (p ∷ ps) = go (worse sell (p .price) (o .price)) (rest-sum f sell o ps)
+restIn-sum f sell o [] = refl
+restIn-sum f sell o (p ∷ ps) = go (worse sell (p .price) (o .price)) (restIn-sum f sell o ps)
   where
     go : (b : Bool) → sumOf f (restIn sell o ps) ≡ f o + sumOf f ps → sumOf f (pick b (o ∷ p ∷ ps) (p ∷ restIn sell o ps)) ≡ f o + (f p + sumOf f ps)
     go true ih = refl
@@ -154,19 +145,6 @@ above-all price s ss l h =
     true-both (ltb price (s .price)) (allOf (λ r. ltb price (r .price)) ss) (lt-ltb price (s .price) l)
     (allOf-imp (ahead true s) (λ r. ltb price (r .price)) ss (λ r e. lt-ltb price (r .price) (omega (arith, ahead-price true s r (ahead-is true s r e)))) (sorted-ahead true s ss h))
 
--- orders opposite to a side, strictly beyond a price of it: none of them meets a limit there
-abbrev pub beyond : Bool → ℕ → Order → Bool
-beyond sell price o = pick sell (ltb (o .price) price) (ltb price (o .price))
-
--- where the first is, all are
-pub beyond-all : (sell : Bool) (price : ℕ) (o : Order) (os : List Order) → beyond sell price o ≡ true → sorted (not sell) (o ∷ os) ≡ true → allOf (beyond sell price) (o ∷ os) ≡ true
-unfolding allOf
-beyond-all false price o os e h = above-all price o os (ltb-true price (o .price) e) h
-beyond-all true price o os e h =
-    true-both (ltb (o .price) price) (allOf (λ r. ltb (r .price) price) os) e
-    (allOf-imp (ahead false o) (λ r. ltb (r .price) price) os
-    (λ r a. lt-ltb (r .price) price (omega (arith, ahead-price false o r (ahead-is false o r a), ltb-true (o .price) price e))) (sorted-ahead false o os h))
-
 none-above : (buys : List Order) → allOf (λ b. allOf (below b) []) buys ≡ true
 unfolding allOf
 none-above [] = refl
@@ -188,25 +166,3 @@ apart-uncrossed [] sells h = refl
 apart-uncrossed (b ∷ bs) [] h = refl
 apart-uncrossed (b ∷ bs) (s ∷ ss) h =
     both-true (below b s) (allOf (below b) ss) (both-true (below b s && allOf (below b) ss) (allOf (λ r. allOf (below r) (s ∷ ss)) bs) h .0) .0
-
--- ---- the same by side: a side's own queue and the opposite one
-
-abbrev pub apartBy : Bool → List Order → List Order → Bool
-apartBy sell own opposite = apart (pick sell opposite own) (pick sell own opposite)
-
-pub allOf-and : {A : Type 0} (p q : A → Bool) (l : List A) → allOf p l ≡ true → allOf q l ≡ true → allOf (λ x. p x && q x) l ≡ true
-unfolding allOf
-allOf-and p q [] h k = refl
-allOf-and p q (x ∷ xs) h k =
-    let a = both-true (p x) (allOf p xs) h in
-    let b = both-true (q x) (allOf q xs) k in
-    true-both (p x && q x) (allOf (λ y. p y && q y) xs) (true-both (p x) (q x) (a .0) (b .0)) (allOf-and p q xs (a .1) (b .1))
-
--- an order that comes to rest at a price which all opposite orders are beyond
-pub apart-rested : (sell : Bool) (o : Order) (own opposite : List Order) → allOf (beyond sell (o .price)) opposite ≡ true → apartBy sell own opposite ≡ true → apartBy sell (restIn sell o own) opposite ≡ true
-unfolding apart
-apart-rested false o own opposite e h = rest-all (λ b. allOf (below b) opposite) false o own e h
-apart-rested true o own opposite e h =
-    allOf-imp (λ b. ltb (b .price) (o .price) && allOf (below b) own) (λ b. allOf (below b) (restIn true o own)) opposite
-    (λ b k. let p = both-true (ltb (b .price) (o .price)) (allOf (below b) own) k in rest-all (below b) true o own (p .0) (p .1))
-    (allOf-and (λ b. ltb (b .price) (o .price)) (λ b. allOf (below b) own) opposite e h)

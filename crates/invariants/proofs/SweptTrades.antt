@@ -22,7 +22,7 @@ use Rattle.rules.specs.declared.Taker.{Taker}
 use Rattle.rules.specs.declared.Trade.{Trade}
 use Rattle.rules.proofs.Holdings.{holding-other-trade}
 use Rattle.rules.proofs.Prices.{Allowed, allowed-facts, price-allowed}
-use Rattle.rules.proofs.Sweep.{sweep-ind}
+use Rattle.rules.proofs.Sweep.{sweep-ind, swept-each}
 use Rattle.invariants.proofs.Carry.{Allows}
 use Rattle.invariants.proofs.Clauses.{OrderOk, order-ok, TradeOk, trade-test}
 
@@ -70,16 +70,9 @@ module _ (y : Exchange) (t : Taker) (c : Contract)
       })
 
   pub swept-in-range : (left last : ℕ) (os : List Order) → onTick (c .tick) last ≡ true → allOf test os ≡ true → allOf (tradeInRange y) (sweep t left last os .trades) ≡ true
-  unfolding allOf
   swept-in-range =
-      sweep-ind t (λ left last os s. onTick (c .tick) last ≡ true → allOf test os ≡ true → allOf (tradeInRange y) (s .trades) ≡ true)
-      (λ left last os w tick h. refl)
-      (λ left last o os some met short tick h.
-      true-both (tradeInRange y (tradeWith t o left last)) true (one-trade o left last some (both-true (test o) (allOf test os) h .0) tick) refl)
-      (λ left last o os s some met enough ih tick h.
-      let p = both-true (test o) (allOf test os) h in
-      true-both (tradeInRange y (tradeWith t o left last)) (allOf (tradeInRange y) (s .trades)) (one-trade o left last some (p .0) tick)
-      (ih (allowed-facts c (tradePrice (t .condition) (o .price) last) (its-price o last (p .0) tick) .tick) (p .1)))
+      swept-each t (tradeInRange y) test (λ last. onTick (c .tick) last ≡ true)
+      (λ o left last some met h tick. (one-trade o left last some h tick, allowed-facts c (tradePrice (t .condition) (o .price) last) (its-price o last h tick) .tick))
 
 -- ---- all of one contract
 
