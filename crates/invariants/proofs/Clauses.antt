@@ -19,7 +19,8 @@ use Rattle.rules.specs.declared.Contract.{Contract}
 use Rattle.rules.specs.declared.Holding.{Holding}
 use Rattle.rules.specs.declared.Order.{Order}
 use Rattle.rules.specs.declared.Trade.{Trade}
-use Rattle.invariants.proofs.Tests.{joined, Passed, passed, join}
+use Rattle.accounting.proofs.Facts.{passed}
+use Rattle.invariants.proofs.Tests.{join}
 
 -- ---- a resting order
 

@@ -29,7 +29,8 @@ use Rattle.invariants.proofs.Carry.{Allows, orders-carried}
 use Rattle.invariants.proofs.Clauses.{OrderOk, order-ok, order-test, ListingOk, WellFormed}
 use Rattle.invariants.proofs.InsertAccepted.{Passes}
 use Rattle.invariants.proofs.InsertQueues.{SidesOk, listing-sides, sides-listing, rested-all, rested-sorted, rest-orders}
-use Rattle.invariants.proofs.Tests.{passed, join}
+use Rattle.accounting.proofs.Facts.{passed}
+use Rattle.invariants.proofs.Tests.{join}
 use Rattle.invariants.proofs.Ticks.{Multiple, multiple, multiple-test, allowed-multiple}
 
 -- ---- the contract with another last price

@@ -21,7 +21,8 @@ use Rattle.invariants.proofs.Carry.{Allows, orders-carried}
 use Rattle.invariants.proofs.Clauses.{ListingOk, HoldingOk, WellFormed, Counted}
 use Rattle.invariants.proofs.Numbers.{usesIn}
 use Rattle.invariants.proofs.OneListing.{relisted-keeps, relisted-counted}
-use Rattle.invariants.proofs.Tests.{passed, join}
+use Rattle.accounting.proofs.Facts.{passed}
+use Rattle.invariants.proofs.Tests.{join}
 
 -- a listed change leads to one of the four states
 known : (from to : ℕ) → changeListed from to ≡ true → to ≤ 3

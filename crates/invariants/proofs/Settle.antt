@@ -31,7 +31,8 @@ use Rattle.rules.proofs.Prices.{middle-any}
 use Rattle.invariants.proofs.Accepted.{failed}
 use Rattle.invariants.proofs.Clauses.{OrderOk, order-ok, ListingOk, TradeOk, trade-ok, held, HoldingOk, WellFormed, Counted}
 use Rattle.invariants.proofs.Replay.{nowOnly, lotsOf, lotsOnly, holdings-same}
-use Rattle.invariants.proofs.Tests.{passed, join}
+use Rattle.accounting.proofs.Facts.{passed}
+use Rattle.invariants.proofs.Tests.{join}
 use Rattle.invariants.proofs.Ticks.{Terms, terms, terms-test, Multiple, multiple, multiple-test, allowed-multiple, weighted-multiple}
 
 -- ---- the settlement price

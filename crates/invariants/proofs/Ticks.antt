@@ -15,7 +15,8 @@ use Rattle.rules.specs.Settlement.{tradedValue, weightedPrice}
 use Rattle.rules.specs.declared.Contract.{Contract}
 use Rattle.rules.specs.declared.Trade.{Trade}
 use Rattle.rules.proofs.Prices.{Allowed, allowed-facts}
-use Rattle.invariants.proofs.Tests.{passed, join}
+use Rattle.accounting.proofs.Facts.{passed}
+use Rattle.invariants.proofs.Tests.{join}
 
 -- ---- a contract's terms
 
