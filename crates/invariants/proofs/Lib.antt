@@ -19,3 +19,5 @@ pub mod InsertQueues
 pub mod InsertListing
 pub mod Insert
 pub mod Keeps
+pub mod MemoryRoom
+pub mod MemoryLaws
