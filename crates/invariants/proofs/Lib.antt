@@ -21,3 +21,5 @@ pub mod Insert
 pub mod Keeps
 pub mod MemoryRoom
 pub mod MemoryLaws
+pub mod MemoryKeeps
+pub mod Condition3
