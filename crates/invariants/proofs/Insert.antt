@@ -1,21 +1,19 @@
 -- An accepted insert keeps a state well formed: its trades, its remainder and the number it used. Assumes nothing.
 use mathlib.Core.Bool.{Bool, true, false, not, _&&_}
-use mathlib.Core.List.{List, [], _∷_, _++_}
-use mathlib.Core.Path.{_≡_, refl, sym, ap, subst, _∙_}
-use Prim.Native.Nat.{ℕ, zero, suc, _+_, _-_, _*_, _<_, _≤_, min}
+use mathlib.Core.List.{List, _∷_, _++_}
+use mathlib.Core.Path.{_≡_, refl, sym, ap, subst}
+use Prim.Native.Nat.{ℕ, _+_, _-_, _<_, _≤_}
 use native.Mathlib.Omega.{arith}
 use borrow.Author.Tests.{eqb-true, leb-true, leb-false}
-use lib.Dec.{leb, ltb, eqb}
-use lib.IntN.{natAbs}
-use lib.ListN.{length, getD, set, length-set, length-append}
-use Rattle.laws.specs.Choice.{pick, allOf, allOf-append, allOf-imp, both-true, true-both}
-use Rattle.laws.specs.Sums.{sumOf}
+use lib.Dec.{leb, eqb}
+use lib.ListN.{length, set, length-set, length-append}
+use Rattle.laws.specs.Choice.{pick, allOf, allOf-append, true-both}
 use Rattle.rules.specs.Answers.{codeOf, isGoodForDay, mark, listingOf, takerOf, tradesNeeded, fillableLots}
-use Rattle.rules.specs.Bounds.{allowedToday, numbersEnd, maxResting, maxTrades, maxBalance, maxDayProfit}
-use Rattle.rules.specs.Exchange.{Exchange, Listing, listingAt, accountAt, holdingAt, placeOf, own, opposite, withQueues, noListing, resting, restingOpens, restingCloses, bestPrice}
-use Rattle.rules.specs.Holdings.{bookTrades, neverBelowZero, startHolding}
-use Rattle.rules.specs.Matching.{Swept, sweep, fillable, tradedLots, lastPrice, remainder, restLots, restedLots, enter}
-use Rattle.rules.specs.Step.{withLast, limitOf, enteredOf, listingAfter, exchangeAfter, inserted, carriedOut}
+use Rattle.rules.specs.Bounds.{maxResting, maxTrades}
+use Rattle.rules.specs.Exchange.{Exchange, Listing, listingAt, holdingAt, placeOf, own, opposite, withQueues, noListing, restingOpens, restingCloses}
+use Rattle.rules.specs.Holdings.{bookTrades}
+use Rattle.rules.specs.Matching.{Swept, tradedLots, remainder, restLots, restedLots, enter}
+use Rattle.rules.specs.Step.{limitOf, enteredOf, listingAfter, exchangeAfter, inserted, carriedOut}
 use Rattle.rules.specs.WellFormed.{allNumbers, usedOnce, orderInRange, tradeInRange}
 use Rattle.rules.specs.declared.Account.{Account}
 use Rattle.rules.specs.declared.Command.the-variants.{Insert}
@@ -23,19 +21,17 @@ use Rattle.rules.specs.declared.Contract.{Contract}
 use Rattle.rules.specs.declared.Holding.{Holding}
 use Rattle.rules.specs.declared.NewOrder.{NewOrder}
 use Rattle.rules.specs.declared.Order.{Order}
-use Rattle.rules.specs.declared.Taker.{Taker}
-use Rattle.rules.specs.declared.Trade.{Trade}
 use Rattle.rules.proofs.Fillable.{swept-fillable}
 use Rattle.rules.proofs.Holdings.{length-bookTrades, booked-balance, booked-start-holding, replay-more, never-more}
 use Rattle.rules.proofs.Rest.{rest-sum, length-rest}
 use Rattle.invariants.proofs.Carry.{Allows, orders-carried, trades-carried}
 use Rattle.invariants.proofs.Clauses.{ListingOk, held, HoldingOk, WellFormed, Counted}
-use Rattle.invariants.proofs.InsertAccepted.{Passes, passes, itsHolding}
-use Rattle.invariants.proofs.InsertListing.{allows-last, mark-low, contractOf, swept, rested, listing-ok, sides, last-on-tick, contractAfter, rested-left, listing-after}
-use Rattle.invariants.proofs.InsertQueues.{SidesOk, rested-sum, rested-length, rested-length-one, rested-fewer}
-use Rattle.invariants.proofs.Legs.{resting-cons, KeptAt, Kept}
+use Rattle.invariants.proofs.InsertAccepted.{Passes, passes}
+use Rattle.invariants.proofs.InsertListing.{allows-last, mark-low, contractOf, swept, rested, sides, last-on-tick, contractAfter, rested-left, listing-after}
+use Rattle.invariants.proofs.InsertQueues.{rested-sum, rested-length, rested-length-one, rested-fewer}
+use Rattle.invariants.proofs.Legs.{resting-cons, KeptAt}
 use Rattle.invariants.proofs.Numbers.{occurs, uses, usesIn, once-count, once-changed, next-unused}
-use Rattle.invariants.proofs.SweptHoldings.{KeptBy, SweptKept, swept-kept, fewer-by}
+use Rattle.invariants.proofs.SweptHoldings.{SweptKept, swept-kept, fewer-by}
 use Rattle.invariants.proofs.SweptTrades.{ofContract, swept-in-range, swept-contract, other-holding}
 use Rattle.invariants.proofs.Tests.{at-set}
 

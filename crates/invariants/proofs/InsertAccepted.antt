@@ -1,23 +1,23 @@
 -- What an accepted insert has passed, as facts with names. Assumes nothing.
 use mathlib.Core.Bool.{Bool, true, false, not, _&&_, true≢false, false≢true}
-use mathlib.Core.List.{List, [], _∷_}
+use mathlib.Core.List.{List}
 use mathlib.Core.Path.{_≡_, refl, sym, _∙_}
-use Prim.Native.Nat.{ℕ, zero, suc, _+_, _<_, _≤_}
+use Prim.Native.Nat.{ℕ, _+_, _<_, _≤_}
 use native.Mathlib.Omega.{arith}
-use borrow.Author.Tests.{leb-true, leb-false, ltb-false, le-leb, not-false, not-true}
-use lib.Dec.{leb, ltb, eqb}
+use borrow.Author.Tests.{leb-true, leb-false, ltb-false, le-leb, not-false}
+use lib.Dec.{leb, ltb}
 use lib.ListN.{length}
 use Rattle.laws.specs.Choice.{pick, pick-true, pick-false, both-true, true-both}
-use Rattle.rules.specs.Answers.{codeOf, refusals, insertRefusals, isGoodForDay, isFillOrKill, isLimit, listingOf, priceRefusedBy, holdingRefused, overLimit, overHolding, fillableLots, tradesNeeded}
+use Rattle.rules.specs.Answers.{codeOf, refusals, insertRefusals, isGoodForDay, isLimit, listingOf, priceRefusedBy, holdingRefused, overLimit, overHolding, fillableLots, tradesNeeded}
 use Rattle.rules.specs.Bounds.{within, allowedToday, numbersEnd, maxLots, maxTrades, maxResting}
-use Rattle.rules.specs.Exchange.{Exchange, Listing, placeOf, own, holdingAt, restingOpens, restingCloses}
+use Rattle.rules.specs.Exchange.{Exchange, placeOf, own, holdingAt, restingOpens, restingCloses}
 use Rattle.rules.specs.declared.Command.the-variants.{Insert}
 use Rattle.rules.specs.declared.Contract.{Contract}
 use Rattle.rules.specs.declared.Holding.{Holding}
 use Rattle.rules.specs.declared.NewOrder.{NewOrder}
 use Rattle.rules.specs.declared.Order.{Order}
 use Rattle.rules.specs.declared.PriceCondition.{PriceCondition}
-use Rattle.rules.specs.declared.PriceCondition.the-variants.{Limit, Market, Best}
+use Rattle.rules.specs.declared.PriceCondition.the-variants.{Limit}
 use Rattle.invariants.proofs.Accepted.{failed, present}
 use Rattle.invariants.proofs.Clauses.{held}
 

@@ -1,17 +1,16 @@
 -- The contract after an accepted insert: its last price is a tick multiple and its queues are in order. Assumes nothing.
-use mathlib.Core.Bool.{Bool, true, false, not, _&&_, true≢false, false≢true}
-use mathlib.Core.List.{List, [], _∷_, _++_}
-use mathlib.Core.Logic.{_⊎_, inl, inr, ⊎-elim}
-use mathlib.Core.Path.{_≡_, refl, sym, ap, _∙_}
-use Prim.Native.Nat.{ℕ, zero, suc, _+_, _-_, _<_, _≤_}
+use mathlib.Core.Bool.{Bool, true, false, not, false≢true}
+use mathlib.Core.List.{List, [], _∷_}
+use mathlib.Core.Path.{_≡_, refl}
+use Prim.Native.Nat.{ℕ, _+_, _-_, _<_, _≤_}
 use native.Mathlib.Omega.{arith}
-use borrow.Author.Tests.{leb-true, le-leb, lt-ltb}
-use lib.Dec.{leb, ltb, eqb}
+use borrow.Author.Tests.{lt-ltb}
+use lib.Dec.{leb, ltb}
 use lib.ListN.{length}
-use Rattle.laws.specs.Choice.{pick, allOf, allOf-imp}
+use Rattle.laws.specs.Choice.{allOf, allOf-imp}
 use Rattle.rules.specs.Answers.{isGoodForDay, isLimit, mark, listingOf, takerOf}
 use Rattle.rules.specs.Bounds.{onTick, tickMultiple, termsInRange, allowedToday, dayLow, dayHigh}
-use Rattle.rules.specs.Exchange.{Exchange, Listing, listingAt, placeOf, own, opposite, withQueues}
+use Rattle.rules.specs.Exchange.{Exchange, placeOf, own, opposite}
 use Rattle.rules.specs.Matching.{Swept, sweep, tradedLots, lastPrice, remainder, restLots, restedLots, enter}
 use Rattle.rules.specs.Step.{withLast, limitOf, enteredOf, listingAfter}
 use Rattle.rules.specs.WellFormed.{contractInRange, orderInRange}
@@ -20,18 +19,16 @@ use Rattle.rules.specs.declared.NewOrder.{NewOrder}
 use Rattle.rules.specs.declared.Order.{Order}
 use Rattle.rules.specs.declared.PriceCondition.{PriceCondition}
 use Rattle.rules.specs.declared.PriceCondition.the-variants.{Limit, Market, Best}
-use Rattle.rules.specs.declared.Taker.{Taker}
 use Rattle.rules.specs.declared.Trade.{Trade}
-use Rattle.rules.proofs.Fillable.{swept-at-most}
 use Rattle.rules.proofs.Prices.{swept-allowed, last-test}
 use Rattle.rules.proofs.Rest.{rest-sorted, uncrossedFrom, entered-uncrossed}
 use Rattle.invariants.proofs.Carry.{Allows, orders-carried}
-use Rattle.invariants.proofs.Clauses.{OrderOk, order-ok, order-test, ListingOk, WellFormed}
+use Rattle.invariants.proofs.Clauses.{order-ok, order-test, ListingOk, WellFormed}
 use Rattle.invariants.proofs.InsertAccepted.{Passes}
 use Rattle.invariants.proofs.InsertQueues.{SidesOk, listing-sides, sides-listing, rested-all, rested-sorted, rest-orders}
 use Rattle.accounting.proofs.Facts.{passed}
 use Rattle.invariants.proofs.Tests.{join}
-use Rattle.invariants.proofs.Ticks.{Multiple, multiple, multiple-test, allowed-multiple}
+use Rattle.invariants.proofs.Ticks.{multiple, multiple-test, allowed-multiple}
 
 -- ---- the contract with another last price
 

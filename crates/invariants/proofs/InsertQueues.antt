@@ -1,7 +1,7 @@
 -- The two queues of a contract after an insert: the opposite one is what the sweep leaves, the own one has the remainder at its
 -- place; sorted, uncrossed and in range. Assumes nothing.
 use mathlib.Core.Bool.{Bool, true, false, not, _&&_}
-use mathlib.Core.List.{List, [], _∷_}
+use mathlib.Core.List.{List, _∷_}
 use mathlib.Core.Path.{_≡_, refl}
 use Prim.Native.Nat.{ℕ, zero, suc, _+_, _<_, _≤_}
 use native.Mathlib.Omega.{arith}
@@ -17,7 +17,7 @@ use Rattle.rules.specs.declared.Order.{Order}
 use Rattle.rules.specs.declared.Taker.{Taker}
 use Rattle.rules.proofs.Queue.{length-restIn}
 use Rattle.rules.proofs.Rest.{uncrossedFrom, rest-all}
-use Rattle.invariants.proofs.Clauses.{OrderOk, order-ok, order-test, ListingOk}
+use Rattle.invariants.proofs.Clauses.{order-ok, order-test, ListingOk}
 use Rattle.invariants.proofs.Sorting.{restIn-all, restIn-sorted, restIn-sum}
 use Rattle.invariants.proofs.SweptHoldings.{Fewer}
 

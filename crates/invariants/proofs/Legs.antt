@@ -5,10 +5,10 @@ use mathlib.Core.List.{List, [], _∷_}
 use mathlib.Core.Path.{_≡_, refl, sym}
 use Prim.Native.Nat.{ℕ, zero, suc, _+_, _-_, _<_, _≤_}
 use native.Mathlib.Omega.{arith}
-use borrow.Author.Tests.{leb-true, le-leb, eqb-true, eqb-false, eq-eqb, ne-eqb}
+use borrow.Author.Tests.{leb-true, eqb-true, eqb-false, eq-eqb}
 use lib.Dec.{leb, eqb}
-use lib.ListN.{length, getD, set}
-use Rattle.laws.specs.Choice.{pick, true-both}
+use lib.ListN.{getD, set}
+use Rattle.laws.specs.Choice.{pick}
 use Rattle.laws.specs.Sums.{sumOf}
 use Rattle.rules.specs.Exchange.{accountAt, holdingAt, noAccount, noHolding, lotsWhere, resting, restingOpens, restingCloses}
 use Rattle.rules.specs.Holdings.{afterLeg, withHolding, bookLeg, legCovered}

@@ -1,16 +1,15 @@
 -- The counts and the room of a state in memory as facts with names, and the two ways between them and the tests of
 -- `Memory.antt`. Assumes nothing.
-use mathlib.Core.Bool.{Bool, true, false, _&&_}
+use mathlib.Core.Bool.{Bool, true}
 use mathlib.Core.List.{List, [], _∷_}
 use mathlib.Core.Path.{_≡_}
 use Prim.Native.Nat.{ℕ, _*_, _<_, _≤_}
-use native.Mathlib.Omega.{arith}
 use borrow.Author.Tests.{leb-true, le-leb}
 use lib.Dec.{leb}
 use lib.ListN.{length, getD}
-use Rattle.laws.specs.Choice.{pick, all, all-at, all-true, both-true, true-both}
+use Rattle.laws.specs.Choice.{all, all-at, all-true, both-true, true-both}
 use Rattle.rules.specs.Bounds.{within, maxContracts, maxAccounts, maxResting, maxTrades}
-use Rattle.rules.specs.Memory.{Memory, orderStride, queueStride, tradeStride, exchangeOf, countsInRange, hasRoom, wellFormedMemory}
+use Rattle.rules.specs.Memory.{Memory, queueStride, tradeStride, exchangeOf, countsInRange, hasRoom, wellFormedMemory}
 use Rattle.rules.specs.WellFormed.{wellFormedContents}
 use Rattle.rules.specs.declared.State.{State}
 use Rattle.accounting.proofs.Facts.{passed}

@@ -1,12 +1,12 @@
 -- "Used once over all queues", by counting: a number is used once if it occurs at most once, and a change of one contract's
 -- queues changes the counts there alone. Assumes nothing.
-use mathlib.Core.Bool.{Bool, true, false, not, false≢true}
+use mathlib.Core.Bool.{Bool, true, false, not}
 use mathlib.Core.List.{List, [], _∷_, _++_}
-use mathlib.Core.Path.{_≡_, refl, sym, _∙_}
-use Prim.Native.Nat.{ℕ, zero, suc, _+_, _<_, _≤_}
+use mathlib.Core.Path.{_≡_, refl, _∙_}
+use Prim.Native.Nat.{ℕ, _+_, _<_, _≤_}
 use native.Mathlib.Omega.{arith}
 use borrow.Author.Tests.{eqb-true, eq-eqb, ne-eqb, not-true}
-use lib.Dec.{eqb, ltb}
+use lib.Dec.{eqb}
 use lib.ListN.{length, getD, set}
 use Rattle.laws.specs.Choice.{pick, allOf, both-true, true-both}
 use Rattle.laws.specs.Sums.{sumOf, sumOf-append, sumOf-set, sumOf-bound}
@@ -14,7 +14,7 @@ use Rattle.rules.specs.Exchange.{Listing, noListing}
 use Rattle.rules.specs.WellFormed.{orderInRange, numbers, allNumbers, usedOnce}
 use Rattle.rules.specs.declared.Contract.{Contract}
 use Rattle.rules.specs.declared.Order.{Order}
-use Rattle.invariants.proofs.Clauses.{OrderOk, order-ok, ListingOk}
+use Rattle.invariants.proofs.Clauses.{order-ok, ListingOk}
 
 -- how often a number occurs in a list, in a queue, in a contract's two queues
 unfoldable pub occurs : ℕ → List ℕ → ℕ

@@ -1,6 +1,6 @@
 -- A deposit and a withdrawal keep a state well formed: they change one balance, within its bound. Assumes nothing.
-use mathlib.Core.Bool.{Bool, true, false, not, _||_}
-use mathlib.Core.List.{List, [], _∷_, map}
+use mathlib.Core.Bool.{false}
+use mathlib.Core.List.{List, [], map}
 use mathlib.Core.Path.{_≡_, refl, sym, ap, _∙_}
 use Prim.Native.Nat.{ℕ, suc, _+_, _*_, _<_, _≤_}
 use native.Mathlib.Omega.{arith}
@@ -11,9 +11,9 @@ use lib.Signed.{ltZ}
 use lib.ListN.{length, getD, set, length-set, List·getD-map}
 use lib.Seq.{map-set-same}
 use Rattle.laws.specs.Bound.{within-abs, within-d, abs-within}
-use Rattle.laws.specs.Choice.{pick, either-false}
+use Rattle.laws.specs.Choice.{either-false}
 use Rattle.laws.specs.Ring.{d, d-ind, posPart, negPart, split, ring, ltZ-d}
-use Rattle.rules.specs.Answers.{depositRefusals, withdrawRefusals, firstOf, codeOf, refusals, liftsTooHigh, amountRefused}
+use Rattle.rules.specs.Answers.{depositRefusals, withdrawRefusals, codeOf, refusals, liftsTooHigh, amountRefused}
 use Rattle.rules.specs.Bounds.{maxBalance, maxDayProfit}
 use Rattle.rules.specs.Exchange.{Exchange, listingAt, accountAt, holdingAt, placeOf, noAccount, noHolding}
 use Rattle.rules.specs.Holdings.{bookTrades, startAccount, startOfDay}
@@ -24,7 +24,7 @@ use Rattle.rules.specs.declared.Holding.{Holding}
 use Rattle.rules.specs.declared.Command.the-variants.{Deposit, Withdraw}
 use Rattle.invariants.proofs.Accepted.{failed, present}
 use Rattle.invariants.proofs.Carry.{trades-carried}
-use Rattle.invariants.proofs.Clauses.{ListingOk, HoldingOk, WellFormed, Counted}
+use Rattle.invariants.proofs.Clauses.{WellFormed, Counted}
 use Rattle.invariants.proofs.Replay.{map-set, lotsOf, lotsOnly, same-holdings, holdings-same, book-same, never-same}
 use Rattle.invariants.proofs.Tests.{at-set}
 

@@ -1,7 +1,7 @@
 -- A change of a contract's state keeps the exchange's state well formed. Assumes nothing.
-use mathlib.Core.Bool.{Bool, true, false, not, _&&_, _||_, false≢true}
-use mathlib.Core.List.{List, [], _∷_}
-use mathlib.Core.Path.{_≡_, refl, sym}
+use mathlib.Core.Bool.{Bool, true, false, false≢true}
+use mathlib.Core.List.{[], _∷_}
+use mathlib.Core.Path.{_≡_, refl}
 use Prim.Native.Nat.{ℕ, _<_, _≤_}
 use native.Mathlib.Nat.{le-refl}
 use native.Mathlib.Omega.{arith}
@@ -11,14 +11,14 @@ use lib.ListN.{length}
 use Rattle.laws.specs.Choice.{both-false}
 use Rattle.rules.specs.Answers.{codeOf, refusals, phaseRefusals, changeListed}
 use Rattle.rules.specs.Bounds.{termsInRange, tickMultiple, allowedToday, dayLow, dayHigh}
-use Rattle.rules.specs.Exchange.{Exchange, Listing, listingAt, placeOf, own}
+use Rattle.rules.specs.Exchange.{Exchange, Listing, placeOf, own}
 use Rattle.rules.specs.Step.{withContract, withPhase, phaseChanged, carriedOut}
 use Rattle.rules.specs.WellFormed.{contractInRange}
 use Rattle.rules.specs.declared.Contract.{Contract}
 use Rattle.rules.specs.declared.Command.the-variants.{Phase}
 use Rattle.invariants.proofs.Accepted.{failed, present}
 use Rattle.invariants.proofs.Carry.{Allows, orders-carried}
-use Rattle.invariants.proofs.Clauses.{ListingOk, HoldingOk, WellFormed, Counted}
+use Rattle.invariants.proofs.Clauses.{ListingOk, WellFormed, Counted}
 use Rattle.invariants.proofs.Numbers.{usesIn}
 use Rattle.invariants.proofs.OneListing.{relisted-keeps, relisted-counted}
 use Rattle.accounting.proofs.Facts.{passed}

@@ -1,26 +1,25 @@
 -- A cancel and a pull keep the state well formed: orders are taken out of a contract's queues, and nothing else changes.
 -- Assumes nothing.
-use mathlib.Core.Bool.{Bool, true, false, not, _&&_, _||_, false≢true}
+use mathlib.Core.Bool.{Bool, true, false, _&&_}
 use mathlib.Core.List.{List, [], _∷_}
-use mathlib.Core.Path.{_≡_, refl, sym}
-use Prim.Native.Nat.{ℕ, suc, _+_, _<_, _≤_}
-use native.Mathlib.Nat.{le-refl}
+use mathlib.Core.Path.{_≡_, refl}
+use Prim.Native.Nat.{ℕ, _+_, _<_, _≤_}
 use native.Mathlib.Omega.{arith}
-use lib.Dec.{leb, eqb, ltb}
+use lib.Dec.{eqb}
 use lib.ListN.{length}
 use Rattle.laws.specs.Choice.{pick, allOf, allOf-imp, both-true, true-both}
 use Rattle.laws.specs.Sums.{sumOf}
 use Rattle.rules.specs.Answers.{codeOf, refusals, cancelRefusals, pullRefusals}
 use Rattle.rules.specs.Exchange.{Exchange, Listing, listingAt, placeOf, own, lotsWhere, resting}
 use Rattle.rules.specs.Step.{without, listingWithout, hasNumber, isOf, removed, cancelled, pulled, carriedOut}
-use Rattle.rules.specs.WellFormed.{ahead, aheadOfFirst, sorted, uncrossed, orderInRange}
+use Rattle.rules.specs.WellFormed.{ahead, sorted, orderInRange}
 use Rattle.rules.specs.declared.Order.{Order}
 use Rattle.rules.specs.declared.Holding.{Holding}
 use Rattle.rules.specs.declared.Command.the-variants.{Cancel, Pull}
 use Rattle.rules.proofs.Queue.{length-without}
 use Rattle.rules.proofs.Sorted.{sorted-tail}
 use Rattle.invariants.proofs.Accepted.{failed, present}
-use Rattle.invariants.proofs.Clauses.{ListingOk, HoldingOk, WellFormed, Counted, held}
+use Rattle.invariants.proofs.Clauses.{ListingOk, HoldingOk, WellFormed, Counted}
 use Rattle.invariants.proofs.Numbers.{uses, usesIn}
 use Rattle.invariants.proofs.OneListing.{relisted-keeps, relisted-counted}
 use Rattle.invariants.proofs.Sorting.{sorted-ahead, ahead-sorted, below, apart, uncrossed-apart, apart-uncrossed}

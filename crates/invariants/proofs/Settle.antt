@@ -1,15 +1,14 @@
 -- A settlement keeps a state well formed: its price is a tick multiple, holdings become starting ones, and each balance takes a
--- day's profit. Takes the bound of a day's profit from the caller. Assumes nothing.
-use mathlib.Core.Bool.{Bool, true, false, not, _&&_}
-use mathlib.Core.List.{List, [], _∷_, _++_, map}
-use mathlib.Core.Path.{_≡_, refl, sym, ap, _∙_}
+-- day's profit, which accounting bounds. Assumes nothing.
+use mathlib.Core.Bool.{Bool, true, false, _&&_}
+use mathlib.Core.List.{List, [], _∷_, map}
+use mathlib.Core.Path.{_≡_, refl, ap}
 use Prim.Native.Nat.{ℕ, zero, suc, _+_, _*_, _<_, _≤_}
 use native.Mathlib.Omega.{arith}
-use borrow.Author.Tests.{leb-true, leb-false, le-leb, eqb-true}
+use borrow.Author.Tests.{leb-false, le-leb, eqb-true}
 use lib.Dec.{leb, eqb}
-use lib.IntN.{ℤ, pos, _+ℤ_, natAbs}
+use lib.IntN.{natAbs}
 use lib.ListN.{length, getD, List·getD-map}
-use Rattle.laws.specs.Bound.{Within, within-abs, abs-within, within-add, within-le}
 use Rattle.laws.specs.Choice.{pick, allOf, allOf-imp, both-true, true-both}
 use Rattle.laws.specs.Sums.{sumOf}
 use Rattle.laws.specs.Tabulate.{tabulate, length-tabulate, getD-tabulate}
@@ -17,8 +16,8 @@ use Rattle.rules.specs.Answers.{codeOf, refusals, settleRefusals}
 use Rattle.rules.specs.Bounds.{within, tickMultiple, termsInRange, maxPrice, maxResting, maxSettlements, maxBalance, maxDayProfit}
 use Rattle.rules.specs.Exchange.{Exchange, Listing, listingAt, accountAt, holdingAt, own, noListing, noAccount, noHolding, lotsWhere, resting}
 use Rattle.rules.specs.Holdings.{bookTrades, neverBelowZero, startHolding, startAccount, startOfDay}
-use Rattle.rules.specs.Matching.{middle, tradedLots}
-use Rattle.rules.specs.Settlement.{tradesIn, weightedPrice, quotedPrice, priceFrom, settlementPrice, closingProfit, holdingProfit, carriedHolding, settledAccount, settledContract, settledListing, settled}
+use Rattle.rules.specs.Matching.{tradedLots}
+use Rattle.rules.specs.Settlement.{tradesIn, quotedPrice, priceFrom, settlementPrice, carriedHolding, settledAccount, settledContract, settledListing, settled}
 use Rattle.rules.specs.Step.{carriedOut}
 use Rattle.rules.specs.WellFormed.{contractInRange, sorted, uncrossed, orderInRange, numbers, allNumbers, usedOnce, tradeInRange}
 use Rattle.rules.specs.declared.Account.{Account}
@@ -27,10 +26,11 @@ use Rattle.rules.specs.declared.Contract.{Contract}
 use Rattle.rules.specs.declared.Holding.{Holding}
 use Rattle.rules.specs.declared.Order.{Order}
 use Rattle.rules.specs.declared.Trade.{Trade}
+use Rattle.rules.proofs.Holdings.{same-refl}
 use Rattle.rules.proofs.Prices.{middle-any}
+use Rattle.accounting.proofs.ProfitBound.{settled-balance-bound}
 use Rattle.invariants.proofs.Accepted.{failed}
-use Rattle.invariants.proofs.Clauses.{OrderOk, order-ok, ListingOk, TradeOk, trade-ok, held, HoldingOk, WellFormed, Counted}
-use Rattle.invariants.proofs.Replay.{nowOnly, lotsOf, lotsOnly, holdings-same}
+use Rattle.invariants.proofs.Clauses.{order-ok, ListingOk, TradeOk, trade-ok, HoldingOk, WellFormed, Counted, well-formed-test}
 use Rattle.accounting.proofs.Facts.{passed}
 use Rattle.invariants.proofs.Tests.{join}
 use Rattle.invariants.proofs.Ticks.{Terms, terms, terms-test, Multiple, multiple, multiple-test, allowed-multiple, weighted-multiple}
@@ -131,14 +131,14 @@ unfolding usedOnce
 once-none = refl
 
 -- the holdings at the start of the new day are those now
-same-start : (n : ℕ) (f : ℕ → Account) → ((a : ℕ) → lotsOf (startAccount (f a)) ≡ lotsOf (f a)) → lotsOnly (startOfDay (tabulate n f)) ≡ lotsOnly (tabulate n f)
-unfolding tabulate lotsOnly startOfDay
-same-start zero f h = refl
-same-start (suc n) f h = rw (h 0, same-start n (λ a. f (suc a)) (λ a. h (suc a)))
-
-carried-start : (hs : List Holding) → map nowOnly (map startHolding (map carriedHolding hs)) ≡ map nowOnly (map carriedHolding hs)
+carried-start : (hs : List Holding) → map startHolding (map carriedHolding hs) ≡ map carriedHolding hs
 carried-start [] = refl
 carried-start (h ∷ hs) = rw (carried-start hs)
+
+same-start : (n : ℕ) (f : ℕ → Account) → ((a : ℕ) → startAccount (f a) ≡ f a) → startOfDay (tabulate n f) ≡ tabulate n f
+unfolding tabulate startOfDay
+same-start zero f h = refl
+same-start (suc n) f h = rw (h 0, same-start n (λ a. f (suc a)) (λ a. h (suc a)))
 
 module _ (x : Exchange) (k : WellFormed x) where
   listing-settled : (accounts next c : ℕ) → c < length (x .listings) → ListingOk accounts next (settledListing x c)
@@ -177,9 +177,11 @@ module _ (x : Exchange) (k : WellFormed x) where
   unfolding settledListing
   none-rest = no-numbers (length (x .listings)) (settledListing x) (λ c. refl) (λ c. refl)
 
-  lots-settled : (a : ℕ) → lotsOf (startAccount (settledAccount x a)) ≡ lotsOf (settledAccount x a)
+  start-settled : startOfDay accounts ≡ accounts
   unfolding settledAccount
-  lots-settled a = ap (λ (hs : List Holding). record { balance = pos 0; holdings = hs }) (carried-start (accountAt (x .accounts) a .holdings))
+  start-settled =
+      same-start (length (x .accounts)) (settledAccount x)
+      (λ a. ap (λ (hs : List Holding). record { balance = settledAccount x a .balance; holdings = hs }) (carried-start (accountAt (x .accounts) a .holdings)))
 
   account-at : (a : ℕ) → a < length (x .accounts) → accountAt accounts a ≡ settledAccount x a
   unfolding accountAt
@@ -189,13 +191,9 @@ module _ (x : Exchange) (k : WellFormed x) where
   unfolding holdingAt accountAt settledAccount
   holding-at a c l = rw (getD-tabulate (length (x .accounts)) a (settledAccount x) noAccount l) (List·getD-map carriedHolding (getD (x .accounts) a noAccount .holdings) c noHolding)
 
-  module _ (profit : (a : ℕ) → a < length (x .accounts) → Within maxDayProfit (closingProfit x a +ℤ holdingProfit x a)) (few : x .settlements < maxSettlements) where
+  module _ (n : Counted x) (few : x .settlements < maxSettlements) where
     balance-settled : (a : ℕ) → a < length (x .accounts) → natAbs (settledAccount x a .balance) ≤ maxBalance + (x .settlements + 1) * maxDayProfit
-    unfolding settledAccount
-    balance-settled a l =
-        let b : ℤ = accountAt (x .accounts) a .balance in
-        let p : ℤ = closingProfit x a +ℤ holdingProfit x a in
-        abs-within (b +ℤ p) (within-le (omega arith) (within-add {x = b} {y = p} (within-abs b _ (k .balance a l)) (profit a l)))
+    balance-settled a l = settled-balance-bound x (well-formed-test x k) (n .contracts) (n .trades) a l (k .balance a l)
 
     pub settled-keeps : WellFormed (settled x)
     unfolding settled listingAt bookTrades neverBelowZero allOf
@@ -210,7 +208,7 @@ module _ (x : Exchange) (k : WellFormed x) where
           once = rw none-rest once-none;
           trades = refl;
           covered = refl;
-          replay = holdings-same (startOfDay accounts) accounts (same-start (length (x .accounts)) (settledAccount x) lots-settled);
+          replay = rw start-settled (same-refl accounts);
           holding = λ a c la lc.
               let p : a < length (x .accounts) = rw na at la in
               let q : c < length (x .listings) = rw nl at lc in
@@ -235,9 +233,9 @@ module _ (x : Exchange) (k : WellFormed x) where
 -- ---- the step
 
 module _ (x : Exchange) (e : codeOf x Settle ≡ 0) where
-  pub settle-keeps : (profit : (a : ℕ) → a < length (x .accounts) → Within maxDayProfit (closingProfit x a +ℤ holdingProfit x a)) → WellFormed x → WellFormed (carriedOut x Settle .exchange)
+  pub settle-keeps : WellFormed x → Counted x → WellFormed (carriedOut x Settle .exchange)
   unfolding codeOf refusals settleRefusals carriedOut
-  settle-keeps profit k = settled-keeps x k profit (leb-false maxSettlements (x .settlements) (failed (settleRefusals x) (omega arith) e .1 .0))
+  settle-keeps k n = settled-keeps x k n (leb-false maxSettlements (x .settlements) (failed (settleRefusals x) (omega arith) e .1 .0))
 
   pub settle-counted : WellFormed x → Counted x → Counted (carriedOut x Settle .exchange)
   unfolding carriedOut

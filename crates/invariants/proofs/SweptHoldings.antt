@@ -1,17 +1,14 @@
 -- A sweep keeps every account's limits and the coverage of its closes: the arriving order's lots count as if they rested in front
 -- of its own side's queue. Assumes nothing.
-use mathlib.Core.Bool.{Bool, true, false, not, _&&_}
-use mathlib.Core.List.{List, [], _∷_, _++_}
-use mathlib.Core.Logic.{_⊎_, inl, inr, ⊎-elim}
-use mathlib.Core.Path.{_≡_, refl, sym, ap, _∙_}
-use Prim.Native.Nat.{ℕ, zero, suc, _+_, _-_, _<_, _≤_, min}
+use mathlib.Core.Bool.{Bool, true, false}
+use mathlib.Core.List.{List, [], _∷_}
+use mathlib.Core.Path.{_≡_}
+use Prim.Native.Nat.{ℕ, _-_, _<_, _≤_, min}
 use native.Mathlib.Omega.{arith}
-use lib.Dec.{leb, eqb}
-use lib.ListN.{length}
-use Rattle.laws.specs.Choice.{pick, allOf, both-true, true-both}
-use Rattle.rules.specs.Exchange.{resting, lotsWhere}
+use Rattle.laws.specs.Choice.{pick, allOf, both-true}
+use Rattle.rules.specs.Exchange.{resting}
 use Rattle.rules.specs.Holdings.{bookTrade, bookTrades, legCovered, bookBuyer, neverBelowZero}
-use Rattle.rules.specs.Matching.{counterpart, withLots, remainder, Swept, sweep, tradedLots, tradeWith}
+use Rattle.rules.specs.Matching.{withLots, remainder, Swept, sweep, tradedLots, tradeWith}
 use Rattle.rules.specs.WellFormed.{orderInRange}
 use Rattle.rules.specs.declared.Account.{Account}
 use Rattle.rules.specs.declared.Contract.{Contract}
@@ -22,8 +19,8 @@ use Rattle.rules.specs.declared.Trade.{Trade}
 use Rattle.rules.proofs.Fillable.{traded-nil, traded-cons}
 use Rattle.rules.proofs.Holdings.{never-nil}
 use Rattle.rules.proofs.Sweep.{trade-lots, partFilled, filled, sweep-ind}
-use Rattle.invariants.proofs.Clauses.{OrderOk, order-ok}
-use Rattle.invariants.proofs.Legs.{resting-cons, KeptAt, Kept, buyer-covered, seller-covered, trade-kept}
+use Rattle.invariants.proofs.Clauses.{order-ok}
+use Rattle.invariants.proofs.Legs.{resting-cons, Kept, buyer-covered, seller-covered, trade-kept}
 use Rattle.invariants.proofs.Tests.{join}
 
 -- the two queues by side: own and opposite

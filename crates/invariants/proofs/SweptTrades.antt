@@ -1,18 +1,18 @@
 -- The trades of a sweep are in range: accounts and contract exist, the two order numbers differ, the price is allowed today, the
 -- lots are 1 to 1,000. They leave the holdings in other contracts alone. Assumes nothing.
-use mathlib.Core.Bool.{Bool, true, false, not, _&&_}
-use mathlib.Core.List.{List, [], _∷_, _++_}
-use mathlib.Core.Path.{_≡_, refl, sym, ap, _∙_}
-use Prim.Native.Nat.{ℕ, zero, suc, _+_, _-_, _<_, _≤_, min}
+use mathlib.Core.Bool.{Bool, true, false, not}
+use mathlib.Core.List.{List, [], _∷_}
+use mathlib.Core.Path.{_≡_, refl, ap, _∙_}
+use Prim.Native.Nat.{ℕ, _<_, _≤_}
 use native.Mathlib.Omega.{arith}
-use borrow.Author.Tests.{eqb-true, eqb-false, eq-eqb, ne-eqb}
-use lib.Dec.{leb, eqb}
+use borrow.Author.Tests.{eqb-true, eq-eqb, ne-eqb}
+use lib.Dec.{eqb}
 use lib.ListN.{length}
 use Rattle.laws.specs.Choice.{pick, allOf, both-true, true-both}
-use Rattle.rules.specs.Bounds.{onTick, allowedToday, maxLots}
+use Rattle.rules.specs.Bounds.{onTick, allowedToday}
 use Rattle.rules.specs.Exchange.{Exchange, listingAt, holdingAt}
 use Rattle.rules.specs.Holdings.{bookTrade, bookTrades}
-use Rattle.rules.specs.Matching.{counterpart, tradePrice, Swept, sweep, tradeWith}
+use Rattle.rules.specs.Matching.{tradePrice, sweep, tradeWith}
 use Rattle.rules.specs.WellFormed.{orderInRange, tradeInRange}
 use Rattle.rules.specs.declared.Account.{Account}
 use Rattle.rules.specs.declared.Contract.{Contract}
@@ -21,10 +21,10 @@ use Rattle.rules.specs.declared.PriceCondition.the-variants.{Limit}
 use Rattle.rules.specs.declared.Taker.{Taker}
 use Rattle.rules.specs.declared.Trade.{Trade}
 use Rattle.rules.proofs.Holdings.{holding-other-trade}
-use Rattle.rules.proofs.Prices.{Allowed, allowed-facts, price-allowed}
+use Rattle.rules.proofs.Prices.{allowed-facts, price-allowed}
 use Rattle.rules.proofs.Sweep.{sweep-ind, swept-each}
 use Rattle.invariants.proofs.Carry.{Allows}
-use Rattle.invariants.proofs.Clauses.{OrderOk, order-ok, TradeOk, trade-test}
+use Rattle.invariants.proofs.Clauses.{order-ok, trade-test}
 
 -- ---- in range
 

@@ -1,12 +1,12 @@
 -- Prices on the tick: a price allowed today is a tick multiple, and so is a settlement price. Assumes nothing.
-use mathlib.Core.Bool.{Bool, true, false, not, _&&_}
+use mathlib.Core.Bool.{Bool, true}
 use mathlib.Core.List.{List, [], _∷_}
-use mathlib.Core.Path.{_≡_, refl, sym}
-use Prim.Native.Nat.{ℕ, zero, suc, _+_, _-_, _*_, _/_, _%_, _<_, _≤_, min, max}
-use native.Mathlib.Nat.{div-mul-le-self, le-div-iff-mul-le, div-le-of-le-mul, mul-mod-left, mul-le-mul-right, mul-add, add-mul}
+use mathlib.Core.Path.{_≡_}
+use Prim.Native.Nat.{ℕ, _+_, _-_, _*_, _/_, _%_, _≤_, min, max}
+use native.Mathlib.Nat.{div-mul-le-self, le-div-iff-mul-le, div-le-of-le-mul, mul-mod-left, mul-le-mul-right}
 use native.Mathlib.Omega.{arith}
 use borrow.Author.Tests.{leb-true, le-leb, eq-eqb}
-use lib.Dec.{leb, eqb}
+use lib.Dec.{leb}
 use Rattle.laws.specs.Choice.{allOf, both-true, true-both}
 use Rattle.laws.specs.Sums.{sumOf}
 use Rattle.rules.specs.Bounds.{within, onTick, tickMultiple, termsInRange, dayLow, dayHigh, allowedToday, maxPrice}
@@ -14,7 +14,7 @@ use Rattle.rules.specs.Matching.{tradedLots}
 use Rattle.rules.specs.Settlement.{tradedValue, weightedPrice}
 use Rattle.rules.specs.declared.Contract.{Contract}
 use Rattle.rules.specs.declared.Trade.{Trade}
-use Rattle.rules.proofs.Prices.{Allowed, allowed-facts}
+use Rattle.rules.proofs.Prices.{allowed-facts}
 use Rattle.accounting.proofs.Facts.{passed}
 use Rattle.invariants.proofs.Tests.{join}
 
