@@ -10,6 +10,7 @@ pub mod Phases
 pub mod Sorting
 pub mod Removal
 pub mod Ticks
+pub mod FreshDay
 pub mod Settle
 pub mod Legs
 pub mod SweptHoldings
@@ -22,4 +23,5 @@ pub mod Keeps
 pub mod MemoryRoom
 pub mod MemoryLaws
 pub mod MemoryKeeps
+pub mod Opening
 pub mod Condition3
