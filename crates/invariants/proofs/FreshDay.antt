@@ -111,8 +111,8 @@ module _ (contracts : ℕ) (contract : ℕ → Contract) (accounts : ℕ) (accou
         covered = refl;
         replay = rw (same-start accounts account start) (same-refl (day .accounts));
         holding = λ a c la lc.
-          let p : a < accounts = rw na at la in
-          let q : c < contracts = rw nc at lc in
-          rw (listing-at c q, holding-at a c p) (holding-quiet (contract c) a _ (start-at a c) (longs a c p q) (shorts a c p q));
+            let p : a < accounts = rw na at la in
+            let q : c < contracts = rw nc at lc in
+            rw (listing-at c q, holding-at a c p) (holding-quiet (contract c) a _ (start-at a c) (longs a c p q) (shorts a c p q));
         balance = λ a l. let h : a < accounts = rw na at l in rw (account-at a h) (balances a h);
       }
