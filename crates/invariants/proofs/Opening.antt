@@ -44,7 +44,9 @@ module _ (file : List ℕ) (h : sound file ≡ true) where
 
   few-contracts : contractsIn file ≤ maxContracts
   unfolding sound
-  few-contracts = leb-true _ _ (both-true (leb 1 (contractsIn file)) (leb (contractsIn file) maxContracts) (passed (within 1 maxContracts (contractsIn file)) fileTests h .0) .1)
+  few-contracts =
+      leb-true _ _ (both-true (leb 1 (contractsIn file)) (leb (contractsIn file) maxContracts)
+      (passed (within 1 maxContracts (contractsIn file)) fileTests h .0) .1)
 
   -- the last price starts as the reference
   in-range : (c : ℕ) → c < contractsIn file → contractInRange (contractFrom file (contractPlace c)) ≡ true
@@ -52,7 +54,8 @@ module _ (file : List ℕ) (h : sound file ≡ true) where
   in-range c l =
       let k = all-at (contractSound file) c (contractsIn file) (passed (within 1 maxContracts (contractsIn file)) fileTests h .1 .1 .1 .1 .0) l in
       let t = both-true (termsInRange (contractFrom file (contractPlace c))) (eqb (u16At file (contractPlace c + 18)) 0) k .0 in
-      join (termsInRange (contractFrom file (contractPlace c))) (leb 0 3 ∷ tickMultiple (contractFrom file (contractPlace c) .tick) (contractFrom file (contractPlace c) .reference) ∷ [])
+      join (termsInRange (contractFrom file (contractPlace c)))
+      (leb 0 3 ∷ tickMultiple (contractFrom file (contractPlace c) .tick) (contractFrom file (contractPlace c) .reference) ∷ [])
       (t, (le-leb 0 3 (omega arith), terms (contractFrom file (contractPlace c)) t .reference))
 
   start : (a : ℕ) → startAccount (openingAccount file a) ≡ openingAccount file a
@@ -65,18 +68,22 @@ module _ (file : List ℕ) (h : sound file ≡ true) where
 
   balance-low : (a : ℕ) → a < accountsIn file → balanceFrom file a ≤ maxBalance
   unfolding sound accountSound
-  balance-low a l = leb-true _ _ (all-at (accountSound file) a (accountsIn file) (passed (within 1 maxContracts (contractsIn file)) fileTests h .1 .1 .1 .1 .1) l)
+  balance-low a l =
+      leb-true _ _ (all-at (accountSound file) a (accountsIn file) (passed (within 1 maxContracts (contractsIn file)) fileTests h .1 .1 .1 .1 .1) l)
 
   pub opening-sound : Sound (opening file)
   unfolding opening openingListing
   opening-sound =
       record {
         contents =
-            fresh-day (contractsIn file) (λ c. contractFrom file (contractPlace c)) (accountsIn file) (openingAccount file) 0 in-range start (omega arith)
+            fresh-day (contractsIn file) (λ c. contractFrom file (contractPlace c)) (accountsIn file) (openingAccount file) 0 in-range start
+            (omega arith)
             (λ a c la lc. rw (nothing-held a c) (omega arith))
             (λ a c la lc. rw (nothing-held a c) (omega arith))
             (λ a l. unfold openingAccount in omega (arith, balance-low a l));
-        counts = fresh-counted (contractsIn file) (λ c. contractFrom file (contractPlace c)) (accountsIn file) (openingAccount file) 0 in-range start few-contracts;
+        counts =
+            fresh-counted (contractsIn file) (λ c. contractFrom file (contractPlace c)) (accountsIn file)
+            (openingAccount file) 0 in-range start few-contracts;
       }
 
   pub opening-well-formed : wellFormedContents (opening file) ≡ true
