@@ -4,3 +4,5 @@ pub mod Queue
 pub mod Sorted
 pub mod Fillable
 pub mod Prices
+pub mod Holdings
+pub mod Rest
