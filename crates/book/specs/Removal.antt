@@ -8,7 +8,7 @@ use Rattle.rules.specs.Memory.{queueIn, putQueue}
 use Rattle.rules.specs.Step.{without, isOf}
 use Rattle.book.specs.declared.removal.Pulled.{Pulled}
 
-pub record PulledIs (account : ℕ) (area : List ℕ) (c count : ℕ) (r : Pulled) (area′ : List ℕ) : Type 0 where
-  pub queue : area′ ≡ putQueue area c count (without (isOf account) (queueIn area c count))
-  pub count : r .count ≡ length (without (isOf account) (queueIn area c count))
-  pub lots : r .lots ≡ lotsWhere (isOf account) (queueIn area c count)
+pub record PulledIs (account : ℕ) (area : List ℕ) (c n : ℕ) (r : Pulled) (area′ : List ℕ) : Type 0 where
+  pub queue : area′ ≡ putQueue area c n (without (isOf account) (queueIn area c n))
+  pub count : r .count ≡ length (without (isOf account) (queueIn area c n))
+  pub lots : r .lots ≡ lotsWhere (isOf account) (queueIn area c n)

@@ -20,12 +20,12 @@ pub record SweptQueue (area : List ℕ) (c count : ℕ) : Type 0 where
 
 -- the answer, and both areas: the trades at the next free places, the rest of the queue behind its filled orders
 pub record FilledIs
-    (s : Swept) (queues : List ℕ) (c count : ℕ) (area : List ℕ) (before last : ℕ) (accounts : List Account)
+    (s : Swept) (queues : List ℕ) (c count : ℕ) (area : List ℕ) (before price : ℕ) (held : List Account)
     (r : Filled) (queues′ area′ : List ℕ) : Type 0 where
   pub traded : r .traded ≡ tradedLots (s .trades)
   pub filled : r .filled + length (s .rest) ≡ count
   pub made : r .made ≡ before + length (s .trades)
-  pub last : r .last ≡ lastPrice last (s .trades)
-  pub accounts : r .accounts ≡ bookTrades accounts (s .trades)
+  pub last : r .last ≡ lastPrice price (s .trades)
+  pub accounts : r .accounts ≡ bookTrades held (s .trades)
   pub trades : area′ ≡ store tradeWords area (9 * before) (s .trades)
   pub queue : queues′ ≡ store orderWords queues (queueStride * c) (take (r .filled) (queueIn queues c count) ++ s .rest)

@@ -14,3 +14,5 @@ pub mod DayFile
 pub mod Lines
 pub mod Examples
 pub mod PaperDay
+pub mod EarlyStop
+pub mod Places
