@@ -20,5 +20,3 @@ pub mod MatchingExamples
 pub mod ProfitExamples
 pub mod WellFormedExamples
 pub mod PaperDay
-pub mod EarlyStop
-pub mod Places
