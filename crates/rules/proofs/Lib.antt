@@ -1,2 +1,5 @@
-pub mod Sweep
 pub mod Codecs
+pub mod Sweep
+pub mod Queue
+pub mod Sorted
+pub mod Fillable

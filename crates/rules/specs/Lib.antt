@@ -4,6 +4,8 @@ pub mod Holdings
 pub mod WellFormed
 pub mod Command
 pub mod Matching
+pub mod EarlyStop
+pub mod Places
 pub mod Margin
 pub mod Settlement
 pub mod Answers
@@ -14,5 +16,3 @@ pub mod DayFile
 pub mod Lines
 pub mod Examples
 pub mod PaperDay
-pub mod EarlyStop
-pub mod Places
