@@ -1,7 +1,10 @@
 // Counterparts and trade prices (document 01, "Matching").
 ghost use mathlib.Core.Path.{_≡_};
 ghost use Rattle.rules.specs.Matching as matching;
-use rules::{Order, PriceCondition, Taker, Trade};
+use rules::Order;
+use rules::PriceCondition;
+use rules::Taker;
+use rules::Trade;
 
 pub fn middle(a: u32, b: u32, c: u32) -> u32
     ensures { λ r. ⌜ r ≡ matching.middle a b c ⌝ }

@@ -7,8 +7,12 @@ ghost use Rattle.rules.specs.Matching as matching;
 ghost use Rattle.rules.specs.Memory.{queueIn};
 ghost use Rattle.book.specs.Bounds.{HeldWithin};
 ghost use Rattle.book.specs.Sweep.{SweptQueue, FilledIs};
-use crate::{holdings, prices, queue, trades};
-use rules::{Account, Taker};
+use crate::holdings;
+use crate::prices;
+use crate::queue;
+use crate::trades;
+use rules::Account;
+use rules::Taker;
 
 // Lots traded, resting orders filled, trades of the day, the last price, the accounts.
 pub struct Filled {
