@@ -1,3 +1,5 @@
+pub mod Bookings
 pub mod Queues
-pub mod Scans
 pub mod Recorded
+pub mod Scans
+pub mod Turns

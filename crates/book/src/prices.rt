@@ -23,6 +23,13 @@ pub fn meets(condition: PriceCondition, sell: bool, best: u32, price: u32) -> bo
     }
 }
 
+pub fn is_counterpart(t: Taker, o: Order) -> bool
+    ensures { λ r. ⌜ r ≡ matching.counterpart t o ⌝ }
+{
+    let condition = t.condition;
+    meets(condition, t.sell, t.best, o.price)
+}
+
 // Market and best trade at the resting price, a limit order at the middle of its price, the resting price and the last.
 pub fn trade_price(condition: PriceCondition, price: u32, last: u32) -> u32
     ensures { λ r. ⌜ r ≡ matching.tradePrice condition price last ⌝ }
