@@ -48,24 +48,24 @@ module _ (area : List ℕ) (c n i : ℕ) where
 
 -- ---- a loop that counts over a queue: `done` is counted of the orders before place i, and `f` counts those from there on
 
+-- those from there on count nothing
+pub tally-none : (done rest answer : ℕ) → done + rest ≡ answer → rest ≡ 0 → done ≡ answer
+tally-none done rest answer so-far k = omega arith
+
 module _ (f : List Order → ℕ) (area : List ℕ) (c n i done answer : ℕ) (so-far : done + f (drop i (queueIn area c n)) ≡ answer) where
+  pub tally-end : n ≤ i → f [] ≡ 0 → done ≡ answer
+  tally-end h k = tally-none done _ answer so-far (rw (no-more area c n i h) k)
+
   module _ (o : Order) (h : i < n) (e : o ≡ orderFrom (drop (320 * c + 5 * i) area)) where
+    -- neither the order at i nor any behind it counts
+    pub tally-stop : ((os : List Order) → f (o ∷ os) ≡ 0) → done ≡ answer
+    tally-stop k = tally-none done _ answer so-far (rw (next-order area c n i o h e) (k (drop (i + 1) (queueIn area c n))))
+
     -- the order at i counts a, and g counts those behind it
     pub tally-on : (g : List Order → ℕ) (a : ℕ) → ((os : List Order) → f (o ∷ os) ≡ a + g os) → done + a + g (drop (i + 1) (queueIn area c n)) ≡ answer
     tally-on g a k =
         let turn : f (drop i (queueIn area c n)) ≡ a + g (drop (i + 1) (queueIn area c n)) = rw (next-order area c n i o h e) (k (drop (i + 1) (queueIn area c n))) in
         omega arith
-
-    -- neither it nor any behind it counts
-    pub tally-stop : ((os : List Order) → f (o ∷ os) ≡ 0) → done ≡ answer
-    tally-stop k =
-        let stop : f (drop i (queueIn area c n)) ≡ 0 = rw (next-order area c n i o h e) (k (drop (i + 1) (queueIn area c n))) in
-        omega arith
-
-  pub tally-end : n ≤ i → f [] ≡ 0 → done ≡ answer
-  tally-end h k =
-      let end : f (drop i (queueIn area c n)) ≡ 0 = rw (no-more area c n i h) k in
-      omega arith
 
 -- a search for the first order that satisfies a test counts those before it
 module _ (test : Order → Bool) (area : List ℕ) (c n i answer : ℕ) (so-far : i + firstWhere test (drop i (queueIn area c n)) ≡ answer) where
