@@ -1,2 +1,3 @@
 pub mod Queues
 pub mod Scans
+pub mod Sides
