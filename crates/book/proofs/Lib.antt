@@ -1,3 +1,4 @@
+pub mod Pulls
 pub mod Queues
 pub mod Scans
 pub mod Sides

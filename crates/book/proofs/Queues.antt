@@ -3,12 +3,12 @@
 use mathlib.Core.Bool.{Bool, true, false}
 use mathlib.Core.List.{List, [], _∷_, _++_, append-nil}
 use mathlib.Core.Path.{_≡_, refl, sym, ap, _∙_}
-use borrow.Rule.Slice.PartMut.{putMid}
+use borrow.Rule.Slice.PartMut.{putMid, post-is}
 use Prim.Native.Nat.{ℕ, suc, _+_, _-_, _*_, _≤_, _<_}
 use native.Mathlib.Numerals.{add-one, one-add}
 use native.Mathlib.Omega.{arith}
 use lib.ListN.{length, take, drop, getD, set, length-append, length-take, length-drop, length-set, drop-of-length-le, take-append-drop}
-use lib.Seq.{sets, sets-eq, drop-at, drop-cons, drop-drop, drop-set-add, length-take-le, take-set-le, take-take}
+use lib.Seq.{sets, sets-eq, drop-at, drop-cons, drop-drop, drop-length, drop-set-add, length-take-le, take-all, take-set-le, take-take}
 use Rattle.areas.specs.Lists.{over, insertAt, removeAt, padded}
 use Rattle.areas.specs.Moves.{movedBack, closedUp}
 use Rattle.areas.specs.Records.{store}
@@ -35,6 +35,14 @@ pub shift-in : (part moved : List ℕ) (o : Order) → 5 ≤ length part → mov
     → orderWords o ++ drop 5 moved ≡ orderWords o ++ take (length part - 5) part
 unfolding movedBack
 shift-in part moved o h e = rw (e, drop-at (take 5 part) (take (length part - 5) part) 5 (length-take-le 5 part h))
+
+-- an order is written in front of a part that reaches to the end of the area
+pub put-over : (area : List ℕ) (s : ℕ) (o : Order) (part : List ℕ) → s + 5 ≤ length area → part ≡ orderWords o ++ drop 5 (take (length area - s) (drop s area))
+    → putMid s (length area - s) area part ≡ over area s (orderWords o)
+unfolding over
+put-over area s o part h e =
+    let p : part ≡ orderWords o ++ drop (s + 5) area = e ∙ rw (take-all (length area - s) (drop s area) (rw length-drop (omega arith)), drop-drop 5 s area) in
+    rw (post-is s (length area) area (omega arith), drop-length, append-nil, p)
 
 -- ---- the queue read in turn
 
