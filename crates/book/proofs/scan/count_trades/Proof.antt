@@ -1,7 +1,7 @@
 -- `book::scan::count_trades` meets its contract. The invariant: i trades so far, and those of the lots left from order i on, are
 -- the answer. Assumes nothing.
 use mathlib.Core.Path.{_≡_, sym, _∙_}
-use Prim.Native.Nat.{_+_, _-_, _*_, _≤_}
+use Prim.Native.Nat.{_+_, _-_, _≤_}
 use native.Mathlib.Nat.{zero-add}
 use native.Mathlib.Omega.{arith}
 use borrow.Author.Needs.{needs}
