@@ -1,0 +1,213 @@
+-- The laws of `specs/Lists.antt`. Assumes nothing.
+use mathlib.Core.List.{List, [], _∷_, _++_, append-assoc, append-nil}
+use mathlib.Core.Path.{_≡_, refl, sym, ap, _∙_}
+use Prim.Native.Nat.{ℕ, zero, suc, _+_, _-_, _≤_, _<_}
+use native.Mathlib.Nat.{add-zero, add-assoc, sub-self, sub-zero, suc-sub-suc, zero-sub, zero-add}
+use native.Mathlib.Numerals.{add-one}
+use native.Mathlib.Omega.{arith}
+use lib.ListN.{length, take, drop, getD, set, replicate, length-append, length-take, length-drop, length-replicate, take-append-drop, drop-of-length-le, List·getD-append}
+use lib.Seq.{sets, sets-eq, take-length, drop-length, drop-nil, take-take, take-add, take-at, take-all, take-append-le, take-append-add, drop-at, drop-drop, drop-append-le, drop-append-add, length-take-le, set-split}
+use Rattle.areas.specs.Lists.{over, insertAt, removeAt, padded}
+
+module _ {A : Type 0} where
+  -- ---- parts of parts
+
+  pub drop-take : (w k : ℕ) (l : List A) → w ≤ k → w ≤ length l → drop w (take k l) ≡ take (k - w) (drop w l)
+  drop-take w k l h b =
+      let e : k ≡ w + (k - w) = omega arith in
+      ap (λ (n : ℕ). drop w (take n l)) e ∙ rw (take-add w (k - w) l, drop-at (take w l) (take (k - w) (drop w l)) w (length-take-le w l b))
+
+  -- the first n from place k on, and what follows them
+  pub part-rest : (n k : ℕ) (l : List A) → take n (drop k l) ++ drop (k + n) l ≡ drop k l
+  part-rest n k l = rw (← drop-drop n k l) (take-append-drop n (drop k l))
+
+  -- ---- a part replaced
+
+  -- from what stands before and after it
+  over-is : (l : List A) (at : ℕ) (ys before after : List A) → take at l ≡ before → drop (at + length ys) l ≡ after → over l at ys ≡ before ++ (ys ++ after)
+  unfolding over
+  over-is l at ys before after p q = rw (p, q)
+
+  pub length-over : (l : List A) (at : ℕ) (ys : List A) → at + length ys ≤ length l → length (over l at ys) ≡ length l
+  unfolding over
+  length-over l at ys h = simp (length-append, length-take, length-drop) (omega arith)
+
+  pub over-nil : (l : List A) (at : ℕ) → over l at [] ≡ l
+  unfolding over
+  over-nil l at = rw add-zero (take-append-drop at l)
+
+  -- up to the end of the list
+  pub over-tail : (l : List A) (at : ℕ) (ys : List A) → length l ≤ at + length ys → over l at ys ≡ take at l ++ ys
+  unfolding over
+  over-tail l at ys h = rw (drop-of-length-le l {i = at + length ys} h, append-nil)
+
+  -- writing what stands there changes nothing
+  pub over-part : (l : List A) (at n : ℕ) → at + n ≤ length l → over l at (take n (drop at l)) ≡ l
+  unfolding over
+  over-part l at n h =
+      let e : length (take n (drop at l)) ≡ n = length-take-le n (drop at l) (rw length-drop (omega arith)) in
+      rw (e, part-rest n at l) (take-append-drop at l)
+
+  -- what is read before, at and after the replaced part
+  module _ (l : List A) (at : ℕ) (ys : List A) (inside : at ≤ length l) where
+    front : length (take at l) ≡ at
+    front = length-take-le at l inside
+
+    head : length (take at l ++ ys) ≡ at + length ys
+    head = rw (length-append, front)
+
+    pub take-over : (n : ℕ) → n ≤ at → take n (over l at ys) ≡ take n l
+    unfolding over
+    take-over n h = take-append-le n (take at l) _ (rw front h) ∙ take-take n at l h
+
+    pub drop-over-at : drop at (over l at ys) ≡ ys ++ drop (at + length ys) l
+    unfolding over
+    drop-over-at = drop-at (take at l) _ at front
+
+    pub take-over-after : (n : ℕ) → at + length ys ≤ n → take n (over l at ys) ≡ take at l ++ (ys ++ take (n - (at + length ys)) (drop (at + length ys) l))
+    unfolding over
+    take-over-after n h =
+        let e : n ≡ length (take at l ++ ys) + (n - (at + length ys)) = rw head (omega arith) in
+        ap (λ (k : ℕ). take k (take at l ++ (ys ++ drop (at + length ys) l))) e
+        ∙ rw (← append-assoc (take at l) ys (drop (at + length ys) l), take-append-add (take at l ++ ys) (drop (at + length ys) l) (n - (at + length ys))) (simp append-assoc)
+
+    pub drop-over : (n : ℕ) → at + length ys ≤ n → drop n (over l at ys) ≡ drop n l
+    unfolding over
+    drop-over n h =
+        let e : n ≡ at + length ys + (n - (at + length ys)) = omega arith in
+        ap (λ (k : ℕ). drop k (take at l ++ (ys ++ drop (at + length ys) l))) e
+        ∙ rw (← drop-drop (n - (at + length ys)) (at + length ys) (take at l ++ (ys ++ drop (at + length ys) l)), ← append-assoc (take at l) ys (drop (at + length ys) l), drop-at (take at l ++ ys) (drop (at + length ys) l) (at + length ys) head, drop-drop (n - (at + length ys)) (at + length ys) l)
+        (ap (λ (k : ℕ). drop k l) (sym e))
+
+    -- a second write over the front of the first
+    pub over-front : (zs : List A) → length zs ≤ length ys → over (over l at ys) at zs ≡ over l at (zs ++ drop (length zs) ys)
+    unfolding over
+    over-front zs h =
+        let e : at + length (zs ++ drop (length zs) ys) ≡ at + length ys = simp (length-append, length-drop) (omega arith) in
+        let r : drop (at + length zs) (take at l ++ (ys ++ drop (at + length ys) l)) ≡ drop (length zs) ys ++ drop (at + length ys) l =
+        rw (← drop-drop (length zs) at (take at l ++ (ys ++ drop (at + length ys) l)), drop-at (take at l) (ys ++ drop (at + length ys) l) at front) (drop-append-le (length zs) ys (drop (at + length ys) l) h) in
+        rw (take-at (take at l) (ys ++ drop (at + length ys) l) at front, r, e) (simp append-assoc)
+
+    -- the second of two writes of the same length at the same place is the one that stays
+    pub over-over : (zs : List A) → length zs ≡ length ys → over (over l at ys) at zs ≡ over l at zs
+    over-over zs h = over-front zs (omega arith) ∙ rw (drop-of-length-le ys {i = length zs} (omega arith), append-nil)
+
+    -- one write after the other
+    pub over-append : (zs : List A) → over l at (ys ++ zs) ≡ over (over l at ys) (at + length ys) zs
+    over-append zs =
+        let t : take (at + length ys) (over l at ys) ≡ take at l ++ ys = take-over-after (at + length ys) (omega arith) ∙ rw sub-self (rw append-nil) in
+        let r : drop (at + length ys + length zs) (over l at ys) ≡ drop (at + length (ys ++ zs)) l =
+        drop-over (at + length ys + length zs) (omega arith) ∙ rw (length-append, add-assoc) in
+        over-is l at (ys ++ zs) _ _ refl refl ∙ sym (over-is (over l at ys) (at + length ys) zs _ _ t r ∙ simp append-assoc)
+
+  -- a write inside a part is a write of the part, changed
+  pub over-inside : (l : List A) (at n j : ℕ) (ys : List A) → j + length ys ≤ n → at + n ≤ length l → over l (at + j) ys ≡ over l at (over (take n (drop at l)) j ys)
+  over-inside l at n j ys h b =
+      let p : List A = take n (drop at l) in
+      let e : ℕ = j + length ys in
+      let lp : length p ≡ n = length-take-le n (drop at l) (rw length-drop (omega arith)) in
+      let lo : length (over p j ys) ≡ n = length-over p j ys (rw lp h) ∙ lp in
+      let t : take j p ≡ take j (drop at l) = take-take j n (drop at l) (omega arith) in
+      let r : drop e p ≡ take (n - e) (drop (at + e) l) = drop-take e n (drop at l) h (rw length-drop (omega arith)) ∙ rw drop-drop in
+      let o : over p j ys ≡ take j (drop at l) ++ (ys ++ take (n - e) (drop (at + e) l)) = over-is p j ys _ _ t r in
+      let k : at + n ≡ at + e + (n - e) = omega arith in
+      let q : drop (at + length (over p j ys)) l ≡ drop (at + e + (n - e)) l = rw (lo, k) in
+      over-is l (at + j) ys _ _ (take-add at j l) refl
+      ∙ sym (over-is l at (over p j ys) _ _ refl q ∙ rw o (simp append-assoc (rw (part-rest (n - e) (at + e) l, add-assoc at j (length ys)))))
+
+  -- writes to places apart are in either order
+  pub over-comm : (l : List A) (at : ℕ) (ys : List A) (bt : ℕ) (zs : List A) → at + length ys ≤ bt → bt + length zs ≤ length l → over (over l at ys) bt zs ≡ over (over l bt zs) at ys
+  over-comm l at ys bt zs h b =
+      let e : ℕ = at + length ys in
+      let t : take bt (over l at ys) ≡ take at l ++ (ys ++ take (bt - e) (drop e l)) = take-over-after l at ys (omega arith) bt h in
+      let r : drop (bt + length zs) (over l at ys) ≡ drop (bt + length zs) l = drop-over l at ys (omega arith) (bt + length zs) (omega arith) in
+      let t2 : take at (over l bt zs) ≡ take at l = take-over l bt zs (omega arith) at (omega arith) in
+      let r2 : drop e (over l bt zs) ≡ take (bt - e) (drop e l) ++ (zs ++ drop (bt + length zs) l) =
+      ap (drop e) (over-is l bt zs _ _ refl refl) ∙ drop-append-le e (take bt l) (zs ++ drop (bt + length zs) l) (rw (length-take-le bt l (omega arith)) h) ∙ rw (drop-take e bt l h (omega arith)) in
+      over-is (over l at ys) bt zs _ _ t r ∙ sym (over-is (over l bt zs) at ys _ _ t2 r2 ∙ simp append-assoc)
+
+  -- a run of stores, as code makes it, and one store
+  pub sets-over : (l : List A) (at : ℕ) (ys : List A) → at + length ys ≤ length l → sets l at ys ≡ over l at ys
+  unfolding over
+  sets-over l at ys h = sets-eq ys l at h ∙ simp append-assoc
+
+  pub set-over : (l : List A) (i : ℕ) (o : A) → i < length l → set l i o ≡ over l i (o ∷ [])
+  unfolding over
+  set-over l i o h = set-split l i o h ∙ rw add-one
+
+  -- ---- an element put in or taken out
+
+  pub length-insertAt : (i : ℕ) (o : A) (os : List A) → length (insertAt i o os) ≡ length os + 1
+  unfolding insertAt
+  length-insertAt i o os = simp (length-append, length-take, length-drop) (omega arith)
+
+  pub length-removeAt : (i : ℕ) (os : List A) → i < length os → length (removeAt i os) ≡ length os - 1
+  unfolding removeAt
+  length-removeAt i os h = simp (length-append, length-take, length-drop) (omega arith)
+
+  pub insertAt-end : (o : A) (os : List A) → insertAt (length os) o os ≡ os ++ (o ∷ [])
+  unfolding insertAt
+  insertAt-end o os = rw (take-length, drop-length)
+
+  pub removeAt-first : (o : A) (os : List A) → removeAt 0 (o ∷ os) ≡ os
+  unfolding removeAt
+  removeAt-first o os = refl
+
+  -- what is put in can be taken out
+  pub removeAt-insertAt : (i : ℕ) (o : A) (os : List A) → i ≤ length os → removeAt i (insertAt i o os) ≡ os
+  unfolding removeAt insertAt
+  removeAt-insertAt i o os h =
+      let lt : length (take i os) ≡ i = length-take-le i os h in
+      let ls : length (take i os ++ (o ∷ [])) ≡ suc i = rw (length-append, lt) (omega arith) in
+      let e : take i os ++ (o ∷ drop i os) ≡ (take i os ++ (o ∷ [])) ++ drop i os = simp append-assoc in
+      rw (take-at (take i os) (o ∷ drop i os) i lt, e, drop-at (take i os ++ (o ∷ [])) (drop i os) (suc i) ls) (take-append-drop i os)
+
+  -- ---- filled up to n places
+
+  pub length-padded : (n : ℕ) (z : A) (os : List A) → length os ≤ n → length (padded n z os) ≡ n
+  unfolding padded
+  length-padded n z os h = simp (length-append, length-replicate) (omega arith)
+
+  pub padded-nil : (n : ℕ) (z : A) → padded n z [] ≡ replicate n z
+  unfolding padded
+  padded-nil n z = rw sub-zero
+
+  pub padded-full : (z : A) (os : List A) → padded (length os) z os ≡ os
+  unfolding padded
+  padded-full z os = rw (sub-self, append-nil)
+
+  pub take-padded : (n : ℕ) (z : A) (os : List A) → take (length os) (padded n z os) ≡ os
+  unfolding padded
+  take-padded n z os = take-at os (replicate (n - length os) z) (length os) refl
+
+  pub getD-padded : (n i : ℕ) (z d : A) (os : List A) → i < length os → getD (padded n z os) i d ≡ getD os i d
+  unfolding padded
+  getD-padded n i z d os h = List·getD-append os (replicate (n - length os) z) d i h
+
+  -- what is left of a list of copies
+  pub drop-replicate : (k n : ℕ) (z : A) → drop k (replicate n z) ≡ replicate (n - k) z
+  drop-replicate zero n z = rw sub-zero
+  drop-replicate (suc k) zero z = rw zero-sub
+  drop-replicate (suc k) (suc n) z = drop-replicate k n z ∙ rw suc-sub-suc
+
+  -- past the elements there are only copies
+  pub drop-padded : (n k : ℕ) (z : A) (os : List A) → length os ≤ k → drop k (padded n z os) ≡ replicate (n - k) z
+  unfolding padded
+  drop-padded n k z os h =
+      let e : k ≡ length os + (k - length os) = omega arith in
+      let m : n - length os - (k - length os) ≡ n - k = omega arith in
+      ap (λ (j : ℕ). drop j (os ++ replicate (n - length os) z)) e
+      ∙ drop-append-add os (replicate (n - length os) z) (k - length os) ∙ drop-replicate (k - length os) (n - length os) z ∙ rw m
+
+  -- a front that is as long or longer, written over a filled list
+  pub over-padded : (n : ℕ) (z : A) (os ps : List A) → length os ≤ length ps → over (padded n z os) 0 ps ≡ padded n z ps
+  unfolding over padded
+  over-padded n z os ps h =
+      ap (λ (k : ℕ). ps ++ drop k (os ++ replicate (n - length os) z)) (zero-add (length ps)) ∙ ap (λ (l : List A). ps ++ l) (drop-padded n (length ps) z os h)
+
+  -- an element taken out of a full list, and a copy of z put at its end
+  pub removeAt-padded : (i n : ℕ) (z : A) (os : List A) → i < n → length os ≡ n → removeAt i os ++ (z ∷ []) ≡ padded n z (removeAt i os)
+  unfolding padded
+  removeAt-padded i n z os h e =
+      let k : n - length (removeAt i os) ≡ 1 = omega (arith, length-removeAt i os (omega arith)) in
+      rw k

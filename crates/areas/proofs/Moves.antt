@@ -1,0 +1,126 @@
+-- The laws of words that are moved or cleared one by one, for the loops of `src/lib.rt`, and of a part that was moved and is
+-- then written in front or behind, for their callers. Assumes nothing.
+use mathlib.Core.List.{List, [], _∷_, _++_, append-assoc, append-nil}
+use mathlib.Core.Path.{_≡_, refl, sym, ap, _∙_}
+use borrow.Rule.Slice.PartMut.{putMid, post-is}
+use Prim.Native.Nat.{ℕ, zero, suc, _+_, _-_, _≤_, _<_}
+use native.Mathlib.Nat.{add-comm, sub-self}
+use native.Mathlib.Numerals.{add-one, sub-one}
+use native.Mathlib.Omega.{arith}
+use lib.ListN.{length, take, drop, getD, set, replicate, length-append, length-take, length-drop, length-replicate, drop-of-length-le, replicate-append-replicate, List·getD-append}
+use lib.Seq.{take-all, take-at, take-length, take-suc, take-take, drop-at, drop-cons, drop-drop, drop-length, getD-append-add, getD-drop, getD-take, length-take-le, set-at}
+use Rattle.areas.specs.Lists.{over}
+use Rattle.areas.proofs.Lists.{drop-take, length-over, over-front, over-over, over-append}
+
+-- ---- moved back by w: from place i on it is done
+
+pub shifted : ℕ → List ℕ → ℕ → List ℕ
+shifted w p i = take i p ++ drop (i - w) (take (length p - w) p)
+
+pub shifted-none : (w : ℕ) (p : List ℕ) → w ≤ length p → p ≡ shifted w p (length p)
+unfolding shifted
+shifted-none w p h =
+    rw (take-length, drop-of-length-le (take (length p - w) p) {i = length p - w} (rw length-take (omega arith)), append-nil)
+
+pub shifted-done : (w : ℕ) (p : List ℕ) → shifted w p w ≡ take w p ++ take (length p - w) p
+unfolding shifted
+shifted-done w p = rw sub-self
+
+shift-suc : (w : ℕ) (p : List ℕ) (j : ℕ) → w ≤ j → j < length p → set (shifted w p (suc j)) j (getD (shifted w p (suc j)) (j - w) 0) ≡ shifted w p j
+unfolding shifted
+shift-suc w p j hw hj =
+    let q : List ℕ = take (length p - w) p in
+    let t : List ℕ = drop (suc j - w) q in
+    let in-p : j - w < length p - w = omega arith in
+    let in-q : j - w < length q = rw length-take (omega arith) in
+    let v : getD (take (suc j) p ++ t) (j - w) 0 ≡ getD p (j - w) 0 =
+    List·getD-append (take (suc j) p) t 0 (j - w) (rw length-take (omega arith)) ∙ getD-take (suc j) p (j - w) 0 (omega arith) in
+    let m : suc j - w ≡ suc (j - w) = omega arith in
+    rw (v, m, take-suc p j 0, append-assoc, set-at (take j p) (getD p j 0) (drop (suc (j - w)) q) (getD p (j - w) 0) j (length-take-le j p (omega arith)), drop-cons q (j - w) 0, getD-take (length p - w) p (j - w) 0)
+
+pub shift-step : (w : ℕ) (p : List ℕ) (i : ℕ) → w < i → i ≤ length p → set (shifted w p i) (i - 1) (getD (shifted w p i) (i - 1 - w) 0) ≡ shifted w p (i - 1)
+shift-step w p zero hw hi = absurd (omega arith)
+shift-step w p (suc j) hw hi = rw sub-one (shift-suc w p j (omega arith) (omega arith))
+
+-- ---- moved forward by w: up to place i it is done
+
+pub advanced : ℕ → List ℕ → ℕ → List ℕ
+advanced w p i = take i (drop w p) ++ drop i p
+
+pub advanced-none : (w : ℕ) (p : List ℕ) → p ≡ advanced w p 0
+unfolding advanced
+advanced-none w p = refl
+
+pub advance-step : (w : ℕ) (p : List ℕ) (i : ℕ) → i < length p - w → set (advanced w p i) i (getD (advanced w p i) (i + w) 0) ≡ advanced w p (i + 1)
+unfolding advanced
+advance-step w p i h =
+    let in-p : i < length p = omega arith in
+    let in-d : i < length (drop w p) = rw length-drop h in
+    let lt : length (take i (drop w p)) ≡ i = length-take-le i (drop w p) (omega arith) in
+    let v : getD (take i (drop w p) ++ drop i p) (i + w) 0 ≡ getD (drop w p) i 0 =
+    ap (λ (n : ℕ). getD (take i (drop w p) ++ drop i p) (n + w) 0) (sym lt) ∙ getD-append-add (take i (drop w p)) (drop i p) w 0 ∙ rw (getD-drop, getD-drop, add-comm) in
+    rw (v, drop-cons p i 0 in-p, set-at (take i (drop w p)) (getD p i 0) (drop (suc i) p) (getD (drop w p) i 0) i lt, add-one, take-suc (drop w p) i 0 in-d, append-assoc)
+
+pub advanced-done : (w : ℕ) (p : List ℕ) → w ≤ length p → advanced w p (length p - w) ≡ drop w p ++ drop (length p - w) p
+unfolding advanced
+advanced-done w p h = rw (take-all (length p - w) (drop w p) (rw length-drop (omega arith)))
+
+-- ---- cleared: up to place i it is done
+
+pub cleared : List ℕ → ℕ → List ℕ
+cleared p i = replicate i 0 ++ drop i p
+
+pub cleared-none : (p : List ℕ) → p ≡ cleared p 0
+unfolding cleared
+cleared-none p = refl
+
+pub clear-step : (p : List ℕ) (i : ℕ) → i < length p → set (cleared p i) i 0 ≡ cleared p (i + 1)
+unfolding cleared
+clear-step p i h =
+    rw (drop-cons p i 0 h, set-at (replicate i 0) (getD p i 0) (drop (suc i) p) 0 i (length-replicate i 0), ← replicate-append-replicate {A = ℕ} i 1 0, add-one, append-assoc)
+
+pub cleared-done : (p : List ℕ) → cleared p (length p) ≡ replicate (length p) 0
+unfolding cleared
+cleared-done p = rw (drop-length, append-nil)
+
+-- ---- a lent part, given back
+
+-- the part of an area from s to e, replaced
+pub lent-over : (a part : List ℕ) (s e : ℕ) → s ≤ e → length part ≡ e - s → putMid s (e - s) a part ≡ over a s part
+unfolding over
+lent-over a part s e h l =
+    let k : s + length part ≡ e = omega arith in
+    rw (post-is s e a h, k)
+
+-- a part of w words and r more is moved back by w, and ys are written in front of it
+pub over-insert : (a : List ℕ) (s e w r : ℕ) (b part ys c : List ℕ) → e ≡ s + (w + r) → e ≤ length a → length ys ≡ w
+    → part ≡ take w (take (e - s) (drop s a)) ++ take (length (take (e - s) (drop s a)) - w) (take (e - s) (drop s a))
+    → b ≡ putMid s (e - s) a part → c ≡ over b s ys → c ≡ over a s (ys ++ take r (drop s a))
+over-insert a s e w r b part ys c he ha hy ep eb ec =
+    let m : e - s - w ≡ r = omega arith in
+    let x : List ℕ = take w (drop s a) in
+    let y : List ℕ = take r (drop s a) in
+    let hd : e - s ≤ length (drop s a) = rw length-drop (omega arith) in
+    let lx : length x ≡ length ys = length-take-le w (drop s a) (omega arith) ∙ sym hy in
+    let ly : length y ≡ r = length-take-le r (drop s a) (omega arith) in
+    let p : part ≡ x ++ y = ep ∙ rw (length-take-le (e - s) (drop s a) hd, m, take-take w (e - s) (drop s a) (omega arith), take-take r (e - s) (drop s a) (omega arith)) in
+    let lp : length (x ++ y) ≡ e - s = rw (length-append, ly) (omega arith) in
+    let o : b ≡ over a s (x ++ y) = eb ∙ rw p (lent-over a (x ++ y) s e (omega arith) lp) in
+    ec ∙ rw o (over-front a s (x ++ y) (omega arith) ys (omega arith) ∙ rw (drop-at x y (length ys) lx))
+
+-- a part of w words and r more is moved forward by w, and ys are written at its end
+pub over-remove : (a : List ℕ) (s e w r : ℕ) (b part ys c : List ℕ) → e ≡ s + (w + r) → e ≤ length a → length ys ≡ w
+    → part ≡ drop w (take (e - s) (drop s a)) ++ drop (length (take (e - s) (drop s a)) - w) (take (e - s) (drop s a))
+    → b ≡ putMid s (e - s) a part → c ≡ over b (s + r) ys → c ≡ over a s (take r (drop (s + w) a) ++ ys)
+over-remove a s e w r b part ys c he ha hy ep eb ec =
+    let m : e - s - w ≡ r = omega arith in
+    let y : List ℕ = take r (drop (s + w) a) in
+    let z : List ℕ = drop r (take (e - s) (drop s a)) in
+    let hd : e - s ≤ length (drop s a) = rw length-drop (omega arith) in
+    let ly : length y ≡ r = length-take-le r (drop (s + w) a) (rw length-drop (omega arith)) in
+    let lz : length ys ≡ length z = rw (length-drop, length-take-le (e - s) (drop s a) hd) (omega arith) in
+    let p : part ≡ y ++ z = ep ∙ rw (length-take-le (e - s) (drop s a) hd, m, drop-take w (e - s) (drop s a) (omega arith) (omega arith), drop-drop w s a, m) in
+    let lp : length (y ++ z) ≡ e - s = rw (length-append, ly) (omega arith) in
+    let o : b ≡ over (over a s y) (s + r) z = eb ∙ rw p (lent-over a (y ++ z) s e (omega arith) lp) ∙ over-append a s y (omega arith) z ∙ rw ly in
+    let la : s + r ≤ length (over a s y) = rw (length-over a s y (omega arith)) (omega arith) in
+    ec ∙ ap (λ (m : List ℕ). over m (s + r) ys) o ∙ over-over (over a s y) (s + r) z la ys lz ∙ ap (λ (n : ℕ). over (over a s y) (s + n) ys) (sym ly) ∙ sym (over-append a s y (omega arith) ys)
