@@ -4,13 +4,13 @@ use mathlib.Core.Path.{_≡_}
 use Prim.Native.Nat.{ℕ, _+_, _*_, _<_, _≤_}
 use lib.ListN.{length, take, getD}
 use Rattle.areas.specs.Records.{store}
-use Rattle.rules.specs.Exchange.{noOrder}
+use Rattle.rules.specs.Exchange.{noOrder, holdingAt}
 use Rattle.rules.specs.Holdings.{bookTrades}
 use Rattle.rules.specs.Matching.{Swept, sweep, tradedLots, lastPrice}
 use Rattle.rules.specs.Memory.{queueIn, putQueue, tradeWords}
 use Rattle.rules.specs.declared.Account.{Account}
 use Rattle.rules.specs.declared.Taker.{Taker}
-use Rattle.book.specs.Bounds.{HeldWithin}
+use Rattle.book.specs.Bounds.{HoldingWithin}
 use Rattle.book.specs.declared.sweep.Filled.{Filled}
 
 -- room for a queue's orders, each of an account that exists
@@ -26,7 +26,7 @@ pub record SweepReady
   pub size : lots ≤ 1_000
   pub queue : SweptQueue queues (t .contract) count
   pub room : 9 * (before + length (sweep t lots last (queueIn queues (t .contract) count) .trades)) ≤ length area
-  pub holdings : HeldWithin 1_000_000 held
+  pub holdings : (a c : ℕ) → HoldingWithin 1_000_000 (holdingAt held a c)
 
 -- the answer, and both areas: the trades at the next free places, the rest of the queue behind its filled orders
 pub record FilledIs

@@ -9,7 +9,8 @@ use borrow.Author.Needs.{needs}
 use borrow.Author.Tests.{eqb-true, eqb-false, not-true, not-false}
 use lib.ListN.{length, set}
 use Rattle.rules.specs.Holdings.{bookTrade}
-use Rattle.book.proofs.Bookings.{held-more, holding-read, buyer-held, trade-booked}
+use Rattle.rules.proofs.Holdings.{held-more}
+use Rattle.book.proofs.Bookings.{held-all, holding-read, buyer-held, trade-booked}
 use Rattle.book.proofs.Turns.{Going, Meeting, order-read, trade-size, trade-contract, trade-parties, stopped, queue-ended, lots-used, no-counterpart, trade-room, going-on, part-filled}
 use Rattle.book.proofs.sweep.sweep.Statement.{statement}
 use Rattle.book.proofs.sweep.sweep.Tie as tie
@@ -32,7 +33,7 @@ sweep-holds c =
       within = search needs;
       some = search needs;
       long = refl;
-      holdings = held-more (c .before .before .before .pre .holdings) (omega arith);
+      holdings = held-more (held-all 1_000_000 _ (c .before .before .before .pre .holdings)) (omega arith) (omega arith);
       answer = simp sub-zero;
     }
 
@@ -43,7 +44,14 @@ order-at-requires : tie.Need-order-at-requires Inv-sweep μ-sweep
 order-at-requires c κs =
     let s = c .before .before .before in
     let ready = s .before .before .before .before .pre in
-    omega (arith, ready .queue .room, s .before .wide .ensures, ap length (s .sweep .inv .same), s .sweep .inv .within, c .before .before .if1 .left)
+    omega (
+      arith,
+      ready .queue .room,
+      s .before .wide .ensures,
+      ap length (s .sweep .inv .same),
+      s .sweep .inv .within,
+      c .before .before .if1 .left,
+    )
 
 is-counterpart-requires : tie.Need-is-counterpart-requires Inv-sweep μ-sweep
 is-counterpart-requires c κs = search needs
@@ -62,7 +70,8 @@ Begun s = s .before .before .before .before
 meeting : (c : tie.After-trade-with Inv-sweep μ-sweep)
     → let s = Head c in
     let a = Begun s .args in
-    Meeting (a .t) (a .opposite .now) (a .count) (s .sweep .filled) (a .lots - s .sweep .done) (s .sweep .price) (c .before .before .before .order-at .result) (c .trade-with .result)
+    Meeting (a .t) (a .opposite .now) (a .count) (s .sweep .filled) (a .lots - s .sweep .done) (s .sweep .price)
+    (c .before .before .before .order-at .result) (c .trade-with .result)
 meeting c =
     let s = Head c in
     let inv = s .sweep .inv in
@@ -82,7 +91,9 @@ few : (c : tie.After-trade-with Inv-sweep μ-sweep) → Head c .sweep .done + c 
 few c = omega (arith, trade-size (meeting c), Head c .sweep .inv .some, Begun (Head c) .pre .size)
 
 buyer : (c : tie.After-wide2 Inv-sweep μ-sweep) → c .wide2 .result < 32
-buyer c = rw (c .wide2 .ensures) (trade-parties (meeting (c .before)) (Begun (Head (c .before)) .pre .account) (Begun (Head (c .before)) .pre .queue) .0)
+buyer c =
+    let ready = Begun (Head (c .before)) .pre in
+    rw (c .wide2 .ensures) (trade-parties (meeting (c .before)) (ready .account) (ready .queue) .0)
 
 mul-book-leg : tie.Need-mul-book-leg Inv-sweep μ-sweep
 mul-book-leg c = omega (arith, buyer c)
@@ -93,8 +104,12 @@ array-copy-out-book-leg c = buyer c
 book-leg-requires : tie.Need-book-leg-requires Inv-sweep μ-sweep
 book-leg-requires c κs =
     let w = c .before .before in
-    let s = Head w in
-    (rw (s .before .wide .ensures) (Begun s .pre .contract), omega (arith, few w), holding-read _ _ (s .sweep .inv .holdings) (omega (arith, few w)))
+    let s = Head w in (
+      rw (s .before .wide .ensures) (Begun s .pre .contract),
+      omega (arith, few w),
+      holding-read _ _ _ (s .sweep .inv .holdings) (omega (arith, few w))
+          (omega (arith, few w)),
+    )
 
 mul-held : tie.Need-mul-held Inv-sweep μ-sweep
 mul-held c = omega (arith, buyer (c .before .before))
@@ -110,7 +125,9 @@ abbrev Selling : tie.After-wide3 Inv-sweep μ-sweep → tie.After-trade-with Inv
 Selling c = c .before .before .before .before
 
 seller : (c : tie.After-wide3 Inv-sweep μ-sweep) → c .wide3 .result < 32
-seller c = rw (c .wide3 .ensures) (trade-parties (meeting (Selling c)) (Begun (Head (Selling c)) .pre .account) (Begun (Head (Selling c)) .pre .queue) .1)
+seller c =
+    let ready = Begun (Head (Selling c)) .pre in
+    rw (c .wide3 .ensures) (trade-parties (meeting (Selling c)) (ready .account) (ready .queue) .1)
 
 -- the contract's place is the trade's
 place : (c : tie.After-trade-with Inv-sweep μ-sweep) → Head c .before .wide .result ≡ c .trade-with .result .contract
@@ -126,8 +143,10 @@ book-leg-requires-2 : tie.Need-book-leg-requires-2 Inv-sweep μ-sweep
 book-leg-requires-2 c κs =
     let w = Selling (c .before) in
     let s = Head w in
-    let bought = buyer-held (s .sweep .held) (w .trade-with .result) (place w) (c .before .before .before .before .wide2 .ensures) (c .before .before .book-leg .ensures) (s .sweep .inv .holdings) in
-    (rw (s .before .wide .ensures) (Begun s .pre .contract), omega (arith, few w), holding-read _ _ bought (omega (arith, few w)))
+    let bought =
+    buyer-held (s .sweep .held) (w .trade-with .result) (place w) (c .before .before .before .before .wide2 .ensures)
+    (c .before .before .book-leg .ensures) (s .sweep .inv .holdings) in
+    (rw (s .before .wide .ensures) (Begun s .pre .contract), omega (arith, few w), holding-read _ _ _ bought (omega (arith, few w)) (omega (arith, few w)))
 
 mul-held-2 : tie.Need-mul-held-2 Inv-sweep μ-sweep
 mul-held-2 c = omega (arith, seller (c .before .before))
@@ -138,15 +157,17 @@ array-set-from-held-2 c = seller (c .before .before)
 -- both legs are booked
 legs : (c : tie.After-book-leg2 Inv-sweep μ-sweep)
     → let w = Selling (c .before .before) in
-    set (set (Head w .sweep .held) (c .before .before .before .before .before .wide2 .result) (c .before .before .before .book-leg .result)) (c .before .before .wide3 .result) (c .book-leg2 .result)
+    set (set (Head w .sweep .held) (c .before .before .before .before .before .wide2 .result) (c .before .before .before .book-leg .result))
+    (c .before .before .wide3 .result) (c .book-leg2 .result)
     ≡ bookTrade (Head w .sweep .held) (w .trade-with .result)
 legs c =
     let w = Selling (c .before .before) in
-    trade-booked (Head w .sweep .held) (w .trade-with .result) (place w) (c .before .before .before .before .before .wide2 .ensures) (c .before .before .before .book-leg .ensures) (c .before .before .wide3 .ensures) (c .book-leg2 .ensures)
+    trade-booked (Head w .sweep .held) (w .trade-with .result) (place w) (c .before .before .before .before .before .wide2 .ensures)
+    (c .before .before .before .book-leg .ensures) (c .before .before .wide3 .ensures) (c .book-leg2 .ensures)
 
 -- the area has room for the trade
 fits : (c : tie.After-trade-with Inv-sweep μ-sweep) → 9 * Head c .sweep .made + 9 ≤ length (Head c .sweep .area)
-fits c = trade-room (Head c .sweep .inv) (Begun (Head c) .pre .queue .room) (meeting c) (Begun (Head c) .pre .room)
+fits c = trade-room (Head c .sweep .inv) (meeting c) (Begun (Head c) .pre .room)
 
 put-trade-requires : tie.Need-put-trade-requires Inv-sweep μ-sweep
 put-trade-requires c κs = fits (Selling (c .before .before .before))
@@ -180,7 +201,8 @@ sweep-again : tie.Need-sweep-again Inv-sweep μ-sweep
 sweep-again c =
     let b = c .before in
     let w = Trading b in
-    going-on (Head w .sweep .inv) (Begun (Head w) .pre .queue .room) (meeting w) (fits w) (legs (b .before .before .before .before)) (b .before .before .put-trade .ensures) (c .if4 .left)
+    going-on (Head w .sweep .inv) (meeting w) (fits w) (legs (b .before .before .before .before)) (b .before .before .put-trade .ensures)
+    (c .if4 .left)
 
 same-length : tie.Need-same-length Inv-sweep μ-sweep
 same-length c = search needs
@@ -210,7 +232,9 @@ returns-2 c =
     (sym (c .before .is-counterpart .ensures) ∙ not-true _ (c .if3 .taken)))
 
 same-length-5 : tie.Need-same-length-5 Inv-sweep μ-sweep
-same-length-5 c = c .before .before .set-lots .kept .0 ∙ ap length (Head (Trading (c .before .before .before .before .before)) .sweep .inv .same)
+same-length-5 c =
+    let b = c .before .before .before .before .before in
+    c .before .before .set-lots .kept .0 ∙ ap length (Head (Trading b) .sweep .inv .same)
 
 same-length-6 : tie.Need-same-length-6 Inv-sweep μ-sweep
 same-length-6 c =
@@ -221,7 +245,8 @@ returns-3 : tie.Need-returns-3 Inv-sweep μ-sweep
 returns-3 c =
     let b = c .before .before .before .before .before in
     let w = Trading b in
-    part-filled (Head w .sweep .inv) (Begun (Head w) .pre .queue .room) (meeting w) (fits w) (legs (b .before .before .before .before)) (b .before .before .put-trade .ensures) (c .before .before .before .before .if4 .taken) (Head w .before .wide .ensures) (c .before .before .set-lots .ensures)
+    part-filled (Head w .sweep .inv) (meeting w) (fits w) (legs (b .before .before .before .before)) (b .before .before .put-trade .ensures)
+    (c .before .before .before .before .if4 .taken) (Head w .before .wide .ensures) (c .before .before .set-lots .ensures)
 
 pub sweep-spec : {M : Type 1} → statement M
 sweep-spec =
