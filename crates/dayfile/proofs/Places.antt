@@ -31,6 +31,13 @@ module _ (file : List ℕ) where
   unfolding commandPlace accountPlace contractPlace
   command-place k = omega arith
 
+  -- a command's record follows the one before it
+  pub command-next : (k : ℕ) → commandPlace file (k + 1) ≡ commandPlace file k + 24
+  command-next k = omega (arith, command-place (k + 1), command-place k)
+
+  pub command-from : (first k : ℕ) → first ≡ commandPlace file 0 → first + 24 * k ≡ commandPlace file k
+  command-from first k e = omega (arith, command-place 0, command-place k)
+
   -- the three counts, each read where the ones before it say
   pub contracts-read : contractsIn file ≡ u32At file 0
   unfolding contractsIn

@@ -2,16 +2,18 @@
 // the file is read once the file is known to reach so far.
 ghost use mathlib.Core.Bool.{true};
 ghost use mathlib.Core.Path.{_≡_};
-ghost use Prim.Native.Nat.{_+_, _*_, _≤_};
+ghost use Prim.Native.Nat.{_+_, _*_, _≤_, _<_};
 ghost use lib.ListN.{length};
 ghost use Rattle.laws.specs.Choice.{all};
-ghost use Rattle.rules.specs.DayFile.{contractsIn, accountsIn, commandsIn, contractPlace, accountPlace, commandPlace, contractSound, accountSound};
+ghost use Rattle.rules.specs.DayFile.{contractsIn, accountsIn, commandsIn, contractPlace, accountPlace, commandPlace, contractSound, accountSound, recordFrom};
 ghost use Rattle.rules.specs.DayFile.{sound as DayFile·sound};
 ghost use Rattle.dayfile.specs.Opening.{shaped};
-use super::bytes::contract_at;
-use super::bytes::u16_at;
-use super::bytes::u32_at;
-use super::bytes::u64_at;
+use records::contract_at;
+use records::record_at;
+use records::u16_at;
+use records::u32_at;
+use records::u64_at;
+use rules::Record;
 
 // Each count stands behind the section before it. For the crates of this repository: each requires the counts before it, and
 // a file that reaches so far.
@@ -146,4 +148,13 @@ pub fn commands_in(file: &[u8]) -> usize
     let contracts = contract_count(file);
     let accounts = account_count(file, contracts);
     command_count(file, contracts, accounts)
+}
+
+// The k-th command's record, counted from 0, of a file whose first command begins at `first`. For the crates of this
+// repository: requires a sound file and one of its commands.
+pub fn record_of(file: &[u8], first: usize, k: usize) -> Record
+    requires { ⌜ (DayFile·sound (now file) ≡ true) × (first ≡ commandPlace (now file) 0) × (k < commandsIn (now file)) ⌝ }
+    ensures { λ r. ⌜ r ≡ recordFrom (now (file .entry)) (commandPlace (now (file .entry)) k) ⌝ }
+{
+    record_at(file, first + 24 * k)
 }

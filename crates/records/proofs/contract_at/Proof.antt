@@ -1,8 +1,8 @@
--- `dayfile::bytes::contract_at` meets its contract, field by field. Assumes nothing.
+-- `records::contract_at` meets its contract, field by field. Assumes nothing.
 use borrow.Author.Needs.{needs}
 use Rattle.rules.specs.DayFile.{contractFrom}
-use Rattle.dayfile.proofs.bytes.contract_at.Statement.{statement}
-use Rattle.dayfile.proofs.bytes.contract_at.Tie as tie
+use Rattle.records.proofs.contract_at.Statement.{statement}
+use Rattle.records.proofs.contract_at.Tie as tie
 
 u16-at-requires : tie.Need-u16-at-requires
 u16-at-requires c κs = search needs
