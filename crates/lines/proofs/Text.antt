@@ -1,5 +1,6 @@
 -- Writing one thing after the other, and how long a number's text is. Assumes nothing.
 -- ---- writing
+
 -- from the two equations, a bound on the bytes, and room for them
 use mathlib.Core.Bool.{true, false, true≢false}
 use mathlib.Core.List.{List, [], _∷_, _++_}

@@ -1,5 +1,4 @@
 -- The digits that are printed mean the number: twenty hold every number of 64 bits. Assumes nothing.
--- what a reader makes of digits after a number that is read already
 use mathlib.Core.List.{List, [], _∷_, _++_}
 use mathlib.Core.Bool.{Bool, true, false}
 use mathlib.Core.Path.{_≡_, refl}
@@ -10,6 +9,7 @@ use lib.Dec.{ltb}
 use Rattle.laws.specs.Choice.{pick}
 use Rattle.rules.specs.Lines.{digits, decimal}
 
+-- what a reader makes of digits after a number that is read already
 unfoldable pub valueFrom : ℕ → List ℕ → ℕ
 valueFrom n [] = n
 valueFrom n (d ∷ ds) = valueFrom (n * 10 + (d - 48)) ds
