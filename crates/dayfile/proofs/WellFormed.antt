@@ -15,7 +15,7 @@ use Rattle.rules.specs.DayFile.{u16At, contractsIn, accountsIn, contractPlace, 
 use Rattle.rules.specs.Exchange.{Listing, listingAt, accountAt, holdingAt, lotsWhere, resting, noHolding, noListing, noAccount}
 use Rattle.rules.specs.Holdings.{startHolding, startOfDay, neverBelowZero, bookTrades, sameLots, sameHoldings}
 use Rattle.rules.specs.Memory.{countsInRange, hasRoom, wellFormedMemory}
-use Rattle.rules.specs.WellFormed.{contractInRange, countersInRange, sorted, uncrossed, listingInRange, numbers, allNumbers, usedOnce, tradeInRange, replays, holdingInRange, holdingsInRange, balanceInRange, wellFormed}
+use Rattle.rules.specs.WellFormed.{contractInRange, countersInRange, sorted, uncrossed, listingInRange, numbers, allNumbers, usedOnce, tradeInRange, replays, holdingInRange, holdingsInRange, balanceInRange, wellFormedContents}
 use Rattle.rules.specs.declared.Account.{Account}
 use Rattle.rules.specs.declared.Contract.{Contract}
 use Rattle.terms.proofs.Ranges.{terms}
@@ -76,8 +76,8 @@ module _ (file : List ℕ) (h : sound file ≡ true) where
       at : (c : ℕ) → c < contractsIn file → holdingInRange (getD (tabulate (contractsIn file) (openingListing file)) c noListing) a (getD (getD (tabulate (accountsIn file) (openingAccount file)) a noAccount .holdings) c noHolding) ≡ true
       at c k = rw (getD-tabulate (contractsIn file) c (openingListing file) noListing k, getD-tabulate (accountsIn file) a (openingAccount file) noAccount l, getD-replicate (contractsIn file) c noHolding noHolding k) (holding-ok c a)
 
-  pub opening-well-formed : wellFormed (opening file) ≡ true
-  unfolding wellFormed opening openingListing openingAccount countersInRange usedOnce allOf replays neverBelowZero bookTrades
+  pub opening-well-formed : wellFormedContents (opening file) ≡ true
+  unfolding wellFormedContents opening openingListing openingAccount countersInRange usedOnce allOf replays neverBelowZero bookTrades
   opening-well-formed =
       let accounts = tabulate (accountsIn file) (openingAccount file) in
       let count : length accounts ≡ accountsIn file = length-tabulate (accountsIn file) (openingAccount file) in

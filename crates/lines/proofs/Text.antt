@@ -1,7 +1,4 @@
 -- Writing one thing after the other, and how long a number's text is. Assumes nothing.
--- ---- writing
-
--- from the two equations, a bound on the bytes, and room for them
 use mathlib.Core.Bool.{true, false, true≢false}
 use mathlib.Core.List.{List, [], _∷_, _++_}
 use mathlib.Core.Path.{_≡_, refl, sym, ap, _∙_}
@@ -19,6 +16,9 @@ use Rattle.laws.specs.Choice.{pick}
 use Rattle.rules.specs.Lines.{digits, decimal, signed}
 use Rattle.lines.specs.Written.{Written}
 
+-- ---- writing
+
+-- from the two equations, a bound on the bytes, and room for them
 pub written : {before bytes after : List ℕ} (most at next : ℕ) → after ≡ over before at bytes → next ≡ at + length bytes → length bytes ≤ most → at + length bytes ≤ length before → Written most before at bytes after next
 written {before} {bytes} most at next e n s room =
     record { content = e; ends = n; short = s; kept = ap length e ∙ length-over before at bytes room; inside = omega arith }

@@ -4,6 +4,8 @@ pub mod Holdings
 pub mod WellFormed
 pub mod Command
 pub mod Matching
+pub mod EarlyStop
+pub mod Places
 pub mod Margin
 pub mod Settlement
 pub mod Answers
@@ -13,4 +15,8 @@ pub mod Condition3
 pub mod DayFile
 pub mod Lines
 pub mod Examples
+pub mod CodeExamples
+pub mod MatchingExamples
+pub mod ProfitExamples
+pub mod WellFormedExamples
 pub mod PaperDay
