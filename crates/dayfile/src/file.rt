@@ -8,11 +8,11 @@ ghost use Rattle.laws.specs.Choice.{all};
 ghost use Rattle.rules.specs.DayFile.{contractsIn, accountsIn, commandsIn, contractPlace, accountPlace, commandPlace, contractSound, accountSound, recordFrom};
 ghost use Rattle.rules.specs.DayFile.{sound as DayFile·sound};
 ghost use Rattle.dayfile.specs.Opening.{shaped};
-use records::contract_at;
-use records::record_at;
-use records::u16_at;
-use records::u32_at;
-use records::u64_at;
+use super::bytes::contract_at;
+use super::bytes::record_at;
+use super::bytes::u16_at;
+use super::bytes::u32_at;
+use super::bytes::u64_at;
 use rules::Record;
 
 // Each count stands behind the section before it. For the crates of this repository: each requires the counts before it, and
@@ -32,7 +32,9 @@ pub fn account_count(file: &[u8], contracts: usize) -> usize
 }
 
 pub fn command_count(file: &[u8], contracts: usize, accounts: usize) -> usize
-    requires { ⌜ (contracts ≡ contractsIn (now file)) × (contracts ≤ 4) × (accounts ≡ accountsIn (now file)) × (accounts ≤ 32) × (12 + 20 * contracts + 8 * accounts ≤ length (now file)) ⌝ }
+    requires { ⌜ (contracts ≡ contractsIn (now file)) × (contracts ≤ 4) ⌝ }
+    requires { ⌜ (accounts ≡ accountsIn (now file)) × (accounts ≤ 32) ⌝ }
+    requires { ⌜ 12 + 20 * contracts + 8 * accounts ≤ length (now file) ⌝ }
     ensures { λ r. ⌜ r ≡ commandsIn (now (file .entry)) ⌝ }
 {
     u32_at(file, 8 + 20 * contracts + 8 * accounts) as usize

@@ -27,7 +27,8 @@ unfolding digits valueFrom
 digits-value zero n h = omega arith
 digits-value (suc places) n h = go (ltb n 10) refl (λ q. digits-value places (n / 10) q)
   where
-    go : (t : Bool) → ltb n 10 ≡ t → (n / 10 < 10 ^ places → value (digits places (n / 10)) ≡ n / 10) → value (pick t ((48 + n) ∷ []) (digits places (n / 10) ++ ((48 + n % 10) ∷ []))) ≡ n
+    go : (t : Bool) → ltb n 10 ≡ t → (n / 10 < 10 ^ places → value (digits places (n / 10)) ≡ n / 10)
+        → value (pick t ((48 + n) ∷ []) (digits places (n / 10) ++ ((48 + n % 10) ∷ []))) ≡ n
     go true e before = omega arith
     go false e before =
         let q : n / 10 < 10 ^ places = omega (arith, pow-suc 10 places) in

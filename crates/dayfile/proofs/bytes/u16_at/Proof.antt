@@ -1,8 +1,8 @@
--- `records::u16_at` meets its contract: its two halves. Assumes nothing.
+-- `dayfile::bytes::u16_at` meets its contract: its two halves. Assumes nothing.
 use borrow.Author.Needs.{needs}
 use Rattle.rules.specs.DayFile.{u16At}
-use Rattle.records.proofs.u16_at.Statement.{statement}
-use Rattle.records.proofs.u16_at.Tie as tie
+use Rattle.dayfile.proofs.bytes.u16_at.Statement.{statement}
+use Rattle.dayfile.proofs.bytes.u16_at.Tie as tie
 
 u8-at-requires : tie.Need-u8-at-requires
 u8-at-requires c κs = search needs
@@ -27,7 +27,12 @@ add-result c = search needs
 
 returns : tie.Need-returns
 unfolding u16At
-returns c = rw (c .before .before .wide .ensures .0, c .wide2 .ensures .0, c .before .before .before .u8-at .ensures, c .before .u8-at2 .ensures)
+returns c = rw (
+  c .before .before .wide .ensures .0,
+  c .wide2 .ensures .0,
+  c .before .before .before .u8-at .ensures,
+  c .before .u8-at2 .ensures,
+)
 
 pub u16-at-spec : {M : Type 1} → statement M
 u16-at-spec =

@@ -1,8 +1,8 @@
--- `records::contract_at` meets its contract, field by field. Assumes nothing.
+-- `dayfile::bytes::contract_at` meets its contract, field by field. Assumes nothing.
 use borrow.Author.Needs.{needs}
 use Rattle.rules.specs.DayFile.{contractFrom}
-use Rattle.records.proofs.contract_at.Statement.{statement}
-use Rattle.records.proofs.contract_at.Tie as tie
+use Rattle.dayfile.proofs.bytes.contract_at.Statement.{statement}
+use Rattle.dayfile.proofs.bytes.contract_at.Tie as tie
 
 u16-at-requires : tie.Need-u16-at-requires
 u16-at-requires c κs = search needs
@@ -50,7 +50,14 @@ returns : tie.Need-returns
 unfolding contractFrom
 returns c =
     let b = c .before .before .before in
-    rw (b .before .before .u16-at .ensures, b .before .u16-at2 .ensures, b .u32-at .ensures, c .before .before .u32-at2 .ensures, c .before .u32-at3 .ensures, c .u16-at3 .ensures)
+    rw (
+      b .before .before .u16-at .ensures,
+      b .before .u16-at2 .ensures,
+      b .u32-at .ensures,
+      c .before .before .u32-at2 .ensures,
+      c .before .u32-at3 .ensures,
+      c .u16-at3 .ensures,
+    )
 
 pub contract-at-spec : {M : Type 1} → statement M
 contract-at-spec =

@@ -47,7 +47,7 @@ pub fn u64_at(file: &[u8], at: usize) -> u64
     low + 4294967296 * high
 }
 
-// "A contract is 20 bytes", the last two of them zero: see `dayfile`.
+// "A contract is 20 bytes", the last two of them zero: see `file::contract_sound`.
 pub fn contract_at(file: &[u8], at: usize) -> Contract
     requires { ⌜ at + 20 ≤ length (now file) ⌝ }
     ensures { λ r. ⌜ r ≡ contractFrom (now (file .entry)) at ⌝ }

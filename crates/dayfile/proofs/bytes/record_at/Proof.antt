@@ -1,8 +1,8 @@
--- `records::record_at` meets its contract, field by field. Assumes nothing.
+-- `dayfile::bytes::record_at` meets its contract, field by field. Assumes nothing.
 use borrow.Author.Needs.{needs}
 use Rattle.rules.specs.DayFile.{recordFrom}
-use Rattle.records.proofs.record_at.Statement.{statement}
-use Rattle.records.proofs.record_at.Tie as tie
+use Rattle.dayfile.proofs.bytes.record_at.Statement.{statement}
+use Rattle.dayfile.proofs.bytes.record_at.Tie as tie
 
 u8-at-requires : tie.Need-u8-at-requires
 u8-at-requires c κs = search needs
@@ -54,7 +54,16 @@ unfolding recordFrom
 returns c =
     let b = c .before .before .before in
     let d = b .before .before .before in
-    rw (d .before .u8-at .ensures, d .u8-at2 .ensures, b .before .before .u8-at3 .ensures, b .before .u8-at4 .ensures, b .u32-at .ensures, c .before .before .u32-at2 .ensures, c .before .u32-at3 .ensures, c .u64-at .ensures)
+    rw (
+      d .before .u8-at .ensures,
+      d .u8-at2 .ensures,
+      b .before .before .u8-at3 .ensures,
+      b .before .u8-at4 .ensures,
+      b .u32-at .ensures,
+      c .before .before .u32-at2 .ensures,
+      c .before .u32-at3 .ensures,
+      c .u64-at .ensures,
+    )
 
 pub record-at-spec : {M : Type 1} → statement M
 record-at-spec =
