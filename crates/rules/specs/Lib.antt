@@ -4,6 +4,8 @@ pub mod Holdings
 pub mod WellFormed
 pub mod Command
 pub mod Matching
+pub mod EarlyStop
+pub mod Places
 pub mod Margin
 pub mod Settlement
 pub mod Answers

@@ -1,18 +1,27 @@
--- Places in a queue, for the code that finds them: where an order comes to rest, and where a number stands. Assumes nothing.
-use mathlib.Core.Bool.{Bool, true, false}
+-- Where in a queue a new order goes, and where an order with a given number stands: what the engine looks for before it moves
+-- orders. The laws are in proofs/Queue.antt. Assumes nothing.
+use mathlib.Core.Bool.{Bool}
 use mathlib.Core.List.{List, [], _∷_}
-use Prim.Native.Nat.{ℕ, zero, suc}
+use Prim.Native.Nat.{ℕ, suc}
 use lib.Dec.{eqb}
 use Rattle.laws.specs.Choice.{pick}
 use Rattle.rules.specs.Exchange.{worse}
 use Rattle.rules.specs.declared.Order.{Order}
 
--- the first place at a worse price; the length where there is none
-unfoldable pub placeIn : Bool → ℕ → List Order → ℕ
-placeIn sell price [] = 0
-placeIn sell price (o ∷ os) = pick (worse sell (o .price) price) 0 (suc (placeIn sell price os))
+-- the place of the first order that satisfies a test, or past the last
+unfoldable pub firstWhere : (Order → Bool) → List Order → ℕ
+firstWhere test [] = 0
+firstWhere test (o ∷ os) = pick (test o) 0 (suc (firstWhere test os))
 
--- the first place with this number; the length where there is none
-unfoldable pub indexOf : ℕ → List Order → ℕ
-indexOf number [] = 0
-indexOf number (o ∷ os) = pick (eqb (o .number) number) 0 (suc (indexOf number os))
+-- "A good-for-day remainder rests, and every later order moves one place back": it rests before the first order at a worse price
+abbrev pub placeIn : Bool → ℕ → List Order → ℕ
+placeIn sell price queue = firstWhere (λ o. worse sell (o .price) price) queue
+
+-- the place of an order by its number
+abbrev pub indexOf : ℕ → List Order → ℕ
+indexOf number queue = firstWhere (λ o. eqb (o .number) number) queue
+
+-- a queue without the first order that satisfies a test
+unfoldable pub withoutFirst : (Order → Bool) → List Order → List Order
+withoutFirst test [] = []
+withoutFirst test (o ∷ os) = pick (test o) os (o ∷ withoutFirst test os)

@@ -1,0 +1,253 @@
+-- Orders and trades as they lie in the areas: their codecs, and the laws of records written over as many places as were in
+-- use, for a queue and for the day's trades. Assumes nothing.
+use mathlib.Core.Bool.{Bool, true, false}
+use mathlib.Core.List.{List, _++_, append-assoc, append-nil}
+use mathlib.Core.Logic.{_⊎_, inl, inr, ⊎-elim}
+use mathlib.Core.Path.{_≡_, refl, sym, ap, _∙_}
+use Prim.Native.Nat.{ℕ, _+_, _-_, _*_, _<_, _≤_, max}
+use native.Mathlib.Nat.{add-zero, zero-add, mul-le-mul-left, eq-or-lt-of-le}
+use native.Mathlib.Omega.{arith}
+use borrow.Author.Tests.{leb-true, leb-false, ltb-true, ltb-false}
+use lib.Dec.{leb, ltb}
+use lib.ListN.{length, getD, take, drop, replicate, length-append, length-take, length-replicate, take-append-drop, replicate-append-replicate}
+use lib.Seq.{getD-take, getD-drop, length-take-le}
+use Rattle.laws.specs.Tabulate.{tabulate, tabulate-eq}
+use Rattle.areas.specs.Lists.{over, padded}
+use Rattle.areas.specs.Records.{Codec, encode, records, store}
+use Rattle.areas.proofs.Lists.{take-over, drop-over, drop-padded, padded-full}
+use Rattle.areas.proofs.Records.{length-encode, length-records, getD-records, take-records, length-store, store-front, store-append, store-records, records-store-front, records-store-before, records-store-after, store-comm}
+use Rattle.rules.specs.Exchange.{noOrder, noTrade}
+use Rattle.rules.specs.Memory.{orderWords, orderFrom, tradeWords, tradeFrom, queueIn, recordedTrades, putQueue, putTrades}
+use Rattle.rules.specs.declared.Order.{Order}
+use Rattle.rules.specs.declared.Trade.{Trade}
+
+-- ---- the codecs
+
+-- the first n words of a list, one by one
+first-words : (n : ℕ) (xs : List ℕ) → n ≤ length xs → tabulate n (λ i. getD xs i 0) ≡ take n xs
+first-words n xs h =
+    sym (tabulate-eq n (λ i. getD xs i 0) (take n xs) 0 (length-take-le n xs h) (λ i k. getD-take n xs i 0 k))
+
+pub order-codec : Codec Order 5 orderWords orderFrom
+unfolding tabulate
+order-codec = record { wide = λ o. refl; back = λ o ys. refl; forth = λ xs h. first-words 5 xs h }
+
+pub trade-codec : Codec Trade 9 tradeWords tradeFrom
+unfolding tabulate
+trade-codec = record { wide = λ t. refl; back = λ t ys. refl; forth = λ xs h. first-words 9 xs h }
+
+-- ---- records written over n places: the places that they do not fill get z
+
+module _ {A : Type 0} where
+  -- a write over one that is no longer
+  over-longer : (l : List A) (at : ℕ) (ys zs : List A) → at ≤ length l → length ys ≤ length zs → over (over l at ys) at zs ≡ over l at zs
+  unfolding over
+  over-longer l at ys zs b h =
+      let t : take at (over l at ys) ≡ take at l = take-over l at ys b at (omega arith) in
+      let d : drop (at + length zs) (over l at ys) ≡ drop (at + length zs) l = drop-over l at ys b (at + length zs) (omega arith) in
+      rw (t, d)
+
+  length-filled : (n : ℕ) (z : A) (os : List A) → length (padded n z os) ≡ max n (length os)
+  unfolding padded
+  length-filled n z os = simp (length-append, length-replicate) (omega arith)
+
+  filled-up : (n : ℕ) (z : A) (os : List A) → n ≤ length os → padded n z os ≡ os
+  unfolding padded
+  filled-up n z os h =
+      let e : n - length os ≡ 0 = omega arith in
+      rw (e, append-nil)
+
+  -- places that are filled either way
+  same-fill : (m n : ℕ) (z : A) (os : List A) → m - length os ≡ n - length os → padded m z os ≡ padded n z os
+  unfolding padded
+  same-fill m n z os e = rw e
+
+  more-fill : (m n : ℕ) (z : A) (os : List A) → max m (length os) ≤ n → padded m z os ++ replicate (n - max m (length os)) z ≡ padded (max n m) z os
+  unfolding padded
+  more-fill m n z os h =
+      let e : m - length os + (n - max m (length os)) ≡ max n m - length os = omega arith in
+      rw (append-assoc, replicate-append-replicate, e)
+
+module _ {A : Type 0} {W : ℕ} {words : A → List ℕ} {first : List ℕ → A} (C : Codec A W words first) (z : A) where
+  pub records-put : (a : List ℕ) (base n : ℕ) (os : List A) → base ≤ length a → records W first (store words a base (padded n z os)) base (length os) ≡ os
+  unfolding padded
+  records-put a base n os h = records-store-front C a base (length os) os (replicate (n - length os) z) h refl
+
+  pub put-records : (a : List ℕ) (base n : ℕ) → base + W * n ≤ length a → store words a base (padded n z (records W first a base n)) ≡ a
+  put-records a base n h =
+      let e : padded n z (records W first a base n) ≡ records W first a base n = rw (length-records C a base n) at (padded-full z (records W first a base n)) in
+      rw e (store-records C a base n h)
+
+  pub length-put : (a : List ℕ) (base n : ℕ) (os : List A) → base + W * max n (length os) ≤ length a → length (store words a base (padded n z os)) ≡ length a
+  length-put a base n os h = length-store C a base (padded n z os) (rw length-filled h)
+
+  -- a put over one of no more records: its own fill reaches as far
+  put-longer : (a : List ℕ) (base n m : ℕ) (os ps : List A) → max n (length os) ≤ max m (length ps) → base ≤ length a
+      → store words (store words a base (padded n z os)) base (padded m z ps) ≡ store words a base (padded m z ps)
+  unfolding store
+  put-longer a base n m os ps k b =
+      over-longer a base (encode words (padded n z os)) (encode words (padded m z ps)) b
+      (rw (length-encode C (padded n z os), length-encode C (padded m z ps), length-filled n z os, length-filled m z ps) (mul-le-mul-left W k))
+
+  -- a put over one of more records, that are all fill from there on
+  put-shorter : (a : List ℕ) (base n m : ℕ) (os ps : List A) → max m (length ps) ≤ n → length os ≤ m → base ≤ length a
+      → store words (store words a base (padded n z os)) base (padded m z ps) ≡ store words a base (padded m z ps ++ replicate (n - max m (length ps)) z)
+  put-shorter a base n m os ps k h b =
+      let i : ℕ = max m (length ps) in
+      let q : List A = padded n z os in
+      let l : length (padded m z ps) ≡ length (take i q) = rw (length-filled m z ps, length-take, length-filled n z os) (omega arith) in
+      let e : q ≡ take i q ++ replicate (n - i) z = sym (rw (← drop-padded n i z os (omega arith)) (take-append-drop i q)) in
+      ap (λ (r : List A). store words (store words a base r) base (padded m z ps)) e ∙ store-front C a base (take i q) (replicate (n - i) z) (padded m z ps) b l
+
+  pub put-put : (a : List ℕ) (base n m : ℕ) (os ps : List A) → length os ≤ m → base ≤ length a
+      → store words (store words a base (padded n z os)) base (padded m z ps) ≡ store words a base (padded (max n m) z ps)
+  put-put a base n m os ps h b = go (leb n (max m (length ps))) refl
+    where
+      go : (t : Bool) → leb n (max m (length ps)) ≡ t
+          → store words (store words a base (padded n z os)) base (padded m z ps) ≡ store words a base (padded (max n m) z ps)
+      go true e =
+          let k = leb-true n (max m (length ps)) e in
+          put-longer a base n m os ps (omega arith) b ∙ ap (λ (r : List A). store words a base r) (same-fill m (max n m) z ps (omega arith))
+      go false e =
+          let k = leb-false n (max m (length ps)) e in
+          put-shorter a base n m os ps (omega arith) h b ∙ ap (λ (r : List A). store words a base r) (more-fill m n z ps (omega arith))
+
+  pub store-more : (a : List ℕ) (base n : ℕ) (os : List A) → base + W * n ≤ length a → store words a (base + W * n) os ≡ store words a base (padded n z (records W first a base n ++ os))
+  store-more a base n os h =
+      let q : List A = records W first a base n in
+      let e : padded n z (q ++ os) ≡ q ++ os = filled-up n z (q ++ os) (rw (length-append, length-records C a base n) (omega arith)) in
+      rw (e, store-append C a base q os (omega arith), length-records C a base n, store-records C a base n h)
+
+-- ---- a queue read
+
+-- one order's words
+pub order-words : (area : List ℕ) (k : ℕ)
+    → orderFrom (drop k area)
+    ≡ record { price = getD area k 0; number = getD area (k + 1) 0; account = getD area (k + 2) 0; lots = getD area (k + 3) 0; close = getD area (k + 4) 0 }
+order-words area k = simp (getD-drop, add-zero)
+
+module _ (area : List ℕ) (c n : ℕ) where
+  pub length-queue : length (queueIn area c n) ≡ n
+  unfolding queueIn
+  length-queue = length-records order-codec area (320 * c) n
+
+  pub order-at : (i : ℕ) → i < n → getD (queueIn area c n) i noOrder ≡ orderFrom (drop (320 * c + 5 * i) area)
+  unfolding queueIn
+  order-at i h = getD-records order-codec area (320 * c) n i noOrder h
+
+  pub take-queue : (i : ℕ) → i ≤ n → take i (queueIn area c n) ≡ queueIn area c i
+  unfolding queueIn
+  take-queue i h = take-records order-codec area (320 * c) n i h
+
+before-or-after : (c d : ℕ) → (c ≡ d → ⊥) → (c < d) ⊎ (d < c)
+before-or-after c d apart = go (ltb c d) refl
+  where
+    go : (b : Bool) → ltb c d ≡ b → (c < d) ⊎ (d < c)
+    go true e = inl (ltb-true c d e)
+    go false e = ⊎-elim (λ p. absurd (apart (sym p))) (λ l. inr l) (eq-or-lt-of-le (ltb-false c d e))
+
+-- ---- a queue written: `room` for 64 orders, and no more than 64 before and after
+
+pub putQueue-store : (area : List ℕ) (c n : ℕ) (q : List Order) → putQueue area c n q ≡ store orderWords area (320 * c) (padded n noOrder q)
+unfolding putQueue
+putQueue-store area c n q = refl
+
+-- writing what is there changes nothing
+pub put-queue : (area : List ℕ) (c n : ℕ) → 320 * c + 5 * n ≤ length area → putQueue area c n (queueIn area c n) ≡ area
+unfolding putQueue queueIn
+put-queue area c n room = put-records order-codec noOrder area (320 * c) n room
+
+module _ (area : List ℕ) (c n : ℕ) (q : List Order) where
+  pub queue-put : 320 * c ≤ length area → queueIn (putQueue area c n q) c (length q) ≡ q
+  unfolding putQueue queueIn
+  queue-put room = records-put order-codec noOrder area (320 * c) n q room
+
+  pub length-putQueue : n ≤ 64 → length q ≤ 64 → 320 * c + 320 ≤ length area → length (putQueue area c n q) ≡ length area
+  unfolding putQueue
+  length-putQueue few short room = length-put order-codec noOrder area (320 * c) n q (omega arith)
+
+  -- the second of two writes stays; the places that the first cleared stay clear
+  pub putQueue-putQueue : (m : ℕ) (r : List Order) → length q ≤ m → 320 * c ≤ length area → putQueue (putQueue area c n q) c m r ≡ putQueue area c (max n m) r
+  unfolding putQueue
+  putQueue-putQueue m r h room = put-put order-codec noOrder area (320 * c) n m q r h room
+
+  pub putQueue-again : (r : List Order) → length q ≤ n → 320 * c ≤ length area → putQueue (putQueue area c n q) c n r ≡ putQueue area c n r
+  putQueue-again r h room =
+      let e : max n n ≡ n = omega arith in
+      putQueue-putQueue n r h room ∙ ap (λ (k : ℕ). putQueue area c k r) e
+
+  -- another contract's queue
+  module _ (few : n ≤ 64) (short : length q ≤ 64) (d : ℕ) (apart : c ≡ d → ⊥) where
+    pub queue-put-other : (m : ℕ) → m ≤ 64 → 320 * c ≤ length area → queueIn (putQueue area c n q) d m ≡ queueIn area d m
+    unfolding putQueue queueIn
+    queue-put-other m h room =
+        ⊎-elim
+        (λ (k : c < d). records-store-after order-codec order-codec area (320 * c) (padded n noOrder q) (320 * d) m (rw length-filled (omega arith)) room)
+        (λ (k : d < c). records-store-before order-codec order-codec area (320 * c) (padded n noOrder q) (320 * d) m (omega arith) room)
+        (before-or-after c d apart)
+
+    pub putQueue-comm : (m : ℕ) (r : List Order) → m ≤ 64 → length r ≤ 64 → 320 * c + 320 ≤ length area → 320 * d + 320 ≤ length area
+        → putQueue (putQueue area c n q) d m r ≡ putQueue (putQueue area d m r) c n q
+    unfolding putQueue
+    putQueue-comm m r few′ short′ room room′ =
+        ⊎-elim
+        (λ (k : c < d). store-comm order-codec order-codec area (320 * c) (padded n noOrder q) (320 * d) (padded m noOrder r) (rw length-filled (omega arith)) (rw length-filled (omega arith)))
+        (λ (k : d < c). sym (store-comm order-codec order-codec area (320 * d) (padded m noOrder r) (320 * c) (padded n noOrder q) (rw length-filled (omega arith)) (rw length-filled (omega arith))))
+        (before-or-after c d apart)
+
+-- ---- the day's trades
+
+-- one trade's words
+pub trade-words : (area : List ℕ) (k : ℕ)
+    → tradeFrom (drop k area)
+    ≡ record {
+      contract = getD area k 0;
+      price = getD area (k + 1) 0;
+      lots = getD area (k + 2) 0;
+      buyorder = getD area (k + 3) 0;
+      sellorder = getD area (k + 4) 0;
+      buyer = getD area (k + 5) 0;
+      seller = getD area (k + 6) 0;
+      buyclose = getD area (k + 7) 0;
+      sellclose = getD area (k + 8) 0;
+    }
+trade-words area k = simp (getD-drop, add-zero)
+
+module _ (area : List ℕ) (n : ℕ) where
+  pub length-trades : length (recordedTrades area n) ≡ n
+  unfolding recordedTrades
+  length-trades = length-records trade-codec area 0 n
+
+  pub trade-at : (i : ℕ) → i < n → getD (recordedTrades area n) i noTrade ≡ tradeFrom (drop (9 * i) area)
+  unfolding recordedTrades
+  trade-at i h = getD-records trade-codec area 0 n i noTrade h ∙ rw zero-add
+
+  pub take-trades : (i : ℕ) → i ≤ n → take i (recordedTrades area n) ≡ recordedTrades area i
+  unfolding recordedTrades
+  take-trades i h = take-records trade-codec area 0 n i h
+
+  pub putTrades-store : (ts : List Trade) → putTrades area n ts ≡ store tradeWords area 0 (padded n noTrade ts)
+  unfolding putTrades
+  putTrades-store ts = refl
+
+  pub put-trades : 9 * n ≤ length area → putTrades area n (recordedTrades area n) ≡ area
+  unfolding putTrades recordedTrades
+  put-trades room = put-records trade-codec noTrade area 0 n (rw zero-add room)
+
+  -- trades written behind those there are
+  pub store-trades : (ts : List Trade) → 9 * n ≤ length area → store tradeWords area (9 * n) ts ≡ putTrades area n (recordedTrades area n ++ ts)
+  unfolding putTrades recordedTrades
+  store-trades ts room = ap (λ (k : ℕ). store tradeWords area k ts) (sym (zero-add (9 * n))) ∙ store-more trade-codec noTrade area 0 n ts (rw zero-add room)
+
+  module _ (ts : List Trade) where
+    pub trades-put : recordedTrades (putTrades area n ts) (length ts) ≡ ts
+    unfolding putTrades recordedTrades
+    trades-put = records-put trade-codec noTrade area 0 n ts (omega arith)
+
+    pub length-putTrades : n ≤ 1024 → length ts ≤ 1024 → 9 * 1024 ≤ length area → length (putTrades area n ts) ≡ length area
+    unfolding putTrades
+    length-putTrades few short room = length-put trade-codec noTrade area 0 n ts (omega arith)
+
+    pub putTrades-putTrades : (m : ℕ) (us : List Trade) → length ts ≤ m → putTrades (putTrades area n ts) m us ≡ putTrades area (max n m) us
+    unfolding putTrades
+    putTrades-putTrades m us h = put-put trade-codec noTrade area 0 n m ts us h (omega arith)

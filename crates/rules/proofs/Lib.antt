@@ -1,0 +1,6 @@
+pub mod Codecs
+pub mod Sweep
+pub mod Queue
+pub mod Sorted
+pub mod Fillable
+pub mod Prices
