@@ -1,3 +1,5 @@
+pub mod Changes
 pub mod Lists
-pub mod Records
+pub mod Measures
 pub mod Moves
+pub mod Records

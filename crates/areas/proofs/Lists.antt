@@ -145,13 +145,26 @@ module _ {A : Type 0} where
   unfolding removeAt
   length-removeAt i os h = simp (length-append, length-take, length-drop) (omega arith)
 
+  -- at the front, and past it
+  pub insertAt-zero : (o : A) (os : List A) → insertAt 0 o os ≡ o ∷ os
+  unfolding insertAt
+  insertAt-zero o os = refl
+
+  pub insertAt-suc : (i : ℕ) (o x : A) (os : List A) → insertAt (suc i) o (x ∷ os) ≡ x ∷ insertAt i o os
+  unfolding insertAt
+  insertAt-suc i o x os = refl
+
   pub insertAt-end : (o : A) (os : List A) → insertAt (length os) o os ≡ os ++ (o ∷ [])
   unfolding insertAt
   insertAt-end o os = rw (take-length, drop-length)
 
-  pub removeAt-first : (o : A) (os : List A) → removeAt 0 (o ∷ os) ≡ os
+  pub removeAt-zero : (x : A) (os : List A) → removeAt 0 (x ∷ os) ≡ os
   unfolding removeAt
-  removeAt-first o os = refl
+  removeAt-zero x os = refl
+
+  pub removeAt-suc : (i : ℕ) (x : A) (os : List A) → removeAt (suc i) (x ∷ os) ≡ x ∷ removeAt i os
+  unfolding removeAt
+  removeAt-suc i x os = refl
 
   -- what is put in can be taken out
   pub removeAt-insertAt : (i : ℕ) (o : A) (os : List A) → i ≤ length os → removeAt i (insertAt i o os) ≡ os
@@ -205,9 +218,16 @@ module _ {A : Type 0} where
   over-padded n z os ps h =
       ap (λ (k : ℕ). ps ++ drop k (os ++ replicate (n - length os) z)) (zero-add (length ps)) ∙ ap (λ (l : List A). ps ++ l) (drop-padded n (length ps) z os h)
 
-  -- an element taken out of a full list, and a copy of z put at its end
-  pub removeAt-padded : (i n : ℕ) (z : A) (os : List A) → i < n → length os ≡ n → removeAt i os ++ (z ∷ []) ≡ padded n z (removeAt i os)
-  unfolding padded
-  removeAt-padded i n z os h e =
-      let k : n - length (removeAt i os) ≡ 1 = omega (arith, length-removeAt i os (omega arith)) in
-      rw k
+  -- elements taken out of a full list, and as many copies of z put at its end
+  module _ (n : ℕ) (z : A) (os : List A) (full : length os ≡ n) where
+    pub padded-removeAt : (i : ℕ) → i < n → take i os ++ (drop (i + 1) os ++ replicate 1 z) ≡ padded n z (removeAt i os)
+    unfolding padded removeAt
+    padded-removeAt i h =
+        let k : n - length (take i os ++ drop (suc i) os) ≡ 1 = rw (length-append, length-take, length-drop) (omega arith) in
+        rw (k, add-one, append-assoc)
+
+    pub padded-drop : (k : ℕ) → k ≤ n → take 0 os ++ (drop (0 + k) os ++ replicate k z) ≡ padded n z (drop k os)
+    unfolding padded
+    padded-drop k h =
+        let m : n - length (drop k os) ≡ k = rw length-drop (omega arith) in
+        rw (m, zero-add)

@@ -10,7 +10,8 @@ use native.Mathlib.Omega.{arith}
 use lib.ListN.{length, take, drop, getD, set, replicate, length-append, length-take, length-drop, length-replicate, drop-of-length-le, replicate-append-replicate, List·getD-append}
 use lib.Seq.{take-all, take-at, take-length, take-suc, take-take, drop-at, drop-cons, drop-drop, drop-length, getD-append-add, getD-drop, getD-take, length-take-le, set-at}
 use Rattle.areas.specs.Lists.{over}
-use Rattle.areas.proofs.Lists.{drop-take, length-over, over-front, over-over, over-append}
+use Rattle.areas.specs.Moves.{movedBack, movedForward, closedUp}
+use Rattle.areas.proofs.Lists.{drop-take, length-over, over-tail, over-front, over-over, over-append}
 
 -- ---- moved back by w: from place i on it is done
 
@@ -22,8 +23,8 @@ unfolding shifted
 shifted-none w p h =
     rw (take-length, drop-of-length-le (take (length p - w) p) {i = length p - w} (rw length-take (omega arith)), append-nil)
 
-pub shifted-done : (w : ℕ) (p : List ℕ) → shifted w p w ≡ take w p ++ take (length p - w) p
-unfolding shifted
+pub shifted-done : (w : ℕ) (p : List ℕ) → shifted w p w ≡ movedBack w p
+unfolding shifted movedBack
 shifted-done w p = rw sub-self
 
 shift-suc : (w : ℕ) (p : List ℕ) (j : ℕ) → w ≤ j → j < length p → set (shifted w p (suc j)) j (getD (shifted w p (suc j)) (j - w) 0) ≡ shifted w p j
@@ -61,8 +62,8 @@ advance-step w p i h =
     ap (λ (n : ℕ). getD (take i (drop w p) ++ drop i p) (n + w) 0) (sym lt) ∙ getD-append-add (take i (drop w p)) (drop i p) w 0 ∙ rw (getD-drop, getD-drop, add-comm) in
     rw (v, drop-cons p i 0 in-p, set-at (take i (drop w p)) (getD p i 0) (drop (suc i) p) (getD (drop w p) i 0) i lt, add-one, take-suc (drop w p) i 0 in-d, append-assoc)
 
-pub advanced-done : (w : ℕ) (p : List ℕ) → w ≤ length p → advanced w p (length p - w) ≡ drop w p ++ drop (length p - w) p
-unfolding advanced
+pub advanced-done : (w : ℕ) (p : List ℕ) → w ≤ length p → advanced w p (length p - w) ≡ movedForward w p
+unfolding advanced movedForward
 advanced-done w p h = rw (take-all (length p - w) (drop w p) (rw length-drop (omega arith)))
 
 -- ---- cleared: up to place i it is done
@@ -92,10 +93,31 @@ lent-over a part s e h l =
     let k : s + length part ≡ e = omega arith in
     rw (post-is s e a h, k)
 
+-- the part from s to e, cleared
+pub lent-zeros : (a part : List ℕ) (s e : ℕ) → s ≤ e → e ≤ length a → part ≡ replicate (length (take (e - s) (drop s a))) 0
+    → putMid s (e - s) a part ≡ over a s (replicate (e - s) 0)
+lent-zeros a part s e h b q =
+    let l : length (take (e - s) (drop s a)) ≡ e - s = length-take-le (e - s) (drop s a) (rw length-drop (omega arith)) in
+    let z : part ≡ replicate (e - s) 0 = q ∙ rw l in
+    rw z (lent-over a (replicate (e - s) 0) s e h (length-replicate (e - s) 0))
+
+-- moved forward by w, and the last w cleared: `areas::close_up`
+pub moved-cleared : (w : ℕ) (p m zeros : List ℕ) → w ≤ length p → m ≡ movedForward w p
+    → zeros ≡ replicate (length (take (length m - (length m - w)) (drop (length m - w) m))) 0
+    → putMid (length m - w) (length m - (length m - w)) m zeros ≡ closedUp w p
+unfolding movedForward closedUp
+moved-cleared w p m zeros h q z =
+    let lm : length m ≡ length p = ap length q ∙ simp (length-append, length-drop) (omega arith) in
+    let k : length m - (length m - w) ≡ w = omega arith in
+    let t : take (length m - w) m ≡ drop w p =
+    rw (lm, q) (take-at (drop w p) (drop (length p - w) p) (length p - w) (length-drop w p)) in
+    lent-zeros m zeros (length m - w) (length m) (omega arith) (omega arith) z
+    ∙ over-tail m (length m - w) (replicate (length m - (length m - w)) 0) (rw length-replicate (omega arith)) ∙ rw (t, k)
+
 -- a part of w words and r more is moved back by w, and ys are written in front of it
 pub over-insert : (a : List ℕ) (s e w r : ℕ) (b part ys c : List ℕ) → e ≡ s + (w + r) → e ≤ length a → length ys ≡ w
-    → part ≡ take w (take (e - s) (drop s a)) ++ take (length (take (e - s) (drop s a)) - w) (take (e - s) (drop s a))
-    → b ≡ putMid s (e - s) a part → c ≡ over b s ys → c ≡ over a s (ys ++ take r (drop s a))
+    → part ≡ movedBack w (take (e - s) (drop s a)) → b ≡ putMid s (e - s) a part → c ≡ over b s ys → c ≡ over a s (ys ++ take r (drop s a))
+unfolding movedBack
 over-insert a s e w r b part ys c he ha hy ep eb ec =
     let m : e - s - w ≡ r = omega arith in
     let x : List ℕ = take w (drop s a) in
@@ -110,8 +132,8 @@ over-insert a s e w r b part ys c he ha hy ep eb ec =
 
 -- a part of w words and r more is moved forward by w, and ys are written at its end
 pub over-remove : (a : List ℕ) (s e w r : ℕ) (b part ys c : List ℕ) → e ≡ s + (w + r) → e ≤ length a → length ys ≡ w
-    → part ≡ drop w (take (e - s) (drop s a)) ++ drop (length (take (e - s) (drop s a)) - w) (take (e - s) (drop s a))
-    → b ≡ putMid s (e - s) a part → c ≡ over b (s + r) ys → c ≡ over a s (take r (drop (s + w) a) ++ ys)
+    → part ≡ movedForward w (take (e - s) (drop s a)) → b ≡ putMid s (e - s) a part → c ≡ over b (s + r) ys → c ≡ over a s (take r (drop (s + w) a) ++ ys)
+unfolding movedForward
 over-remove a s e w r b part ys c he ha hy ep eb ec =
     let m : e - s - w ≡ r = omega arith in
     let y : List ℕ = take r (drop (s + w) a) in
@@ -124,3 +146,15 @@ over-remove a s e w r b part ys c he ha hy ep eb ec =
     let o : b ≡ over (over a s y) (s + r) z = eb ∙ rw p (lent-over a (y ++ z) s e (omega arith) lp) ∙ over-append a s y (omega arith) z ∙ rw ly in
     let la : s + r ≤ length (over a s y) = rw (length-over a s y (omega arith)) (omega arith) in
     ec ∙ ap (λ (m : List ℕ). over m (s + r) ys) o ∙ over-over (over a s y) (s + r) z la ys lz ∙ ap (λ (n : ℕ). over (over a s y) (s + n) ys) (sym ly) ∙ sym (over-append a s y (omega arith) ys)
+
+-- a part of w words and r more has its first w words taken out
+pub over-closed : (a : List ℕ) (s e w r : ℕ) (part : List ℕ) → e ≡ s + (w + r) → e ≤ length a
+    → part ≡ closedUp w (take (e - s) (drop s a)) → putMid s (e - s) a part ≡ over a s (take r (drop (s + w) a) ++ replicate w 0)
+unfolding closedUp
+over-closed a s e w r part he ha ep =
+    let m : e - s - w ≡ r = omega arith in
+    let y : List ℕ = take r (drop (s + w) a) in
+    let p : part ≡ y ++ replicate w 0 = ep ∙ rw (drop-take w (e - s) (drop s a) (omega arith) (rw length-drop (omega arith)), drop-drop w s a, m) in
+    let ly : length y ≡ r = length-take-le r (drop (s + w) a) (rw length-drop (omega arith)) in
+    let lp : length (y ++ replicate w 0) ≡ e - s = rw (length-append, ly, length-replicate) (omega arith) in
+    rw p (lent-over a (y ++ replicate w 0) s e (omega arith) lp)

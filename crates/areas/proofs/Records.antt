@@ -4,12 +4,13 @@ use mathlib.Core.List.{List, [], _∷_, _++_, append-assoc, append-nil}
 use mathlib.Core.Path.{_≡_, refl, sym, ap, _∙_}
 use Prim.Native.Nat.{ℕ, zero, suc, _+_, _-_, _*_, _≤_, _<_}
 use native.Mathlib.Nat.{mul-suc, mul-zero, mul-add, mul-sub, mul-le-mul-left, sub-zero, suc-sub-suc, add-assoc}
+use native.Mathlib.Numerals.{add-one}
 use native.Mathlib.Omega.{arith}
 use lib.ListN.{length, take, drop, getD, set, replicate, length-append, length-take, length-drop, length-set, length-replicate, take-append-drop, replicate-append-replicate}
 use lib.Seq.{take-nil, drop-nil, take-add, take-all, take-length, take-append-add, drop-at, drop-drop, drop-length, drop-append-le, drop-append-add, length-take-le}
 use Rattle.areas.specs.Lists.{over, insertAt, removeAt, padded}
 use Rattle.areas.specs.Records.{Codec, decode, encode, records, store}
-use Rattle.areas.proofs.Lists.{part-rest, length-over, over-nil, over-tail, over-part, take-over, drop-over-at, drop-over, over-front, over-over, over-append, over-inside, over-comm, set-over, drop-take}
+use Rattle.areas.proofs.Lists.{part-rest, length-over, over-nil, over-tail, over-part, take-over, drop-over-at, drop-over, over-front, over-over, over-append, over-inside, over-comm, set-over, padded-removeAt}
 
 module _ {A : Type 0} {W : ℕ} {words : A → List ℕ} {first : List ℕ → A} (C : Codec A W words first) where
   -- ---- records and their words
@@ -264,13 +265,12 @@ module _ {A : Type 0} {W : ℕ} {words : A → List ℕ} {first : List ℕ → A
       rw (← encode-rest a base n (i + k) h l, ← encode-append (drop (i + k) q) zs, ← store-over a (base + W * i) (drop (i + k) q ++ zs))
       (store-inside a base n i (drop (i + k) q ++ zs) (omega arith) l ∙ rw s)
 
-  -- one record taken out
+  -- records without the one at i: those after it are moved forward, and z is written behind
   pub removeAt-store : (a : List ℕ) (base n i : ℕ) (z : A) → i < n → base + W * n ≤ length a
-      → over a (base + W * i) (take (W * (n - suc i)) (drop (base + W * suc i) a) ++ words z) ≡ store words a base (removeAt i (records W first a base n) ++ (z ∷ []))
-  unfolding removeAt
+      → over a (base + W * i) (take (W * (n - suc i)) (drop (base + W * suc i) a) ++ words z) ≡ store words a base (padded n z (removeAt i (records W first a base n)))
   removeAt-store a base n i z h l =
-      let s : i + 1 ≡ suc i = omega arith in
-      rw (← encode-one z, ← s) (remove-store a base n i 1 (z ∷ []) (omega arith) refl l ∙ simp append-assoc)
+      rw (← encode-one z, ← add-one i)
+      (remove-store a base n i 1 (z ∷ []) (omega arith) refl l ∙ rw (padded-removeAt n z (records W first a base n) (length-records a base n) i h))
 
 -- ---- two kinds of records in one area
 

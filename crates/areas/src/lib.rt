@@ -1,14 +1,14 @@
 // Words moved and cleared in a lent area. What the words mean as records stands in specs/, and its laws in proofs/.
-// For the crates of this repository: each function says what its caller has to show.
-ghost use mathlib.Core.List.{_++_};
+// For the crates of this repository: a function with a `requires` says in words what its caller has to show.
 ghost use mathlib.Core.Path.{_≡_};
-ghost use Prim.Native.Nat.{_-_, _≤_};
-ghost use lib.ListN.{drop, length, replicate, take};
+ghost use Prim.Native.Nat.{_≤_};
+ghost use lib.ListN.{length, replicate};
+ghost use Rattle.areas.specs.Moves.{closedUp, movedBack, movedForward};
 
-// Moves all but the last w words back by w; the first w stay as they were. Requires that there are w words.
+// Opens a gap of w words: all but the last w words move back by w. Requires w words or more.
 pub fn move_back(part: &mut [u32], w: usize)
     requires { ⌜ w ≤ length (now part) ⌝ }
-    ensures { λ _. ⌜ now (part .exit) ≡ take w (now (part .entry)) ++ take (length (now (part .entry)) - w) (now (part .entry)) ⌝ }
+    ensures { λ _. ⌜ now (part .exit) ≡ movedBack w (now (part .entry)) ⌝ }
 {
     let mut i = part.len();
     while w < i {
@@ -17,10 +17,10 @@ pub fn move_back(part: &mut [u32], w: usize)
     }
 }
 
-// Moves all but the first w words forward by w; the last w stay as they were. Requires that there are w words.
+// All but the first w words move forward by w. Requires w words or more.
 pub fn move_forward(part: &mut [u32], w: usize)
     requires { ⌜ w ≤ length (now part) ⌝ }
-    ensures { λ _. ⌜ now (part .exit) ≡ drop w (now (part .entry)) ++ drop (length (now (part .entry)) - w) (now (part .entry)) ⌝ }
+    ensures { λ _. ⌜ now (part .exit) ≡ movedForward w (now (part .entry)) ⌝ }
 {
     let n = part.len() - w;
     let mut i: usize = 0;
@@ -39,4 +39,14 @@ pub fn clear(part: &mut [u32])
         part[i] = 0;
         i += 1;
     }
+}
+
+// Takes the first w words out: the others move to the front, and zeros follow. Requires w words or more.
+pub fn close_up(part: &mut [u32], w: usize)
+    requires { ⌜ w ≤ length (now part) ⌝ }
+    ensures { λ _. ⌜ now (part .exit) ≡ closedUp w (now (part .entry)) ⌝ }
+{
+    move_forward(part, w);
+    let kept = part.len() - w;
+    clear(&mut part[kept..]);
 }

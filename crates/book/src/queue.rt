@@ -54,9 +54,8 @@ pub fn place(area: &[u32], c: usize, count: usize, sell: bool, price: u32) -> us
 {
     let mut k: usize = 0;
     while k < count {
-        let at = 320 * c + 5 * k;
-        let resting = area[at];
-        if worse(sell, resting, price) {
+        let o = order_at(area, c, k);
+        if worse(sell, o.price, price) {
             return k;
         }
         k += 1;
@@ -92,8 +91,7 @@ pub fn remove(area: &mut [u32], c: usize, count: usize, i: usize)
 {
     let a = 320 * c + 5 * i;
     let e = 320 * c + 5 * count;
-    areas::move_forward(&mut area[a..e], 5);
-    areas::clear(&mut area[e - 5..e]);
+    areas::close_up(&mut area[a..e], 5);
 }
 
 // Takes the first k orders out: later ones close up, and the freed places are set to zero.
@@ -103,9 +101,7 @@ pub fn drop_front(area: &mut [u32], c: usize, count: usize, k: usize)
 {
     let a = 320 * c;
     let e = 320 * c + 5 * count;
-    let w = 5 * k;
-    areas::move_forward(&mut area[a..e], w);
-    areas::clear(&mut area[e - w..e]);
+    areas::close_up(&mut area[a..e], 5 * k);
 }
 
 // Changes the remaining lots of the order at a place.

@@ -14,8 +14,8 @@ pub fn find(area: &[u32], c: usize, count: usize, number: u32) -> usize
 {
     let mut k: usize = 0;
     while k < count {
-        let at = 320 * c + 5 * k + 1;
-        if area[at] == number {
+        let o = queue::order_at(area, c, k);
+        if o.number == number {
             return k;
         }
         k += 1;

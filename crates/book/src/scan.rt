@@ -6,7 +6,8 @@ ghost use lib.ListN.{length};
 ghost use Rattle.rules.specs.EarlyStop as early;
 ghost use Rattle.rules.specs.Exchange as exchange;
 ghost use Rattle.rules.specs.Memory.{queueIn};
-use crate::{prices, queue};
+use crate::prices;
+use crate::queue;
 use rules::Taker;
 
 // The lots of the counterparts: reading stops at the first order that is none.

@@ -16,5 +16,3 @@ pub mod DayFile
 pub mod Lines
 pub mod Examples
 pub mod PaperDay
-pub mod EarlyStop
-pub mod Places
