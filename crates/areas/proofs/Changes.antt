@@ -1,17 +1,16 @@
 -- The records of an area after a record was put in, by `move_back` and a write, or records were taken out, by `close_up`, or all
 -- were cleared. `s` and `e` are where the lent part begins and ends, as the caller's code computes them; `z` is the record whose
 -- words are all zero. Assumes nothing.
-use mathlib.Core.List.{List, [], _∷_, _++_}
-use mathlib.Core.Path.{_≡_, refl, sym, ap, _∙_}
+use mathlib.Core.List.{List, [], _++_}
+use mathlib.Core.Path.{_≡_, refl, sym, _∙_}
 use borrow.Rule.Slice.PartMut.{putMid}
-use Prim.Native.Nat.{ℕ, suc, _+_, _-_, _*_, _≤_, _<_}
-use native.Mathlib.Nat.{mul-add, mul-one, mul-sub, mul-suc, mul-zero, mul-le-mul-left, zero-add}
-use native.Mathlib.Numerals.{add-one}
+use Prim.Native.Nat.{ℕ, _+_, _-_, _*_, _≤_, _<_}
+use native.Mathlib.Nat.{mul-add, mul-one, mul-sub, mul-zero, mul-le-mul-left}
 use native.Mathlib.Omega.{arith}
 use lib.ListN.{length, take, drop, replicate, length-replicate}
 use Rattle.areas.specs.Lists.{over, insertAt, removeAt, padded}
 use Rattle.areas.specs.Moves.{movedBack, closedUp}
-use Rattle.areas.specs.Records.{Codec, encode, records, store}
+use Rattle.areas.specs.Records.{Codec, records, store}
 use Rattle.areas.proofs.Lists.{padded-nil, padded-removeAt, padded-drop}
 use Rattle.areas.proofs.Moves.{lent-zeros, over-insert, over-closed}
 use Rattle.areas.proofs.Records.{encode-zeros, length-records, insert-store, remove-store, store-over}

@@ -6,7 +6,7 @@ use native.Mathlib.Nat.{add-zero, add-assoc, sub-self, sub-zero, suc-sub-suc, ze
 use native.Mathlib.Numerals.{add-one}
 use native.Mathlib.Omega.{arith}
 use lib.ListN.{length, take, drop, getD, set, replicate, length-append, length-take, length-drop, length-replicate, take-append-drop, drop-of-length-le, List·getD-append}
-use lib.Seq.{sets, sets-eq, take-length, drop-length, drop-nil, take-take, take-add, take-at, take-all, take-append-le, take-append-add, drop-at, drop-drop, drop-append-le, drop-append-add, length-take-le, set-split}
+use lib.Seq.{sets, sets-eq, take-length, drop-length, take-take, take-add, take-at, take-append-le, take-append-add, drop-at, drop-drop, drop-append-le, drop-append-add, length-take-le, set-split}
 use Rattle.areas.specs.Lists.{over, insertAt, removeAt, padded}
 
 module _ {A : Type 0} where
@@ -24,7 +24,8 @@ module _ {A : Type 0} where
   -- ---- a part replaced
 
   -- from what stands before and after it
-  over-is : (l : List A) (at : ℕ) (ys before after : List A) → take at l ≡ before → drop (at + length ys) l ≡ after → over l at ys ≡ before ++ (ys ++ after)
+  over-is : (l : List A) (at : ℕ) (ys before after : List A) → take at l ≡ before → drop (at + length ys) l ≡ after
+      → over l at ys ≡ before ++ (ys ++ after)
   unfolding over
   over-is l at ys before after p q = rw (p, q)
 
@@ -64,29 +65,34 @@ module _ {A : Type 0} where
     unfolding over
     drop-over-at = drop-at (take at l) _ at front
 
-    pub take-over-after : (n : ℕ) → at + length ys ≤ n → take n (over l at ys) ≡ take at l ++ (ys ++ take (n - (at + length ys)) (drop (at + length ys) l))
+    pub take-over-after : (n : ℕ) → at + length ys ≤ n
+        → take n (over l at ys) ≡ take at l ++ (ys ++ take (n - (at + length ys)) (drop (at + length ys) l))
     unfolding over
     take-over-after n h =
+        let rest : List A = drop (at + length ys) l in
         let e : n ≡ length (take at l ++ ys) + (n - (at + length ys)) = rw head (omega arith) in
-        ap (λ (k : ℕ). take k (take at l ++ (ys ++ drop (at + length ys) l))) e
-        ∙ rw (← append-assoc (take at l) ys (drop (at + length ys) l), take-append-add (take at l ++ ys) (drop (at + length ys) l) (n - (at + length ys))) (simp append-assoc)
+        ap (λ (k : ℕ). take k (take at l ++ (ys ++ rest))) e
+        ∙ rw (← append-assoc (take at l) ys rest, take-append-add (take at l ++ ys) rest (n - (at + length ys))) (simp append-assoc)
 
     pub drop-over : (n : ℕ) → at + length ys ≤ n → drop n (over l at ys) ≡ drop n l
     unfolding over
     drop-over n h =
-        let e : n ≡ at + length ys + (n - (at + length ys)) = omega arith in
-        ap (λ (k : ℕ). drop k (take at l ++ (ys ++ drop (at + length ys) l))) e
-        ∙ rw (← drop-drop (n - (at + length ys)) (at + length ys) (take at l ++ (ys ++ drop (at + length ys) l)), ← append-assoc (take at l) ys (drop (at + length ys) l), drop-at (take at l ++ ys) (drop (at + length ys) l) (at + length ys) head, drop-drop (n - (at + length ys)) (at + length ys) l)
-        (ap (λ (k : ℕ). drop k l) (sym e))
+        let rest : List A = drop (at + length ys) l in
+        let e : n ≡ length (take at l ++ ys) + (n - (at + length ys)) = rw head (omega arith) in
+        let m : at + length ys + (n - (at + length ys)) ≡ n = omega arith in
+        ap (λ (k : ℕ). drop k (take at l ++ (ys ++ rest))) e
+        ∙ rw (← append-assoc (take at l) ys rest, drop-append-add (take at l ++ ys) rest (n - (at + length ys)), drop-drop, m)
 
     -- a second write over the front of the first
     pub over-front : (zs : List A) → length zs ≤ length ys → over (over l at ys) at zs ≡ over l at (zs ++ drop (length zs) ys)
     unfolding over
     over-front zs h =
+        let rest : List A = drop (at + length ys) l in
         let e : at + length (zs ++ drop (length zs) ys) ≡ at + length ys = simp (length-append, length-drop) (omega arith) in
-        let r : drop (at + length zs) (take at l ++ (ys ++ drop (at + length ys) l)) ≡ drop (length zs) ys ++ drop (at + length ys) l =
-        rw (← drop-drop (length zs) at (take at l ++ (ys ++ drop (at + length ys) l)), drop-at (take at l) (ys ++ drop (at + length ys) l) at front) (drop-append-le (length zs) ys (drop (at + length ys) l) h) in
-        rw (take-at (take at l) (ys ++ drop (at + length ys) l) at front, r, e) (simp append-assoc)
+        let d : drop at (take at l ++ (ys ++ rest)) ≡ ys ++ rest = drop-at (take at l) (ys ++ rest) at front in
+        let r : drop (at + length zs) (take at l ++ (ys ++ rest)) ≡ drop (length zs) ys ++ rest =
+        rw (← drop-drop (length zs) at (take at l ++ (ys ++ rest)), d) (drop-append-le (length zs) ys rest h) in
+        rw (take-at (take at l) (ys ++ rest) at front, r, e) (simp append-assoc)
 
     -- the second of two writes of the same length at the same place is the one that stays
     pub over-over : (zs : List A) → length zs ≡ length ys → over (over l at ys) at zs ≡ over l at zs
@@ -101,7 +107,8 @@ module _ {A : Type 0} where
         over-is l at (ys ++ zs) _ _ refl refl ∙ sym (over-is (over l at ys) (at + length ys) zs _ _ t r ∙ simp append-assoc)
 
   -- a write inside a part is a write of the part, changed
-  pub over-inside : (l : List A) (at n j : ℕ) (ys : List A) → j + length ys ≤ n → at + n ≤ length l → over l (at + j) ys ≡ over l at (over (take n (drop at l)) j ys)
+  pub over-inside : (l : List A) (at n j : ℕ) (ys : List A) → j + length ys ≤ n → at + n ≤ length l
+      → over l (at + j) ys ≡ over l at (over (take n (drop at l)) j ys)
   over-inside l at n j ys h b =
       let p : List A = take n (drop at l) in
       let e : ℕ = j + length ys in
@@ -116,14 +123,17 @@ module _ {A : Type 0} where
       ∙ sym (over-is l at (over p j ys) _ _ refl q ∙ rw o (simp append-assoc (rw (part-rest (n - e) (at + e) l, add-assoc at j (length ys)))))
 
   -- writes to places apart are in either order
-  pub over-comm : (l : List A) (at : ℕ) (ys : List A) (bt : ℕ) (zs : List A) → at + length ys ≤ bt → bt + length zs ≤ length l → over (over l at ys) bt zs ≡ over (over l bt zs) at ys
+  pub over-comm : (l : List A) (at : ℕ) (ys : List A) (bt : ℕ) (zs : List A) → at + length ys ≤ bt → bt + length zs ≤ length l
+      → over (over l at ys) bt zs ≡ over (over l bt zs) at ys
   over-comm l at ys bt zs h b =
       let e : ℕ = at + length ys in
       let t : take bt (over l at ys) ≡ take at l ++ (ys ++ take (bt - e) (drop e l)) = take-over-after l at ys (omega arith) bt h in
       let r : drop (bt + length zs) (over l at ys) ≡ drop (bt + length zs) l = drop-over l at ys (omega arith) (bt + length zs) (omega arith) in
       let t2 : take at (over l bt zs) ≡ take at l = take-over l bt zs (omega arith) at (omega arith) in
+      let lb : length (take bt l) ≡ bt = length-take-le bt l (omega arith) in
       let r2 : drop e (over l bt zs) ≡ take (bt - e) (drop e l) ++ (zs ++ drop (bt + length zs) l) =
-      ap (drop e) (over-is l bt zs _ _ refl refl) ∙ drop-append-le e (take bt l) (zs ++ drop (bt + length zs) l) (rw (length-take-le bt l (omega arith)) h) ∙ rw (drop-take e bt l h (omega arith)) in
+      ap (drop e) (over-is l bt zs _ _ refl refl)
+      ∙ drop-append-le e (take bt l) (zs ++ drop (bt + length zs) l) (rw lb h) ∙ rw (drop-take e bt l h (omega arith)) in
       over-is (over l at ys) bt zs _ _ t r ∙ sym (over-is (over l bt zs) at ys _ _ t2 r2 ∙ simp append-assoc)
 
   -- a run of stores, as code makes it, and one store

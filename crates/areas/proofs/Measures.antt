@@ -1,13 +1,13 @@
 -- Sums and tests over a list that an element was put into or taken out of, or that was filled up. Assumes nothing.
 use mathlib.Core.Bool.{Bool, true}
-use mathlib.Core.List.{List, [], _∷_, _++_}
-use mathlib.Core.Path.{_≡_, sym, ap, _∙_}
-use Prim.Native.Nat.{ℕ, suc, _+_, _-_, _*_, _<_}
+use mathlib.Core.List.{List, _∷_, _++_}
+use mathlib.Core.Path.{_≡_, ap, _∙_}
+use Prim.Native.Nat.{ℕ, suc, _+_, _-_, _<_}
 use native.Mathlib.Nat.{zero-mul}
 use native.Mathlib.Omega.{arith}
 use lib.ListN.{length, take, drop, getD, replicate}
 use lib.Seq.{split-at}
-use Rattle.laws.specs.Choice.{both, allOf, true-both, allOf-append, allOf-take, allOf-drop, allOf-replicate}
+use Rattle.laws.specs.Choice.{allOf, allOf-append, allOf-take, allOf-drop, allOf-replicate}
 use Rattle.laws.specs.Sums.{sumOf, sumOf-append, sumOf-split, sumOf-replicate}
 use Rattle.areas.specs.Lists.{insertAt, removeAt, padded}
 

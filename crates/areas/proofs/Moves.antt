@@ -1,6 +1,6 @@
 -- The laws of words that are moved or cleared one by one, for the loops of `src/lib.rt`, and of a part that was moved and is
 -- then written in front or behind, for their callers. Assumes nothing.
-use mathlib.Core.List.{List, [], _∷_, _++_, append-assoc, append-nil}
+use mathlib.Core.List.{List, _++_, append-assoc, append-nil}
 use mathlib.Core.Path.{_≡_, refl, sym, ap, _∙_}
 use borrow.Rule.Slice.PartMut.{putMid, post-is}
 use Prim.Native.Nat.{ℕ, zero, suc, _+_, _-_, _≤_, _<_}
@@ -39,7 +39,8 @@ shift-suc w p j hw hj =
     let m : suc j - w ≡ suc (j - w) = omega arith in
     rw (v, m, take-suc p j 0, append-assoc, set-at (take j p) (getD p j 0) (drop (suc (j - w)) q) (getD p (j - w) 0) j (length-take-le j p (omega arith)), drop-cons q (j - w) 0, getD-take (length p - w) p (j - w) 0)
 
-pub shift-step : (w : ℕ) (p : List ℕ) (i : ℕ) → w < i → i ≤ length p → set (shifted w p i) (i - 1) (getD (shifted w p i) (i - 1 - w) 0) ≡ shifted w p (i - 1)
+pub shift-step : (w : ℕ) (p : List ℕ) (i : ℕ) → w < i → i ≤ length p
+    → set (shifted w p i) (i - 1) (getD (shifted w p i) (i - 1 - w) 0) ≡ shifted w p (i - 1)
 shift-step w p zero hw hi = absurd (omega arith)
 shift-step w p (suc j) hw hi = rw sub-one (shift-suc w p j (omega arith) (omega arith))
 

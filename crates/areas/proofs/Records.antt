@@ -3,14 +3,14 @@
 use mathlib.Core.List.{List, [], _∷_, _++_, append-assoc, append-nil}
 use mathlib.Core.Path.{_≡_, refl, sym, ap, _∙_}
 use Prim.Native.Nat.{ℕ, zero, suc, _+_, _-_, _*_, _≤_, _<_}
-use native.Mathlib.Nat.{mul-suc, mul-zero, mul-add, mul-sub, mul-le-mul-left, sub-zero, suc-sub-suc, add-assoc}
+use native.Mathlib.Nat.{mul-suc, mul-zero, mul-add, mul-sub, mul-le-mul-left, sub-zero, suc-sub-suc}
 use native.Mathlib.Numerals.{add-one}
 use native.Mathlib.Omega.{arith}
-use lib.ListN.{length, take, drop, getD, set, replicate, length-append, length-take, length-drop, length-set, length-replicate, take-append-drop, replicate-append-replicate}
-use lib.Seq.{take-nil, drop-nil, take-add, take-all, take-length, take-append-add, drop-at, drop-drop, drop-length, drop-append-le, drop-append-add, length-take-le}
+use lib.ListN.{length, take, drop, getD, set, replicate, length-append, length-take, length-drop, take-append-drop, replicate-append-replicate}
+use lib.Seq.{take-nil, drop-nil, take-add, take-append-add, drop-at, drop-drop, drop-append-le, drop-append-add, length-take-le}
 use Rattle.areas.specs.Lists.{over, insertAt, removeAt, padded}
 use Rattle.areas.specs.Records.{Codec, decode, encode, records, store}
-use Rattle.areas.proofs.Lists.{part-rest, length-over, over-nil, over-tail, over-part, take-over, drop-over-at, drop-over, over-front, over-over, over-append, over-inside, over-comm, set-over, padded-removeAt}
+use Rattle.areas.proofs.Lists.{length-over, over-nil, over-tail, over-part, drop-over-at, drop-over, over-front, over-over, over-append, over-inside, over-comm, set-over, padded-removeAt}
 
 module _ {A : Type 0} {W : ℕ} {words : A → List ℕ} {first : List ℕ → A} (C : Codec A W words first) where
   -- ---- records and their words
@@ -146,34 +146,45 @@ module _ {A : Type 0} {W : ℕ} {words : A → List ℕ} {first : List ℕ → A
   encode-records a base n h = encode-decode n (drop base a) (rw length-drop (omega arith))
 
   -- the words of those from record i on
-  pub encode-rest : (a : List ℕ) (base n i : ℕ) → i ≤ n → base + W * n ≤ length a → encode words (drop i (records W first a base n)) ≡ take (W * (n - i)) (drop (base + W * i) a)
+  pub encode-rest : (a : List ℕ) (base n i : ℕ) → i ≤ n → base + W * n ≤ length a
+      → encode words (drop i (records W first a base n)) ≡ take (W * (n - i)) (drop (base + W * i) a)
   encode-rest a base n i h l =
       let m : W * i ≤ W * n = mul-le-mul-left W h in
       let s : W * (n - i) ≡ W * n - W * i = mul-sub W n i in
       rw (drop-records a base n i h) (encode-records a (base + W * i) (n - i) (omega arith))
 
   -- read from a part that holds them
-  pub records-part : (a : List ℕ) (base k n : ℕ) → W * n ≤ k → base + W * n ≤ length a → records W first (take k (drop base a)) 0 n ≡ records W first a base n
+  pub records-part : (a : List ℕ) (base k n : ℕ) → W * n ≤ k → base + W * n ≤ length a
+      → records W first (take k (drop base a)) 0 n ≡ records W first a base n
   unfolding records
   records-part a base k n h b =
       let l : W * n ≤ length (take k (drop base a)) = rw (length-take, length-drop) (omega arith) in
       sym (rw (take-append-drop k (drop base a)) at (decode-append n (take k (drop base a)) (drop k (drop base a)) l))
 
   -- the records of two areas are the same where their words are
-  pub records-same : (a b : List ℕ) (base at n : ℕ) → base + W * n ≤ length a → at + W * n ≤ length b → take (W * n) (drop base a) ≡ take (W * n) (drop at b) → records W first a base n ≡ records W first b at n
+  pub records-same : (a b : List ℕ) (base at n : ℕ) → base + W * n ≤ length a → at + W * n ≤ length b
+      → take (W * n) (drop base a) ≡ take (W * n) (drop at b)
+      → records W first a base n ≡ records W first b at n
   records-same a b base at n h k e =
       sym (records-part a base (W * n) n (omega arith) h) ∙ rw e (records-part b at (W * n) n (omega arith) k)
 
   -- ---- words written elsewhere leave the records as they are
 
-  pub records-over-before : (a : List ℕ) (at : ℕ) (ys : List ℕ) (base n : ℕ) → base + W * n ≤ at → at ≤ length a → records W first (over a at ys) base n ≡ records W first a base n
+  decode-front : (k base n : ℕ) (a t : List ℕ) → base + W * n ≤ k → k ≤ length a
+      → decode W first n (drop base (take k a ++ t)) ≡ decode W first n (drop base (take k a))
+  decode-front k base n a t h b =
+      let l : length (take k a) ≡ k = length-take-le k a b in
+      rw (drop-append-le base (take k a) t (omega arith)) (decode-append n (drop base (take k a)) t (rw (length-drop, l) (omega arith)))
+
+  pub records-over-before : (a : List ℕ) (at : ℕ) (ys : List ℕ) (base n : ℕ) → base + W * n ≤ at → at ≤ length a
+      → records W first (over a at ys) base n ≡ records W first a base n
   unfolding records over
   records-over-before a at ys base n h b =
-      let lt : length (take at a) ≡ at = length-take-le at a b in
-      let front : (t : List ℕ) → decode W first n (drop base (take at a ++ t)) ≡ decode W first n (drop base (take at a)) = λ t. rw (drop-append-le base (take at a) t (omega arith)) (decode-append n (drop base (take at a)) t (rw (length-drop, lt) (omega arith))) in
-      front (ys ++ drop (at + length ys) a) ∙ sym (rw (take-append-drop at a) at (front (drop at a)))
+      decode-front at base n a (ys ++ drop (at + length ys) a) h b
+      ∙ sym (rw (take-append-drop at a) at (decode-front at base n a (drop at a) h b))
 
-  pub records-over-after : (a : List ℕ) (at : ℕ) (ys : List ℕ) (base n : ℕ) → at + length ys ≤ base → at ≤ length a → records W first (over a at ys) base n ≡ records W first a base n
+  pub records-over-after : (a : List ℕ) (at : ℕ) (ys : List ℕ) (base n : ℕ) → at + length ys ≤ base → at ≤ length a
+      → records W first (over a at ys) base n ≡ records W first a base n
   unfolding records
   records-over-after a at ys base n h b = rw (drop-over a at ys b base h)
 
@@ -191,7 +202,8 @@ module _ {A : Type 0} {W : ℕ} {words : A → List ℕ} {first : List ℕ → A
   unfolding store encode
   store-nil a base = over-nil a base
 
-  pub records-store-front : (a : List ℕ) (base n : ℕ) (os ps : List A) → base ≤ length a → length os ≡ n → records W first (store words a base (os ++ ps)) base n ≡ os
+  pub records-store-front : (a : List ℕ) (base n : ℕ) (os ps : List A) → base ≤ length a → length os ≡ n
+      → records W first (store words a base (os ++ ps)) base n ≡ os
   unfolding records store
   records-store-front a base n os ps h l =
       rw (drop-over-at a base (encode words (os ++ ps)) h, encode-append, append-assoc, ← l) (decode-encode os _)
@@ -205,18 +217,21 @@ module _ {A : Type 0} {W : ℕ} {words : A → List ℕ} {first : List ℕ → A
   store-records a base n h = rw (encode-records a base n h) (over-part a base (W * n) h)
 
   -- the second of two stores stays: over the front of the first, over all of it, after it
-  pub store-front : (a : List ℕ) (base : ℕ) (xs ys zs : List A) → base ≤ length a → length zs ≡ length xs → store words (store words a base (xs ++ ys)) base zs ≡ store words a base (zs ++ ys)
+  pub store-front : (a : List ℕ) (base : ℕ) (xs ys zs : List A) → base ≤ length a → length zs ≡ length xs
+      → store words (store words a base (xs ++ ys)) base zs ≡ store words a base (zs ++ ys)
   unfolding store
   store-front a base xs ys zs h e =
       let lz : length (encode words zs) ≡ length (encode words xs) = rw (length-encode zs, length-encode xs, e) in
       let r : drop (length (encode words zs)) (encode words (xs ++ ys)) ≡ encode words ys = rw (encode-append xs ys) (drop-at (encode words xs) (encode words ys) (length (encode words zs)) (sym lz)) in
       over-front a base (encode words (xs ++ ys)) h (encode words zs) (rw (encode-append xs ys, length-append, lz) (omega arith)) ∙ rw (r, encode-append zs ys)
 
-  pub store-store : (a : List ℕ) (base : ℕ) (xs zs : List A) → base ≤ length a → length zs ≡ length xs → store words (store words a base xs) base zs ≡ store words a base zs
+  pub store-store : (a : List ℕ) (base : ℕ) (xs zs : List A) → base ≤ length a → length zs ≡ length xs
+      → store words (store words a base xs) base zs ≡ store words a base zs
   unfolding store
   store-store a base xs zs h e = over-over a base (encode words xs) h (encode words zs) (rw (length-encode zs, length-encode xs, e))
 
-  pub store-append : (a : List ℕ) (base : ℕ) (xs ys : List A) → base ≤ length a → store words a base (xs ++ ys) ≡ store words (store words a base xs) (base + W * length xs) ys
+  pub store-append : (a : List ℕ) (base : ℕ) (xs ys : List A) → base ≤ length a
+      → store words a base (xs ++ ys) ≡ store words (store words a base xs) (base + W * length xs) ys
   unfolding store
   store-append a base xs ys h = rw (encode-append xs ys, ← length-encode xs) (over-append a base (encode words xs) h (encode words ys))
 
@@ -235,7 +250,8 @@ module _ {A : Type 0} {W : ℕ} {words : A → List ℕ} {first : List ℕ → A
         rw store-inside (records-store a base n (over (records W first a base n) j os) (omega arith) l)
 
   -- one record written over the one at i
-  pub set-store : (a : List ℕ) (base n i : ℕ) (o : A) → i < n → base + W * n ≤ length a → over a (base + W * i) (words o) ≡ store words a base (set (records W first a base n) i o)
+  pub set-store : (a : List ℕ) (base n i : ℕ) (o : A) → i < n → base + W * n ≤ length a
+      → over a (base + W * i) (words o) ≡ store words a base (set (records W first a base n) i o)
   set-store a base n i o h l =
       let e : i + length (o ∷ []) ≤ n = omega arith in
       rw (← encode-one o, ← store-over a (base + W * i) (o ∷ [])) (store-inside a base n i (o ∷ []) e l ∙ rw (set-over (records W first a base n) i o (rw length-records h)))
@@ -276,15 +292,18 @@ module _ {A : Type 0} {W : ℕ} {words : A → List ℕ} {first : List ℕ → A
 
 module _ {A B : Type 0} {W U : ℕ} {words : A → List ℕ} {others : B → List ℕ} {first : List ℕ → A} {other : List ℕ → B} (C : Codec A W words first) (D : Codec B U others other) where
   -- records of the first kind are as they were after a store of the second kind behind them, or before them
-  pub records-store-before : (a : List ℕ) (at : ℕ) (ps : List B) (base n : ℕ) → base + W * n ≤ at → at ≤ length a → records W first (store others a at ps) base n ≡ records W first a base n
+  pub records-store-before : (a : List ℕ) (at : ℕ) (ps : List B) (base n : ℕ) → base + W * n ≤ at → at ≤ length a
+      → records W first (store others a at ps) base n ≡ records W first a base n
   unfolding store
   records-store-before a at ps base n h b = records-over-before C a at (encode others ps) base n h b
 
-  pub records-store-after : (a : List ℕ) (at : ℕ) (ps : List B) (base n : ℕ) → at + U * length ps ≤ base → at ≤ length a → records W first (store others a at ps) base n ≡ records W first a base n
+  pub records-store-after : (a : List ℕ) (at : ℕ) (ps : List B) (base n : ℕ) → at + U * length ps ≤ base → at ≤ length a
+      → records W first (store others a at ps) base n ≡ records W first a base n
   unfolding store
   records-store-after a at ps base n h b = records-over-after C a at (encode others ps) base n (rw (length-encode D ps) h) b
 
   -- stores to places apart are in either order
-  pub store-comm : (a : List ℕ) (at : ℕ) (os : List A) (bt : ℕ) (ps : List B) → at + W * length os ≤ bt → bt + U * length ps ≤ length a → store others (store words a at os) bt ps ≡ store words (store others a bt ps) at os
+  pub store-comm : (a : List ℕ) (at : ℕ) (os : List A) (bt : ℕ) (ps : List B) → at + W * length os ≤ bt → bt + U * length ps ≤ length a
+      → store others (store words a at os) bt ps ≡ store words (store others a bt ps) at os
   unfolding store
   store-comm a at os bt ps h b = over-comm a at (encode words os) bt (encode others ps) (rw (length-encode C os) h) (rw (length-encode D ps) b)

@@ -1,6 +1,6 @@
 -- `areas::move_back` meets its contract. From place i on the words are moved; the measure is i. Assumes nothing.
 use mathlib.Core.Path.{_≡_, refl, _∙_}
-use Prim.Native.Nat.{_≤_, _-_}
+use Prim.Native.Nat.{_≤_}
 use native.Mathlib.Omega.{arith}
 use lib.ListN.{length, length-set}
 use Rattle.areas.proofs.Moves.{shifted, shifted-none, shifted-done, shift-step}
