@@ -86,13 +86,13 @@ priceRefused c o = pick (isLimit (o .condition)) (not (allowedToday c (o .price)
 
 -- 8, open: "holding, resting opens on that side and lots exceed the limit"
 unfoldable pub overLimit : Listing → ℕ → Holding → Bool → ℕ → Bool
-overLimit m a h sell lots =
-    ltb (m .contract .limit) (pick sell (h .short) (h .long) + restingOpens a (own sell m) + lots)
+overLimit l a h sell lots =
+    ltb (l .contract .limit) (pick sell (h .short) (h .long) + restingOpens a (own sell l) + lots)
 
 -- 8, close: "lots exceed holding less own resting closes on it": a sell closes long lots, a buy short ones
 unfoldable pub overHolding : Listing → ℕ → Holding → Bool → ℕ → Bool
-overHolding m a h sell lots =
-    ltb (pick sell (h .long) (h .short)) (restingCloses a (own sell m) + lots)
+overHolding l a h sell lots =
+    ltb (pick sell (h .long) (h .short)) (restingCloses a (own sell l) + lots)
 
 unfoldable pub lotsRefused : Exchange → NewOrder → Bool
 lotsRefused x o =
@@ -134,7 +134,7 @@ numbered n [] = []
 numbered n (o ∷ os) = pick (eqb (o .number) n) (o ∷ []) (numbered n os)
 
 unfoldable pub restingOrder : Listing → ℕ → List Order
-restingOrder m n = numbered n (m .buys ++ m .sells)
+restingOrder l n = numbered n (l .buys ++ l .sells)
 
 unfoldable pub noSuchOrder : List Order → Bool
 noSuchOrder [] = true
@@ -204,7 +204,7 @@ phaseRefusals x contract phase =
 -- "settle 18, 19"
 unfoldable pub settleRefusals : Exchange → List Refusal
 settleRefusals x =
-    (18 when not (allOf (λ m. eqb (m .contract .phase) 3) (x .listings)))
+    (18 when not (allOf (λ l. eqb (l .contract .phase) 3) (x .listings)))
     ∷ (19 when leb maxSettlements (x .settlements))
     ∷ []
 

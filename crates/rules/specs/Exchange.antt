@@ -72,10 +72,10 @@ holdingAt accounts a c = getD (accountAt accounts a .holdings) c noHolding
 
 -- a side's own queue, and the one it trades with
 abbrev pub own : Bool → Listing → List Order
-own sell m = pick sell (m .sells) (m .buys)
+own sell l = pick sell (l .sells) (l .buys)
 
 abbrev pub opposite : Bool → Listing → List Order
-opposite sell m = pick sell (m .buys) (m .sells)
+opposite sell l = pick sell (l .buys) (l .sells)
 
 -- a listing with new queues on a side and opposite it
 abbrev pub withQueues : Bool → Contract → List Order → List Order → Listing

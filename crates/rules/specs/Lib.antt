@@ -15,4 +15,8 @@ pub mod Condition3
 pub mod DayFile
 pub mod Lines
 pub mod Examples
+pub mod CodeExamples
+pub mod MatchingExamples
+pub mod ProfitExamples
+pub mod WellFormedExamples
 pub mod PaperDay

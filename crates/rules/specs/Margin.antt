@@ -17,7 +17,7 @@ charge c = chargeOf (c .multiplier) (c .reference) (c .rate)
 
 -- "all long and short lots and resting opens", of one account in one contract
 unfoldable pub chargedLots : Listing → ℕ → Holding → ℕ
-chargedLots m a h = h .long + h .short + restingOpens a (m .buys) + restingOpens a (m .sells)
+chargedLots l a h = h .long + h .short + restingOpens a (l .buys) + restingOpens a (l .sells)
 
 -- "Charged margin is charge times all long and short lots and resting opens", over the first n contracts
 unfoldable pub chargedTo : Exchange → ℕ → ℕ → ℕ

@@ -39,14 +39,14 @@ accepted number traded lots x = record { answer = answerOf 0 number traded lots;
 -- ---- states with a part replaced
 
 abbrev pub withListing : Exchange → ℕ → Listing → Exchange
-withListing x c m =
-    record { listings = set (x .listings) c m; accounts = x .accounts; trades = x .trades; next = x .next; settlements = x .settlements }
+withListing x c l =
+    record { listings = set (x .listings) c l; accounts = x .accounts; trades = x .trades; next = x .next; settlements = x .settlements }
 
 abbrev pub withBalance : Account → ℤ → Account
 withBalance a balance = record { balance = balance; holdings = a .holdings }
 
 abbrev pub withContract : Listing → Contract → Listing
-withContract m c = record { contract = c; buys = m .buys; sells = m .sells }
+withContract l c = record { contract = c; buys = l .buys; sells = l .sells }
 
 abbrev pub withLast : Contract → ℕ → Contract
 withLast c last =
@@ -108,7 +108,7 @@ without test [] = []
 without test (o ∷ os) = pick (test o) (without test os) (o ∷ without test os)
 
 abbrev pub listingWithout : (Order → Bool) → Listing → Listing
-listingWithout test m = record { contract = m .contract; buys = without test (m .buys); sells = without test (m .sells) }
+listingWithout test l = record { contract = l .contract; buys = without test (l .buys); sells = without test (l .sells) }
 
 abbrev pub hasNumber : ℕ → Order → Bool
 hasNumber n o = eqb (o .number) n

@@ -56,13 +56,13 @@ orderInRange accounts next c o =
     && leb (o .close) 1
 
 unfoldable pub listingInRange : ℕ → ℕ → Listing → Bool
-listingInRange accounts next m =
-    contractInRange (m .contract)
-    && sorted false (m .buys)
-    && sorted true (m .sells)
-    && uncrossed (m .buys) (m .sells)
-    && allOf (orderInRange accounts next (m .contract)) (m .buys)
-    && allOf (orderInRange accounts next (m .contract)) (m .sells)
+listingInRange accounts next l =
+    contractInRange (l .contract)
+    && sorted false (l .buys)
+    && sorted true (l .sells)
+    && uncrossed (l .buys) (l .sells)
+    && allOf (orderInRange accounts next (l .contract)) (l .buys)
+    && allOf (orderInRange accounts next (l .contract)) (l .sells)
 
 unfoldable pub numbers : List Order → List ℕ
 numbers [] = []
@@ -70,7 +70,7 @@ numbers (o ∷ os) = o .number ∷ numbers os
 
 unfoldable pub allNumbers : List Listing → List ℕ
 allNumbers [] = []
-allNumbers (m ∷ ms) = numbers (m .buys) ++ (numbers (m .sells) ++ allNumbers ms)
+allNumbers (l ∷ ls) = numbers (l .buys) ++ (numbers (l .sells) ++ allNumbers ls)
 
 unfoldable pub usedOnce : List ℕ → Bool
 usedOnce [] = true
@@ -105,13 +105,13 @@ replays x =
 -- holdings"
 
 unfoldable pub holdingInRange : Listing → ℕ → Holding → Bool
-holdingInRange m a h =
-    leb (h .startlong) (m .contract .limit)
-    && leb (h .startshort) (m .contract .limit)
-    && leb (h .long + restingOpens a (m .buys)) (m .contract .limit)
-    && leb (h .short + restingOpens a (m .sells)) (m .contract .limit)
-    && leb (restingCloses a (m .sells)) (h .long)
-    && leb (restingCloses a (m .buys)) (h .short)
+holdingInRange l a h =
+    leb (h .startlong) (l .contract .limit)
+    && leb (h .startshort) (l .contract .limit)
+    && leb (h .long + restingOpens a (l .buys)) (l .contract .limit)
+    && leb (h .short + restingOpens a (l .sells)) (l .contract .limit)
+    && leb (restingCloses a (l .sells)) (h .long)
+    && leb (restingCloses a (l .buys)) (h .short)
 
 unfoldable pub holdingsInRange : Exchange → ℕ → Bool
 holdingsInRange x a = all (λ c. holdingInRange (listingAt x c) a (holdingAt (x .accounts) a c)) (length (x .listings))

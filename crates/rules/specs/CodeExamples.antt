@@ -1,0 +1,162 @@
+-- Cases in which the answer's code is known from the paper's words: the ends of each range, and cases in which two refusals
+-- hold at once, so that the order of the codes shows. One table, one statement, as in Examples.antt. Assumes nothing.
+use mathlib.Core.Bool.{Bool, true, false}
+use mathlib.Core.List.{List, [], _∷_}
+use mathlib.Core.Path.{_≡_, refl}
+use Prim.Native.Nat.{ℕ, _+_}
+use lib.IntN.{pos}
+use lib.ListN.{replicate}
+use Rattle.laws.specs.Choice.{all, allOf}
+use Rattle.laws.specs.Sums.{sumOf}
+use Rattle.laws.specs.Tabulate.{tabulate}
+use Rattle.rules.specs.Answers.{amountRefused, cancelRefusals, changeListed, codeOf, depositRefusals, fillableLots, firstOf, insertRefusals, liftsTooHigh, listingOf, lotsRefused, moneyRefused, noSuchOrder, numbered, ofAnother, overHolding, overLimit, phaseRefusals, priceRefused, pullRefusals, refusals, removalRefused, restingOrder, settleRefusals, takerOf, tradesNeeded, withdrawRefusals}
+use Rattle.rules.specs.Bounds.{allowedToday, dayHigh, dayLow, onTick}
+use Rattle.rules.specs.Command.{bits, commandOf, insertFlags, insertOf, newOrder, phaseOf, priceCondition, settleOf, timeCondition, zeros}
+use Rattle.rules.specs.Examples.{Row, _gives_, allRight}
+use Rattle.rules.specs.Exchange.{Exchange, Listing, absent, accountAt, bestPrice, holdingAt, listingAt, lotsWhere, noHolding, noTrade, resting}
+use Rattle.rules.specs.Margin.{available, chargeOf, chargedLots, chargedTo}
+use Rattle.rules.specs.Matching.{fillable, meets, middle, stays, sweep, tradePrice, tradeWith}
+use Rattle.rules.specs.declared.Account.{Account}
+use Rattle.rules.specs.declared.Contract.{Contract}
+use Rattle.rules.specs.declared.Command.{Command}
+use Rattle.rules.specs.declared.Command.the-variants.{Malformed, Deposit, Withdraw, Insert, Cancel, Pull, Phase, Settle}
+use Rattle.rules.specs.declared.Order.{Order}
+use Rattle.rules.specs.declared.PriceCondition.{PriceCondition}
+use Rattle.rules.specs.declared.PriceCondition.the-variants.{Limit, Market, Best}
+use Rattle.rules.specs.declared.Record.{Record}
+use Rattle.rules.specs.declared.TimeCondition.{TimeCondition}
+use Rattle.rules.specs.declared.TimeCondition.the-variants.{GoodForDay, ImmediateOrCancel, FillOrKill}
+use Rattle.rules.specs.declared.Trade.{Trade}
+
+-- ---- a state to ask: one contract, low 100 and high 120, a charge of 110 a lot, at most 1,000 lots a side; sells 7 at 110
+-- and 5 at 112 rest, of account 1; account 2 is short 995 lots and has money for 10 more
+
+contract : ℕ → Contract
+contract phase = record { multiplier = 10; tick = 2; reference = 110; band = 10; limit = 1_000; rate = 1_000; phase = phase; last = 110 }
+
+order : ℕ → ℕ → ℕ → Order
+order number price lots = record { price = price; number = number; account = 0; lots = lots; close = 0 }
+
+rich : Account
+rich = record { balance = pos 1_100_000; holdings = noHolding ∷ [] }
+
+poor : Account
+poor = record { balance = pos 110_550; holdings = record { long = 0; short = 995; startlong = 0; startshort = 995 } ∷ [] }
+
+-- a contract in a phase, so many buys resting at 100, so many trades made, a next number, so many settlements
+asked : ℕ → ℕ → ℕ → ℕ → ℕ → Exchange
+asked phase buys trades next settlements =
+    record {
+      listings = record {
+        contract = contract phase;
+        buys = tabulate buys (λ i. order (3 + i) 100 1);
+        sells = order 1 110 7 ∷ order 2 112 5 ∷ [];
+      } ∷ [];
+      accounts = rich ∷ poor ∷ [];
+      trades = replicate trades noTrade;
+      next = next;
+      settlements = settlements;
+    }
+
+open′ : Exchange
+open′ = asked 1 0 0 100 0
+
+-- a buy open of an account in a contract
+buy : ℕ → ℕ → ℕ → ℕ → PriceCondition → TimeCondition → Command
+buy account number lots price condition time =
+    Insert (record { account = account; contract = number; sell = false; close = false; lots = lots; price = price; condition = condition; time = time })
+
+-- a good-for-day limit sell at 112
+sell : ℕ → Bool → ℕ → Command
+sell account close lots =
+    Insert (record { account = account; contract = 1; sell = true; close = close; lots = lots; price = 112; condition = Limit 112; time = GoodForDay })
+
+raw : ℕ → ℕ → ℕ → ℕ → ℕ → Record
+raw kind account number flags lots = record { kind = kind; account = account; contract = number; flags = flags; lots = lots; price = 0; number = 0; amount = 0 }
+
+pub codes : List Row
+codes =
+    -- "There fill or kill at 111 for 12 trades; for 13 it is code 11." (here 112: the tick is 2)
+    (codeOf open′ (buy 1 1 12 112 (Limit 112) FillOrKill) gives 0)
+    ∷ (codeOf open′ (buy 1 1 13 112 (Limit 112) FillOrKill) gives 11)
+    -- "Lots 1,000 pass, 1,001 give 5."
+    ∷ (codeOf open′ (buy 1 1 1_000 100 (Limit 100) GoodForDay) gives 0)
+    ∷ (codeOf open′ (buy 1 1 1_001 100 (Limit 100) GoodForDay) gives 5)
+    -- both ends of the band may be traded, a price off the tick or past an end may not
+    ∷ (codeOf open′ (buy 1 1 1 120 (Limit 120) GoodForDay) gives 0)
+    ∷ (codeOf open′ (buy 1 1 1 122 (Limit 122) GoodForDay) gives 7)
+    ∷ (codeOf open′ (buy 1 1 1 98 (Limit 98) GoodForDay) gives 7)
+    ∷ (codeOf open′ (buy 1 1 1 111 (Limit 111) GoodForDay) gives 7)
+    -- account before contract before state before lots
+    ∷ (codeOf open′ (buy 0 0 1 100 (Limit 100) GoodForDay) gives 2)
+    ∷ (codeOf open′ (buy 3 1 1 100 (Limit 100) GoodForDay) gives 2)
+    ∷ (codeOf (asked 3 0 0 100 0) (buy 1 2 0 100 (Limit 100) GoodForDay) gives 3)
+    ∷ (codeOf (asked 3 0 0 100 0) (buy 1 1 0 100 (Limit 100) GoodForDay) gives 4)
+    -- market with good for day and a price: lots 0 gives 5, lots 1 gives 6; with immediate or cancel 7
+    ∷ (codeOf open′ (buy 1 1 0 5 Market GoodForDay) gives 5)
+    ∷ (codeOf open′ (buy 1 1 1 5 Market GoodForDay) gives 6)
+    ∷ (codeOf open′ (buy 1 1 1 5 Market ImmediateOrCancel) gives 7)
+    -- holding before money; exactly the limit and exactly the available amount pass; a close needs no money
+    ∷ (codeOf open′ (sell 2 false 5) gives 0)
+    ∷ (codeOf open′ (sell 2 false 6) gives 8)
+    ∷ (codeOf open′ (sell 2 false 11) gives 8)
+    ∷ (codeOf open′ (buy 2 1 10 100 (Limit 100) GoodForDay) gives 0)
+    ∷ (codeOf open′ (buy 2 1 11 100 (Limit 100) GoodForDay) gives 9)
+    ∷ (codeOf (asked 1 1 0 100 0) (buy 1 1 1_000 100 (Limit 100) GoodForDay) gives 8)
+    ∷ (codeOf open′ (sell 1 true 1) gives 8)
+    -- money before numbers, numbers before fill or kill; the number 999,999 is still given
+    ∷ (codeOf (asked 1 0 0 1_000_000 0) (buy 2 1 11 100 (Limit 100) GoodForDay) gives 9)
+    ∷ (codeOf (asked 1 0 0 1_000_000 0) (buy 1 1 13 112 (Limit 112) FillOrKill) gives 10)
+    ∷ (codeOf (asked 1 0 0 999_999 0) (buy 1 1 12 112 (Limit 112) FillOrKill) gives 0)
+    -- fill or kill before the room for trades, that before the room in the queue
+    ∷ (codeOf (asked 1 0 1_023 100 0) (buy 1 1 13 112 (Limit 112) FillOrKill) gives 11)
+    ∷ (codeOf (asked 1 0 1_023 100 0) (buy 1 1 12 112 (Limit 112) FillOrKill) gives 12)
+    ∷ (codeOf (asked 1 0 1_022 100 0) (buy 1 1 12 112 (Limit 112) FillOrKill) gives 0)
+    ∷ (codeOf (asked 1 64 1_023 100 0) (buy 1 1 13 112 (Limit 112) GoodForDay) gives 12)
+    -- "The 65th rester gives 13", an order that fills at once does not
+    ∷ (codeOf (asked 1 63 0 100 0) (buy 1 1 1 100 (Limit 100) GoodForDay) gives 0)
+    ∷ (codeOf (asked 1 64 0 100 0) (buy 1 1 1 100 (Limit 100) GoodForDay) gives 13)
+    ∷ (codeOf (asked 1 64 0 100 0) (buy 1 1 12 112 (Limit 112) GoodForDay) gives 0)
+    ∷ (codeOf (asked 1 64 0 100 0) (buy 1 1 13 112 (Limit 112) GoodForDay) gives 13)
+    -- cancel: state before number before owner; no trading needs the operator
+    ∷ (codeOf (asked 2 0 0 100 0) (Cancel 1 1 false 9) gives 4)
+    ∷ (codeOf (asked 2 0 0 100 0) (Cancel 2 1 true 9) gives 14)
+    ∷ (codeOf (asked 2 0 0 100 0) (Cancel 2 1 true 1) gives 15)
+    ∷ (codeOf (asked 2 0 0 100 0) (Cancel 1 1 true 1) gives 0)
+    ∷ (codeOf (asked 0 0 0 100 0) (Cancel 1 1 true 1) gives 4)
+    -- a pull of contract 0 is no pull of all contracts
+    ∷ (codeOf open′ (Pull 1 0 false) gives 3)
+    ∷ (codeOf open′ (Pull 2 1 false) gives 0)
+    -- deposit and withdraw: amount before money
+    ∷ (codeOf open′ (Deposit 3 0) gives 2)
+    ∷ (codeOf open′ (Deposit 1 0) gives 16)
+    ∷ (codeOf open′ (Deposit 1 1_000_000_000_000_000) gives 0)
+    ∷ (codeOf open′ (Deposit 1 1_000_000_000_000_001) gives 16)
+    ∷ (codeOf open′ (Withdraw 2 1_000_000_000_000_001) gives 16)
+    ∷ (codeOf open′ (Withdraw 2 1_101) gives 9)
+    ∷ (codeOf open′ (Withdraw 2 1_100) gives 0)
+    ∷ (codeOf open′ (Withdraw 1 1_098_681) gives 9)
+    ∷ (codeOf open′ (Withdraw 1 1_098_680) gives 0)
+    -- state: contract before change; no change to the same state
+    ∷ (codeOf open′ (Phase 2 1) gives 3)
+    ∷ (codeOf open′ (Phase 1 1) gives 17)
+    ∷ (codeOf open′ (Phase 1 3) gives 0)
+    ∷ (codeOf (asked 3 0 0 100 0) (Phase 1 0) gives 17)
+    -- settle: closed before the count
+    ∷ (codeOf (asked 2 0 0 100 250) Settle gives 18)
+    ∷ (codeOf (asked 3 0 0 100 250) Settle gives 19)
+    ∷ (codeOf (asked 3 0 0 100 249) Settle gives 0)
+    -- code 1 before all: an unknown state, bits 6 and 7, an unused field, a kind that does not exist
+    ∷ (codeOf open′ (commandOf (raw 6 0 9 4 0)) gives 1)
+    ∷ (codeOf open′ (commandOf (raw 6 0 9 3 0)) gives 3)
+    ∷ (codeOf open′ (commandOf (raw 3 0 0 64 0)) gives 1)
+    ∷ (codeOf open′ (commandOf (raw 3 0 0 48 0)) gives 1)
+    ∷ (codeOf open′ (commandOf (raw 3 0 0 12 0)) gives 1)
+    ∷ (codeOf open′ (commandOf (raw 3 0 0 42 0)) gives 2)
+    ∷ (codeOf open′ (commandOf (raw 7 0 0 0 1)) gives 1)
+    ∷ (codeOf open′ (commandOf (raw 8 1 1 0 0)) gives 1)
+    ∷ []
+
+pub code-examples : allRight codes ≡ true
+unfolding allRight codes contract order rich poor asked open′ buy sell raw absent accountAt all allOf allowedToday amountRefused available bestPrice bits cancelRefusals changeListed chargeOf chargedLots chargedTo codeOf commandOf dayHigh dayLow depositRefusals fillable fillableLots firstOf holdingAt insertFlags insertOf insertRefusals liftsTooHigh listingAt listingOf lotsRefused lotsWhere meets middle moneyRefused newOrder noSuchOrder numbered ofAnother onTick overHolding overLimit phaseOf phaseRefusals priceCondition priceRefused pullRefusals refusals removalRefused resting restingOrder settleOf settleRefusals stays sumOf sweep tabulate takerOf timeCondition tradePrice tradeWith tradesNeeded withdrawRefusals zeros
+code-examples = refl

@@ -1,0 +1,93 @@
+-- A state that is well formed, and near misses that are not, a clause each. One table, one statement, as in Examples.antt.
+-- Assumes nothing.
+use mathlib.Core.Bool.{Bool, true, false}
+use mathlib.Core.List.{List, [], _∷_}
+use mathlib.Core.Path.{_≡_, refl}
+use Prim.Native.Nat.{ℕ, _+_, _*_, _^_}
+use lib.IntN.{ℤ, pos, negℤ}
+use Rattle.laws.specs.Choice.{all, allOf}
+use Rattle.laws.specs.Sums.{sumOf}
+use Rattle.rules.specs.Bounds.{allowedToday, dayHigh, dayLow, onTick, termsInRange, tickMultiple}
+use Rattle.rules.specs.Examples.{Row, _gives_, allRight}
+use Rattle.rules.specs.Exchange.{Exchange, accountAt, holdingAt, listingAt, lotsWhere, resting}
+use Rattle.rules.specs.Holdings.{afterLeg, bookLeg, bookTrade, bookTrades, legCovered, neverBelowZero, sameHoldings, sameLots, startOfDay}
+use Rattle.rules.specs.Answers.{mark}
+use Rattle.rules.specs.WellFormed.{ahead, aheadOfFirst, allNumbers, balanceInRange, contractInRange, countersInRange, holdingInRange, holdingsInRange, listingInRange, numbers, orderInRange, replays, sorted, tradeInRange, uncrossed, usedOnce, wellFormed}
+use Rattle.rules.specs.declared.Account.{Account}
+use Rattle.rules.specs.declared.Contract.{Contract}
+use Rattle.rules.specs.declared.Order.{Order}
+use Rattle.rules.specs.declared.Trade.{Trade}
+
+contract : ℕ → Contract
+contract last = record { multiplier = 10; tick = 2; reference = 110; band = 10; limit = 10; rate = 1_000; phase = 1; last = last }
+
+order : ℕ → ℕ → ℕ → ℕ → Order
+order number price lots close = record { price = price; number = number; account = 0; lots = lots; close = close }
+
+-- account 2 buys 3 of account 1, both to open
+trade : ℕ → ℕ → ℕ → Trade
+trade price lots sellorder =
+    record { contract = 0; price = price; lots = lots; buyorder = 1; sellorder = sellorder; buyer = 1; seller = 0; buyclose = 0; sellclose = 0 }
+
+account : ℤ → ℕ → ℕ → ℕ → ℕ → Account
+account balance long short startlong startshort =
+    record { balance = balance; holdings = record { long = long; short = short; startlong = startlong; startshort = startshort } ∷ [] }
+
+-- account 1 starts with 2 long, account 2 with 2 short
+asked : ℕ → List Order → List Order → List Trade → ℕ → ℕ → ℤ → Exchange
+asked last buys sells trades short next balance =
+    record {
+      listings = record { contract = contract last; buys = buys; sells = sells } ∷ [];
+      accounts = account balance 2 short 2 0 ∷ account (pos 0) 3 2 0 2 ∷ [];
+      trades = trades;
+      next = next;
+      settlements = 1;
+    }
+
+buys : List Order
+buys = order 3 108 4 0 ∷ order 4 108 4 0 ∷ order 6 106 1 1 ∷ []
+
+sells : List Order
+sells = order 5 110 7 0 ∷ order 7 112 2 1 ∷ []
+
+trades : List Trade
+trades = trade 110 3 2 ∷ []
+
+-- the state with the given parts, 1 where it is well formed
+test : ℕ → List Order → List Order → List Trade → ℕ → ℕ → ℤ → ℕ
+test last b s t short next balance = mark (wellFormed (asked last b s t short next balance))
+
+pub table : List Row
+table =
+    (test 130 buys sells trades 3 8 (negℤ (pos (10 ^ 18 + 3 * 10 ^ 15))) gives 1)
+    -- the last price off the tick; the next number at 0, and a number not below it
+    ∷ (test 111 buys sells trades 3 8 (pos 0) gives 0)
+    ∷ (test 110 [] [] trades 3 0 (pos 0) gives 0)
+    ∷ (test 110 buys sells trades 3 7 (pos 0) gives 0)
+    -- a queue out of order, by price and by number; a crossed book
+    ∷ (test 110 (order 6 106 1 1 ∷ order 3 108 4 0 ∷ []) sells trades 3 8 (pos 0) gives 0)
+    ∷ (test 110 (order 4 108 4 0 ∷ order 3 108 4 0 ∷ []) sells trades 3 8 (pos 0) gives 0)
+    ∷ (test 110 (order 3 110 4 0 ∷ []) sells trades 3 8 (pos 0) gives 0)
+    -- no lots, a price past the band, a third mark, a number used twice
+    ∷ (test 110 (order 3 108 0 0 ∷ []) sells trades 3 8 (pos 0) gives 0)
+    ∷ (test 110 buys (order 5 122 1 0 ∷ []) trades 3 8 (pos 0) gives 0)
+    ∷ (test 110 (order 3 108 1 2 ∷ []) sells trades 3 8 (pos 0) gives 0)
+    ∷ (test 110 (order 5 108 1 0 ∷ []) sells trades 3 8 (pos 0) gives 0)
+    -- a trade at a price past the band, of no lots, of one order with itself
+    ∷ (test 110 buys sells (trade 122 3 2 ∷ []) 3 8 (pos 0) gives 0)
+    ∷ (test 110 buys sells (trade 110 3 2 ∷ trade 110 0 2 ∷ []) 3 8 (pos 0) gives 0)
+    ∷ (test 110 buys sells (trade 110 3 1 ∷ []) 3 8 (pos 0) gives 0)
+    -- holdings now that are not the trades replayed
+    ∷ (test 110 buys sells trades 2 8 (pos 0) gives 0)
+    -- holding and resting opens together past the limit of 10; resting closes past the holding
+    ∷ (test 110 (order 3 108 9 0 ∷ []) sells trades 3 8 (pos 0) gives 0)
+    ∷ (test 110 buys (order 5 110 8 0 ∷ []) trades 3 8 (pos 0) gives 0)
+    ∷ (test 110 buys (order 7 112 3 1 ∷ []) trades 3 8 (pos 0) gives 0)
+    -- a balance one past its bound, either sign
+    ∷ (test 110 buys sells trades 3 8 (pos (10 ^ 18 + 3 * 10 ^ 15 + 1)) gives 0)
+    ∷ (test 110 buys sells trades 3 8 (negℤ (pos (10 ^ 18 + 3 * 10 ^ 15 + 1))) gives 0)
+    ∷ []
+
+pub well-formed-examples : allRight table ≡ true
+unfolding allRight table contract order trade account asked buys sells trades test all allOf sumOf accountAt afterLeg ahead aheadOfFirst allNumbers allowedToday balanceInRange bookLeg bookTrade bookTrades contractInRange countersInRange dayHigh dayLow holdingAt holdingInRange holdingsInRange legCovered listingAt listingInRange lotsWhere neverBelowZero numbers onTick orderInRange replays resting sameHoldings sameLots sorted startOfDay termsInRange tickMultiple tradeInRange uncrossed usedOnce wellFormed
+well-formed-examples = refl
