@@ -1,0 +1,3 @@
+-- The laws that the proofs of this crate's functions apply. Assumes nothing.
+pub mod InUse
+pub mod Charging

@@ -1,0 +1,2 @@
+// Margin and settlement (document 01, "Margin and settlement"; 002), above the book and on its stated promise alone.
+pub mod margin;
