@@ -1,2 +1,3 @@
 // Margin and settlement (document 01, "Margin and settlement"; 002), above the book and on its stated promise alone.
 pub mod margin;
+pub mod price;
