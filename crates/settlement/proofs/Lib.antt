@@ -3,3 +3,4 @@ pub mod InUse
 pub mod Charging
 pub mod Trading
 pub mod Quoting
+pub mod FirstIn
