@@ -4,3 +4,5 @@ pub mod Charging
 pub mod Trading
 pub mod Quoting
 pub mod FirstIn
+pub mod Legs
+pub mod Gains

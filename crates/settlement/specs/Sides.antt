@@ -52,23 +52,32 @@ cost bs = sumOf (λ b. b .price * b .lots) bs
 abbrev pub everOpen : ℕ → ℕ → Bool → List Leg → List Batch
 everOpen reference start short ls = record { price = reference; lots = start } ∷ openedToday short ls
 
--- ---- what the functions give back
+-- ---- what the functions give back, and how far it reaches for 1,024 trades of at most 1,000 lots at 1,000,000
 
 pub record ClosedIs (short : Bool) (ls : List Leg) (r : Closed) : Type 0 where
   pub lots : r .lots ≡ closedLots short ls
   pub value : r .value ≡ closedValue short ls
+  pub few : r .lots ≤ 1_024_000
+  pub small : r .value ≤ 1_024_000_000_000
 
 -- the first `skip` of today's lots are closed, the others are open
 pub record OpenedIs (short : Bool) (skip : ℕ) (ls : List Leg) (r : Opened) : Type 0 where
   pub used : r .used ≡ cost (firstLots skip (openedToday short ls))
   pub lots : r .lots ≡ lotsOf (otherLots skip (openedToday short ls))
   pub value : r .value ≡ cost (otherLots skip (openedToday short ls))
+  pub few : r .lots ≤ 1_024_000
+  pub used-small : r .used ≤ 1_024_000_000_000
+  pub value-small : r .value ≤ 1_024_000_000_000
 
 pub record SideIs (reference start : ℕ) (short : Bool) (ls : List Leg) (r : Side) : Type 0 where
   pub closes : r .closes ≡ closedValue short ls
   pub closed : r .closed ≡ cost (firstLots (closedLots short ls) (everOpen reference start short ls))
   pub lots : r .lots ≡ lotsOf (otherLots (closedLots short ls) (everOpen reference start short ls))
   pub opened : r .opened ≡ cost (otherLots (closedLots short ls) (everOpen reference start short ls))
+  pub few : r .lots ≤ 1_124_000
+  pub closes-small : r .closes ≤ 1_124_000_000_000
+  pub closed-small : r .closed ≤ 1_124_000_000_000
+  pub opened-small : r .opened ≤ 1_124_000_000_000
 
 -- an account's day in a contract, from its holding and the recorded trades
 abbrev pub dayOver : ℕ → Holding → ℕ → ℕ → List Trade → Day

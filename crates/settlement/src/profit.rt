@@ -6,12 +6,13 @@ ghost use mathlib.Core.List.{[], _∷_};
 ghost use mathlib.Core.Path.{_≡_};
 ghost use Prim.Native.Nat.{_≤_};
 ghost use lib.Dec.{eqb};
+ghost use lib.IntN.{pos, _-ℤ_};
 ghost use Rattle.laws.specs.Choice.{pick};
 ghost use Rattle.laws.specs.Sums.{sumOf};
 ghost use Rattle.rules.specs.Memory.{recordedTrades};
 ghost use Rattle.rules.specs.Settlement.{legs};
 ghost use Rattle.settlement.specs.Day.{SizedTrades};
-ghost use Rattle.settlement.specs.Sides.{lotsIf, ClosedIs, OpenedIs, SideIs, ProfitIs, dayOver, Profitable};
+ghost use Rattle.settlement.specs.Sides.{same, lotsIf, ClosedIs, OpenedIs, SideIs, ProfitIs, dayOver, Profitable};
 use book::trades;
 use rules::{Holding, Trade};
 
@@ -48,11 +49,18 @@ fn party(t: Trade, sell: bool) -> u32
     if sell { t.seller } else { t.buyer }
 }
 
-// Whether that leg is a close.
-fn is_close(t: Trade, sell: bool) -> bool
-    ensures { λ r. ⌜ r ≡ not (eqb (pick sell (t .sellclose) (t .buyclose)) 0) ⌝ }
+// That leg's mark: 0 for an open.
+fn mark(t: Trade, sell: bool) -> u32
+    ensures { λ r. ⌜ r ≡ pick sell (t .sellclose) (t .buyclose) ⌝ }
 {
-    if sell { t.sellclose != 0 } else { t.buyclose != 0 }
+    if sell { t.sellclose } else { t.buyclose }
+}
+
+// Whether a mark says close, or open, as asked.
+fn is_kind(mark: u32, close: bool) -> bool
+    ensures { λ r. ⌜ r ≡ same close (not (eqb mark 0)) ⌝ }
+{
+    if close { mark != 0 } else { mark == 0 }
 }
 
 // The lots of a trade's buy or sell leg, where it is this account's in this contract and opens or closes as asked.
@@ -65,7 +73,7 @@ fn leg_lots(t: Trade, a: u32, c: u32, sell: bool, close: bool) -> u32
     if party(t, sell) != a {
         return 0;
     }
-    if is_close(t, sell) != close {
+    if !is_kind(mark(t, sell), close) {
         return 0;
     }
     t.lots
@@ -114,4 +122,51 @@ fn opening_legs(area: &[u32], count: usize, a: u32, c: u32, short: bool, closed:
         i += 1;
     }
     Opened { used, lots, value }
+}
+
+// One side of an account's day: start-of-day lots go first, at the reference, then today's at their opening prices.
+fn side_of(area: &[u32], count: usize, a: u32, c: u32, short: bool, reference: u32, start: u32) -> Side
+    requires { ⌜ SizedTrades (now area) count × (reference ≤ 1000000) × (start ≤ 100000) ⌝ }
+    ensures { λ r. ⌜ SideIs reference start short (legs a c (recordedTrades (now (area .entry)) count)) r ⌝ }
+{
+    let closes = closing_legs(area, count, a, c, short);
+    let closed = closes.lots;
+    let first = laws::smaller(closed, start);
+    let kept = start - first;
+    let today = opening_legs(area, count, a, c, short, closed - first);
+    let used = today.used;
+    let lots = today.lots;
+    let value = today.value;
+    let price = reference as u64;
+    Side {
+        closes: closes.value,
+        closed: price * first as u64 + used,
+        lots: kept + lots,
+        opened: price * kept as u64 + value,
+    }
+}
+
+// One sum less another.
+fn difference(gains: u64, losses: u64) -> i64
+    requires { ⌜ (gains ≤ 4000000000000) × (losses ≤ 4000000000000) ⌝ }
+    ensures { λ r. ⌜ r ≡ pos gains -ℤ pos losses ⌝ }
+{
+    gains as i64 - losses as i64
+}
+
+// "closing and holding parts, start-of-day lots against the reference, today's against their opening price": what the closes of
+// long lots brought less what those lots were opened for, and the other way round for short ones; the open lots at `price`.
+pub fn profit_of(area: &[u32], count: usize, a: u32, c: u32, reference: u32, h: Holding, price: u32) -> Profit
+    requires { ⌜ Profitable reference h a c (now area) count price ⌝ }
+    ensures { λ r. ⌜ ProfitIs (dayOver reference h a c (recordedTrades (now (area .entry)) count)) price r ⌝ }
+{
+    let long = side_of(area, count, a, c, false, reference, h.startlong);
+    let short = side_of(area, count, a, c, true, reference, h.startshort);
+    let mark = price as u64;
+    let longvalue = mark * long.lots as u64;
+    let shortvalue = mark * short.lots as u64;
+    Profit {
+        closing: difference(long.closes + short.closed, long.closed + short.closes),
+        holding: difference(longvalue + short.opened, long.opened + shortvalue),
+    }
 }
