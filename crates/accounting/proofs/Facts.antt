@@ -3,7 +3,7 @@
 use mathlib.Core.Bool.{Bool, true, false, not, _&&_}
 use mathlib.Core.List.{List, [], _∷_}
 use mathlib.Core.Path.{_≡_}
-use Prim.Native.Nat.{ℕ, _+_, _*_, _/_, _%_, _<_, _≤_, min}
+use Prim.Native.Nat.{ℕ, _+_, _<_, _≤_}
 use native.Mathlib.Nat.{div-add-mod'}
 use native.Mathlib.Omega.{arith}
 use borrow.Author.Tests.{leb-true, ltb-true}
@@ -12,7 +12,7 @@ use lib.ListN.{length}
 use Rattle.laws.specs.Choice.{all, allOf, all-at, allOf-at, both-true}
 use Rattle.rules.specs.Bounds.{within, onTick, tickMultiple, termsInRange, dayLow, dayHigh, allowedToday, maxPrice, maxLots}
 use Rattle.rules.specs.Exchange.{Exchange, Listing, noListing, listingAt, holdingAt, restingOpens, restingCloses}
-use Rattle.rules.specs.WellFormed.{contractInRange, sorted, uncrossed, orderInRange, listingInRange, tradeInRange, replays, holdingInRange, holdingsInRange, balanceInRange, countersInRange, usedOnce, allNumbers, wellFormed}
+use Rattle.rules.specs.WellFormed.{contractInRange, sorted, uncrossed, orderInRange, listingInRange, tradeInRange, replays, holdingInRange, holdingsInRange, balanceInRange, countersInRange, usedOnce, allNumbers, wellFormedContents}
 use Rattle.rules.specs.declared.Contract.{Contract}
 use Rattle.rules.specs.declared.Holding.{Holding}
 use Rattle.rules.specs.declared.Order.{Order}
@@ -21,15 +21,15 @@ use Rattle.accounting.specs.Money.{AllKnown}
 
 -- ---- tests joined by `_&&_`, taken apart in one go
 
-abbrev joined : Bool → List Bool → Bool
+abbrev pub joined : Bool → List Bool → Bool
 joined a [] = a
 joined a (b ∷ bs) = joined (a && b) bs
 
-abbrev Passed : Bool → List Bool → Type 0
+abbrev pub Passed : Bool → List Bool → Type 0
 Passed a [] = a ≡ true
 Passed a (b ∷ bs) = (a ≡ true) × Passed b bs
 
-passed : (a : Bool) (bs : List Bool) → joined a bs ≡ true → Passed a bs
+pub passed : (a : Bool) (bs : List Bool) → joined a bs ≡ true → Passed a bs
 passed a [] h = h
 passed a (b ∷ bs) h = front a b bs (passed (a && b) bs h)
   where
@@ -114,11 +114,11 @@ pub record Facts (x : Exchange) : Type 0 where
   pub startlong : (a c : ℕ) → a < length (x .accounts) → c < length (x .listings) → holdingAt (x .accounts) a c .startlong ≤ 100_000
   pub startshort : (a c : ℕ) → a < length (x .accounts) → c < length (x .listings) → holdingAt (x .accounts) a c .startshort ≤ 100_000
 
-module _ (x : Exchange) (h : wellFormed x ≡ true) where
+module _ (x : Exchange) (h : wellFormedContents x ≡ true) where
   clauses : Passed (countersInRange x)
       (allOf (listingInRange (length (x .accounts)) (x .next)) (x .listings) ∷ usedOnce (allNumbers (x .listings)) ∷ allOf (tradeInRange x) (x .trades)
       ∷ replays x ∷ all (holdingsInRange x) (length (x .accounts)) ∷ allOf (balanceInRange (x .settlements)) (x .accounts) ∷ [])
-  unfolding wellFormed
+  unfolding wellFormedContents
   clauses = passed (countersInRange x)
       (allOf (listingInRange (length (x .accounts)) (x .next)) (x .listings) ∷ usedOnce (allNumbers (x .listings)) ∷ allOf (tradeInRange x) (x .trades)
       ∷ replays x ∷ all (holdingsInRange x) (length (x .accounts)) ∷ allOf (balanceInRange (x .settlements)) (x .accounts) ∷ []) h

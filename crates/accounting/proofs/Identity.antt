@@ -7,9 +7,9 @@ use lib.IntN.{ℤ, pos, _+ℤ_, _-ℤ_, _*ℤ_}
 use lib.ListN.{length}
 use mathlib.Core.Bool.{true}
 use Rattle.rules.specs.Condition3.{sales, costs, netHolding}
-use Rattle.rules.specs.Exchange.{Exchange, listingAt, accountAt, holdingAt}
-use Rattle.rules.specs.Settlement.{dayStart, legs, dayOf, holdingGain, settlementPrice}
-use Rattle.rules.specs.WellFormed.{replays, wellFormed}
+use Rattle.rules.specs.Exchange.{Exchange, listingAt, holdingAt}
+use Rattle.rules.specs.Settlement.{legs, dayOf, holdingGain, settlementPrice}
+use Rattle.rules.specs.WellFormed.{replays, wellFormedContents}
 use Rattle.accounting.specs.Article32.{net, netOpen}
 use Rattle.accounting.specs.Money.{proceeds, netNow, netAtStart}
 use Rattle.accounting.specs.Shape.{Placed, Shaped}
@@ -45,7 +45,7 @@ pub placed : (x : Exchange) → Shaped x → (a c : ℕ) → a < length (x .acco
 unfolding Shaped
 placed x h a c la lc = record { account = la; contract = rw (h a la) lc }
 
-pub article32-identity : (x : Exchange) → wellFormed x ≡ true → Shaped x → (a c : ℕ) → a < length (x .accounts) → c < length (x .listings) →
+pub article32-identity : (x : Exchange) → wellFormedContents x ≡ true → Shaped x → (a c : ℕ) → a < length (x .accounts) → c < length (x .listings) →
     dayOf x a c .closing +ℤ holdingGain (settlementPrice x c) (dayOf x a c)
     ≡ ((pos (sales a c (x .trades)) -ℤ pos (costs a c (x .trades)))
     +ℤ pos (settlementPrice x c) *ℤ (pos (holdingAt (x .accounts) a c .long) -ℤ pos (holdingAt (x .accounts) a c .short)))

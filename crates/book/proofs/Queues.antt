@@ -3,13 +3,12 @@
 use mathlib.Core.Bool.{Bool, true, false}
 use mathlib.Core.List.{List, [], _∷_, _++_, append-nil}
 use mathlib.Core.Path.{_≡_, refl, sym, ap, _∙_}
-use borrow.Rule.Slice.PartMut.{putMid}
-use Prim.Native.Nat.{ℕ, suc, _+_, _-_, _*_, _≤_, _<_}
-use native.Mathlib.Nat.{zero-add}
-use native.Mathlib.Numerals.{add-one}
+use borrow.Rule.Slice.PartMut.{putMid, post-is}
+use Prim.Native.Nat.{ℕ, _+_, _-_, _*_, _≤_, _<_}
+use native.Mathlib.Numerals.{add-one, one-add}
 use native.Mathlib.Omega.{arith}
-use lib.ListN.{length, take, drop, getD, set, length-append, length-take, length-drop, length-set, drop-of-length-le, take-append-drop}
-use lib.Seq.{sets, sets-eq, drop-at, drop-cons, drop-drop, drop-set-add, length-take-le, take-set-le, take-take}
+use lib.ListN.{length, take, drop, getD, set, length-drop, length-set, drop-of-length-le, take-append-drop}
+use lib.Seq.{sets, sets-eq, drop-at, drop-cons, drop-drop, drop-length, drop-set-add, length-take-le, take-all, take-set-le, take-take}
 use Rattle.areas.specs.Lists.{over, insertAt, removeAt, padded}
 use Rattle.areas.specs.Moves.{movedBack, closedUp}
 use Rattle.areas.specs.Records.{store}
@@ -18,10 +17,12 @@ use Rattle.areas.proofs.Lists.{length-insertAt}
 use Rattle.areas.proofs.Moves.{lent-over}
 use Rattle.areas.proofs.Records.{insert-store, set-store}
 use Rattle.rules.specs.Exchange.{noOrder}
-use Rattle.rules.specs.Matching.{withLots}
+use Rattle.rules.specs.Matching.{restIn, withLots}
 use Rattle.rules.specs.Memory.{orderWords, orderFrom, queueIn, putQueue}
+use Rattle.rules.specs.Places.{firstWhere, placeIn}
 use Rattle.rules.specs.declared.Order.{Order}
 use Rattle.rules.proofs.Codecs.{order-codec, length-queue, order-at}
+use Rattle.rules.proofs.Queue.{first-nil, first-here, first-on, first-within, restIn-insertAt}
 
 -- ---- an order written and moved
 
@@ -35,6 +36,14 @@ pub shift-in : (part moved : List ℕ) (o : Order) → 5 ≤ length part → mov
 unfolding movedBack
 shift-in part moved o h e = rw (e, drop-at (take 5 part) (take (length part - 5) part) 5 (length-take-le 5 part h))
 
+-- an order is written in front of a part that reaches to the end of the area
+pub put-over : (area : List ℕ) (s : ℕ) (o : Order) (part : List ℕ) → s + 5 ≤ length area → part ≡ orderWords o ++ drop 5 (take (length area - s) (drop s area))
+    → putMid s (length area - s) area part ≡ over area s (orderWords o)
+unfolding over
+put-over area s o part h e =
+    let p : part ≡ orderWords o ++ drop (s + 5) area = e ∙ rw (take-all (length area - s) (drop s area) (rw length-drop (omega arith)), drop-drop 5 s area) in
+    rw (post-is s (length area) area (omega arith), drop-length, append-nil, p)
+
 -- ---- the queue read in turn
 
 module _ (area : List ℕ) (c n i : ℕ) where
@@ -45,29 +54,38 @@ module _ (area : List ℕ) (c n i : ℕ) where
   pub no-more : n ≤ i → drop i (queueIn area c n) ≡ []
   no-more h = drop-of-length-le (queueIn area c n) {i = i} (rw (length-queue area c n) h)
 
--- A loop that counts over the orders of a queue: `done` is counted of those before place i, `f` counts those from there on, and
--- both together are the answer.
-pub count-all : (f : List Order → ℕ) (q : List Order) → 0 + f (drop 0 q) ≡ f q
-count-all f q = zero-add (f q)
+-- ---- a loop that counts over a queue: `done` is counted of the orders before place i, and `f` counts those from there on
+
+-- those from there on count nothing
+pub tally-none : (done rest answer : ℕ) → done + rest ≡ answer → rest ≡ 0 → done ≡ answer
+tally-none done rest answer so-far k = omega arith
 
 module _ (f : List Order → ℕ) (area : List ℕ) (c n i done answer : ℕ) (so-far : done + f (drop i (queueIn area c n)) ≡ answer) where
+  pub tally-end : n ≤ i → f [] ≡ 0 → done ≡ answer
+  tally-end h k = tally-none done _ answer so-far (rw (no-more area c n i h) k)
+
   module _ (o : Order) (h : i < n) (e : o ≡ orderFrom (drop (320 * c + 5 * i) area)) where
+    -- neither the order at i nor any behind it counts
+    pub tally-stop : ((os : List Order) → f (o ∷ os) ≡ 0) → done ≡ answer
+    tally-stop k = tally-none done _ answer so-far (rw (next-order area c n i o h e) (k (drop (i + 1) (queueIn area c n))))
+
     -- the order at i counts a, and g counts those behind it
-    pub count-on : (g : List Order → ℕ) (a : ℕ) → ((os : List Order) → f (o ∷ os) ≡ a + g os) → done + a + g (drop (i + 1) (queueIn area c n)) ≡ answer
-    count-on g a k =
-        let step : f (drop i (queueIn area c n)) ≡ a + g (drop (i + 1) (queueIn area c n)) = rw (next-order area c n i o h e) (k (drop (i + 1) (queueIn area c n))) in
+    pub tally-on : (g : List Order → ℕ) (a : ℕ) → ((os : List Order) → f (o ∷ os) ≡ a + g os) → done + a + g (drop (i + 1) (queueIn area c n)) ≡ answer
+    tally-on g a k =
+        let turn : f (drop i (queueIn area c n)) ≡ a + g (drop (i + 1) (queueIn area c n)) = rw (next-order area c n i o h e) (k (drop (i + 1) (queueIn area c n))) in
         omega arith
 
-    -- neither it nor any behind it counts
-    pub count-stop : ((os : List Order) → f (o ∷ os) ≡ 0) → done ≡ answer
-    count-stop k =
-        let stop : f (drop i (queueIn area c n)) ≡ 0 = rw (next-order area c n i o h e) (k (drop (i + 1) (queueIn area c n))) in
-        omega arith
+-- a search for the first order that satisfies a test counts those before it
+module _ (test : Order → Bool) (area : List ℕ) (c n i answer : ℕ) (so-far : i + firstWhere test (drop i (queueIn area c n)) ≡ answer) where
+  module _ (o : Order) (h : i < n) (e : o ≡ orderFrom (drop (320 * c + 5 * i) area)) where
+    pub search-on : test o ≡ false → i + 1 + firstWhere test (drop (i + 1) (queueIn area c n)) ≡ answer
+    search-on t = tally-on (firstWhere test) area c n i i answer so-far o h e (firstWhere test) 1 (λ os. first-on test o os t ∙ sym (one-add (firstWhere test os)))
 
-  pub count-end : n ≤ i → f [] ≡ 0 → done ≡ answer
-  count-end h k =
-      let end : f (drop i (queueIn area c n)) ≡ 0 = rw (no-more area c n i h) k in
-      omega arith
+    pub search-here : test o ≡ true → i ≡ answer
+    search-here t = tally-stop (firstWhere test) area c n i i answer so-far o h e (λ os. first-here test o os t)
+
+  pub search-end : n ≤ i → i ≡ answer
+  search-end h = tally-end (firstWhere test) area c n i i answer so-far h (first-nil test)
 
 -- ---- the queue written
 
@@ -90,8 +108,12 @@ set-fourth area s lots h =
     sym (take-append-drop s (set area (s + 3) lots)) ∙ rw (t, d)
 
 module _ (area : List ℕ) (c n : ℕ) where
+  -- a place that was searched for is at most the number of orders
+  pub found-within : (test : Order → Bool) (i : ℕ) → i ≡ firstWhere test (queueIn area c n) → i ≤ n
+  found-within test i found = omega (arith, first-within test (queueIn area c n), length-queue area c n)
+
   -- o put in at place i: from there on the orders and one place more were lent, and came back moved one place back behind o
-  pub inserted-order : (i : ℕ) (o : Order) (s e : ℕ) (part : List ℕ) → i ≤ n → s ≡ 320 * c + 5 * i → e ≡ 320 * c + 5 * n + 5 → e ≤ length area
+  inserted-order : (i : ℕ) (o : Order) (s e : ℕ) (part : List ℕ) → i ≤ n → s ≡ 320 * c + 5 * i → e ≡ 320 * c + 5 * n + 5 → e ≤ length area
       → part ≡ orderWords o ++ take (length (take (e - s) (drop s area)) - 5) (take (e - s) (drop s area))
       → putMid s (e - s) area part ≡ putQueue area c n (insertAt i o (queueIn area c n))
   unfolding queueIn
@@ -104,6 +126,14 @@ module _ (area : List ℕ) (c n : ℕ) where
       let lq : n ≤ length (insertAt i o (queueIn area c n)) = omega (arith, length-insertAt i o (queueIn area c n), length-queue area c n) in
       rw (p, lent-over area (orderWords o ++ take r (drop s area)) s e (omega arith) lp, hs, put-full area c n (insertAt i o (queueIn area c n)) lq)
       (insert-store order-codec area (320 * c) n i o h (omega arith))
+
+  -- an order comes to rest
+  pub rested-order : (sell : Bool) (i : ℕ) (o : Order) (s e : ℕ) (part : List ℕ) → i ≡ placeIn sell (o .price) (queueIn area c n)
+      → s ≡ 320 * c + 5 * i → e ≡ 320 * c + 5 * n + 5 → e ≤ length area
+      → part ≡ orderWords o ++ take (length (take (e - s) (drop s area)) - 5) (take (e - s) (drop s area))
+      → putMid s (e - s) area part ≡ putQueue area c n (restIn sell o (queueIn area c n))
+  rested-order sell i o s e part found hs he room ep =
+      inserted-order i o s e part (found-within _ i found) hs he room ep ∙ rw (found, ← restIn-insertAt sell o (queueIn area c n))
 
   -- the order at place i taken out: from there on the orders were lent, and came back closed up
   pub removed-order : (i : ℕ) (s e : ℕ) (part : List ℕ) → i < n → s ≡ 320 * c + 5 * i → e ≡ 320 * c + 5 * n → e ≤ length area

@@ -2,7 +2,7 @@
 ghost use mathlib.Core.Path.{_≡_};
 ghost use Prim.Native.Nat.{_+_, _*_, _≤_};
 ghost use lib.ListN.{length};
-ghost use Rattle.rules.specs.Memory.{queueIn, putQueue};
+ghost use Rattle.rules.specs.Memory.{queueIn};
 ghost use Rattle.rules.specs.Places.{indexOf};
 ghost use Rattle.book.specs.Removal.{PulledIs};
 use crate::queue;
@@ -39,6 +39,7 @@ pub fn pull(area: &mut [u32], c: usize, count: usize, account: u32) -> Pulled
     let mut i: usize = 0;
     while i < count {
         let o = queue::order_at(&area[..], c, i);
+        i += 1;
         if o.account == account {
             lots += laws::wide32(o.lots);
         } else {
@@ -46,7 +47,6 @@ pub fn pull(area: &mut [u32], c: usize, count: usize, account: u32) -> Pulled
             queue::put(&mut area[at..], o);
             kept += 1;
         }
-        i += 1;
     }
     let a = 320 * c + 5 * kept;
     let e = 320 * c + 5 * count;

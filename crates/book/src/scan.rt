@@ -1,5 +1,6 @@
 // What is read of a queue before anything is done: fillable lots, the number of trades, an account's resting lots. For our own
 // crates: each asks for the room of the orders it names.
+ghost use mathlib.Core.List.{_∷_, []};
 ghost use mathlib.Core.Path.{_≡_};
 ghost use Prim.Native.Nat.{_+_, _*_, _≤_};
 ghost use lib.ListN.{length};
@@ -8,6 +9,7 @@ ghost use Rattle.rules.specs.Exchange as exchange;
 ghost use Rattle.rules.specs.Memory.{queueIn};
 use crate::prices;
 use crate::queue;
+use rules::Order;
 use rules::Taker;
 
 // The lots of the counterparts: reading stops at the first order that is none.
@@ -52,6 +54,19 @@ pub fn count_trades(area: &[u32], c: usize, count: usize, t: Taker, lots: u32) -
     i
 }
 
+// What one order adds to an account's resting opens (close 0) or resting closes (close 1).
+pub fn lots_of(o: Order, account: u32, close: u32) -> u64
+    ensures { λ r. ⌜ r ≡ exchange.resting close account (o ∷ []) ⌝ }
+{
+    if o.account != account {
+        return 0;
+    }
+    if o.close != close {
+        return 0;
+    }
+    laws::wide32(o.lots)
+}
+
 // An account's resting opens (close 0) or resting closes (close 1) in a queue.
 pub fn resting(area: &[u32], c: usize, count: usize, account: u32, close: u32) -> u64
     requires { ⌜ (count ≤ 64) × (320 * c + 5 * count ≤ length (now area)) ⌝ }
@@ -61,11 +76,7 @@ pub fn resting(area: &[u32], c: usize, count: usize, account: u32, close: u32) -
     let mut i: usize = 0;
     while i < count {
         let o = queue::order_at(area, c, i);
-        if o.account == account {
-            if o.close == close {
-                lots += laws::wide32(o.lots);
-            }
-        }
+        lots += lots_of(o, account, close);
         i += 1;
     }
     lots

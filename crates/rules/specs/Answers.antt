@@ -81,8 +81,13 @@ tradesNeeded x o = length (sweep (takerOf x o) (o .lots) (listingOf x o .contrac
 -- ---- the tests of an insert
 
 -- 7: "limit price off tick or outside low to high; market or best with a price not 0"
-unfoldable pub priceRefused : Contract → NewOrder → Bool
-priceRefused c o = pick (isLimit (o .condition)) (not (allowedToday c (o .price))) (not (eqb (o .price) 0))
+unfoldable pub priceRefusedBy : Contract → PriceCondition → ℕ → Bool
+priceRefusedBy c (Limit limit) price = not (allowedToday c limit)
+priceRefusedBy c Market price = not (eqb price 0)
+priceRefusedBy c Best price = not (eqb price 0)
+
+abbrev pub priceRefused : Contract → NewOrder → Bool
+priceRefused c o = priceRefusedBy c (o .condition) (o .price)
 
 -- 8, open: "holding, resting opens on that side and lots exceed the limit"
 unfoldable pub overLimit : Listing → ℕ → Holding → Bool → ℕ → Bool
@@ -94,8 +99,8 @@ unfoldable pub overHolding : Listing → ℕ → Holding → Bool → ℕ → Bo
 overHolding l a h sell lots =
     ltb (pick sell (h .long) (h .short)) (restingCloses a (own sell l) + lots)
 
-unfoldable pub lotsRefused : Exchange → NewOrder → Bool
-lotsRefused x o =
+unfoldable pub holdingRefused : Exchange → NewOrder → Bool
+holdingRefused x o =
     pick (o .close)
     (overHolding (listingOf x o) (placeOf (o .account)) (holdingAt (x .accounts) (placeOf (o .account)) (placeOf (o .contract))) (o .sell) (o .lots))
     (overLimit (listingOf x o) (placeOf (o .account)) (holdingAt (x .accounts) (placeOf (o .account)) (placeOf (o .contract))) (o .sell) (o .lots))
@@ -110,17 +115,25 @@ moneyRefused x o =
 -- "for insert 2 to 13 rising"
 unfoldable pub insertRefusals : Exchange → NewOrder → List Refusal
 insertRefusals x o =
+    -- "account 0 or absent"; "contract 0 or absent"
     (2 when absent (o .account) (x .accounts))
     ∷ (3 when absent (o .contract) (x .listings))
+    -- "contract state forbids it": "Insert needs continuous."
     ∷ (4 when not (eqb (listingOf x o .contract .phase) 1))
+    -- "lots outside 1 to 1,000"
     ∷ (5 when not (within 1 maxLots (o .lots)))
+    -- "market or best with good for day"
     ∷ (6 when (not (isLimit (o .condition)) && isGoodForDay (o .time)))
     ∷ (7 when priceRefused (listingOf x o .contract) o)
-    ∷ (8 when lotsRefused x o)
+    ∷ (8 when holdingRefused x o)
     ∷ (9 when moneyRefused x o)
+    -- "order numbers used up"
     ∷ (10 when leb numbersEnd (x .next))
+    -- "fill or kill: fillable lots below lots"
     ∷ (11 when (isFillOrKill (o .time) && ltb (fillableLots x o) (o .lots)))
+    -- "it would make more trades than the day has room for"
     ∷ (12 when ltb maxTrades (length (x .trades) + tradesNeeded x o))
+    -- "good for day, own side has 64, fillable lots below lots"
     ∷ (13 when (isGoodForDay (o .time) && leb maxResting (length (own (o .sell) (listingOf x o))) && ltb (fillableLots x o) (o .lots)))
     ∷ []
 
@@ -128,7 +141,7 @@ insertRefusals x o =
 unfoldable pub removalRefused : Contract → Bool → Bool
 removalRefused c operator = not (eqb (c .phase) 1 || eqb (c .phase) 2 && operator)
 
--- the resting order with a number, buys first; order number 0 where there is none
+-- the resting order with a number, buys first: a list of one, empty where there is none
 unfoldable pub numbered : ℕ → List Order → List Order
 numbered n [] = []
 numbered n (o ∷ os) = pick (eqb (o .number) n) (o ∷ []) (numbered n os)

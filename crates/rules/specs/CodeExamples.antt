@@ -1,5 +1,5 @@
 -- Cases in which the answer's code is known from the paper's words: the ends of each range, and cases in which two refusals
--- hold at once, so that the order of the codes shows. One table, one statement, as in Examples.antt. Assumes nothing.
+-- hold at once, so that the order of the codes shows. The states asked need not be well formed. One table, one statement, as in Examples.antt. Assumes nothing.
 use mathlib.Core.Bool.{Bool, true, false}
 use mathlib.Core.List.{List, [], _∷_}
 use mathlib.Core.Path.{_≡_, refl}
@@ -9,7 +9,7 @@ use lib.ListN.{replicate}
 use Rattle.laws.specs.Choice.{all, allOf}
 use Rattle.laws.specs.Sums.{sumOf}
 use Rattle.laws.specs.Tabulate.{tabulate}
-use Rattle.rules.specs.Answers.{amountRefused, cancelRefusals, changeListed, codeOf, depositRefusals, fillableLots, firstOf, insertRefusals, liftsTooHigh, listingOf, lotsRefused, moneyRefused, noSuchOrder, numbered, ofAnother, overHolding, overLimit, phaseRefusals, priceRefused, pullRefusals, refusals, removalRefused, restingOrder, settleRefusals, takerOf, tradesNeeded, withdrawRefusals}
+use Rattle.rules.specs.Answers.{amountRefused, cancelRefusals, changeListed, codeOf, depositRefusals, fillableLots, firstOf, insertRefusals, liftsTooHigh, listingOf, holdingRefused, moneyRefused, noSuchOrder, numbered, ofAnother, overHolding, overLimit, phaseRefusals, priceRefusedBy, pullRefusals, refusals, removalRefused, restingOrder, settleRefusals, takerOf, tradesNeeded, withdrawRefusals}
 use Rattle.rules.specs.Bounds.{allowedToday, dayHigh, dayLow, onTick}
 use Rattle.rules.specs.Command.{bits, commandOf, insertFlags, insertOf, newOrder, phaseOf, priceCondition, settleOf, timeCondition, zeros}
 use Rattle.rules.specs.Examples.{Row, _gives_, allRight}
@@ -158,5 +158,5 @@ codes =
     ∷ []
 
 pub code-examples : allRight codes ≡ true
-unfolding allRight codes contract order rich poor asked open′ buy sell raw absent accountAt all allOf allowedToday amountRefused available bestPrice bits cancelRefusals changeListed chargeOf chargedLots chargedTo codeOf commandOf dayHigh dayLow depositRefusals fillable fillableLots firstOf holdingAt insertFlags insertOf insertRefusals liftsTooHigh listingAt listingOf lotsRefused lotsWhere meets middle moneyRefused newOrder noSuchOrder numbered ofAnother onTick overHolding overLimit phaseOf phaseRefusals priceCondition priceRefused pullRefusals refusals removalRefused resting restingOrder settleOf settleRefusals stays sumOf sweep tabulate takerOf timeCondition tradePrice tradeWith tradesNeeded withdrawRefusals zeros
+unfolding allRight codes contract order rich poor asked open′ buy sell raw absent accountAt all allOf allowedToday amountRefused available bestPrice bits cancelRefusals changeListed chargeOf chargedLots chargedTo codeOf commandOf dayHigh dayLow depositRefusals fillable fillableLots firstOf holdingAt insertFlags insertOf insertRefusals liftsTooHigh listingAt listingOf holdingRefused lotsWhere meets middle moneyRefused newOrder noSuchOrder numbered ofAnother onTick overHolding overLimit phaseOf phaseRefusals priceCondition priceRefusedBy pullRefusals refusals removalRefused resting restingOrder settleOf settleRefusals stays sumOf sweep tabulate takerOf timeCondition tradePrice tradeWith tradesNeeded withdrawRefusals zeros
 code-examples = refl

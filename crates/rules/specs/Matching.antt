@@ -73,7 +73,7 @@ abbrev pub afterTrade : Trade → List Order → Swept → Swept
 afterTrade tr kept s = record { trades = tr ∷ s .trades; rest = kept ++ s .rest }
 
 -- "Taken by price, then number, each trades the smaller remainder. The sweep stops at the first order that is no
--- counterpart, or when the lots are used up." The queue is best price first, then lower number; each trade's price is the
+-- counterpart, or when the lots are used up." "An account may meet its own order". The queue is best price first, then lower number; each trade's price is the
 -- last price of the next.
 unfoldable pub sweep : Taker → ℕ → ℕ → List Order → Swept
 sweep t left last [] = untouched []

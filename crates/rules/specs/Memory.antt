@@ -2,8 +2,9 @@
 -- counts and the room that a well-formed state needs; the whole step on it. Assumes nothing.
 use mathlib.Core.Bool.{Bool, true, false, _&&_}
 use mathlib.Core.List.{List, [], _∷_, _++_, map}
-use Prim.Native.Nat.{ℕ, zero, suc, _*_}
-use lib.Dec.{leb}
+use mathlib.Core.Path.{_≡_}
+use Prim.Native.Nat.{ℕ, zero, suc, _*_, _<_}
+use lib.Dec.{leb, eqb}
 use lib.ListN.{length, getD, take, drop}
 use Rattle.laws.specs.Choice.{pick, all}
 use Rattle.laws.specs.Tabulate.{tabulate}
@@ -11,11 +12,13 @@ use Rattle.areas.specs.Lists.{padded}
 use Rattle.areas.specs.Records.{records, store}
 use Rattle.rules.specs.Bounds.{within, maxContracts, maxAccounts, maxResting, maxTrades}
 use Rattle.rules.specs.Command.{commandOf}
-use Rattle.rules.specs.Exchange.{Exchange, Listing, listingAt, noContract, noOrder, noTrade}
-use Rattle.rules.specs.Step.{Stepped, step, answerOf}
-use Rattle.rules.specs.WellFormed.{wellFormed}
+use Rattle.rules.specs.Exchange.{Exchange, Listing, listingAt, accountAt, noContract, noOrder, noTrade}
+use Rattle.rules.specs.Answers.{codeOf}
+use Rattle.rules.specs.Step.{Stepped, answerOf, carriedOut}
+use Rattle.rules.specs.WellFormed.{wellFormedContents}
 use Rattle.rules.specs.declared.Account.{Account}
 use Rattle.rules.specs.declared.Answer.{Answer}
+use Rattle.rules.specs.declared.Command.{Command}
 use Rattle.rules.specs.declared.Contract.{Contract}
 use Rattle.rules.specs.declared.Order.{Order}
 use Rattle.rules.specs.declared.Record.{Record}
@@ -73,6 +76,14 @@ pub record Memory : Type 0 where
   pub buys : List ℕ
   pub sells : List ℕ
   pub trades : List ℕ
+
+-- the arrays have the places of their types: so it is with every state of the engine, and a proof may need it said
+pub record Declared (s : State) : Type 0 where
+  pub contracts : length (s .contracts) ≡ maxContracts
+  pub accounts : length (s .accounts) ≡ maxAccounts
+  pub buys : length (s .buys) ≡ maxContracts
+  pub sells : length (s .sells) ≡ maxContracts
+  pub holdings : (a : ℕ) → a < maxAccounts → length (accountAt (s .accounts) a .holdings) ≡ maxContracts
 
 -- a contract in use with its queues
 unfoldable pub listingIn : Memory → ℕ → Listing
@@ -168,7 +179,7 @@ hasRoom m =
     && leb (tradeStride * maxTrades) (length (m .trades))
 
 unfoldable pub wellFormedMemory : Memory → Bool
-wellFormedMemory m = countsInRange (m .state) && hasRoom m && wellFormed (exchangeOf m)
+wellFormedMemory m = countsInRange (m .state) && hasRoom m && wellFormedContents (exchangeOf m)
 
 -- ---- the whole step: code 21 before all others, then the rules
 
@@ -176,11 +187,20 @@ pub record Responded : Type 0 where
   pub answer : Answer
   pub memory : Memory
 
+-- "a refusal gives three zeros and changes nothing"
+abbrev pub refusedIn : Memory → ℕ → Responded
+refusedIn m code = record { answer = answerOf code 0 0 0; memory = m }
+
 abbrev pub inMemory : Memory → Stepped → Responded
 inMemory m s = record { answer = s .answer; memory = put m (s .exchange) }
 
-abbrev pub malformed : Memory → Responded
-malformed m = record { answer = answerOf 21 0 0 0; memory = m }
+-- a well-formed state: the first refusal that holds, or else what the command does, written into the memory
+unfoldable pub stepIn : Memory → Command → Responded
+stepIn m command =
+    pick (eqb (codeOf (exchangeOf m) command) 0)
+    (inMemory m (carriedOut (exchangeOf m) command))
+    (refusedIn m (codeOf (exchangeOf m) command))
 
+-- THE WHOLE STEP, on any state and any 24 bytes
 unfoldable pub respond : Memory → Record → Responded
-respond m r = pick (wellFormedMemory m) (inMemory m (step (exchangeOf m) (commandOf r))) (malformed m)
+respond m r = pick (wellFormedMemory m) (stepIn m (commandOf r)) (refusedIn m 21)

@@ -16,6 +16,8 @@ use Rattle.rules.specs.declared.Answer.{Answer}
 use Rattle.rules.specs.declared.Contract.{Contract}
 use Rattle.rules.specs.declared.NewOrder.{NewOrder}
 use Rattle.rules.specs.declared.Order.{Order}
+use Rattle.rules.specs.declared.PriceCondition.{PriceCondition}
+use Rattle.rules.specs.declared.PriceCondition.the-variants.{Limit, Market, Best}
 use Rattle.rules.specs.declared.Trade.{Trade}
 use Rattle.rules.specs.declared.Command.{Command}
 use Rattle.rules.specs.declared.Command.the-variants.{Malformed, Deposit, Withdraw, Insert, Cancel, Pull, Phase, Settle}
@@ -76,9 +78,15 @@ withdrawn x a amount = accepted 0 0 0 (paid x a (accountAt (x .accounts) a .bala
 
 -- ---- insert
 
+-- a limit order rests at its limit; market and best never rest
+abbrev pub limitOf : PriceCondition → ℕ
+limitOf (Limit limit) = limit
+limitOf Market = 0
+limitOf Best = 0
+
 unfoldable pub enteredOf : Exchange → NewOrder → Entered
 enteredOf x o =
-    enter (takerOf x o) (o .lots) (o .price) (isGoodForDay (o .time)) (listingOf x o .contract .last)
+    enter (takerOf x o) (o .lots) (limitOf (o .condition)) (isGoodForDay (o .time)) (listingOf x o .contract .last)
     (own (o .sell) (listingOf x o))
     (opposite (o .sell) (listingOf x o))
 
@@ -86,6 +94,7 @@ enteredOf x o =
 unfoldable pub listingAfter : Listing → Bool → Entered → Listing
 listingAfter l sell e = withQueues sell (withLast (l .contract) (lastPrice (l .contract .last) (e .trades))) (e .own) (e .opposite)
 
+-- "given to accepted orders in turn over all contracts": the next number is one more
 unfoldable pub exchangeAfter : Exchange → NewOrder → Entered → Exchange
 exchangeAfter x o e =
     record {
@@ -131,8 +140,8 @@ pulled x a c = removed x c (isOf a) 0
 
 -- ---- state and settle
 
-unfoldable pub rephased : Exchange → ℕ → ℕ → Stepped
-rephased x c phase = accepted 0 0 0 (withListing x c (withContract (listingAt x c) (withPhase (listingAt x c .contract) phase)))
+unfoldable pub phaseChanged : Exchange → ℕ → ℕ → Stepped
+phaseChanged x c phase = accepted 0 0 0 (withListing x c (withContract (listingAt x c) (withPhase (listingAt x c .contract) phase)))
 
 -- what an accepted command does
 unfoldable pub carriedOut : Exchange → Command → Stepped
@@ -142,7 +151,7 @@ carriedOut x (Withdraw account amount) = withdrawn x (placeOf account) amount
 carriedOut x (Insert o) = inserted x o
 carriedOut x (Cancel account contract operator number) = cancelled x (placeOf contract) number
 carriedOut x (Pull account contract operator) = pulled x (placeOf account) (placeOf contract)
-carriedOut x (Phase contract phase) = rephased x (placeOf contract) phase
+carriedOut x (Phase contract phase) = phaseChanged x (placeOf contract) phase
 carriedOut x Settle = accepted 0 0 0 (settled x)
 
 -- THE STEP of a well-formed state: the first refusal that holds, or else what the command does

@@ -121,10 +121,10 @@ holdingsInRange x a = all (λ c. holdingInRange (listingAt x c) a (holdingAt (x 
 unfoldable pub balanceInRange : ℕ → Account → Bool
 balanceInRange settlements a = leb (natAbs (a .balance)) (maxBalance + settlements * maxDayProfit)
 
--- ---- all clauses but those of Memory.antt
+-- ---- all clauses but those on counts and room: `wellFormedMemory` of Memory.antt is the paper's "well formed"
 
-unfoldable pub wellFormed : Exchange → Bool
-wellFormed x =
+unfoldable pub wellFormedContents : Exchange → Bool
+wellFormedContents x =
     countersInRange x
     && allOf (listingInRange (length (x .accounts)) (x .next)) (x .listings)
     && usedOnce (allNumbers (x .listings))

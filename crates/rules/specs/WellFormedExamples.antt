@@ -12,7 +12,7 @@ use Rattle.rules.specs.Examples.{Row, _gives_, allRight}
 use Rattle.rules.specs.Exchange.{Exchange, accountAt, holdingAt, listingAt, lotsWhere, resting}
 use Rattle.rules.specs.Holdings.{afterLeg, bookLeg, bookTrade, bookTrades, legCovered, neverBelowZero, sameHoldings, sameLots, startOfDay}
 use Rattle.rules.specs.Answers.{mark}
-use Rattle.rules.specs.WellFormed.{ahead, aheadOfFirst, allNumbers, balanceInRange, contractInRange, countersInRange, holdingInRange, holdingsInRange, listingInRange, numbers, orderInRange, replays, sorted, tradeInRange, uncrossed, usedOnce, wellFormed}
+use Rattle.rules.specs.WellFormed.{ahead, aheadOfFirst, allNumbers, balanceInRange, contractInRange, countersInRange, holdingInRange, holdingsInRange, listingInRange, numbers, orderInRange, replays, sorted, tradeInRange, uncrossed, usedOnce, wellFormedContents}
 use Rattle.rules.specs.declared.Account.{Account}
 use Rattle.rules.specs.declared.Contract.{Contract}
 use Rattle.rules.specs.declared.Order.{Order}
@@ -55,7 +55,7 @@ trades = trade 110 3 2 ∷ []
 
 -- the state with the given parts, 1 where it is well formed
 test : ℕ → List Order → List Order → List Trade → ℕ → ℕ → ℤ → ℕ
-test last b s t short next balance = mark (wellFormed (asked last b s t short next balance))
+test last b s t short next balance = mark (wellFormedContents (asked last b s t short next balance))
 
 pub table : List Row
 table =
@@ -89,5 +89,5 @@ table =
     ∷ []
 
 pub well-formed-examples : allRight table ≡ true
-unfolding allRight table contract order trade account asked buys sells trades test all allOf sumOf accountAt afterLeg ahead aheadOfFirst allNumbers allowedToday balanceInRange bookLeg bookTrade bookTrades contractInRange countersInRange dayHigh dayLow holdingAt holdingInRange holdingsInRange legCovered listingAt listingInRange lotsWhere neverBelowZero numbers onTick orderInRange replays resting sameHoldings sameLots sorted startOfDay termsInRange tickMultiple tradeInRange uncrossed usedOnce wellFormed
+unfolding allRight table contract order trade account asked buys sells trades test all allOf sumOf accountAt afterLeg ahead aheadOfFirst allNumbers allowedToday balanceInRange bookLeg bookTrade bookTrades contractInRange countersInRange dayHigh dayLow holdingAt holdingInRange holdingsInRange legCovered listingAt listingInRange lotsWhere neverBelowZero numbers onTick orderInRange replays resting sameHoldings sameLots sorted startOfDay termsInRange tickMultiple tradeInRange uncrossed usedOnce wellFormedContents
 well-formed-examples = refl

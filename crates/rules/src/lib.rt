@@ -144,7 +144,8 @@ pub struct Taker {
     pub best: u32,
 }
 
-// "Each answer holds a code, an order number, lots traded and lots rested (insert) or removed (cancel, pull)."
+// "Each answer holds a code, an order number, lots traded and lots rested (insert; a vanished remainder isn't counted) or
+// removed (cancel, pull)."
 pub struct Answer {
     pub code: u32,
     pub number: u32,

@@ -1,59 +1,45 @@
+-- `book::queue::drop_front` meets its contract: the queue comes back closed up. Assumes nothing.
 use mathlib.Core.Path.{refl}
-use Rattle.book.proofs.Queues.{dropped-orders}
 use borrow.Author.Needs.{needs}
+use Rattle.book.proofs.Queues.{dropped-orders}
 use Rattle.book.proofs.queue.drop_front.Statement.{statement}
 use Rattle.book.proofs.queue.drop_front.Tie as tie
-use Rattle.book.proofs.queue.drop_front.Reads as reads
-use Rattle.book.proofs.queue.drop_front.Lts as lts
-use Rattle.areas.proofs.close_up.Reads as close-up-reads
 
--- src/queue.rt:103:13
 mul-a : tie.Need-mul-a
 mul-a c = search needs
 
--- src/queue.rt:104:13
 mul-e : tie.Need-mul-e
 mul-e c = search needs
 
--- src/queue.rt:104:23
 mul-e-2 : tie.Need-mul-e-2
 mul-e-2 c = search needs
 
--- src/queue.rt:104:13
 add-e : tie.Need-add-e
 add-e c = search needs
 
--- src/queue.rt:105:21
 mul-close-up : tie.Need-mul-close-up
 mul-close-up c = search needs
 
--- src/queue.rt:105:21
 sub-close-up : tie.Need-sub-close-up
 sub-close-up c = search needs
 
--- src/queue.rt:105:21
 part-close-up-start : tie.Need-part-close-up-start
 part-close-up-start c = search needs
 
--- src/queue.rt:105:21
 part-close-up-end : tie.Need-part-close-up-end
 part-close-up-end c = search needs
 
--- src/queue.rt:105:38
 mul-close-up-2 : tie.Need-mul-close-up-2
 mul-close-up-2 c = search needs
 
--- src/queue.rt:105:5
 close-up-requires : tie.Need-close-up-requires
 close-up-requires c κs = search needs
 
--- src/queue.rt:99:1
 same-length : tie.Need-same-length
 same-length c = search needs
 
--- src/queue.rt:99:1
 returns : tie.Need-returns
-returns c = 
+returns c =
     let start = c .before .before .before .before .before in
     dropped-orders (start .args .area .now) (start .args .c) (start .args .count) (start .args .k) _ _ (start .pre .0) refl (start .pre .1) (c .before .before .close-up .ensures)
 

@@ -1,63 +1,48 @@
+-- `book::queue::remove` meets its contract: the part from the place on comes back closed up. Assumes nothing.
 use mathlib.Core.Path.{refl}
-use Rattle.book.proofs.Queues.{removed-order}
 use borrow.Author.Needs.{needs}
+use Rattle.book.proofs.Queues.{removed-order}
 use Rattle.book.proofs.queue.remove.Statement.{statement}
 use Rattle.book.proofs.queue.remove.Tie as tie
-use Rattle.book.proofs.queue.remove.Reads as reads
-use Rattle.book.proofs.queue.remove.Lts as lts
-use Rattle.areas.proofs.close_up.Reads as close-up-reads
 
--- src/queue.rt:93:13
 mul-a : tie.Need-mul-a
 mul-a c = search needs
 
--- src/queue.rt:93:23
 mul-a-2 : tie.Need-mul-a-2
 mul-a-2 c = search needs
 
--- src/queue.rt:93:13
 add-a : tie.Need-add-a
 add-a c = search needs
 
--- src/queue.rt:94:13
 mul-e : tie.Need-mul-e
 mul-e c = search needs
 
--- src/queue.rt:94:23
 mul-e-2 : tie.Need-mul-e-2
 mul-e-2 c = search needs
 
--- src/queue.rt:94:13
 add-e : tie.Need-add-e
 add-e c = search needs
 
--- src/queue.rt:95:21
 mul-close-up : tie.Need-mul-close-up
 mul-close-up c = search needs
 
--- src/queue.rt:95:21
 sub-close-up : tie.Need-sub-close-up
 sub-close-up c = search needs
 
--- src/queue.rt:95:21
 part-close-up-start : tie.Need-part-close-up-start
 part-close-up-start c = search needs
 
--- src/queue.rt:95:21
 part-close-up-end : tie.Need-part-close-up-end
 part-close-up-end c = search needs
 
--- src/queue.rt:95:5
 close-up-requires : tie.Need-close-up-requires
 close-up-requires c κs = search needs
 
--- src/queue.rt:89:1
 same-length : tie.Need-same-length
 same-length c = search needs
 
--- src/queue.rt:89:1
 returns : tie.Need-returns
-returns c = 
+returns c =
     let start = c .before .before .before .before .before in
     removed-order (start .args .area .now) (start .args .c) (start .args .count) (start .args .i) _ _ _ (start .pre .0) refl refl (start .pre .1) (c .before .before .close-up .ensures)
 
