@@ -10,6 +10,7 @@ use lib.IntN.{ℤ, pos, _-ℤ_}
 use mir.Facts.{fits-below, toZ-ofZ}
 use mir.Syntax.{w32, w64}
 use mir.Val.{Fits, SFits, toZ, ofZ}
+use Rattle.laws.specs.Bound.{within-diff}
 use Rattle.laws.specs.Sums.{sumOf}
 use Rattle.rules.specs.Settlement.{Leg, Batch, Day, dayStart, afterLegs, firstLots, otherLots, holdingGain}
 use Rattle.accounting.specs.Article32.{lotsOf, AllCovered}
@@ -105,6 +106,12 @@ module _ (reference long short : ℕ) (ls : List Leg) (covered : AllCovered (day
   pub losses-small : l .opened + price * s .lots ≤ 4_000_000_000_000
   losses-small = omega (arith, marked-small price (s .lots) h (q .few), p .opened-small)
 
+  closes-small : l .closes + s .closed ≤ 4_000_000_000_000
+  closes-small = omega (arith, p .closes-small, q .closed-small)
+
+  closed-small : l .closed + s .closes ≤ 4_000_000_000_000
+  closed-small = omega (arith, p .closed-small, q .closes-small)
+
   pub gains-fit : Fits w64 (price * l .lots + s .opened)
   gains-fit = fits-below {n = 4_000_000_000_000} tt gains-small
 
@@ -115,7 +122,11 @@ module _ (reference long short : ℕ) (ls : List Leg) (covered : AllCovered (day
       → x ≡ pos (l .closes + s .closed) -ℤ pos (l .closed + s .closes) → y ≡ pos (price * l .lots + s .opened) -ℤ pos (l .opened + price * s .lots)
       → ProfitIs (afterLegs (dayStart reference long short) ls) price (record { closing = toZ w64 (ofZ w64 x); holding = toZ w64 (ofZ w64 y) })
   profit-is x y f g e k =
+      let b : toZ w64 (ofZ w64 x) ≡ pos (l .closes + s .closed) -ℤ pos (l .closed + s .closes) = toZ-ofZ {w = w64} f ∙ e in
+      let c : toZ w64 (ofZ w64 y) ≡ pos (price * l .lots + s .opened) -ℤ pos (l .opened + price * s .lots) = toZ-ofZ {w = w64} g ∙ k in
       record {
-        closing = toZ-ofZ {w = w64} f ∙ e ∙ sym (closing-by-sides reference long short ls covered l s p q);
-        holding = toZ-ofZ {w = w64} g ∙ k ∙ sym (holding-by-sides reference long short ls covered l s p q price);
+        closing = b ∙ sym (closing-by-sides reference long short ls covered l s p q);
+        holding = c ∙ sym (holding-by-sides reference long short ls covered l s p q price);
+        closing-small = rw b (within-diff closes-small closed-small);
+        holding-small = rw c (within-diff gains-small losses-small);
       }

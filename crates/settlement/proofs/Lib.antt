@@ -6,3 +6,7 @@ pub mod Quoting
 pub mod FirstIn
 pub mod Legs
 pub mod Gains
+pub mod Places
+pub mod Clearing
+pub mod Totals
+pub mod Carrying

@@ -2,3 +2,4 @@
 pub mod Charge
 pub mod Day
 pub mod Sides
+pub mod Settling

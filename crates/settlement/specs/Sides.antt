@@ -4,6 +4,7 @@ use mathlib.Core.Bool.{Bool, true, false, not, _&&_}
 use mathlib.Core.List.{List, [], _∷_, _++_}
 use mathlib.Core.Path.{_≡_}
 use Prim.Native.Nat.{ℕ, _+_, _*_, _≤_}
+use Rattle.laws.specs.Bound.{Within}
 use Rattle.laws.specs.Choice.{pick}
 use Rattle.laws.specs.Sums.{sumOf}
 use Rattle.rules.specs.Memory.{recordedTrades}
@@ -86,6 +87,8 @@ dayOver reference h a c ts = afterLegs (dayStart reference (h .startlong) (h .st
 pub record ProfitIs (d : Day) (price : ℕ) (r : Profit) : Type 0 where
   pub closing : r .closing ≡ d .closing
   pub holding : r .holding ≡ holdingGain price d
+  pub closing-small : Within 4_000_000_000_000 (r .closing)
+  pub holding-small : Within 4_000_000_000_000 (r .holding)
 
 -- ---- what they ask for: values in range, and closes that find their lots
 

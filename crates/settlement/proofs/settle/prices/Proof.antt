@@ -1,0 +1,88 @@
+use Rattle.settlement.proofs.settle.prices.Statement.{statement}
+use Rattle.settlement.proofs.settle.prices.Tie as tie
+use Rattle.settlement.proofs.settle.prices.Reads as reads
+use Rattle.settlement.proofs.settle.prices.Lts as lts
+use Rattle.settlement.proofs.price.settlement_price.Reads as settlement-price-reads
+
+abbrev Inv-loop : tie.InvT-loop
+Inv-loop buys sells trades state contracts count prices₀ c₀ prices c = ?
+
+abbrev μ-loop : tie.MeasureT-loop
+μ-loop buys sells trades state contracts count prices₀ c₀ prices c = ?
+
+-- src/settle.rt:33:5
+loop-holds : tie.Need-loop-holds Inv-loop μ-loop
+loop-holds c = ?
+
+-- src/settle.rt:34:24
+mul-contract : tie.Need-mul-contract Inv-loop μ-loop
+mul-contract c = ?
+
+-- src/settle.rt:34:24
+element-copy-out-contract : tie.Need-element-copy-out-contract Inv-loop μ-loop
+element-copy-out-contract c = ?
+
+-- src/settle.rt:35:24
+mul-buycount : tie.Need-mul-buycount Inv-loop μ-loop
+mul-buycount c = ?
+
+-- src/settle.rt:35:24
+element-copy-out-buycount : tie.Need-element-copy-out-buycount Inv-loop μ-loop
+element-copy-out-buycount c = ?
+
+-- src/settle.rt:36:25
+mul-sellcount : tie.Need-mul-sellcount Inv-loop μ-loop
+mul-sellcount c = ?
+
+-- src/settle.rt:36:25
+element-copy-out-sellcount : tie.Need-element-copy-out-sellcount Inv-loop μ-loop
+element-copy-out-sellcount c = ?
+
+-- src/settle.rt:37:21
+settlement-price-requires : tie.Need-settlement-price-requires Inv-loop μ-loop
+settlement-price-requires c κs = ?
+
+-- src/settle.rt:37:9
+mul-prices : tie.Need-mul-prices Inv-loop μ-loop
+mul-prices c = ?
+
+-- src/settle.rt:37:9
+array-write-prices : tie.Need-array-write-prices Inv-loop μ-loop
+array-write-prices c = ?
+
+-- src/settle.rt:38:9
+add-c : tie.Need-add-c Inv-loop μ-loop
+add-c c = ?
+
+-- src/settle.rt:33:5
+loop-less : tie.Need-loop-less Inv-loop μ-loop
+loop-less c = ?
+
+-- src/settle.rt:33:5
+loop-again : tie.Need-loop-again Inv-loop μ-loop
+loop-again c = ?
+
+-- src/settle.rt:25:1
+returns : tie.Need-returns Inv-loop μ-loop
+returns c = ?
+
+pub prices-spec : {M : Type 1} → statement M
+prices-spec =
+    tie.close
+    (tie.spec
+    Inv-loop
+    μ-loop
+    loop-holds
+    mul-contract
+    element-copy-out-contract
+    mul-buycount
+    element-copy-out-buycount
+    mul-sellcount
+    element-copy-out-sellcount
+    settlement-price-requires
+    mul-prices
+    array-write-prices
+    add-c
+    loop-less
+    loop-again
+    returns)
