@@ -10,3 +10,5 @@ pub mod Places
 pub mod Clearing
 pub mod Totals
 pub mod Carrying
+pub mod Formed
+pub mod Report

@@ -2,7 +2,7 @@
 use mathlib.Core.Bool.{true}
 use mathlib.Core.List.{List, [], map}
 use mathlib.Core.Path.{_≡_}
-use Prim.Native.Nat.{ℕ, _*_, _^_, _<_, _≤_}
+use Prim.Native.Nat.{ℕ, _+_, _*_, _^_, _<_, _≤_}
 use lib.IntN.{ℤ, pos, _+ℤ_, _*ℤ_}
 use lib.ListN.{length, getD, take}
 use Rattle.laws.specs.Bound.{Within}
@@ -13,8 +13,8 @@ use Rattle.rules.specs.Answers.{codeOf}
 use Rattle.rules.specs.Bounds.{maxContracts, maxAccounts}
 use Rattle.rules.specs.Exchange.{noAccount, noContract, noHolding}
 use Rattle.rules.specs.Margin as margin
-use Rattle.rules.specs.Memory.{Memory, Declared, exchangeOf, put, putAccounts, recordedTrades, wellFormedMemory}
-use Rattle.rules.specs.Settlement.{Day, holdingGain, settlementPrice, closingProfit, holdingProfit, carriedHolding, settled}
+use Rattle.rules.specs.Memory.{Memory, Declared, exchangeOf, put, putAccounts, putFirst, recordedTrades, wellFormedMemory}
+use Rattle.rules.specs.Settlement.{Day, holdingGain, settlementPrice, closingProfit, holdingProfit, carriedHolding, settledContract, settled}
 use Rattle.rules.specs.declared.Account.{Account}
 use Rattle.rules.specs.declared.Command.the-variants.{Settle}
 use Rattle.rules.specs.declared.Contract.{Contract}
@@ -112,3 +112,18 @@ pub record AllChargeable (s : State) (buys sells : List ℕ) : Type 0 where
 
 pub record ChargesAre (s : State) (buys sells : List ℕ) (r : List ℕ) : Type 0 where
   pub charged : (trades : List ℕ) → r ≡ padded maxAccounts 0 (tabulate (s .accountcount) (margin.charged (exchangeOf (memoryOf s buys sells trades))))
+
+-- the state of the next day, its accounts and prices given
+abbrev pub nextDay : State → List Account → List ℕ → State
+nextDay s accounts prices =
+    record {
+      contracts = putFirst (tabulate (s .contractcount) (λ c. settledContract (contractIn s c) (getD prices c 0))) (s .contracts);
+      accounts = accounts;
+      buys = putFirst (tabulate (s .contractcount) (λ c. 0)) (s .buys);
+      sells = putFirst (tabulate (s .contractcount) (λ c. 0)) (s .sells);
+      contractcount = s .contractcount;
+      accountcount = s .accountcount;
+      tradecount = 0;
+      next = 1;
+      settlements = s .settlements + 1;
+    }
