@@ -1,5 +1,5 @@
 -- Resting orders and the day's trades cleared from their areas: what the cleared parts make of the whole area. Assumes nothing.
-use mathlib.Core.List.{List, []}
+use mathlib.Core.List.{List, [], _++_}
 use mathlib.Core.Path.{_≡_, refl, sym, ap, _∙_}
 use Prim.Native.Nat.{ℕ, zero, suc, _+_, _-_, _*_, _<_, _≤_}
 use native.Mathlib.Numerals.{add-one}
@@ -60,7 +60,10 @@ clearing-done area₀ counts contracts c area h w =
 
 -- ---- the trades, at the front of their area
 
-pub trades-cleared : (area : List ℕ) (n : ℕ) (part : List ℕ) → 9 * n ≤ length area → part ≡ replicate (length (take (9 * n - 0) (drop 0 area))) 0
-    → putMid 0 (9 * n - 0) area part ≡ putTrades area n []
+pub trades-cleared : (area : List ℕ) (n : ℕ) (part : List ℕ) → 9 * n ≤ length area → part ≡ replicate (length (take (9 * n) area)) 0
+    → part ++ drop (9 * n) area ≡ putTrades area n []
 unfolding putTrades
-trades-cleared area n part room e = emptied trade-codec area 0 n noTrade refl (9 * n) part (omega arith) room e
+trades-cleared area n part room e =
+    let f : 9 * n - 0 ≡ 9 * n = omega arith in
+    ap (λ (k : ℕ). part ++ drop k area) (sym f)
+    ∙ emptied trade-codec area 0 n noTrade refl (9 * n) part (omega arith) room (e ∙ ap (λ (k : ℕ). replicate (length (take k area)) 0) (sym f))

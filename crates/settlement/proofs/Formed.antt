@@ -35,6 +35,10 @@ use Rattle.settlement.specs.Settling.{contractIn, accountIn, holdingIn}
 use Rattle.settlement.specs.Sides.{Profitable}
 use Rattle.settlement.proofs.InUse.{contracts-in-use, accounts-in-use, listing-in-use, account-in-use, holding-in-use}
 
+-- the arrays have room for the accounts in use
+pub accounts-declared : (m : Memory) → Declared (m .state) → wellFormedMemory m ≡ true → m .state .accountcount ≤ length (m .state .accounts)
+accounts-declared m d w = omega (arith, d .accounts, memory-ok m w .counts .accounts-high)
+
 -- ---- a contract
 
 pub record ContractFacts (c : Contract) : Type 0 where
@@ -68,7 +72,7 @@ all-sized x (t ∷ ts) h =
 
 -- ---- the memory
 
-module _ (m : Memory) (d : Declared (m .state)) (w : wellFormedMemory m ≡ true) where
+module _ (m : Memory) (room : m .state .accountcount ≤ length (m .state .accounts)) (w : wellFormedMemory m ≡ true) where
   abbrev s : State
   s = m .state
 
@@ -84,11 +88,8 @@ module _ (m : Memory) (d : Declared (m .state)) (w : wellFormedMemory m ≡ true
   pub accounts-few : s .accountcount ≤ 32
   accounts-few = its .counts .accounts-high
 
-  pub accounts-declared : s .accountcount ≤ length (s .accounts)
-  accounts-declared = omega (arith, accounts-few, d .accounts)
-
   pub accounts-counted : length (exchangeOf m .accounts) ≡ s .accountcount
-  accounts-counted = accounts-in-use m accounts-declared
+  accounts-counted = accounts-in-use m room
 
   module _ (c : ℕ) (lc : c < s .contractcount) where
     listed : c < length (exchangeOf m .listings)

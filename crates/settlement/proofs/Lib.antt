@@ -12,3 +12,4 @@ pub mod Totals
 pub mod Carrying
 pub mod Formed
 pub mod Report
+pub mod Outcome

@@ -13,7 +13,7 @@ use Rattle.rules.specs.Answers.{codeOf}
 use Rattle.rules.specs.Bounds.{maxContracts, maxAccounts}
 use Rattle.rules.specs.Exchange.{noAccount, noContract, noHolding}
 use Rattle.rules.specs.Margin as margin
-use Rattle.rules.specs.Memory.{Memory, Declared, exchangeOf, put, putAccounts, putFirst, recordedTrades, wellFormedMemory}
+use Rattle.rules.specs.Memory.{Memory, Declared, exchangeOf, put, putAccounts, putFirst, putQueues, putTrades, recordedTrades, wellFormedMemory}
 use Rattle.rules.specs.Settlement.{Day, holdingGain, settlementPrice, closingProfit, holdingProfit, carriedHolding, settledContract, settled}
 use Rattle.rules.specs.declared.Account.{Account}
 use Rattle.rules.specs.declared.Command.the-variants.{Settle}
@@ -104,6 +104,18 @@ pub record Clearable (area cs : List ℕ) (n : ℕ) : Type 0 where
   pub few : n ≤ 4
   pub counts : (c : ℕ) → c < n → getD cs c 0 ≤ 64
   pub room : 320 * n ≤ length area
+
+pub record AllClearable (s : State) (bids offers day : List ℕ) : Type 0 where
+  pub buys : Clearable bids (s .buys) (s .contractcount)
+  pub sells : Clearable offers (s .sells) (s .contractcount)
+  pub few : s .tradecount ≤ 1_024
+  pub trades : 9 * s .tradecount ≤ length day
+
+-- no order and no trade left
+pub record ClearedAre (s : State) (bids offers day bids′ offers′ day′ : List ℕ) : Type 0 where
+  pub buys : bids′ ≡ putQueues bids (s .buys) (λ c. []) (s .contractcount)
+  pub sells : offers′ ≡ putQueues offers (s .sells) (λ c. []) (s .contractcount)
+  pub trades : day′ ≡ putTrades day (s .tradecount) []
 
 -- every account in use can be charged
 pub record AllChargeable (s : State) (buys sells : List ℕ) : Type 0 where

@@ -8,8 +8,8 @@ ghost use Rattle.laws.specs.Tabulate.{tabulate};
 ghost use Rattle.rules.specs.Exchange.{noContract};
 ghost use Rattle.rules.specs.Memory.{putFirst, putQueues};
 ghost use Rattle.rules.specs.Settlement as settlement;
-ghost use Rattle.settlement.specs.Settling.{Clearable};
-use rules::Contract;
+ghost use Rattle.settlement.specs.Settling.{Clearable, AllClearable, ClearedAre};
+use rules::{Contract, State};
 
 // "the settlement price becomes the reference, contracts return to pre-open"
 fn reopened(contract: Contract, price: u32) -> Contract
@@ -51,7 +51,7 @@ pub fn no_orders(counts: [usize; 4], contracts: usize) -> [usize; 4]
 }
 
 // .. and their places in the area.
-pub fn clear_queues(area: &mut [u32], counts: [usize; 4], contracts: usize)
+fn clear_queues(area: &mut [u32], counts: [usize; 4], contracts: usize)
     requires { ⌜ Clearable (now area) counts contracts ⌝ }
     ensures { λ _. ⌜ now (area .exit) ≡ putQueues (now (area .entry)) counts (λ c. []) contracts ⌝ }
 {
@@ -63,4 +63,18 @@ pub fn clear_queues(area: &mut [u32], counts: [usize; 4], contracts: usize)
         areas::clear(&mut area[a..e]);
         c += 1;
     }
+}
+
+// "resting orders go", "trades .. start afresh": every place in use of the three areas is set to zero.
+pub fn clear_areas(state: State, buys: &mut [u32], sells: &mut [u32], trades: &mut [u32])
+    requires { ⌜ AllClearable state (now buys) (now sells) (now trades) ⌝ }
+    ensures { λ _. ⌜ ClearedAre state (now (buys .entry)) (now (sells .entry)) (now (trades .entry)) (now (buys .exit)) (now (sells .exit)) (now (trades .exit)) ⌝ }
+{
+    let contracts = state.contractcount;
+    let bids = state.buys;
+    let offers = state.sells;
+    let e = 9 * state.tradecount;
+    clear_queues(buys, bids, contracts);
+    clear_queues(sells, offers, contracts);
+    areas::clear(&mut trades[..e]);
 }

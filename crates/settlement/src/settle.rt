@@ -88,18 +88,12 @@ pub fn settle(state: State, buys: &mut [u32], sells: &mut [u32], trades: &mut [u
     requires { ⌜ Settleable state (now buys) (now sells) (now trades) ⌝ }
     ensures { λ r. ⌜ SettledIs (memoryOf state (now (buys .entry)) (now (sells .entry)) (now (trades .entry))) r (now (buys .exit)) (now (sells .exit)) (now (trades .exit)) ⌝ }
 {
-    let contracts = state.contractcount;
-    let bids = state.buys;
-    let offers = state.sells;
-    let e = 9 * state.tradecount;
     let prices = prices(state, &buys[..], &sells[..], &trades[..]);
     let books = balances::all_paid(state, &trades[..], prices);
     let accounts = books.accounts;
     let closing = books.closing;
     let holding = books.holding;
-    reopen::clear_queues(buys, bids, contracts);
-    reopen::clear_queues(sells, offers, contracts);
-    areas::clear(&mut trades[..e]);
+    reopen::clear_areas(state, buys, sells, trades);
     let next = next_day(state, accounts, prices);
     let charged = charges(next, &buys[..], &sells[..]);
     Settled {
