@@ -4,11 +4,11 @@ use mathlib.Core.Bool.{Bool, true, false}
 use mathlib.Core.List.{List, _++_, append-assoc, append-nil}
 use mathlib.Core.Logic.{_⊎_, inl, inr, ⊎-elim}
 use mathlib.Core.Path.{_≡_, refl, sym, ap, _∙_}
-use Prim.Native.Nat.{ℕ, _+_, _-_, _*_, _<_, _≤_, max}
-use native.Mathlib.Nat.{add-zero, zero-add, mul-le-mul-left, eq-or-lt-of-le}
+use Prim.Native.Nat.{ℕ, zero, suc, _+_, _-_, _*_, _<_, _≤_, max}
+use native.Mathlib.Nat.{add-zero, zero-add, mul-le-mul-left, eq-or-lt-of-le, le-of-suc-le-suc}
 use native.Mathlib.Omega.{arith}
-use borrow.Author.Tests.{leb-true, leb-false, ltb-true, ltb-false}
-use lib.Dec.{leb, ltb}
+use borrow.Author.Tests.{leb-true, leb-false, ltb-true, ltb-false, eqb-true, eqb-false}
+use lib.Dec.{leb, ltb, eqb}
 use lib.ListN.{length, getD, take, drop, replicate, length-append, length-take, length-replicate, take-append-drop, replicate-append-replicate}
 use lib.Seq.{getD-take, getD-drop, length-take-le}
 use Rattle.laws.specs.Tabulate.{tabulate, tabulate-eq}
@@ -17,7 +17,7 @@ use Rattle.areas.specs.Records.{Codec, encode, records, store}
 use Rattle.areas.proofs.Lists.{take-over, drop-over, drop-padded, padded-full}
 use Rattle.areas.proofs.Records.{length-encode, length-records, getD-records, take-records, length-store, store-front, store-append, store-records, records-store-front, records-store-before, records-store-after, store-comm}
 use Rattle.rules.specs.Exchange.{noOrder, noTrade}
-use Rattle.rules.specs.Memory.{orderWords, orderFrom, tradeWords, tradeFrom, queueIn, recordedTrades, putQueue, putTrades}
+use Rattle.rules.specs.Memory.{orderWords, orderFrom, tradeWords, tradeFrom, queueIn, recordedTrades, putQueue, putQueues, putTrades}
 use Rattle.rules.specs.declared.Order.{Order}
 use Rattle.rules.specs.declared.Trade.{Trade}
 
@@ -194,6 +194,76 @@ module _ (area : List ℕ) (c n : ℕ) (q : List Order) where
         (λ (k : c < d). store-comm order-codec order-codec area (320 * c) (padded n noOrder q) (320 * d) (padded m noOrder r) (rw length-filled (omega arith)) (rw length-filled (omega arith)))
         (λ (k : d < c). sym (store-comm order-codec order-codec area (320 * d) (padded m noOrder r) (320 * c) (padded n noOrder q) (rw length-filled (omega arith)) (rw length-filled (omega arith))))
         (before-or-after c d apart)
+
+-- ---- the queues of all contracts
+
+apart-below : (b c : ℕ) → suc b ≤ c → b ≡ c → ⊥
+apart-below b c h e = omega arith
+
+module _ (area counts : List ℕ) (queues : ℕ → List Order) where
+  pub putQueues-same : (n : ℕ) → ((c : ℕ) → c < n → queues c ≡ queueIn area c (getD counts c 0)) → ((c : ℕ) → c < n → getD counts c 0 ≤ 64) → 320 * n ≤ length area
+      → putQueues area counts queues n ≡ area
+  unfolding putQueues
+  putQueues-same zero same few room = refl
+  putQueues-same (suc c) same few room =
+      rw (putQueues-same c (λ d h. same d (omega arith)) (λ d h. few d (omega arith)) (omega arith), same c (omega arith))
+      (put-queue area c (getD counts c 0) (omega (arith, few c (omega arith))))
+
+  -- one contract's queue alone has changed
+  pub putQueues-one : (n d : ℕ) → d < n → ((c : ℕ) → c < n → (d ≡ c → ⊥) → queues c ≡ queueIn area c (getD counts c 0)) → ((c : ℕ) → c < n → getD counts c 0 ≤ 64)
+      → length (queues d) ≤ 64 → 320 * n ≤ length area → putQueues area counts queues n ≡ putQueue area d (getD counts d 0) (queues d)
+  unfolding putQueues
+  putQueues-one zero d h same few short room = absurd (omega arith)
+  putQueues-one (suc c) d h same few short room = go (eqb d c) refl (λ l. putQueues-one c d l (λ b k. same b (omega arith)) (λ b k. few b (omega arith)) short (omega arith))
+    where
+      before : (b : ℕ) → d ≡ c → b < c → d ≡ b → ⊥
+      before b e l k = omega arith
+
+      go : (t : Bool) → eqb d c ≡ t → (d < c → putQueues area counts queues c ≡ putQueue area d (getD counts d 0) (queues d))
+          → putQueue (putQueues area counts queues c) c (getD counts c 0) (queues c) ≡ putQueue area d (getD counts d 0) (queues d)
+      go true e ih =
+          let k : d ≡ c = eqb-true d c e in
+          rw (putQueues-same c (λ b l. same b (omega arith) (before b k l)) (λ b l. few b (omega arith)) (omega arith), k)
+      go false e ih =
+          let apart : d ≡ c → ⊥ = eqb-false d c e in
+          let l : d < c = ⊎-elim (λ k. absurd (apart k)) (λ k. k) (eq-or-lt-of-le (le-of-suc-le-suc h)) in
+          let wide : length (putQueue area d (getD counts d 0) (queues d)) ≡ length area = length-putQueue area d (getD counts d 0) (queues d) (few d (omega arith)) short (omega arith) in
+          let other : queueIn (putQueue area d (getD counts d 0) (queues d)) c (getD counts c 0) ≡ queueIn area c (getD counts c 0)
+          = queue-put-other area d (getD counts d 0) (queues d) (few d (omega arith)) short c apart (getD counts c 0) (few c (omega arith)) (omega arith) in
+          rw (ih l, same c (omega arith) apart, ← other) (put-queue (putQueue area d (getD counts d 0) (queues d)) c (getD counts c 0) (omega (arith, few c (omega arith))))
+
+  -- each within 64 orders, before and after
+  module _ (contracts : ℕ) (few : (c : ℕ) → c < contracts → getD counts c 0 ≤ 64) (short : (c : ℕ) → c < contracts → length (queues c) ≤ 64) (room : 320 * contracts ≤ length area) where
+    pub length-putQueues : (n : ℕ) → n ≤ contracts → length (putQueues area counts queues n) ≡ length area
+    unfolding putQueues
+    length-putQueues zero k = refl
+    length-putQueues (suc c) k =
+        let ih : length (putQueues area counts queues c) ≡ length area = length-putQueues c (omega arith) in
+        length-putQueue (putQueues area counts queues c) c (getD counts c 0) (queues c) (few c k) (short c k) (omega arith) ∙ ih
+
+    -- a contract that they are not of
+    pub queue-putQueues-past : (n c m : ℕ) → n ≤ contracts → n ≤ c → m ≤ 64 → queueIn (putQueues area counts queues n) c m ≡ queueIn area c m
+    unfolding putQueues
+    queue-putQueues-past zero c m k past h = refl
+    queue-putQueues-past (suc b) c m k past h =
+        queue-put-other (putQueues area counts queues b) b (getD counts b 0) (queues b) (few b k) (short b k) c (apart-below b c past) m h (rw (length-putQueues b (omega arith)) (omega arith))
+        ∙ queue-putQueues-past b c m (omega arith) (omega arith) h
+
+    pub queue-putQueues : (n c : ℕ) → n ≤ contracts → c < n → queueIn (putQueues area counts queues n) c (length (queues c)) ≡ queues c
+    unfolding putQueues
+    queue-putQueues zero c k h = absurd (omega arith)
+    queue-putQueues (suc b) c k h = go (eqb b c) refl (λ l. queue-putQueues b c (omega arith) l)
+      where
+        fits : 320 * b ≤ length (putQueues area counts queues b)
+        fits = rw (length-putQueues b (omega arith)) (omega arith)
+
+        go : (t : Bool) → eqb b c ≡ t → (c < b → queueIn (putQueues area counts queues b) c (length (queues c)) ≡ queues c)
+            → queueIn (putQueue (putQueues area counts queues b) b (getD counts b 0) (queues b)) c (length (queues c)) ≡ queues c
+        go true e ih = rw (← eqb-true b c e) (queue-put (putQueues area counts queues b) b (getD counts b 0) (queues b) fits)
+        go false e ih =
+            let apart : b ≡ c → ⊥ = eqb-false b c e in
+            let l : c < b = ⊎-elim (λ p. absurd (apart (sym p))) (λ p. p) (eq-or-lt-of-le (le-of-suc-le-suc h)) in
+            queue-put-other (putQueues area counts queues b) b (getD counts b 0) (queues b) (few b k) (short b k) c apart (length (queues c)) (short c (omega arith)) fits ∙ ih l
 
 -- ---- the day's trades
 

@@ -4,3 +4,4 @@ pub mod Queue
 pub mod Sorted
 pub mod Fillable
 pub mod Prices
+pub mod Holdings

@@ -1,0 +1,9 @@
+pub mod DayProfit
+pub mod Trades
+pub mod Booking
+pub mod Replay
+pub mod Facts
+pub mod Identity
+pub mod Reach
+pub mod PriceBound
+pub mod ProfitBound

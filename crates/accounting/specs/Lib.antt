@@ -1,0 +1,3 @@
+pub mod Article32
+pub mod Shape
+pub mod Money

@@ -1,0 +1,15 @@
+pub mod Tests
+pub mod Clauses
+pub mod Accepted
+pub mod Replay
+pub mod Carry
+pub mod Payments
+pub mod Numbers
+pub mod OneListing
+pub mod Phases
+pub mod Sorting
+pub mod Removal
+pub mod Ticks
+pub mod Settle
+pub mod Legs
+pub mod SweptQueue

@@ -1,0 +1,331 @@
+-- Trades booked to holdings: what a leg changes and what it leaves, bounds, and the replay of a day. Assumes nothing.
+use mathlib.Core.Bool.{Bool, true, false, _&&_, false≢true}
+use mathlib.Core.List.{List, [], _∷_, _++_, map}
+use mathlib.Core.Path.{_≡_, refl, sym, ap, ap₂, _∙_}
+use Prim.Native.Nat.{ℕ, zero, suc, _+_, _-_, _*_, _<_, _≤_}
+use native.Mathlib.Nat.{mul-suc}
+use native.Mathlib.Omega.{arith}
+use borrow.Author.Tests.{eqb-true, eq-eqb, ne-eqb, leb-true, le-leb}
+use lib.Dec.{eqb, leb}
+use lib.ListN.{length, getD, set, drop, length-set, List·getD-map}
+use lib.Seq.{getD-set-same, getD-set-other, map-set-same}
+use Rattle.laws.specs.Choice.{pick, pick-same, allOf, both-true}
+use Rattle.rules.specs.Exchange.{accountAt, holdingAt, noAccount, noHolding}
+use Rattle.rules.specs.Holdings.{withLong, withShort, afterLeg, withHolding, bookLeg, bookBuyer, bookTrade, bookTrades, legCovered, neverBelowZero, startHolding, startAccount, startOfDay, sameLots, sameHoldings}
+use Rattle.rules.specs.Matching.{tradedLots}
+use Rattle.rules.specs.declared.Account.{Account}
+use Rattle.rules.specs.declared.Holding.{Holding}
+use Rattle.rules.specs.declared.Trade.{Trade}
+use Rattle.rules.proofs.Fillable.{traded-nil, traded-cons}
+
+-- ---- one place of a list replaced
+
+-- what the new value shares with the old is as it was at every place
+pub kept-at : {A B : Type 0} (f : A → B) (l : List A) (i : ℕ) (y d : A) → f y ≡ f (getD l i d) → (k : ℕ) → f (getD (set l i y) k d) ≡ f (getD l k d)
+kept-at f [] i y d e k = refl
+kept-at f (x ∷ xs) zero y d e zero = e
+kept-at f (x ∷ xs) zero y d e (suc k) = refl
+kept-at f (x ∷ xs) (suc i) y d e zero = refl
+kept-at f (x ∷ xs) (suc i) y d e (suc k) = kept-at f xs i y d e k
+
+-- what holds of each value, and of the new one, holds of each after it
+pub each-set : {A : Type 0} (P : A → Type 0) (l : List A) (i : ℕ) (y d : A) → ((k : ℕ) → P (getD l k d)) → P y → (k : ℕ) → P (getD (set l i y) k d)
+each-set P [] i y d h p k = h k
+each-set P (x ∷ xs) zero y d h p zero = p
+each-set P (x ∷ xs) zero y d h p (suc k) = h (suc k)
+each-set P (x ∷ xs) (suc i) y d h p zero = h zero
+each-set P (x ∷ xs) (suc i) y d h p (suc k) = each-set P xs i y d (λ j. h (suc j)) p k
+
+-- ---- one leg
+
+-- the start of the day is as it was
+after-leg-start : (h : Holding) (sell : Bool) (close lots : ℕ) → startHolding (afterLeg h sell close lots) ≡ startHolding h
+unfolding afterLeg
+after-leg-start h sell close lots = go sell (eqb close 0)
+  where
+    go : (s o : Bool) → startHolding (pick s (pick o (withShort h (h .short + lots)) (withLong h (h .long - lots))) (pick o (withLong h (h .long + lots)) (withShort h (h .short - lots)))) ≡ startHolding h
+    go true true = refl
+    go true false = refl
+    go false true = refl
+    go false false = refl
+
+account-start : (x : Account) (c : ℕ) (sell : Bool) (close lots : ℕ) → startAccount (withHolding x c (afterLeg (getD (x .holdings) c noHolding) sell close lots)) ≡ startAccount x
+account-start x c sell close lots =
+    ap (λ (hs : List Holding). record { balance = x .balance; holdings = hs })
+    (map-set-same startHolding (x .holdings) c (afterLeg (getD (x .holdings) c noHolding) sell close lots) noHolding (after-leg-start (getD (x .holdings) c noHolding) sell close lots))
+
+module _ (l : List Account) (a c : ℕ) (sell : Bool) (close lots : ℕ) where
+  pub length-bookLeg : length (bookLeg l a c sell close lots) ≡ length l
+  unfolding bookLeg
+  length-bookLeg = length-set l a _
+
+  pub account-same : a < length l → accountAt (bookLeg l a c sell close lots) a ≡ withHolding (accountAt l a) c (afterLeg (holdingAt l a c) sell close lots)
+  unfolding bookLeg accountAt
+  account-same h = getD-set-same l a _ noAccount h
+
+  pub account-other : (b : ℕ) → (b ≡ a → ⊥) → accountAt (bookLeg l a c sell close lots) b ≡ accountAt l b
+  unfolding bookLeg accountAt
+  account-other b apart = getD-set-other l a b _ noAccount apart
+
+  pub holding-same : a < length l → c < length (accountAt l a .holdings) → holdingAt (bookLeg l a c sell close lots) a c ≡ afterLeg (holdingAt l a c) sell close lots
+  unfolding holdingAt
+  holding-same h k = rw (account-same h) (getD-set-same (accountAt l a .holdings) c _ noHolding k)
+
+  pub holding-other-account : (b d : ℕ) → (b ≡ a → ⊥) → holdingAt (bookLeg l a c sell close lots) b d ≡ holdingAt l b d
+  unfolding holdingAt
+  holding-other-account b d apart = rw (account-other b apart)
+
+  pub holding-other-contract : (b d : ℕ) → (d ≡ c → ⊥) → holdingAt (bookLeg l a c sell close lots) b d ≡ holdingAt l b d
+  unfolding bookLeg holdingAt accountAt
+  holding-other-contract b d apart = kept-at (λ x. getD (x .holdings) d noHolding) l a _ noAccount (getD-set-other (getD l a noAccount .holdings) c d _ noHolding apart) b
+
+  leg-balance : (b : ℕ) → accountAt (bookLeg l a c sell close lots) b .balance ≡ accountAt l b .balance
+  unfolding bookLeg accountAt
+  leg-balance b = kept-at (λ x. x .balance) l a _ noAccount refl b
+
+  leg-contracts : (b : ℕ) → length (accountAt (bookLeg l a c sell close lots) b .holdings) ≡ length (accountAt l b .holdings)
+  unfolding bookLeg accountAt
+  leg-contracts b = kept-at (λ x. length (x .holdings)) l a _ noAccount (length-set (getD l a noAccount .holdings) c _) b
+
+  leg-start : startOfDay (bookLeg l a c sell close lots) ≡ startOfDay l
+  unfolding bookLeg startOfDay accountAt holdingAt
+  leg-start = map-set-same startAccount l a _ noAccount (account-start (getD l a noAccount) c sell close lots)
+
+-- ---- trades
+
+module _ (l : List Account) (t : Trade) where
+  pub length-bookTrade : length (bookTrade l t) ≡ length l
+  unfolding bookTrade
+  length-bookTrade = length-bookLeg (bookBuyer l t) (t .seller) (t .contract) true (t .sellclose) (t .lots) ∙ length-bookLeg l (t .buyer) (t .contract) false (t .buyclose) (t .lots)
+
+  trade-balance : (b : ℕ) → accountAt (bookTrade l t) b .balance ≡ accountAt l b .balance
+  unfolding bookTrade
+  trade-balance b = leg-balance (bookBuyer l t) (t .seller) (t .contract) true (t .sellclose) (t .lots) b ∙ leg-balance l (t .buyer) (t .contract) false (t .buyclose) (t .lots) b
+
+  trade-contracts : (b : ℕ) → length (accountAt (bookTrade l t) b .holdings) ≡ length (accountAt l b .holdings)
+  unfolding bookTrade
+  trade-contracts b = leg-contracts (bookBuyer l t) (t .seller) (t .contract) true (t .sellclose) (t .lots) b ∙ leg-contracts l (t .buyer) (t .contract) false (t .buyclose) (t .lots) b
+
+  trade-start : startOfDay (bookTrade l t) ≡ startOfDay l
+  unfolding bookTrade
+  trade-start = leg-start (bookBuyer l t) (t .seller) (t .contract) true (t .sellclose) (t .lots) ∙ leg-start l (t .buyer) (t .contract) false (t .buyclose) (t .lots)
+
+  -- a contract that it is not of
+  pub holding-other-trade : (b d : ℕ) → (d ≡ t .contract → ⊥) → holdingAt (bookTrade l t) b d ≡ holdingAt l b d
+  unfolding bookTrade
+  holding-other-trade b d apart =
+      holding-other-contract (bookBuyer l t) (t .seller) (t .contract) true (t .sellclose) (t .lots) b d apart ∙ holding-other-contract l (t .buyer) (t .contract) false (t .buyclose) (t .lots) b d apart
+
+pub bookTrades-nil : (l : List Account) → bookTrades l [] ≡ l
+unfolding bookTrades
+bookTrades-nil l = refl
+
+pub bookTrades-cons : (l : List Account) (t : Trade) (ts : List Trade) → bookTrades l (t ∷ ts) ≡ bookTrades (bookTrade l t) ts
+unfolding bookTrades
+bookTrades-cons l t ts = refl
+
+pub bookTrades-append : (l : List Account) (ts us : List Trade) → bookTrades l (ts ++ us) ≡ bookTrades (bookTrades l ts) us
+unfolding bookTrades
+bookTrades-append l [] us = refl
+bookTrades-append l (t ∷ ts) us = bookTrades-append (bookTrade l t) ts us
+
+-- what no trade changes
+pub length-bookTrades : (l : List Account) (ts : List Trade) → length (bookTrades l ts) ≡ length l
+unfolding bookTrades
+length-bookTrades l [] = refl
+length-bookTrades l (t ∷ ts) = length-bookTrades (bookTrade l t) ts ∙ length-bookTrade l t
+
+pub booked-balance : (l : List Account) (ts : List Trade) (b : ℕ) → accountAt (bookTrades l ts) b .balance ≡ accountAt l b .balance
+unfolding bookTrades
+booked-balance l [] b = refl
+booked-balance l (t ∷ ts) b = booked-balance (bookTrade l t) ts b ∙ trade-balance l t b
+
+pub booked-contracts : (l : List Account) (ts : List Trade) (b : ℕ) → length (accountAt (bookTrades l ts) b .holdings) ≡ length (accountAt l b .holdings)
+unfolding bookTrades
+booked-contracts l [] b = refl
+booked-contracts l (t ∷ ts) b = booked-contracts (bookTrade l t) ts b ∙ trade-contracts l t b
+
+pub booked-start : (l : List Account) (ts : List Trade) → startOfDay (bookTrades l ts) ≡ startOfDay l
+unfolding bookTrades
+booked-start l [] = refl
+booked-start l (t ∷ ts) = booked-start (bookTrade l t) ts ∙ trade-start l t
+
+-- the same of one holding
+start-holding : (l : List Account) (b d : ℕ) → startHolding (holdingAt l b d) ≡ holdingAt (startOfDay l) b d
+unfolding holdingAt accountAt startOfDay
+start-holding l b d =
+    sym
+    (ap (λ (x : Account). getD (x .holdings) d noHolding) (List·getD-map startAccount l b noAccount) ∙ List·getD-map startHolding (getD l b noAccount .holdings) d noHolding)
+
+pub booked-start-holding : (l : List Account) (ts : List Trade) (b d : ℕ) → startHolding (holdingAt (bookTrades l ts) b d) ≡ startHolding (holdingAt l b d)
+booked-start-holding l ts b d = start-holding (bookTrades l ts) b d ∙ rw (booked-start l ts) (sym (start-holding l b d))
+
+-- ---- bounds
+
+-- no account holds more than so many lots, long or short, in any contract
+pub record HeldWithin (long short : ℕ) (l : List Account) : Type 0 where
+  pub longs : (b d : ℕ) → holdingAt l b d .long ≤ long
+  pub shorts : (b d : ℕ) → holdingAt l b d .short ≤ short
+
+pub held-more : {m n m′ n′ : ℕ} {l : List Account} → HeldWithin m n l → m ≤ m′ → n ≤ n′ → HeldWithin m′ n′ l
+held-more w h k = record { longs = λ b d. omega (arith, w .longs b d); shorts = λ b d. omega (arith, w .shorts b d) }
+
+-- what holds of every holding, and of the one that a leg makes, holds of every holding after it
+pub each-leg : (P : Holding → Type 0) (l : List Account) (a c : ℕ) (sell : Bool) (close lots : ℕ) → ((b d : ℕ) → P (holdingAt l b d)) → P (afterLeg (holdingAt l a c) sell close lots)
+    → (b d : ℕ) → P (holdingAt (bookLeg l a c sell close lots) b d)
+unfolding bookLeg holdingAt accountAt
+each-leg P l a c sell close lots h p =
+    each-set (λ x. (d : ℕ) → P (getD (x .holdings) d noHolding)) l a _ noAccount h (each-set P (getD l a noAccount .holdings) c _ noHolding (h a) p)
+
+-- a buy leg adds to long holdings alone, a sell leg to short ones, and no more than its lots
+after-leg-long : (h : Holding) (sell : Bool) (close lots : ℕ) → afterLeg h sell close lots .long ≤ h .long + pick sell 0 lots
+unfolding afterLeg
+after-leg-long h sell close lots = go sell (eqb close 0)
+  where
+    go : (s o : Bool) → pick s (pick o (withShort h (h .short + lots)) (withLong h (h .long - lots))) (pick o (withLong h (h .long + lots)) (withShort h (h .short - lots))) .long ≤ h .long + pick s 0 lots
+    go true true = omega arith
+    go true false = omega arith
+    go false true = omega arith
+    go false false = omega arith
+
+after-leg-short : (h : Holding) (sell : Bool) (close lots : ℕ) → afterLeg h sell close lots .short ≤ h .short + pick sell lots 0
+unfolding afterLeg
+after-leg-short h sell close lots = go sell (eqb close 0)
+  where
+    go : (s o : Bool) → pick s (pick o (withShort h (h .short + lots)) (withLong h (h .long - lots))) (pick o (withLong h (h .long + lots)) (withShort h (h .short - lots))) .short ≤ h .short + pick s lots 0
+    go true true = omega arith
+    go true false = omega arith
+    go false true = omega arith
+    go false false = omega arith
+
+pub held-leg : {m n : ℕ} (l : List Account) (a c : ℕ) (sell : Bool) (close lots : ℕ) → HeldWithin m n l → HeldWithin (m + pick sell 0 lots) (n + pick sell lots 0) (bookLeg l a c sell close lots)
+held-leg {m} {n} l a c sell close lots w =
+    record {
+      longs =
+          each-leg (λ h. h .long ≤ m + pick sell 0 lots) l a c sell close lots (λ b d. omega (arith, w .longs b d))
+          (omega (arith, after-leg-long (holdingAt l a c) sell close lots, w .longs a c));
+      shorts =
+          each-leg (λ h. h .short ≤ n + pick sell lots 0) l a c sell close lots (λ b d. omega (arith, w .shorts b d))
+          (omega (arith, after-leg-short (holdingAt l a c) sell close lots, w .shorts a c));
+    }
+
+pub held-trade : {m n : ℕ} (l : List Account) (t : Trade) → HeldWithin m n l → HeldWithin (m + t .lots) (n + t .lots) (bookTrade l t)
+unfolding bookTrade
+held-trade l t w =
+    held-more
+    (held-leg (bookBuyer l t) (t .seller) (t .contract) true (t .sellclose) (t .lots) (held-leg l (t .buyer) (t .contract) false (t .buyclose) (t .lots) w))
+    (omega arith) (omega arith)
+
+-- so trades add no more than the lots traded
+pub held-trades : {m n : ℕ} (l : List Account) (ts : List Trade) → HeldWithin m n l → HeldWithin (m + tradedLots ts) (n + tradedLots ts) (bookTrades l ts)
+unfolding bookTrades
+held-trades l [] w = held-more w (omega arith) (omega arith)
+held-trades l (t ∷ ts) w = held-more (held-trades (bookTrade l t) ts (held-trade l t w)) (omega (arith, traded-cons t ts)) (omega (arith, traded-cons t ts))
+
+pub traded-bound : (k : ℕ) (ts : List Trade) → allOf (λ t. leb (t .lots) k) ts ≡ true → tradedLots ts ≤ k * length ts
+unfolding allOf
+traded-bound k [] h = omega (arith, traded-nil)
+traded-bound k (t ∷ ts) h =
+    let b = both-true (leb (t .lots) k) (allOf (λ t. leb (t .lots) k) ts) h in
+    omega (arith, traded-cons t ts, traded-bound k ts (b .1), leb-true (t .lots) k (b .0), mul-suc k (length ts))
+
+-- ---- the replay
+
+-- a leg that is covered closes no more than is held, so that the difference is the plain one
+pub leg-covered : (l : List Account) (a c : ℕ) (sell : Bool) (close lots : ℕ) → legCovered l a c sell close lots ≡ true → (close ≡ 0 → ⊥)
+    → lots ≤ pick sell (holdingAt l a c .long) (holdingAt l a c .short)
+unfolding legCovered
+leg-covered l a c sell close lots e closes = leb-true lots (pick sell (holdingAt l a c .long) (holdingAt l a c .short)) (rw (ne-eqb close 0 closes) at e)
+
+pub open-covered : (l : List Account) (a c : ℕ) (sell : Bool) (lots : ℕ) → legCovered l a c sell 0 lots ≡ true
+unfolding legCovered
+open-covered l a c sell lots = refl
+
+pub close-covered : (l : List Account) (a c : ℕ) (sell : Bool) (close lots : ℕ) → lots ≤ pick sell (holdingAt l a c .long) (holdingAt l a c .short) → legCovered l a c sell close lots ≡ true
+unfolding legCovered
+close-covered l a c sell close lots h =
+    rw (le-leb lots (pick sell (holdingAt l a c .long) (holdingAt l a c .short)) h) (pick-same (eqb close 0) true)
+
+pub never-nil : (l : List Account) → neverBelowZero l [] ≡ true
+unfolding neverBelowZero
+never-nil l = refl
+
+pub never-cons : (l : List Account) (t : Trade) (ts : List Trade)
+    → neverBelowZero l (t ∷ ts)
+    ≡ (legCovered l (t .buyer) (t .contract) false (t .buyclose) (t .lots) && legCovered (bookBuyer l t) (t .seller) (t .contract) true (t .sellclose) (t .lots) && neverBelowZero (bookTrade l t) ts)
+unfolding neverBelowZero
+never-cons l t ts = refl
+
+and-assoc : (a b c : Bool) → (a && (b && c)) ≡ ((a && b) && c)
+and-assoc true b c = refl
+and-assoc false b c = refl
+
+pub never-append : (l : List Account) (ts us : List Trade) → neverBelowZero l (ts ++ us) ≡ (neverBelowZero l ts && neverBelowZero (bookTrades l ts) us)
+unfolding neverBelowZero bookTrades
+never-append l [] us = refl
+never-append l (t ∷ ts) us =
+    rw (never-append (bookTrade l t) ts us)
+    (and-assoc
+    (legCovered l (t .buyer) (t .contract) false (t .buyclose) (t .lots) && legCovered (bookBuyer l t) (t .seller) (t .contract) true (t .sellclose) (t .lots))
+    (neverBelowZero (bookTrade l t) ts)
+    (neverBelowZero (bookTrades (bookTrade l t) ts) us))
+
+-- the start of the day at the start of the day
+start-holdings-again : (hs : List Holding) → map startHolding (map startHolding hs) ≡ map startHolding hs
+start-holdings-again [] = refl
+start-holdings-again (h ∷ hs) = ap (λ (ks : List Holding). startHolding h ∷ ks) (start-holdings-again hs)
+
+pub start-again : (l : List Account) → startOfDay (startOfDay l) ≡ startOfDay l
+unfolding startOfDay
+start-again [] = refl
+start-again (a ∷ l) = ap₂ (λ (hs : List Holding) (k : List Account). record { balance = a .balance; holdings = hs } ∷ k) (start-holdings-again (a .holdings)) (start-again l)
+
+lots-refl : (hs : List Holding) → sameLots hs hs ≡ true
+unfolding sameLots
+lots-refl [] = refl
+lots-refl (h ∷ hs) = rw (eq-eqb (h .long) (h .long) refl, eq-eqb (h .short) (h .short) refl) (lots-refl hs)
+
+pub same-refl : (l : List Account) → sameHoldings l l ≡ true
+unfolding sameHoldings
+same-refl [] = refl
+same-refl (a ∷ l) = rw (lots-refl (a .holdings)) (same-refl l)
+
+-- holdings, and accounts, with the same lots now and the same at the start of the day are the same
+lots-equal : (hs ks : List Holding) → sameLots hs ks ≡ true → map startHolding hs ≡ map startHolding ks → hs ≡ ks
+unfolding sameLots
+lots-equal [] [] e s = refl
+lots-equal [] (k ∷ ks) e s = absurd (false≢true e)
+lots-equal (h ∷ hs) [] e s = absurd (false≢true e)
+lots-equal (h ∷ hs) (k ∷ ks) e s =
+    let b = both-true (eqb (h .long) (k .long) && eqb (h .short) (k .short)) (sameLots hs ks) e in
+    let r = both-true (eqb (h .long) (k .long)) (eqb (h .short) (k .short)) (b .0) in
+    let p : startHolding h ≡ startHolding k = ap (λ (l : List Holding). getD l 0 noHolding) s in
+    ap₂ (λ (x : Holding) (l : List Holding). x ∷ l)
+    (λ i. record { long = eqb-true (h .long) (k .long) (r .0) i; short = eqb-true (h .short) (k .short) (r .1) i; startlong = p i .startlong; startshort = p i .startshort })
+    (lots-equal hs ks (b .1) (ap (λ (l : List Holding). drop 1 l) s))
+
+pub same-equal : (l k : List Account) → sameHoldings l k ≡ true → startOfDay l ≡ startOfDay k → l ≡ k
+unfolding sameHoldings startOfDay
+same-equal [] [] e s = refl
+same-equal [] (b ∷ k) e s = absurd (false≢true e)
+same-equal (a ∷ l) [] e s = absurd (false≢true e)
+same-equal (a ∷ l) (b ∷ k) e s =
+    let r = both-true (sameLots (a .holdings) (b .holdings)) (sameHoldings l k) e in
+    let p : startAccount a ≡ startAccount b = ap (λ (l : List Account). getD l 0 noAccount) s in
+    ap₂ (λ (x : Account) (l : List Account). x ∷ l)
+    (λ i. record { balance = p i .balance; holdings = lots-equal (a .holdings) (b .holdings) (r .0) (ap (λ (x : Account). x .holdings) p) i })
+    (same-equal l k (r .1) (ap (λ (l : List Account). drop 1 l) s))
+
+-- "replaying the day's trades .. gives the holdings now": it gives the accounts as they are
+pub replay-equal : (l : List Account) (ts : List Trade) → sameHoldings (bookTrades (startOfDay l) ts) l ≡ true → bookTrades (startOfDay l) ts ≡ l
+replay-equal l ts e = same-equal (bookTrades (startOfDay l) ts) l e (booked-start (startOfDay l) ts ∙ start-again l)
+
+-- more trades, booked to the accounts and recorded behind the day's: the replay of them all is still the accounts
+pub replay-more : (l : List Account) (ts us : List Trade) → sameHoldings (bookTrades (startOfDay l) ts) l ≡ true
+    → sameHoldings (bookTrades (startOfDay (bookTrades l us)) (ts ++ us)) (bookTrades l us) ≡ true
+replay-more l ts us e = rw (booked-start l us, bookTrades-append (startOfDay l) ts us, replay-equal l ts e) (same-refl (bookTrades l us))
+
+-- and goes below zero nowhere, if the new trades do not
+pub never-more : (l : List Account) (ts us : List Trade) → sameHoldings (bookTrades (startOfDay l) ts) l ≡ true → neverBelowZero (startOfDay l) ts ≡ true → neverBelowZero l us ≡ true
+    → neverBelowZero (startOfDay (bookTrades l us)) (ts ++ us) ≡ true
+never-more l ts us e n m = rw (booked-start l us, never-append (startOfDay l) ts us, replay-equal l ts e, n) m
