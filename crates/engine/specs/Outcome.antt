@@ -2,6 +2,10 @@
 use mathlib.Core.List.{List}
 use mathlib.Core.Path.{_≡_}
 use Prim.Native.Nat.{ℕ}
+use lib.IntN.{ℤ}
+use lib.ListN.{getD, set}
+use Rattle.rules.specs.Exchange.{noAccount}
+use Rattle.rules.specs.Step.{withBalance}
 use Rattle.rules.specs.Memory.{Memory, Responded}
 use Rattle.rules.specs.declared.Answer.{Answer}
 use Rattle.rules.specs.declared.State.{State}
@@ -15,3 +19,18 @@ memory state buys sells trades = record { state = state; buys = buys; sells = se
 pub record OutcomeIs (response : Responded) (r : Outcome) (buys sells trades : List ℕ) : Type 0 where
   pub answer : r .answer ≡ response .answer
   pub memory : memory (r .state) buys sells trades ≡ response .memory
+
+-- the state with another balance at one account's place
+abbrev pub withBalanceAt : State → ℕ → ℤ → State
+withBalanceAt s a balance =
+    record {
+      contracts = s .contracts;
+      accounts = set (s .accounts) a (withBalance (getD (s .accounts) a noAccount) balance);
+      buys = s .buys;
+      sells = s .sells;
+      contractcount = s .contractcount;
+      accountcount = s .accountcount;
+      tradecount = s .tradecount;
+      next = s .next;
+      settlements = s .settlements;
+    }

@@ -3,12 +3,12 @@ ghost use mathlib.Core.Bool.{true};
 ghost use mathlib.Core.Path.{_≡_};
 ghost use lib.IntN.{pos, _+ℤ_};
 ghost use lib.Signed.{ltZ};
-ghost use Prim.Native.Nat.{_≤_, _^_, _*_};
+ghost use Prim.Native.Nat.{_<_, _≤_, _^_, _*_};
 ghost use Rattle.rules.specs.Answers.{amountRefused};
 ghost use Rattle.rules.specs.Memory.{stepIn, wellFormedMemory};
-ghost use Rattle.rules.specs.declared.Command.the-variants.{Deposit, Withdraw};
+ghost use Rattle.rules.specs.declared.Command.the-variants.{Deposit};
 ghost use Rattle.laws.specs.Bound.{Within};
-ghost use Rattle.engine.specs.Outcome.{memory, OutcomeIs};
+ghost use Rattle.engine.specs.Outcome.{memory, OutcomeIs, withBalanceAt};
 use crate::answers::{self, Outcome};
 use rules::State;
 
@@ -32,6 +32,7 @@ fn lifts_too_high(balance: i64, amount: u64) -> bool
 // The state with another balance at one account's place.
 fn with_balance(state: State, place: usize, balance: i64) -> State
     requires { ⌜ place < 32 ⌝ }
+    ensures { λ r. ⌜ r ≡ withBalanceAt state place balance ⌝ }
 {
     let mut next = state;
     let mut account = next.accounts[place];
@@ -59,22 +60,3 @@ pub fn deposit(state: State, buys: &[u32], sells: &[u32], trades: &[u32], accoun
     answers::accepted(with_balance(state, place, balance + amount as i64), 0, 0, 0)
 }
 
-pub fn withdraw(state: State, buys: &[u32], sells: &[u32], trades: &[u32], account: u32, amount: u64) -> Outcome
-    requires { ⌜ wellFormedMemory (memory state (now buys) (now sells) (now trades)) ≡ true ⌝ }
-    ensures { λ r. ⌜ OutcomeIs (stepIn (memory state (now (buys .entry)) (now (sells .entry)) (now (trades .entry))) (Withdraw account amount)) r (now (buys .entry)) (now (sells .entry)) (now (trades .entry)) ⌝ }
-{
-    if answers::is_absent(account, state.accountcount) {
-        return answers::refused(state, 2);
-    }
-    if amount_refused(amount) {
-        return answers::refused(state, 16);
-    }
-    let place = laws::wide(account) - 1;
-    let who = state.accounts[place];
-    let balance = who.balance;
-    let charged = settlement::margin::charged(state, buys, sells, place);
-    if settlement::margin::too_little(balance, charged, amount) {
-        return answers::refused(state, 9);
-    }
-    answers::accepted(with_balance(state, place, balance - amount as i64), 0, 0, 0)
-}
