@@ -69,7 +69,8 @@ module _ {A : Type 0} where
       rw (append-assoc, replicate-append-replicate, e)
 
 module _ {A : Type 0} {W : ℕ} {words : A → List ℕ} {first : List ℕ → A} (C : Codec A W words first) (z : A) where
-  pub records-put : (a : List ℕ) (base n : ℕ) (os : List A) → base ≤ length a → records W first (store words a base (padded n z os)) base (length os) ≡ os
+  pub records-put : (a : List ℕ) (base n : ℕ) (os : List A) → base ≤ length a
+      → records W first (store words a base (padded n z os)) base (length os) ≡ os
   unfolding padded
   records-put a base n os h = records-store-front C a base (length os) os (replicate (n - length os) z) h refl
 
@@ -78,7 +79,8 @@ module _ {A : Type 0} {W : ℕ} {words : A → List ℕ} {first : List ℕ → A
       let e : padded n z (records W first a base n) ≡ records W first a base n = rw (length-records C a base n) at (padded-full z (records W first a base n)) in
       rw e (store-records C a base n h)
 
-  pub length-put : (a : List ℕ) (base n : ℕ) (os : List A) → base + W * max n (length os) ≤ length a → length (store words a base (padded n z os)) ≡ length a
+  pub length-put : (a : List ℕ) (base n : ℕ) (os : List A) → base + W * max n (length os) ≤ length a
+      → length (store words a base (padded n z os)) ≡ length a
   length-put a base n os h = length-store C a base (padded n z os) (rw length-filled h)
 
   -- a put over one of no more records: its own fill reaches as far
@@ -112,7 +114,8 @@ module _ {A : Type 0} {W : ℕ} {words : A → List ℕ} {first : List ℕ → A
           let k = leb-false n (max m (length ps)) e in
           put-shorter a base n m os ps (omega arith) h b ∙ ap (λ (r : List A). store words a base r) (more-fill m n z ps (omega arith))
 
-  pub store-more : (a : List ℕ) (base n : ℕ) (os : List A) → base + W * n ≤ length a → store words a (base + W * n) os ≡ store words a base (padded n z (records W first a base n ++ os))
+  pub store-more : (a : List ℕ) (base n : ℕ) (os : List A) → base + W * n ≤ length a
+      → store words a (base + W * n) os ≡ store words a base (padded n z (records W first a base n ++ os))
   store-more a base n os h =
       let q : List A = records W first a base n in
       let e : padded n z (q ++ os) ≡ q ++ os = filled-up n z (q ++ os) (rw (length-append, length-records C a base n) (omega arith)) in
@@ -167,7 +170,8 @@ module _ (area : List ℕ) (c n : ℕ) (q : List Order) where
   length-putQueue few short room = length-put order-codec noOrder area (320 * c) n q (omega arith)
 
   -- the second of two writes stays; the places that the first cleared stay clear
-  pub putQueue-putQueue : (m : ℕ) (r : List Order) → length q ≤ m → 320 * c ≤ length area → putQueue (putQueue area c n q) c m r ≡ putQueue area c (max n m) r
+  pub putQueue-putQueue : (m : ℕ) (r : List Order) → length q ≤ m → 320 * c ≤ length area
+      → putQueue (putQueue area c n q) c m r ≡ putQueue area c (max n m) r
   unfolding putQueue
   putQueue-putQueue m r h room = put-put order-codec noOrder area (320 * c) n m q r h room
 
@@ -201,7 +205,8 @@ apart-below : (b c : ℕ) → suc b ≤ c → b ≡ c → ⊥
 apart-below b c h e = omega arith
 
 module _ (area counts : List ℕ) (queues : ℕ → List Order) where
-  pub putQueues-same : (n : ℕ) → ((c : ℕ) → c < n → queues c ≡ queueIn area c (getD counts c 0)) → ((c : ℕ) → c < n → getD counts c 0 ≤ 64) → 320 * n ≤ length area
+  pub putQueues-same : (n : ℕ) → ((c : ℕ) → c < n → queues c ≡ queueIn area c (getD counts c 0)) → ((c : ℕ) → c < n → getD counts c 0 ≤ 64)
+      → 320 * n ≤ length area
       → putQueues area counts queues n ≡ area
   unfolding putQueues
   putQueues-same zero same few room = refl
@@ -210,7 +215,8 @@ module _ (area counts : List ℕ) (queues : ℕ → List Order) where
       (put-queue area c (getD counts c 0) (omega (arith, few c (omega arith))))
 
   -- one contract's queue alone has changed
-  pub putQueues-one : (n d : ℕ) → d < n → ((c : ℕ) → c < n → (d ≡ c → ⊥) → queues c ≡ queueIn area c (getD counts c 0)) → ((c : ℕ) → c < n → getD counts c 0 ≤ 64)
+  pub putQueues-one : (n d : ℕ) → d < n → ((c : ℕ) → c < n → (d ≡ c → ⊥) → queues c ≡ queueIn area c (getD counts c 0))
+      → ((c : ℕ) → c < n → getD counts c 0 ≤ 64)
       → length (queues d) ≤ 64 → 320 * n ≤ length area → putQueues area counts queues n ≡ putQueue area d (getD counts d 0) (queues d)
   unfolding putQueues
   putQueues-one zero d h same few short room = absurd (omega arith)

@@ -55,7 +55,8 @@ pub count-unmet : (t : Taker) (left : ℕ) (o : Order) (os : List Order) → cou
 unfolding countTrades
 count-unmet t left o os e = pick-false (ltb 0 left && counterpart t o) _ _ (both-false (ltb 0 left) (counterpart t o) e)
 
-pub count-met : (t : Taker) (left : ℕ) (o : Order) (os : List Order) → 0 < left → counterpart t o ≡ true → countTrades t left (o ∷ os) ≡ 1 + countTrades t (left - o .lots) os
+pub count-met : (t : Taker) (left : ℕ) (o : Order) (os : List Order) → 0 < left → counterpart t o ≡ true
+    → countTrades t left (o ∷ os) ≡ 1 + countTrades t (left - o .lots) os
 unfolding countTrades
 count-met t left o os some met = pick-true (ltb 0 left && counterpart t o) _ _ (true-both (ltb 0 left) (counterpart t o) (lt-ltb 0 left some) met)
 
@@ -112,7 +113,8 @@ none-met t price [] b h e = lots-nil (counterpart t)
 none-met t price (o ∷ os) b (h, r) e =
     rw (lots-unmet (counterpart t) o os (unmet-behind (t .condition) (t .sell) (t .best) price (o .price) b h e)) (none-met t price os b r e)
 
-front-fillable-from : (t : Taker) (os : List Order) → sorted (not (t .sell)) os ≡ true → AllBehind (not (t .sell)) (t .best) os → fillableFront t os ≡ fillable t os
+front-fillable-from : (t : Taker) (os : List Order) → sorted (not (t .sell)) os ≡ true → AllBehind (not (t .sell)) (t .best) os
+    → fillableFront t os ≡ fillable t os
 unfolding fillable
 front-fillable-from t [] s b = rw (front-end, lots-nil)
 front-fillable-from t (o ∷ os) s (b, r) = go (counterpart t o) refl (front-fillable-from t os (sorted-tail (not (t .sell)) o os s) r)

@@ -43,13 +43,15 @@ after-leg-start : (h : Holding) (sell : Bool) (close lots : ℕ) → startHoldin
 unfolding afterLeg
 after-leg-start h sell close lots = go sell (eqb close 0)
   where
-    go : (s o : Bool) → startHolding (pick s (pick o (withShort h (h .short + lots)) (withLong h (h .long - lots))) (pick o (withLong h (h .long + lots)) (withShort h (h .short - lots)))) ≡ startHolding h
+    go : (s o : Bool)
+        → startHolding (pick s (pick o (withShort h (h .short + lots)) (withLong h (h .long - lots))) (pick o (withLong h (h .long + lots)) (withShort h (h .short - lots)))) ≡ startHolding h
     go true true = refl
     go true false = refl
     go false true = refl
     go false false = refl
 
-account-start : (x : Account) (c : ℕ) (sell : Bool) (close lots : ℕ) → startAccount (withHolding x c (afterLeg (getD (x .holdings) c noHolding) sell close lots)) ≡ startAccount x
+account-start : (x : Account) (c : ℕ) (sell : Bool) (close lots : ℕ)
+    → startAccount (withHolding x c (afterLeg (getD (x .holdings) c noHolding) sell close lots)) ≡ startAccount x
 account-start x c sell close lots =
     ap (λ (hs : List Holding). record { balance = x .balance; holdings = hs })
     (map-set-same startHolding (x .holdings) c (afterLeg (getD (x .holdings) c noHolding) sell close lots) noHolding (after-leg-start (getD (x .holdings) c noHolding) sell close lots))
@@ -59,7 +61,8 @@ module _ (l : List Account) (a c : ℕ) (sell : Bool) (close lots : ℕ) where
   unfolding bookLeg
   length-bookLeg = length-set l a _
 
-  pub account-same : a < length l → accountAt (bookLeg l a c sell close lots) a ≡ withHolding (accountAt l a) c (afterLeg (holdingAt l a c) sell close lots)
+  pub account-same : a < length l
+      → accountAt (bookLeg l a c sell close lots) a ≡ withHolding (accountAt l a) c (afterLeg (holdingAt l a c) sell close lots)
   unfolding bookLeg accountAt
   account-same h = getD-set-same l a _ noAccount h
 
@@ -67,7 +70,8 @@ module _ (l : List Account) (a c : ℕ) (sell : Bool) (close lots : ℕ) where
   unfolding bookLeg accountAt
   account-other b apart = getD-set-other l a b _ noAccount apart
 
-  pub holding-same : a < length l → c < length (accountAt l a .holdings) → holdingAt (bookLeg l a c sell close lots) a c ≡ afterLeg (holdingAt l a c) sell close lots
+  pub holding-same : a < length l → c < length (accountAt l a .holdings)
+      → holdingAt (bookLeg l a c sell close lots) a c ≡ afterLeg (holdingAt l a c) sell close lots
   unfolding holdingAt
   holding-same h k = rw (account-same h) (getD-set-same (accountAt l a .holdings) c _ noHolding k)
 
@@ -140,7 +144,8 @@ unfolding bookTrades
 booked-balance l [] b = refl
 booked-balance l (t ∷ ts) b = booked-balance (bookTrade l t) ts b ∙ trade-balance l t b
 
-pub booked-contracts : (l : List Account) (ts : List Trade) (b : ℕ) → length (accountAt (bookTrades l ts) b .holdings) ≡ length (accountAt l b .holdings)
+pub booked-contracts : (l : List Account) (ts : List Trade) (b : ℕ)
+    → length (accountAt (bookTrades l ts) b .holdings) ≡ length (accountAt l b .holdings)
 unfolding bookTrades
 booked-contracts l [] b = refl
 booked-contracts l (t ∷ ts) b = booked-contracts (bookTrade l t) ts b ∙ trade-contracts l t b
@@ -157,7 +162,8 @@ start-holding l b d =
     sym
     (ap (λ (x : Account). getD (x .holdings) d noHolding) (List·getD-map startAccount l b noAccount) ∙ List·getD-map startHolding (getD l b noAccount .holdings) d noHolding)
 
-pub booked-start-holding : (l : List Account) (ts : List Trade) (b d : ℕ) → startHolding (holdingAt (bookTrades l ts) b d) ≡ startHolding (holdingAt l b d)
+pub booked-start-holding : (l : List Account) (ts : List Trade) (b d : ℕ)
+    → startHolding (holdingAt (bookTrades l ts) b d) ≡ startHolding (holdingAt l b d)
 booked-start-holding l ts b d = start-holding (bookTrades l ts) b d ∙ rw (booked-start l ts) (sym (start-holding l b d))
 
 -- ---- bounds
@@ -171,7 +177,8 @@ pub held-more : {m n m′ n′ : ℕ} {l : List Account} → HeldWithin m n l �
 held-more w h k = record { longs = λ b d. omega (arith, w .longs b d); shorts = λ b d. omega (arith, w .shorts b d) }
 
 -- what holds of every holding, and of the one that a leg makes, holds of every holding after it
-pub each-leg : (P : Holding → Type 0) (l : List Account) (a c : ℕ) (sell : Bool) (close lots : ℕ) → ((b d : ℕ) → P (holdingAt l b d)) → P (afterLeg (holdingAt l a c) sell close lots)
+pub each-leg : (P : Holding → Type 0) (l : List Account) (a c : ℕ) (sell : Bool) (close lots : ℕ) → ((b d : ℕ) → P (holdingAt l b d))
+    → P (afterLeg (holdingAt l a c) sell close lots)
     → (b d : ℕ) → P (holdingAt (bookLeg l a c sell close lots) b d)
 unfolding bookLeg holdingAt accountAt
 each-leg P l a c sell close lots h p =
@@ -182,7 +189,8 @@ after-leg-long : (h : Holding) (sell : Bool) (close lots : ℕ) → afterLeg h s
 unfolding afterLeg
 after-leg-long h sell close lots = go sell (eqb close 0)
   where
-    go : (s o : Bool) → pick s (pick o (withShort h (h .short + lots)) (withLong h (h .long - lots))) (pick o (withLong h (h .long + lots)) (withShort h (h .short - lots))) .long ≤ h .long + pick s 0 lots
+    go : (s o : Bool)
+        → pick s (pick o (withShort h (h .short + lots)) (withLong h (h .long - lots))) (pick o (withLong h (h .long + lots)) (withShort h (h .short - lots))) .long ≤ h .long + pick s 0 lots
     go true true = omega arith
     go true false = omega arith
     go false true = omega arith
@@ -192,13 +200,15 @@ after-leg-short : (h : Holding) (sell : Bool) (close lots : ℕ) → afterLeg h 
 unfolding afterLeg
 after-leg-short h sell close lots = go sell (eqb close 0)
   where
-    go : (s o : Bool) → pick s (pick o (withShort h (h .short + lots)) (withLong h (h .long - lots))) (pick o (withLong h (h .long + lots)) (withShort h (h .short - lots))) .short ≤ h .short + pick s lots 0
+    go : (s o : Bool)
+        → pick s (pick o (withShort h (h .short + lots)) (withLong h (h .long - lots))) (pick o (withLong h (h .long + lots)) (withShort h (h .short - lots))) .short ≤ h .short + pick s lots 0
     go true true = omega arith
     go true false = omega arith
     go false true = omega arith
     go false false = omega arith
 
-pub held-leg : {m n : ℕ} (l : List Account) (a c : ℕ) (sell : Bool) (close lots : ℕ) → HeldWithin m n l → HeldWithin (m + pick sell 0 lots) (n + pick sell lots 0) (bookLeg l a c sell close lots)
+pub held-leg : {m n : ℕ} (l : List Account) (a c : ℕ) (sell : Bool) (close lots : ℕ) → HeldWithin m n l
+    → HeldWithin (m + pick sell 0 lots) (n + pick sell lots 0) (bookLeg l a c sell close lots)
 held-leg {m} {n} l a c sell close lots w =
     record {
       longs =
@@ -217,7 +227,8 @@ held-trade l t w =
     (omega arith) (omega arith)
 
 -- so trades add no more than the lots traded
-pub held-trades : {m n : ℕ} (l : List Account) (ts : List Trade) → HeldWithin m n l → HeldWithin (m + tradedLots ts) (n + tradedLots ts) (bookTrades l ts)
+pub held-trades : {m n : ℕ} (l : List Account) (ts : List Trade) → HeldWithin m n l
+    → HeldWithin (m + tradedLots ts) (n + tradedLots ts) (bookTrades l ts)
 unfolding bookTrades
 held-trades l [] w = held-more w (omega arith) (omega arith)
 held-trades l (t ∷ ts) w = held-more (held-trades (bookTrade l t) ts (held-trade l t w)) (omega (arith, traded-cons t ts)) (omega (arith, traded-cons t ts))
@@ -241,7 +252,8 @@ pub open-covered : (l : List Account) (a c : ℕ) (sell : Bool) (lots : ℕ) →
 unfolding legCovered
 open-covered l a c sell lots = refl
 
-pub close-covered : (l : List Account) (a c : ℕ) (sell : Bool) (close lots : ℕ) → lots ≤ pick sell (holdingAt l a c .long) (holdingAt l a c .short) → legCovered l a c sell close lots ≡ true
+pub close-covered : (l : List Account) (a c : ℕ) (sell : Bool) (close lots : ℕ) → lots ≤ pick sell (holdingAt l a c .long) (holdingAt l a c .short)
+    → legCovered l a c sell close lots ≡ true
 unfolding legCovered
 close-covered l a c sell close lots h =
     rw (le-leb lots (pick sell (holdingAt l a c .long) (holdingAt l a c .short)) h) (pick-same (eqb close 0) true)
@@ -260,7 +272,8 @@ and-assoc : (a b c : Bool) → (a && (b && c)) ≡ ((a && b) && c)
 and-assoc true b c = refl
 and-assoc false b c = refl
 
-pub never-append : (l : List Account) (ts us : List Trade) → neverBelowZero l (ts ++ us) ≡ (neverBelowZero l ts && neverBelowZero (bookTrades l ts) us)
+pub never-append : (l : List Account) (ts us : List Trade)
+    → neverBelowZero l (ts ++ us) ≡ (neverBelowZero l ts && neverBelowZero (bookTrades l ts) us)
 unfolding neverBelowZero bookTrades
 never-append l [] us = refl
 never-append l (t ∷ ts) us =
@@ -326,6 +339,7 @@ pub replay-more : (l : List Account) (ts us : List Trade) → sameHoldings (book
 replay-more l ts us e = rw (booked-start l us, bookTrades-append (startOfDay l) ts us, replay-equal l ts e) (same-refl (bookTrades l us))
 
 -- and goes below zero nowhere, if the new trades do not
-pub never-more : (l : List Account) (ts us : List Trade) → sameHoldings (bookTrades (startOfDay l) ts) l ≡ true → neverBelowZero (startOfDay l) ts ≡ true → neverBelowZero l us ≡ true
+pub never-more : (l : List Account) (ts us : List Trade) → sameHoldings (bookTrades (startOfDay l) ts) l ≡ true
+    → neverBelowZero (startOfDay l) ts ≡ true → neverBelowZero l us ≡ true
     → neverBelowZero (startOfDay (bookTrades l us)) (ts ++ us) ≡ true
 never-more l ts us e n m = rw (booked-start l us, never-append (startOfDay l) ts us, replay-equal l ts e, n) m

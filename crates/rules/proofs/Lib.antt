@@ -5,3 +5,4 @@ pub mod Sorted
 pub mod Fillable
 pub mod Prices
 pub mod Holdings
+pub mod Rest

@@ -4,14 +4,14 @@ use mathlib.Core.Bool.{Bool, true, false, not}
 use mathlib.Core.List.{List, [], _∷_, _++_, map}
 use mathlib.Core.Logic.{_⊎_, inl, inr, ⊎-elim}
 use mathlib.Core.Path.{_≡_, refl, ap, ap₂, _∙_}
-use Prim.Native.Nat.{ℕ, _≤_, min, max}
+use Prim.Native.Nat.{ℕ, _<_, _≤_, min, max}
 use native.Mathlib.Omega.{arith}
 use borrow.Author.Tests.{leb-true, leb-false, le-leb, eqb-true, eq-eqb}
 use lib.Dec.{leb, eqb}
 use lib.ListN.{length, take}
-use Rattle.laws.specs.Choice.{allOf, both, both-true, true-both}
+use Rattle.laws.specs.Choice.{allOf, allOf-true, both-true, true-both}
 use Rattle.rules.specs.Bounds.{onTick, allowedToday, dayLow, dayHigh, within}
-use Rattle.rules.specs.Exchange.{bestPrice}
+use Rattle.rules.specs.Exchange.{bestPrice, noOrder}
 use Rattle.rules.specs.Matching.{meets, counterpart, middle, tradePrice, tradeWith, sweep, lastPrice}
 use Rattle.rules.specs.WellFormed.{sorted}
 use Rattle.rules.specs.declared.Contract.{Contract}
@@ -21,7 +21,7 @@ use Rattle.rules.specs.declared.PriceCondition.the-variants.{Limit, Mark
 use Rattle.rules.specs.declared.Taker.{Taker}
 use Rattle.rules.specs.declared.Trade.{Trade}
 use Rattle.rules.proofs.Sorted.{Behind, AllBehind, behind-trans, sorted-tail, sorted-behind, best-first}
-use Rattle.rules.proofs.Sweep.{trade-price, sweep-ind}
+use Rattle.rules.proofs.Sweep.{trade-price, sweep-ind, swept-each}
 
 -- ---- the middle of three prices
 
@@ -103,7 +103,8 @@ unfolding meets
 best-meets sell best price e = eqb-true price best e
 
 -- what holds of the limit, the resting price and the last price holds of the trade's
-pub price-any : (P : ℕ → Type 0) (condition : PriceCondition) (price last : ℕ) → ((limit : ℕ) → condition ≡ Limit limit → P limit) → P price → P last → P (tradePrice condition price last)
+pub price-any : (P : ℕ → Type 0) (condition : PriceCondition) (price last : ℕ) → ((limit : ℕ) → condition ≡ Limit limit → P limit) → P price → P last
+    → P (tradePrice condition price last)
 unfolding tradePrice
 price-any P (Limit limit) price last pl pp pc = middle-any P limit price last (pl limit refl) pp pc
 price-any P Market price last pl pp pc = pp
@@ -119,7 +120,8 @@ upper-again : (l l′ u c : ℕ) → l ≤ l′ → l′ ≤ u → max l′ (min
 upper-again l l′ u c h k = omega arith
 
 -- A price further from the best, worked out from the last price just made or from the one before it, is the same.
-pub price-again : (condition : PriceCondition) (sell : Bool) (best price further last : ℕ) → meets condition sell best price ≡ true → meets condition sell best further ≡ true
+pub price-again : (condition : PriceCondition) (sell : Bool) (best price further last : ℕ) → meets condition sell best price ≡ true
+    → meets condition sell best further ≡ true
     → Behind (not sell) further price → tradePrice condition further (tradePrice condition price last) ≡ tradePrice condition further last
 unfolding meets tradePrice
 price-again (Limit limit) true best price further last m m′ h =
@@ -145,11 +147,13 @@ Alike t price last arrival =
     (further : ℕ) → meets (t .condition) (t .sell) (t .best) further ≡ true → Behind (not (t .sell)) further price → tradePrice (t .condition) further last ≡ tradePrice (t .condition) further arrival
 
 module _ (t : Taker) (arrival : ℕ) where
-  alike-on : (price last : ℕ) (o : Order) → counterpart t o ≡ true → Behind (not (t .sell)) (o .price) price → Alike t price last arrival → Alike t (o .price) (tradePrice (t .condition) (o .price) last) arrival
+  alike-on : (price last : ℕ) (o : Order) → counterpart t o ≡ true → Behind (not (t .sell)) (o .price) price → Alike t price last arrival
+      → Alike t (o .price) (tradePrice (t .condition) (o .price) last) arrival
   alike-on price last o met h same further m k =
       price-again (t .condition) (t .sell) (t .best) (o .price) further last met m k ∙ same further m (behind-trans (not (t .sell)) further (o .price) price k h)
 
-  prices-from : (left last : ℕ) (os : List Order) (price : ℕ) → sorted (not (t .sell)) os ≡ true → AllBehind (not (t .sell)) price os → Alike t price last arrival
+  prices-from : (left last : ℕ) (os : List Order) (price : ℕ) → sorted (not (t .sell)) os ≡ true → AllBehind (not (t .sell)) price os
+      → Alike t price last arrival
       → map (λ tr. tr .price) (sweep t left last os .trades) ≡ arrivalPrices t arrival (length (sweep t left last os .trades)) os
   prices-from =
       sweep-ind t
@@ -167,19 +171,15 @@ pub prices-on-arrival : (t : Taker) (left last : ℕ) (os : List Order) → sort
 prices-on-arrival t left last os s = prices-from t last left last os (bestPrice os) s (best-first (not (t .sell)) os s) (λ further m k. refl)
 
 -- a best-price order trades at the price standing on its arrival, and at no other
-pub best-prices : (t : Taker) (left last : ℕ) (os : List Order) → t .condition ≡ Best → allOf (λ tr. eqb (tr .price) (t .best)) (sweep t left last os .trades) ≡ true
-unfolding allOf
-best-prices t left last os e =
-    sweep-ind t (λ left last os s. allOf (λ tr. eqb (tr .price) (t .best)) (s .trades) ≡ true)
-    (λ left last os w. refl)
-    (λ left last o os some met short. true-both (eqb (tradeWith t o left last .price) (t .best)) true (at-best left last o met) refl)
-    (λ left last o os s some met enough ih. true-both (eqb (tradeWith t o left last .price) (t .best)) (allOf (λ tr. eqb (tr .price) (t .best)) (s .trades)) (at-best left last o met) ih)
-    left last os
+pub best-prices : (t : Taker) (left last : ℕ) (os : List Order) → t .condition ≡ Best
+    → allOf (λ tr. eqb (tr .price) (t .best)) (sweep t left last os .trades) ≡ true
+best-prices t left last os e = swept-each t (λ tr. eqb (tr .price) (t .best)) (λ o. true) (λ n. Unit {0}) one left last os tt (allOf-true (λ o. true) os noOrder (λ i b. refl))
   where
-    at-best : (left last : ℕ) (o : Order) → counterpart t o ≡ true → eqb (tradeWith t o left last .price) (t .best) ≡ true
-    at-best left last o met =
+    one : (o : Order) (left last : ℕ) → 0 < left → counterpart t o ≡ true → true ≡ true → Unit {0}
+        → (eqb (tradeWith t o left last .price) (t .best) ≡ true) × Unit {0}
+    one o left last some met h u =
         let m : meets Best (t .sell) (t .best) (o .price) ≡ true = rw e at met in
-        rw (trade-price t o left last, e, price-best (o .price) last) (eq-eqb (o .price) (t .best) (best-meets (t .sell) (t .best) (o .price) m))
+        (rw (trade-price t o left last, e, price-best (o .price) last) (eq-eqb (o .price) (t .best) (best-meets (t .sell) (t .best) (o .price) m)), tt)
 
 -- ---- ticks and the day's range
 
@@ -206,7 +206,8 @@ allowed-true {c} {price} f =
     (true-both (leb (dayLow c) price) (leb price (dayHigh c)) (le-leb (dayLow c) price (f .low)) (le-leb price (dayHigh c) (f .high)))
 
 -- two prices allowed today and a last price that may lie outside the day's range
-pub middle-allowed : (c : Contract) (a b last : ℕ) → allowedToday c a ≡ true → allowedToday c b ≡ true → onTick (c .tick) last ≡ true → allowedToday c (middle a b last) ≡ true
+pub middle-allowed : (c : Contract) (a b last : ℕ) → allowedToday c a ≡ true → allowedToday c b ≡ true → onTick (c .tick) last ≡ true
+    → allowedToday c (middle a b last) ≡ true
 middle-allowed c a b last pa pb pl =
     let fa = allowed-facts c a pa in
     let fb = allowed-facts c b pb in
@@ -217,7 +218,8 @@ middle-allowed c a b last pa pb pl =
       high = omega (arith, middle-high a b last, fa .high, fb .high);
     }
 
-pub price-allowed : (c : Contract) (condition : PriceCondition) (price last : ℕ) → ((limit : ℕ) → condition ≡ Limit limit → allowedToday c limit ≡ true) → allowedToday c price ≡ true → onTick (c .tick) last ≡ true
+pub price-allowed : (c : Contract) (condition : PriceCondition) (price last : ℕ)
+    → ((limit : ℕ) → condition ≡ Limit limit → allowedToday c limit ≡ true) → allowedToday c price ≡ true → onTick (c .tick) last ≡ true
     → allowedToday c (tradePrice condition price last) ≡ true
 unfolding tradePrice
 price-allowed c (Limit limit) price last pl pp pc = middle-allowed c limit price last (pl limit refl) pp pc
@@ -225,22 +227,16 @@ price-allowed c Market price last pl pp pc = pp
 price-allowed c Best price last pl pp pc = pp
 
 -- every price of a sweep is allowed today
-pub swept-allowed : (c : Contract) (t : Taker) (left last : ℕ) (os : List Order) → ((limit : ℕ) → t .condition ≡ Limit limit → allowedToday c limit ≡ true) → onTick (c .tick) last ≡ true
+pub swept-allowed : (c : Contract) (t : Taker) (left last : ℕ) (os : List Order)
+    → ((limit : ℕ) → t .condition ≡ Limit limit → allowedToday c limit ≡ true) → onTick (c .tick) last ≡ true
     → allOf (λ o. allowedToday c (o .price)) os ≡ true → allOf (λ tr. allowedToday c (tr .price)) (sweep t left last os .trades) ≡ true
-unfolding allOf
-swept-allowed c t left last os limits =
-    sweep-ind t
-    (λ left last os s. onTick (c .tick) last ≡ true → allOf (λ o. allowedToday c (o .price)) os ≡ true → allOf (λ tr. allowedToday c (tr .price)) (s .trades) ≡ true)
-    (λ left last os w tick h. refl)
-    (λ left last o os some met short tick h. true-both (allowedToday c (tradeWith t o left last .price)) true (rw (trade-price t o left last) (one last o os tick h)) refl)
-    (λ left last o os s some met enough ih tick h.
-    true-both (allowedToday c (tradeWith t o left last .price)) (allOf (λ tr. allowedToday c (tr .price)) (s .trades)) (rw (trade-price t o left last) (one last o os tick h))
-    (ih (allowed-facts c (tradePrice (t .condition) (o .price) last) (one last o os tick h) .tick) (both-true (allowedToday c (o .price)) (allOf (λ o. allowedToday c (o .price)) os) h .1)))
-    left last os
+swept-allowed c t left last os limits = swept-each t (λ tr. allowedToday c (tr .price)) (λ o. allowedToday c (o .price)) (λ n. onTick (c .tick) n ≡ true) one left last os
   where
-    one : (last : ℕ) (o : Order) (os : List Order) → onTick (c .tick) last ≡ true → both (allowedToday c (o .price)) (allOf (λ o. allowedToday c (o .price)) os) ≡ true
-        → allowedToday c (tradePrice (t .condition) (o .price) last) ≡ true
-    one last o os tick h = price-allowed c (t .condition) (o .price) last limits (both-true (allowedToday c (o .price)) (allOf (λ o. allowedToday c (o .price)) os) h .0) tick
+    one : (o : Order) (left last : ℕ) → 0 < left → counterpart t o ≡ true → allowedToday c (o .price) ≡ true → onTick (c .tick) last ≡ true
+        → (allowedToday c (tradeWith t o left last .price) ≡ true) × (onTick (c .tick) (tradePrice (t .condition) (o .price) last) ≡ true)
+    one o left last some met h tick =
+        let a = price-allowed c (t .condition) (o .price) last limits h tick in
+        (rw (trade-price t o left last) a, allowed-facts c (tradePrice (t .condition) (o .price) last) a .tick)
 
 -- ---- the last price after trades
 
@@ -253,21 +249,10 @@ unfolding lastPrice
 last-append last [] us = refl
 last-append last (t ∷ ts) us = last-append (t .price) ts us
 
-pub last-test : (test : ℕ → Bool) (last : ℕ) (ts : List Trade) → test last ≡ true → allOf (λ t. test (t .price)) ts ≡ true → test (lastPrice last ts) ≡ true
+pub last-test : (test : ℕ → Bool) (last : ℕ) (ts : List Trade) → test last ≡ true → allOf (λ t. test (t .price)) ts ≡ true
+    → test (lastPrice last ts) ≡ true
 unfolding lastPrice allOf
 last-test test last [] p h = p
 last-test test last (t ∷ ts) p h =
     let b = both-true (test (t .price)) (allOf (λ t. test (t .price)) ts) h in
     last-test test (t .price) ts (b .0) (b .1)
-
--- "worked out again for each trade": sells of 7 at 110 and 5 at 111, last price 100, and a buy of 12 at limit 111
-abbrev buyer : Taker
-buyer = record { account = 0; contract = 0; sell = false; close = 0; number = 3; condition = Limit 111; best = 110 }
-
-abbrev twoLevels : List Order
-twoLevels =
-    record { price = 110; number = 1; account = 1; lots = 7; close = 0 } ∷ record { price = 111; number = 2; account = 1; lots = 5; close = 0 } ∷ []
-
-pub a-price-for-each-trade : map (λ tr. tr .price) (sweep buyer 12 100 twoLevels .trades) ≡ 110 ∷ 111 ∷ []
-unfolding sweep meets tradeWith tradePrice middle
-a-price-for-each-trade = refl

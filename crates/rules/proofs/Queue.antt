@@ -64,7 +64,8 @@ module _ (test : Order → Bool) where
   without-append [] ps = rw without-nil
   without-append (o ∷ os) ps = go (test o) refl (without-append os ps)
     where
-      go : (b : Bool) → test o ≡ b → without test (os ++ ps) ≡ without test os ++ without test ps → without test (o ∷ (os ++ ps)) ≡ without test (o ∷ os) ++ without test ps
+      go : (b : Bool) → test o ≡ b → without test (os ++ ps) ≡ without test os ++ without test ps
+          → without test (o ∷ (os ++ ps)) ≡ without test (o ∷ os) ++ without test ps
       go true e ih = rw (without-met o (os ++ ps) e, without-met o os e) ih
       go false e ih = rw (without-unmet o (os ++ ps) e, without-unmet o os e, ih)
 
@@ -114,12 +115,14 @@ module _ (test : Order → Bool) where
   first-before =
       first-ind (λ os i. (k : ℕ) → k < i → test (getD os k noOrder) ≡ false) (λ k h. absurd (not-suc-le-zero h)) (λ o os e k h. absurd (not-suc-le-zero h)) later
     where
-      later : (o : Order) (os : List Order) (i : ℕ) → test o ≡ false → ((k : ℕ) → k < i → test (getD os k noOrder) ≡ false) → (k : ℕ) → k < suc i → test (getD (o ∷ os) k noOrder) ≡ false
+      later : (o : Order) (os : List Order) (i : ℕ) → test o ≡ false → ((k : ℕ) → k < i → test (getD os k noOrder) ≡ false) → (k : ℕ) → k < suc i
+          → test (getD (o ∷ os) k noOrder) ≡ false
       later o os i e ih zero h = e
       later o os i e ih (suc k) h = ih k (le-of-suc-le-suc h)
 
   -- a search from place i on
-  pub first-turn : (os : List Order) (i : ℕ) → i < length os → test (getD os i noOrder) ≡ false → i + firstWhere test (drop i os) ≡ i + 1 + firstWhere test (drop (i + 1) os)
+  pub first-turn : (os : List Order) (i : ℕ) → i < length os → test (getD os i noOrder) ≡ false
+      → i + firstWhere test (drop i os) ≡ i + 1 + firstWhere test (drop (i + 1) os)
   first-turn os i h e = rw (add-one i, drop-cons os i noOrder h, first-on (getD os i noOrder) (drop (suc i) os) e) (omega arith)
 
   pub first-stop : (os : List Order) (i : ℕ) → i < length os → test (getD os i noOrder) ≡ true → firstWhere test (drop i os) ≡ 0
@@ -149,11 +152,13 @@ module _ (test : Order → Bool) where
       (λ o os i e ih h. rw e (ap (λ (l : List Order). o ∷ l) (ih (le-of-suc-le-suc h))))
 
 -- lots that none of the orders taken out has
-pub lots-without : (test other : Order → Bool) (os : List Order) → ((o : Order) → test o ≡ true → other o ≡ false) → lotsWhere other (without test os) ≡ lotsWhere other os
+pub lots-without : (test other : Order → Bool) (os : List Order) → ((o : Order) → test o ≡ true → other o ≡ false)
+    → lotsWhere other (without test os) ≡ lotsWhere other os
 lots-without test other [] h = rw (without-nil test)
 lots-without test other (o ∷ os) h = go (test o) (other o) refl refl (lots-without test other os h)
   where
-    go : (b c : Bool) → test o ≡ b → other o ≡ c → lotsWhere other (without test os) ≡ lotsWhere other os → lotsWhere other (without test (o ∷ os)) ≡ lotsWhere other (o ∷ os)
+    go : (b c : Bool) → test o ≡ b → other o ≡ c → lotsWhere other (without test os) ≡ lotsWhere other os
+        → lotsWhere other (without test (o ∷ os)) ≡ lotsWhere other (o ∷ os)
     go true c e k ih = rw (without-met test o os e, lots-unmet other o os (h o e)) ih
     go false true e k ih = rw (without-unmet test o os e, lots-met other o (without test os) k, lots-met other o os k, ih)
     go false false e k ih = rw (without-unmet test o os e, lots-unmet other o (without test os) k, lots-unmet other o os k) ih
@@ -251,14 +256,16 @@ module _ (n : ℕ) where
   unfolding numbers usedOnce
   only o os e u = index-notIn n os (rw (eqb-true (o .number) n e) at (both-true (notIn (o .number) (numbers os)) (usedOnce (numbers os)) u .0))
 
-  pub without-number : (os : List Order) → usedOnce (numbers os) ≡ true → indexOf n os < length os → without (hasNumber n) os ≡ removeAt (indexOf n os) os
+  pub without-number : (os : List Order) → usedOnce (numbers os) ≡ true → indexOf n os < length os
+      → without (hasNumber n) os ≡ removeAt (indexOf n os) os
   unfolding removeAt
   without-number =
       first-ind (hasNumber n) (λ os i. usedOnce (numbers os) ≡ true → i < length os → without (hasNumber n) os ≡ removeAt i os) (λ u h. absurd (omega arith))
       (λ o os e u h. without-met (hasNumber n) o os e ∙ without-none (hasNumber n) os (only o os e u))
       (λ o os i e ih u h. without-unmet (hasNumber n) o os e ∙ ap (λ (l : List Order). o ∷ l) (ih (once-tail o os u) (le-of-suc-le-suc h)))
 
-  pub lots-number : (os : List Order) → usedOnce (numbers os) ≡ true → indexOf n os < length os → lotsWhere (hasNumber n) os ≡ getD os (indexOf n os) noOrder .lots
+  pub lots-number : (os : List Order) → usedOnce (numbers os) ≡ true → indexOf n os < length os
+      → lotsWhere (hasNumber n) os ≡ getD os (indexOf n os) noOrder .lots
   lots-number =
       first-ind (hasNumber n) (λ os i. usedOnce (numbers os) ≡ true → i < length os → lotsWhere (hasNumber n) os ≡ getD os i noOrder .lots) (λ u h. absurd (omega arith))
       (λ o os e u h. omega (arith, lots-met (hasNumber n) o os e, lots-none (hasNumber n) os (only o os e u)))

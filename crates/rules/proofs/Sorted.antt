@@ -41,7 +41,8 @@ pub behind-ahead : (sell : Bool) (o p : Order) → ahead sell o p ≡ true → B
 unfolding ahead
 behind-ahead sell o p e = go (worse sell (p .price) (o .price)) refl e
   where
-    go : (w : Bool) → worse sell (p .price) (o .price) ≡ w → (w || eqb (o .price) (p .price) && ltb (o .number) (p .number)) ≡ true → Behind sell (p .price) (o .price)
+    go : (w : Bool) → worse sell (p .price) (o .price) ≡ w → (w || eqb (o .price) (p .price) && ltb (o .number) (p .number)) ≡ true
+        → Behind sell (p .price) (o .price)
     go true k h = behind-worse sell (p .price) (o .price) k
     go false k h = rw (eqb-true (o .price) (p .price) (both-true (eqb (o .price) (p .price)) (ltb (o .number) (p .number)) h .0)) (behind-refl sell (p .price))
 

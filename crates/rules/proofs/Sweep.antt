@@ -8,10 +8,11 @@ use Prim.Native.Nat.{ℕ, zero, suc, _-_, _<_, _≤_, min}
 use native.Mathlib.Omega.{arith}
 use borrow.Author.Tests.{lt-ltb, ltb-true, ltb-false}
 use lib.Dec.{ltb}
-use Rattle.laws.specs.Choice.{pick-true, pick-false, true-both, both-false}
+use Rattle.laws.specs.Choice.{pick-true, pick-false, allOf, both-true, true-both, both-false}
 use Rattle.rules.specs.Matching.{counterpart, tradePrice, tradeWith, withLots, stays, Swept, untouched, afterTrade, sweep}
 use Rattle.rules.specs.declared.Order.{Order}
 use Rattle.rules.specs.declared.Taker.{Taker}
+use Rattle.rules.specs.declared.Trade.{Trade}
 
 -- ---- a trade's lots and price
 
@@ -96,7 +97,8 @@ module _ (t : Taker) (P : ℕ → ℕ → List Order → Swept → Type 0)
     → P left last (o ∷ os) (partFilled t o left last os))
     (full : (left last : ℕ) (o : Order) (os : List Order) (s : Swept) → 0 < left → counterpart t o ≡ true → o .lots ≤ left
     → P (left - o .lots) (tradePrice (t .condition) (o .price) last) os s → P left last (o ∷ os) (filled t o left last s)) where
-  turn : (left last : ℕ) (o : Order) (os : List Order) (some met short : Bool) → ltb 0 left ≡ some → counterpart t o ≡ met → ltb left (o .lots) ≡ short
+  turn : (left last : ℕ) (o : Order) (os : List Order) (some met short : Bool) → ltb 0 left ≡ some → counterpart t o ≡ met
+      → ltb left (o .lots) ≡ short
       → ((k p : ℕ) → P k p os (sweep t k p os)) → P left last (o ∷ os) (sweep t left last (o ∷ os))
   turn left last o os false met short a b c ih =
       let z : left ≡ 0 = omega (arith, ltb-false 0 left a) in
@@ -114,3 +116,19 @@ module _ (t : Taker) (P : ℕ → ℕ → List Order → Swept → Type 0)
   pub sweep-ind : (left last : ℕ) (os : List Order) → P left last os (sweep t left last os)
   sweep-ind left last [] = rw (sweep-end t left last) (stop left last [] (inr tt))
   sweep-ind left last (o ∷ os) = turn left last o os _ _ _ refl refl refl (λ k p. sweep-ind k p os)
+
+-- What holds of every trade with an order of the queue, at a last price of which something holds that every trade's price keeps:
+-- holds of every trade of the sweep.
+pub swept-each : (t : Taker) (test : Trade → Bool) (fit : Order → Bool) (Last : ℕ → Type 0)
+    → ((o : Order) (left last : ℕ) → 0 < left → counterpart t o ≡ true → fit o ≡ true → Last last → (test (tradeWith t o left last) ≡ true) × Last (tradePrice (t .condition) (o .price) last))
+    → (left last : ℕ) (os : List Order) → Last last → allOf fit os ≡ true → allOf test (sweep t left last os .trades) ≡ true
+unfolding allOf
+swept-each t test fit Last each =
+    sweep-ind t (λ left last os s. Last last → allOf fit os ≡ true → allOf test (s .trades) ≡ true)
+    (λ left last os w l h. refl)
+    (λ left last o os some met short l h.
+    true-both (test (tradeWith t o left last)) true (each o left last some met (both-true (fit o) (allOf fit os) h .0) l .0) refl)
+    (λ left last o os s some met enough ih l h.
+    let b = both-true (fit o) (allOf fit os) h in
+    let e = each o left last some met (b .0) l in
+    true-both (test (tradeWith t o left last)) (allOf test (s .trades)) (e .0) (ih (e .1) (b .1)))
