@@ -8,19 +8,19 @@ use native.Mathlib.Omega.{arith}
 use borrow.Author.Tests.{leb-true}
 use lib.Dec.{leb}
 use lib.IntN.{natAbs}
-use lib.ListN.{length, getD, take, length-map}
+use lib.ListN.{length, getD, set, take, length-map}
 use lib.Seq.{length-take-le}
 use Rattle.laws.specs.Bound.{Within, within-abs, within-le}
 use Rattle.laws.specs.Choice.{all, all-at, both-true}
 use Rattle.laws.specs.Tabulate.{length-tabulate}
 use Rattle.rules.specs.Bounds.{within, maxContracts, maxAccounts, maxResting, maxTrades, maxBalance, maxDayProfit}
 use Rattle.rules.specs.Exchange.{Exchange, accountAt, holdingAt, listingAt}
-use Rattle.rules.specs.Memory.{Memory, Declared, exchangeOf, inUse, countsInRange, hasRoom, wellFormedMemory}
+use Rattle.rules.specs.Memory.{Memory, Declared, exchangeOf, inUse, putAccounts, countsInRange, hasRoom, wellFormedMemory}
 use Rattle.rules.specs.WellFormed.{wellFormedContents}
 use Rattle.rules.specs.declared.Account.{Account}
 use Rattle.rules.specs.declared.State.{State}
 use Rattle.invariants.proofs.Clauses.{WellFormed, well-formed}
-use Rattle.engine.proofs.Accounts.{used-at, used-holding}
+use Rattle.engine.proofs.Accounts.{put-account-set, used-at, used-holding}
 use Rattle.engine.proofs.Puts.{Lies, Rooms}
 
 pub record Formed (m : Memory) : Type 0 where
@@ -115,3 +115,9 @@ module _ (m : Memory) (d : Declared (m .state)) (f : Formed m) where
       let b = f .contents .balance a (rw accounts-count h) in
       let s = f .contents .settlements in
       within-le (omega arith) (within-abs _ _ (rw (ap (λ (v : Account). v .balance) (account-at a h)) at b))
+
+  -- one account written back with its holdings as they lay
+  pub account-put : (a : ℕ) (v : Account) → a < m .state .accountcount → v .holdings ≡ accountAt (m .state .accounts) a .holdings
+      → putAccounts (set (exchangeOf m .accounts) a (inUse (m .state .contractcount) v)) (m .state .accounts) ≡ set (m .state .accounts) a v
+  unfolding exchangeOf
+  account-put a v h e = put-account-set (m .state .contractcount) (m .state .accountcount) (m .state .accounts) a v few-accounts (lies .holdings) h e

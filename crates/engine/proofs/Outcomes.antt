@@ -3,7 +3,7 @@ use mathlib.Core.Bool.{Bool, true, false, _||_}
 use mathlib.Core.List.{List}
 use mathlib.Core.Path.{_≡_, refl, sym, ap, _∙_}
 use Prim.Native.Nat.{ℕ, zero, suc}
-use lib.Dec.{eqb, ltb}
+use lib.Dec.{eqb, ltb, eqb·suc-zero}
 use lib.ListN.{length}
 use Rattle.rules.specs.Answers.{codeOf}
 use Rattle.rules.specs.Exchange.{absent}
@@ -18,7 +18,7 @@ module _ (s : State) (buys sells trades : List ℕ) (command : Command) where
   pub refusal : (code : ℕ) (r : Outcome) → codeOf (exchangeOf (memory s buys sells trades)) command ≡ suc code → r ≡ record { answer = answerOf (suc code) 0 0 0; state = s }
       → OutcomeIs (stepIn (memory s buys sells trades) command) r buys sells trades
   unfolding stepIn
-  refusal code r e f = rw e (record { answer = ap (λ (o : Outcome). o .answer) f; memory = ap (λ (o : Outcome). memory (o .state) buys sells trades) f })
+  refusal code r e f = rw (e, eqb·suc-zero code) (record { answer = ap (λ (o : Outcome). o .answer) f; memory = ap (λ (o : Outcome). memory (o .state) buys sells trades) f })
 
   pub acceptance : (number traded lots : ℕ) (s′ : State) (buys′ sells′ trades′ : List ℕ) (r : Outcome) → codeOf (exchangeOf (memory s buys sells trades)) command ≡ 0
       → r ≡ record { answer = answerOf 0 number traded lots; state = s′ }

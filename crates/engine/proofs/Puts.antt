@@ -11,7 +11,7 @@ use lib.Seq.{getD-set-same, getD-set-other}
 use Rattle.laws.specs.Tabulate.{tabulate, length-tabulate, getD-tabulate}
 use Rattle.rules.specs.Exchange.{Exchange, Listing, accountAt, listingAt, noContract, noListing}
 use Rattle.rules.specs.Memory.{Memory, exchangeOf, listingIn, inUse, put, putAccount, putAccounts, putFirst, putQueue, putQueues, putState, putTrades, queueIn, recordedTrades}
-use Rattle.rules.proofs.Codecs.{put-queue, queue-put-other, length-putQueue, length-queue}
+use Rattle.rules.proofs.Codecs.{put-queue, queue-put-other, length-putQueue, length-queue, length-trades, put-trades}
 use Rattle.engine.proofs.Accounts.{map-set}
 use Rattle.rules.specs.declared.Account.{Account}
 use Rattle.rules.specs.declared.Contract.{Contract}
@@ -105,6 +105,20 @@ pub record Lies (m : Memory) : Type 0 where
   pub buys : Rooms (m .buys) (m .state .buys) (m .state .contractcount)
   pub sells : Rooms (m .sells) (m .state .sells) (m .state .contractcount)
   pub trades : 9 * m .state .tradecount ≤ length (m .trades)
+
+abbrev pub accountsIn : State → List Account → State
+accountsIn s accounts =
+    record {
+      contracts = s .contracts;
+      accounts = accounts;
+      buys = s .buys;
+      sells = s .sells;
+      contractcount = s .contractcount;
+      accountcount = s .accountcount;
+      tradecount = s .tradecount;
+      next = s .next;
+      settlements = s .settlements;
+    }
 
 tabulate-ext : {A : Type 0} (n : ℕ) (f g : ℕ → A) → ((i : ℕ) → f i ≡ g i) → tabulate n f ≡ tabulate n g
 unfolding tabulate
@@ -215,3 +229,23 @@ module _ (m : Memory) (lies : Lies m) where
             queue-new (λ v. v .buys) (m .buys) (m .state .buys) (lies .buys) short-buys (λ d. refl),
             queue-new (λ v. v .sells) (m .sells) (m .state .sells) (lies .sells) short-sells (λ d. refl),
           )
+
+  -- the trades as they are
+  pub trades-count : length (exchangeOf m .trades) ≡ m .state .tradecount
+  unfolding exchangeOf
+  trades-count = length-trades (m .trades) (m .state .tradecount)
+
+  pub trades-same : putTrades (m .trades) (m .state .tradecount) (exchangeOf m .trades) ≡ m .trades
+  unfolding exchangeOf
+  trades-same = put-trades (m .trades) (m .state .tradecount) (lies .trades)
+
+  abbrev pub withAccounts : List Account → Exchange
+  withAccounts accounts =
+      record { listings = exchangeOf m .listings; accounts = accounts; trades = exchangeOf m .trades; next = exchangeOf m .next; settlements = exchangeOf m .settlements }
+
+  -- only the accounts new
+  pub put-accounts : (accounts : List Account) (placed : List Account) → putAccounts accounts (m .state .accounts) ≡ placed
+      → put m (withAccounts accounts) ≡ record { state = accountsIn (m .state) placed; buys = m .buys; sells = m .sells; trades = m .trades }
+  unfolding exchangeOf
+  put-accounts accounts placed e =
+      put-same-listings accounts (exchangeOf m .trades) (exchangeOf m .next) (exchangeOf m .settlements) ∙ rw (e, trades-count, trades-same)

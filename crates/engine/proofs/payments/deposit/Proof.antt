@@ -1,3 +1,7 @@
+use native.Mathlib.Omega.{arith}
+use Rattle.engine.proofs.Outcomes.{refusal, acceptance}
+use Rattle.engine.proofs.Paying.{deposit-absent, deposit-amount, deposit-high, deposit-none, deposit-lies, place-below}
+use denote.Ref.{now}
 use mathlib.Core.List.{List, map}
 use mathlib.Core.Path.{_≡_, sym, _∙_}
 use Prim.Native.Nat.{ℕ}
@@ -26,7 +30,7 @@ declared c =
       accounts = search (needs, unmapped);
       buys = search (needs, unmapped);
       sells = search (needs, unmapped);
-      holdings = λ a h. each-at _ _ (λ v. length (v .holdings) ≡ 4) (λ v u s. unmapped _ (v .holdings) 4 (s .1 .1 .1 .0 .1 .0 .1)) (c .args .t1 .accounts) _ (c .good .0 .1 .1 .1 .0 .1 .1) a noAccount ?lt;
+      holdings = λ a h. each-at _ _ (λ v. length (v .holdings) ≡ 4) (λ v u s. unmapped _ (v .holdings) 4 (s .1 .1 .1 .0 .1 .0 .1)) (c .args .t1 .accounts) _ (c .good .0 .1 .1 .1 .0 .1 .1) a noAccount (let e : length (c .args .t1 .accounts) ≡ 32 = search (needs, unmapped) in omega arith);
     }
 
 -- src/payments.rt:48:8
@@ -39,7 +43,8 @@ refused-requires c κs = search needs
 
 -- src/payments.rt:49:9
 returns : tie.Need-returns
-returns c = ?
+returns c =
+    refusal (c .before .before .before .before .before .before .args .t1) (now (c .before .before .before .before .before .before .args .buys)) (now (c .before .before .before .before .before .before .args .sells)) (now (c .before .before .before .before .before .before .args .trades)) _ 1 _ (deposit-absent (c .before .before .before .before .before .before .args .t1) (now (c .before .before .before .before .before .before .args .buys)) (now (c .before .before .before .before .before .before .args .sells)) (now (c .before .before .before .before .before .before .args .trades)) (declared (c .before .before .before .before .before .before)) (c .before .before .before .before .before .before .pre) (c .before .before .before .before .before .before .args .account) (c .before .before .before .before .before .before .args .amount) (sym (c .before .before .is-absent .ensures) ∙ c .before .if1 .taken)) (c .refused .ensures)
 
 -- src/payments.rt:51:8
 amount-refused-requires : tie.Need-amount-refused-requires
@@ -51,7 +56,8 @@ refused-requires-2 c κs = search needs
 
 -- src/payments.rt:52:9
 returns-2 : tie.Need-returns-2
-returns-2 c = ?
+returns-2 c =
+    refusal (c .before .before .before .before .before .before .before .before .args .t1) (now (c .before .before .before .before .before .before .before .before .args .buys)) (now (c .before .before .before .before .before .before .before .before .args .sells)) (now (c .before .before .before .before .before .before .before .before .args .trades)) _ 15 _ (deposit-amount (c .before .before .before .before .before .before .before .before .args .t1) (now (c .before .before .before .before .before .before .before .before .args .buys)) (now (c .before .before .before .before .before .before .before .before .args .sells)) (now (c .before .before .before .before .before .before .before .before .args .trades)) (declared (c .before .before .before .before .before .before .before .before)) (c .before .before .before .before .before .before .before .before .pre) (c .before .before .before .before .before .before .before .before .args .account) (c .before .before .before .before .before .before .before .before .args .amount) (sym (c .before .before .before .before .is-absent .ensures) ∙ c .before .before .before .if1 .left) (sym (c .before .before .amount-refused .ensures) ∙ c .before .if2 .taken)) (c .refused2 .ensures)
 
 -- src/payments.rt:54:17
 wide-requires : tie.Need-wide-requires
