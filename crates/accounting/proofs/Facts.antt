@@ -21,15 +21,15 @@ use Rattle.accounting.specs.Money.{AllKnown}
 
 -- ---- tests joined by `_&&_`, taken apart in one go
 
-abbrev joined : Bool → List Bool → Bool
+abbrev pub joined : Bool → List Bool → Bool
 joined a [] = a
 joined a (b ∷ bs) = joined (a && b) bs
 
-abbrev Passed : Bool → List Bool → Type 0
+abbrev pub Passed : Bool → List Bool → Type 0
 Passed a [] = a ≡ true
 Passed a (b ∷ bs) = (a ≡ true) × Passed b bs
 
-passed : (a : Bool) (bs : List Bool) → joined a bs ≡ true → Passed a bs
+pub passed : (a : Bool) (bs : List Bool) → joined a bs ≡ true → Passed a bs
 passed a [] h = h
 passed a (b ∷ bs) h = front a b bs (passed (a && b) bs h)
   where

@@ -7,3 +7,8 @@ pub mod Identity
 pub mod Reach
 pub mod PriceBound
 pub mod ProfitBound
+pub mod BooksLaws
+pub mod StepMoves
+pub mod StepShape
+pub mod Declared
+pub mod Condition3

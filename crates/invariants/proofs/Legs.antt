@@ -105,7 +105,7 @@ covered-by l u c sell (suc (suc n)) lots m h = absurd (omega arith)
 
 -- ---- a trade of k lots between the first of the buys and the first of the sells
 
-resting-cons : (close a : ℕ) (o : Order) (os : List Order) → resting close a (o ∷ os) ≡ pick (eqb (o .account) a && eqb (o .close) close) (o .lots) 0 + resting close a os
+pub resting-cons : (close a : ℕ) (o : Order) (os : List Order) → resting close a (o ∷ os) ≡ pick (eqb (o .account) a && eqb (o .close) close) (o .lots) 0 + resting close a os
 unfolding resting lotsWhere sumOf
 resting-cons close a o os = refl
 

@@ -12,4 +12,10 @@ pub mod Removal
 pub mod Ticks
 pub mod Settle
 pub mod Legs
-pub mod SweptQueue
+pub mod SweptHoldings
+pub mod SweptTrades
+pub mod InsertAccepted
+pub mod InsertQueues
+pub mod InsertListing
+pub mod Insert
+pub mod Keeps

@@ -17,11 +17,13 @@ use Rattle.rules.specs.WellFormed.{ahead, aheadOfFirst, sorted, uncrossed, orde
 use Rattle.rules.specs.declared.Order.{Order}
 use Rattle.rules.specs.declared.Holding.{Holding}
 use Rattle.rules.specs.declared.Command.the-variants.{Cancel, Pull}
+use Rattle.rules.proofs.Queue.{length-without}
+use Rattle.rules.proofs.Sorted.{sorted-tail}
 use Rattle.invariants.proofs.Accepted.{failed, present}
 use Rattle.invariants.proofs.Clauses.{ListingOk, HoldingOk, WellFormed, Counted, held}
 use Rattle.invariants.proofs.Numbers.{uses, usesIn}
 use Rattle.invariants.proofs.OneListing.{relisted-keeps, relisted-counted}
-use Rattle.invariants.proofs.Sorting.{sorted-ahead, ahead-sorted, sorted-behind, below, apart, uncrossed-apart, apart-uncrossed}
+use Rattle.invariants.proofs.Sorting.{sorted-ahead, ahead-sorted, below, apart, uncrossed-apart, apart-uncrossed}
 
 -- ---- what is left is a part: sums, tests of each, length
 
@@ -47,19 +49,10 @@ module _ (test : Order → Bool) where
       go true ih = ih
       go false ih = true-both (p o) (allOf p (without test os)) (q .0) ih
 
-  pub without-length : (queue : List Order) → length (without test queue) ≤ length queue
-  unfolding without
-  without-length [] = omega arith
-  without-length (o ∷ os) = go (test o) (without-length os)
-    where
-      go : (b : Bool) → length (without test os) ≤ length os → length (pick b (without test os) (o ∷ without test os)) ≤ suc (length os)
-      go true ih = omega arith
-      go false ih = omega arith
-
   pub without-sorted : (sell : Bool) (queue : List Order) → sorted sell queue ≡ true → sorted sell (without test queue) ≡ true
   unfolding without
   without-sorted sell [] s = s
-  without-sorted sell (o ∷ os) s = go (test o) (without-sorted sell os (sorted-behind sell o os s))
+  without-sorted sell (o ∷ os) s = go (test o) (without-sorted sell os (sorted-tail sell o os s))
     where
       go : (b : Bool) → sorted sell (without test os) ≡ true → sorted sell (pick b (without test os) (o ∷ without test os)) ≡ true
       go true ih = ih
@@ -115,7 +108,7 @@ module _ (test : Order → Bool) where
     removed-counted : Counted x → Counted (removed x c test number .exchange)
     unfolding removed
     removed-counted n =
-        relisted-counted x c there (listingWithout test (listingAt x c)) n (λ sell. rw (own-without (listingAt x c) sell) (without-length (own sell (listingAt x c))))
+        relisted-counted x c there (listingWithout test (listingAt x c)) n (λ sell. rw (own-without (listingAt x c) sell) (length-without test (own sell (listingAt x c))))
 
 module _ (x : Exchange) (account contract : ℕ) (operator : Bool) where
   module _ (number : ℕ) (e : codeOf x (Cancel account contract operator number) ≡ 0) where

@@ -10,10 +10,12 @@ use native.Mathlib.Omega.{arith}
 use borrow.Author.Tests.{eqb-true, eq-eqb, ltb-true, ltb-false, lt-ltb}
 use lib.Dec.{leb, eqb, ltb}
 use Rattle.laws.specs.Choice.{pick, allOf, allOf-imp, both-true, true-both, true-either, either-true}
+use Rattle.laws.specs.Sums.{sumOf}
 use Rattle.rules.specs.Exchange.{worse}
 use Rattle.rules.specs.Matching.{restIn}
 use Rattle.rules.specs.WellFormed.{ahead, aheadOfFirst, sorted, uncrossed}
 use Rattle.rules.specs.declared.Order.{Order}
+use Rattle.rules.proofs.Sorted.{sorted-tail}
 
 -- ---- ahead: at a better price, or at the same one with a lower number
 
@@ -76,22 +78,12 @@ unfolding sorted aheadOfFirst allOf
 ahead-sorted sell o [] h s = refl
 ahead-sorted sell o (p ∷ ps) h s = true-both (ahead sell o p) (sorted sell (p ∷ ps)) (both-true (ahead sell o p) (allOf (ahead sell o) ps) h .0) s
 
-pub sorted-behind : (sell : Bool) (o : Order) (os : List Order) → sorted sell (o ∷ os) ≡ true → sorted sell os ≡ true
-unfolding sorted
-sorted-behind sell o os h = both-true (aheadOfFirst sell o os) (sorted sell os) h .1
-
--- the lots of the first order play no part
-pub sorted-same : (sell : Bool) (o p : Order) (os : List Order) → o .price ≡ p .price → o .number ≡ p .number → sorted sell (o ∷ os) ≡ true → sorted sell (p ∷ os) ≡ true
-unfolding sorted aheadOfFirst ahead
-sorted-same sell o p [] e f h = h
-sorted-same sell o p (q ∷ qs) e f h = rw (← e, ← f) h
-
 -- ---- an order that comes to rest
 
-pub rest-all : (test : Order → Bool) (sell : Bool) (o : Order) (os : List Order) → test o ≡ true → allOf test os ≡ true → allOf test (restIn sell o os) ≡ true
+pub restIn-all : (test : Order → Bool) (sell : Bool) (o : Order) (os : List Order) → test o ≡ true → allOf test os ≡ true → allOf test (restIn sell o os) ≡ true
 unfolding restIn allOf
-rest-all test sell o [] e h = true-both (test o) true e refl
-rest-all test sell o (p ∷ ps) e h = go (worse sell (p .price) (o .price)) (rest-all test sell o ps e (q .1))
+restIn-all test sell o [] e h = true-both (test o) true e refl
+restIn-all test sell o (p ∷ ps) e h = go (worse sell (p .price) (o .price)) (restIn-all test sell o ps e (q .1))
   where
     q : (test p ≡ true) × (allOf test ps ≡ true)
     q = both-true (test p) (allOf test ps) h
@@ -105,11 +97,11 @@ not-worse : (sell : Bool) (p o : Order) → worse sell (p .price) (o .price) ≡
 not-worse true p o e l = ⊎-elim (λ (q : p .price ≡ o .price). earlier q l) (λ (h : p .price < o .price). better h) (eq-or-lt-of-le (ltb-false (o .price) (p .price) e))
 not-worse false p o e l = ⊎-elim (λ (q : o .price ≡ p .price). earlier (sym q) l) (λ (h : o .price < p .price). better h) (eq-or-lt-of-le (ltb-false (p .price) (o .price) e))
 
-pub rest-sorted :
+pub restIn-sorted :
     (sell : Bool) (o : Order) (os : List Order) → sorted sell os ≡ true → allOf (λ p. ltb (p .number) (o .number)) os ≡ true → sorted sell (restIn sell o os) ≡ true
 unfolding restIn
-rest-sorted sell o [] s n = unfold sorted aheadOfFirst in refl
-rest-sorted sell o (p ∷ ps) s n = go (worse sell (p .price) (o .price)) refl (rest-sorted sell o ps (sorted-behind sell p ps s) (q .1))
+restIn-sorted sell o [] s n = unfold sorted aheadOfFirst in refl
+restIn-sorted sell o (p ∷ ps) s n = go (worse sell (p .price) (o .price)) refl (restIn-sorted sell o ps (sorted-tail sell p ps s) (q .1))
   where
     q : (ltb (p .number) (o .number) ≡ true) × (allOf (λ r. ltb (r .number) (o .number)) ps ≡ true)
     q = both-true (ltb (p .number) (o .number)) (allOf (λ r. ltb (r .number) (o .number)) ps) (unfold allOf in n)
@@ -121,7 +113,16 @@ rest-sorted sell o (p ∷ ps) s n = go (worse sell (p .price) (o .price)) refl (
     go true w ih = front (better (worse-better sell (o .price) (p .price) w))
     go false w ih =
         ahead-sorted sell p (restIn sell o ps)
-        (rest-all (ahead sell p) sell o ps (is-ahead sell p o (not-worse sell p o w (ltb-true (p .number) (o .number) (q .0)))) (sorted-ahead sell p ps s)) ih
+        (restIn-all (ahead sell p) sell o ps (is-ahead sell p o (not-worse sell p o w (ltb-true (p .number) (o .number) (q .0)))) (sorted-ahead sell p ps s)) ih
+
+pub restIn-sum : (f : Order → ℕ) (sell : Bool) (o : Order) (os : List Order) → sumOf f (restIn sell o os) ≡ f o + sumOf f os
+unfolding restIn sumOf
+restIn-sum f sell o [] = refl
+restIn-sum f sell o (p ∷ ps) = go (worse sell (p .price) (o .price)) (restIn-sum f sell o ps)
+  where
+    go : (b : Bool) → sumOf f (restIn sell o ps) ≡ f o + sumOf f ps → sumOf f (pick b (o ∷ p ∷ ps) (p ∷ restIn sell o ps)) ≡ f o + (f p + sumOf f ps)
+    go true ih = refl
+    go false ih = omega arith
 
 -- ---- uncrossed, as a fact of every buy and every sell
 
