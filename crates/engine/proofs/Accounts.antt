@@ -8,6 +8,7 @@ use native.Mathlib.Nat.{le-of-suc-le-suc, not-suc-le-zero}
 use native.Mathlib.Omega.{arith}
 use lib.ListN.{length, getD, set, take, drop, length-set, length-take, take-append-drop}
 use lib.Seq.{drop-set-lt, take-set-lt, getD-set-same, getD-set-other, getD-take, take-set-le, length-take-le}
+use Rattle.laws.specs.Lists.{getD-map-lt, map-set}
 use Rattle.rules.specs.Exchange.{accountAt, holdingAt, noAccount, noHolding}
 use Rattle.rules.specs.Holdings.{afterLeg, bookLeg, bookTrade, bookTrades, withHolding}
 use Rattle.rules.specs.Memory.{inUse, putAccount, putAccounts, putFirst}
@@ -18,17 +19,6 @@ use Rattle.rules.specs.declared.Trade.{Trade}
 -- the accounts in use, their holdings in the contracts in use
 abbrev pub used : ℕ → ℕ → List Account → List Account
 used contracts n accounts = map (inUse contracts) (take n accounts)
-
--- a function of each element, at a place and with one changed
-pub getD-map-lt : {A B : Type 0} (f : A → B) (l : List A) (i : ℕ) (d : A) (d′ : B) → i < length l → getD (map f l) i d′ ≡ f (getD l i d)
-getD-map-lt f [] i d d′ h = absurd (not-suc-le-zero h)
-getD-map-lt f (a ∷ l) zero d d′ h = refl
-getD-map-lt f (a ∷ l) (suc i) d d′ h = getD-map-lt f l i d d′ (le-of-suc-le-suc h)
-
-pub map-set : {A B : Type 0} (f : A → B) (l : List A) (i : ℕ) (v : A) → map f (set l i v) ≡ set (map f l) i (f v)
-map-set f [] i v = refl
-map-set f (a ∷ l) zero v = refl
-map-set {B = B} f (a ∷ l) (suc i) v = ap (λ (r : List B). f a ∷ r) (map-set f l i v)
 
 -- ---- one account
 

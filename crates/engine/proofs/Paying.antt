@@ -1,87 +1,109 @@
 -- Deposit and withdraw: the code's tests are the rules' refusals, and the balance changed is the rules' state. Assumes nothing.
-use mathlib.Core.Bool.{Bool, true, false, _||_}
+use mathlib.Core.Bool.{Bool, true, false, not, _||_}
 use mathlib.Core.List.{List}
-use mathlib.Core.Path.{_≡_, refl, sym, ap, _∙_}
-use Prim.Native.Nat.{ℕ, zero, suc, _-_, _<_, _≤_, _^_}
+use mathlib.Core.Path.{_≡_, refl, ap, _∙_}
+use Prim.Native.Nat.{ℕ, _-_, _*_, _<_, _≤_, _^_}
 use native.Mathlib.Omega.{arith}
-use borrow.Author.Tests.{eqb-false, ltb-false}
-use lib.Dec.{eqb, ltb}
+use borrow.Author.Tests.{leb-true, not-false}
+use lib.Dec.{leb}
 use lib.IntN.{ℤ, pos, _+ℤ_}
-use lib.ListN.{length, getD, set}
+use lib.ListN.{getD, set}
 use lib.Signed.{ltZ}
-use Rattle.laws.specs.Choice.{either-false, pick}
+use Rattle.laws.specs.Bound.{Within}
+use Rattle.laws.specs.Choice.{both-true, pick}
 use Rattle.rules.specs.Answers.{amountRefused, codeOf, depositRefusals, firstOf, liftsTooHigh, refusals}
-use Rattle.rules.specs.Exchange.{absent, accountAt, placeOf}
-use Rattle.rules.specs.Memory.{Declared, Memory, exchangeOf, inUse, put, putAccounts, wellFormedMemory}
+use Rattle.rules.specs.Bounds.{within, maxAmount}
+use Rattle.rules.specs.Exchange.{accountAt, noAccount}
+use Rattle.rules.specs.Memory.{Memory, exchangeOf, inUse, put, stepIn}
 use Rattle.rules.specs.Step.{carriedOut, deposited, paid, withBalance}
 use Rattle.rules.specs.declared.Account.{Account}
-use Rattle.rules.specs.declared.Command.the-variants.{Deposit, Withdraw}
+use Rattle.rules.specs.declared.Command.the-variants.{Deposit}
 use Rattle.rules.specs.declared.State.{State}
-use Rattle.engine.specs.Outcome.{memory, withBalanceAt}
-use Rattle.engine.proofs.Formed.{Formed, formed, accounts-count, account-at, account-put, lies}
-use Rattle.engine.proofs.Outcomes.{absent-count}
+use Rattle.engine.specs.Outcome.{memory, WellFormedState, OutcomeIs, refusedWith, acceptedWith, withBalanceAt}
+use Rattle.engine.specs.declared.answers.Outcome.{Outcome}
+use Rattle.engine.proofs.Formed.{Formed, formed, no-account, account-at, account-put, balance-within}
+use Rattle.engine.proofs.Outcomes.{refusal, acceptance}
 use Rattle.engine.proofs.Puts.{put-accounts}
+use Rattle.engine.proofs.Tests.{isAbsent, place-below}
 
--- a number that is not absent has a place
-pub place-below : (number n : ℕ) → (eqb number 0 || ltb n number) ≡ false → (1 ≤ number) × (number - 1 < n)
-place-below number n e =
-    let p = either-false (eqb number 0) (ltb n number) e in
-    let z = eqb-false number 0 (p .0) in
-    let b = ltb-false n number (p .1) in
-    (positive number z, let q = positive number z in omega arith)
-  where
-    positive : (k : ℕ) → (k ≡ 0 → ⊥) → 1 ≤ k
-    positive zero f = absurd (f refl)
-    positive (suc k) f = omega arith
+-- an amount that is not refused
+pub amount-high : (amount : ℕ) → amountRefused amount ≡ false → amount ≤ 10 ^ 15
+unfolding amountRefused
+amount-high amount e = leb-true amount maxAmount (both-true (leb 1 amount) (leb amount maxAmount) (not-false (within 1 maxAmount amount) e) .1)
 
-module _ (s : State) (buys sells trades : List ℕ) (d : Declared s) (w : wellFormedMemory (memory s buys sells trades) ≡ true) (account amount : ℕ) where
+module _ {s : State} {buys sells trades : List ℕ} (w : WellFormedState s buys sells trades) (account : ℕ) where
   abbrev m : Memory
   m = memory s buys sells trades
 
   f : Formed m
-  f = formed m w
+  f = formed w
 
-  absent-test : (t : Bool) → (eqb account 0 || ltb (s .accountcount) account) ≡ t → absent account (exchangeOf m .accounts) ≡ t
-  absent-test t e = absent-count account (s .accountcount) (exchangeOf m .accounts) (accounts-count m d f) ∙ e
+  -- ---- the account's place: `k` is its number as the code widens it
 
-  pub deposit-absent : (eqb account 0 || ltb (s .accountcount) account) ≡ true → codeOf (exchangeOf m) (Deposit account amount) ≡ 2
-  unfolding codeOf refusals depositRefusals firstOf
-  deposit-absent e = rw (absent-test true e)
-
-  pub deposit-amount : (eqb account 0 || ltb (s .accountcount) account) ≡ false → amountRefused amount ≡ true → codeOf (exchangeOf m) (Deposit account amount) ≡ 16
-  unfolding codeOf refusals depositRefusals firstOf
-  deposit-amount e a = rw (absent-test false e, a)
-
-  module _ (e : (eqb account 0 || ltb (s .accountcount) account) ≡ false) (a : amountRefused amount ≡ false) where
+  module _ (present : isAbsent account (s .accountcount) ≡ false) where
     here : account - 1 < s .accountcount
-    here = place-below account (s .accountcount) e .1
+    here = place-below account (s .accountcount) present .1
 
-    balance-is : accountAt (exchangeOf m .accounts) (account - 1) .balance ≡ accountAt (s .accounts) (account - 1) .balance
-    balance-is = ap (λ (v : Account). v .balance) (account-at m d f (account - 1) here)
-
-    lifts-is : liftsTooHigh (exchangeOf m) account amount ≡ ltZ (pos (10 ^ 18)) (accountAt (s .accounts) (account - 1) .balance +ℤ pos amount)
-    unfolding liftsTooHigh
-    lifts-is = rw balance-is
-
-    pub deposit-high : ltZ (pos (10 ^ 18)) (accountAt (s .accounts) (account - 1) .balance +ℤ pos amount) ≡ true → codeOf (exchangeOf m) (Deposit account amount) ≡ 16
-    unfolding codeOf refusals depositRefusals firstOf
-    deposit-high h = rw (absent-test false e, a, lifts-is, h)
-
-    pub deposit-none : ltZ (pos (10 ^ 18)) (accountAt (s .accounts) (account - 1) .balance +ℤ pos amount) ≡ false → codeOf (exchangeOf m) (Deposit account amount) ≡ 0
-    unfolding codeOf refusals depositRefusals firstOf
-    deposit-none h = rw (absent-test false e, a, lifts-is, h)
+    balance-is : accountAt (exchangeOf m .accounts) (account - 1) .balance ≡ getD (s .accounts) (account - 1) noAccount .balance
+    unfolding accountAt
+    balance-is = ap (λ (v : Account). v .balance) (account-at m f (account - 1) here)
 
     -- the rules' state with another balance, as it lies
-    pub paid-lies : (balance : ℤ) → put m (paid (exchangeOf m) (account - 1) balance) ≡ memory (withBalanceAt s (account - 1) balance) buys sells trades
+    paid-lies : (balance : ℤ) → put m (paid (exchangeOf m) (account - 1) balance) ≡ memory (withBalanceAt s (account - 1) balance) buys sells trades
     unfolding paid accountAt
     paid-lies balance =
-        let v : Account = withBalance (accountAt (s .accounts) (account - 1)) balance in
+        let v : Account = withBalance (getD (s .accounts) (account - 1) noAccount) balance in
         let read : withBalance (accountAt (exchangeOf m .accounts) (account - 1)) balance ≡ inUse (s .contractcount) v =
-        ap (λ (u : Account). withBalance u balance) (account-at m d f (account - 1) here) in
-        put-accounts m (lies m d f) (set (exchangeOf m .accounts) (account - 1) (withBalance (accountAt (exchangeOf m .accounts) (account - 1)) balance)) (set (s .accounts) (account - 1) v)
-        (ap (λ (u : Account). putAccounts (set (exchangeOf m .accounts) (account - 1) u) (s .accounts)) read ∙ account-put m d f (account - 1) v here refl)
+        ap (λ (u : Account). withBalance u balance) (account-at m f (account - 1) here) in
+        put-accounts m f (set (exchangeOf m .accounts) (account - 1) (withBalance (accountAt (exchangeOf m .accounts) (account - 1)) balance)) (set (s .accounts) (account - 1) v)
+        (rw read (account-put m f (account - 1) v here refl))
 
-    pub deposit-lies : put m (carriedOut (exchangeOf m) (Deposit account amount) .exchange)
-        ≡ memory (withBalanceAt s (account - 1) (accountAt (s .accounts) (account - 1) .balance +ℤ pos amount)) buys sells trades
-    unfolding carriedOut deposited
-    deposit-lies = rw balance-is (paid-lies (accountAt (s .accounts) (account - 1) .balance +ℤ pos amount))
+    module _ {k : ℕ} (is : k ≡ account) where
+      pub number-low : 1 ≤ k
+      number-low = rw is (place-below account (s .accountcount) present .0)
+
+      pub place-fits : k - 1 < 32
+      place-fits = omega (arith, here, f .accounts-high, is)
+
+      pub balance-fits : Within (2 * 10 ^ 18) (getD (s .accounts) (k - 1) noAccount .balance)
+      unfolding accountAt
+      balance-fits = rw is (balance-within m f (account - 1) here)
+
+  -- ---- deposit
+
+  module _ (amount : ℕ) where
+    abbrev DepositIs : Outcome → Type 0
+    DepositIs r = OutcomeIs (stepIn m (Deposit account amount)) r buys sells trades
+
+    deposit-code : codeOf (exchangeOf m) (Deposit account amount) ≡ pick (isAbsent account (s .accountcount)) 2 (pick (amountRefused amount || liftsTooHigh (exchangeOf m) account amount) 16 0)
+    unfolding codeOf refusals depositRefusals firstOf
+    deposit-code = rw (no-account m f account)
+
+    deposit-refused : (code : ℕ) {r : Outcome} → 0 < code → codeOf (exchangeOf m) (Deposit account amount) ≡ code → r ≡ refusedWith s code → DepositIs r
+    deposit-refused code h = refusal s buys sells trades (Deposit account amount) code h
+
+    pub deposit-absent : {r : Outcome} → isAbsent account (s .accountcount) ≡ true → r ≡ refusedWith s 2 → DepositIs r
+    deposit-absent e = deposit-refused 2 (omega arith) (rw (deposit-code, e))
+
+    module _ (present : isAbsent account (s .accountcount) ≡ false) where
+      pub deposit-amount : {r : Outcome} → amountRefused amount ≡ true → r ≡ refusedWith s 16 → DepositIs r
+      deposit-amount a = deposit-refused 16 (omega arith) (rw (deposit-code, present, a))
+
+      module _ (right : amountRefused amount ≡ false) {k : ℕ} (is : k ≡ account) where
+        abbrev lifted : ℤ
+        lifted = getD (s .accounts) (k - 1) noAccount .balance +ℤ pos amount
+
+        lifts-is : liftsTooHigh (exchangeOf m) account amount ≡ ltZ (pos (10 ^ 18)) lifted
+        unfolding liftsTooHigh
+        lifts-is = rw (is, balance-is present)
+
+        pub deposit-high : {r : Outcome} → ltZ (pos (10 ^ 18)) lifted ≡ true → r ≡ refusedWith s 16 → DepositIs r
+        deposit-high h = deposit-refused 16 (omega arith) (rw (deposit-code, present, right, lifts-is, h))
+
+        deposit-lies : put m (carriedOut (exchangeOf m) (Deposit account amount) .exchange) ≡ memory (withBalanceAt s (k - 1) lifted) buys sells trades
+        unfolding carriedOut deposited
+        deposit-lies = rw (is, balance-is present) (paid-lies present (getD (s .accounts) (account - 1) noAccount .balance +ℤ pos amount))
+
+        pub deposit-accepted : {r : Outcome} {next : State} → ltZ (pos (10 ^ 18)) lifted ≡ false → next ≡ withBalanceAt s (k - 1) lifted → r ≡ acceptedWith next 0 0 0 → DepositIs r
+        unfolding carriedOut deposited
+        deposit-accepted h n e = acceptance s buys sells trades (Deposit account amount) (rw (deposit-code, present, right, lifts-is, h)) refl (deposit-lies ∙ rw n) e

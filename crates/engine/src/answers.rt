@@ -2,7 +2,9 @@
 ghost use mathlib.Core.Path.{_≡_};
 ghost use mathlib.Core.Bool.{_||_};
 ghost use lib.Dec.{eqb, ltb};
-use rules::{Answer, State};
+ghost use Rattle.engine.specs.Outcome.{refusedWith, acceptedWith};
+use rules::Answer;
+use rules::State;
 
 // An answer and the state after it.
 pub struct Outcome {
@@ -12,7 +14,7 @@ pub struct Outcome {
 
 // "a refusal gives three zeros and changes nothing"
 pub fn refused(state: State, code: u32) -> Outcome
-    ensures { λ r. ⌜ r ≡ record { answer = record { code = code; number = 0; traded = 0; lots = 0 }; state = state } ⌝ }
+    ensures { λ r. ⌜ r ≡ refusedWith state code ⌝ }
 {
     Outcome {
         answer: Answer {
@@ -26,7 +28,7 @@ pub fn refused(state: State, code: u32) -> Outcome
 }
 
 pub fn accepted(state: State, number: u32, traded: u32, lots: u32) -> Outcome
-    ensures { λ r. ⌜ r ≡ record { answer = record { code = 0; number = number; traded = traded; lots = lots }; state = state } ⌝ }
+    ensures { λ r. ⌜ r ≡ acceptedWith state number traded lots ⌝ }
 {
     Outcome {
         answer: Answer {

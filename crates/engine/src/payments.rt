@@ -1,15 +1,15 @@
 // Deposit and withdraw. For our own crates: each asks for a well-formed state.
-ghost use mathlib.Core.Bool.{true};
 ghost use mathlib.Core.Path.{_≡_};
 ghost use lib.IntN.{pos, _+ℤ_};
 ghost use lib.Signed.{ltZ};
 ghost use Prim.Native.Nat.{_<_, _≤_, _^_, _*_};
 ghost use Rattle.rules.specs.Answers.{amountRefused};
-ghost use Rattle.rules.specs.Memory.{stepIn, wellFormedMemory};
+ghost use Rattle.rules.specs.Memory.{stepIn};
 ghost use Rattle.rules.specs.declared.Command.the-variants.{Deposit};
 ghost use Rattle.laws.specs.Bound.{Within};
-ghost use Rattle.engine.specs.Outcome.{memory, OutcomeIs, withBalanceAt};
-use crate::answers::{self, Outcome};
+ghost use Rattle.engine.specs.Outcome.{memory, OutcomeIs, WellFormedState, withBalanceAt};
+use crate::answers::Outcome;
+use crate::answers::{self};
 use rules::State;
 
 fn amount_refused(amount: u64) -> bool
@@ -41,8 +41,15 @@ fn with_balance(state: State, place: usize, balance: i64) -> State
     next
 }
 
-pub fn deposit(state: State, buys: &[u32], sells: &[u32], trades: &[u32], account: u32, amount: u64) -> Outcome
-    requires { ⌜ wellFormedMemory (memory state (now buys) (now sells) (now trades)) ≡ true ⌝ }
+pub fn deposit(
+    state: State,
+    buys: &[u32],
+    sells: &[u32],
+    trades: &[u32],
+    account: u32,
+    amount: u64,
+) -> Outcome
+    requires { ⌜ WellFormedState state (now buys) (now sells) (now trades) ⌝ }
     ensures { λ r. ⌜ OutcomeIs (stepIn (memory state (now (buys .entry)) (now (sells .entry)) (now (trades .entry))) (Deposit account amount)) r (now (buys .entry)) (now (sells .entry)) (now (trades .entry)) ⌝ }
 {
     if answers::is_absent(account, state.accountcount) {
@@ -59,4 +66,3 @@ pub fn deposit(state: State, buys: &[u32], sells: &[u32], trades: &[u32], accoun
     }
     answers::accepted(with_balance(state, place, balance + amount as i64), 0, 0, 0)
 }
-

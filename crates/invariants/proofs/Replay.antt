@@ -11,17 +11,13 @@ use lib.IntN.{ℤ, pos}
 use lib.ListN.{length, getD, set, drop, length-map, length-set, List·getD-map}
 use lib.Seq.{map-set-same}
 use Rattle.laws.specs.Choice.{pick, both-true, true-both}
+use Rattle.laws.specs.Lists.{map-set}
 use Rattle.rules.specs.Exchange.{accountAt, holdingAt, noAccount, noHolding}
 use Rattle.rules.specs.Holdings.{withLong, withShort, afterLeg, withHolding, bookLeg, bookBuyer, bookSeller, bookTrade, bookTrades, legCovered, neverBelowZero, startHolding, startAccount, startOfDay, sameLots, sameHoldings}
 use Rattle.rules.specs.declared.Account.{Account}
 use Rattle.rules.specs.declared.Holding.{Holding}
 use Rattle.rules.specs.declared.Trade.{Trade}
 use Rattle.invariants.proofs.Tests.{passed, join}
-
-pub map-set : {A B : Type 0} (f : A → B) (l : List A) (i : ℕ) (v : A) → map f (set l i v) ≡ set (map f l) i (f v)
-map-set f [] i v = refl
-map-set f (x ∷ xs) zero v = refl
-map-set f (x ∷ xs) (suc i) v = rw (map-set f xs i v)
 
 -- ---- lots now, and nothing else
 

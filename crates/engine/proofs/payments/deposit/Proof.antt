@@ -1,111 +1,102 @@
-use native.Mathlib.Omega.{arith}
-use Rattle.engine.proofs.Outcomes.{refusal, acceptance}
-use Rattle.engine.proofs.Paying.{deposit-absent, deposit-amount, deposit-high, deposit-none, deposit-lies, place-below}
-use denote.Ref.{now}
-use mathlib.Core.List.{List, map}
+-- `payments::deposit` meets its contract: each return by its law in Paying.antt. Assumes nothing.
+use mathlib.Core.Bool.{true, false}
 use mathlib.Core.Path.{_≡_, sym, _∙_}
-use Prim.Native.Nat.{ℕ}
-use lib.ListN.{length}
-use Rattle.rules.specs.Exchange.{accountAt, noAccount}
-use Rattle.engine.proofs.Declared.{unmapped, each-at}
-use Rattle.rules.specs.Memory.{Declared}
+use Prim.Native.Nat.{_-_, _*_, _≤_, _^_}
+use native.Mathlib.Omega.{arith}
 use borrow.Author.Needs.{needs}
+use lib.IntN.{pos, _+ℤ_}
+use lib.ListN.{getD}
+use lib.Signed.{ltZ}
+use Rattle.laws.specs.Bound.{Within, within-fits, within-pos}
+use Rattle.laws.proofs.Signed.{add-fits, add-back, back}
+use Rattle.rules.specs.Answers.{amountRefused}
+use Rattle.rules.specs.Exchange.{noAccount}
+use Rattle.engine.proofs.Paying.{amount-high, number-low, place-fits, balance-fits, deposit-absent, deposit-amount, deposit-high, deposit-accepted}
+use Rattle.engine.proofs.Tests.{isAbsent}
 use Rattle.engine.proofs.payments.deposit.Statement.{statement}
 use Rattle.engine.proofs.payments.deposit.Tie as tie
-use Rattle.engine.proofs.payments.deposit.Reads as reads
-use Rattle.engine.proofs.payments.deposit.Lts as lts
-use Rattle.engine.proofs.answers.accepted.Reads as accepted-reads
-use Rattle.engine.proofs.answers.is_absent.Reads as is-absent-reads
-use Rattle.engine.proofs.answers.refused.Reads as refused-reads
-use Rattle.engine.proofs.payments.amount_refused.Reads as amount-refused-reads
-use Rattle.engine.proofs.payments.lifts_too_high.Reads as lifts-too-high-reads
-use Rattle.engine.proofs.payments.with_balance.Reads as with-balance-reads
-use Rattle.laws.proofs.wide.Reads as wide-reads
 
-declared : (c : tie.Start) → Declared (c .args .t1)
-unfolding accountAt
-declared c =
-    record {
-      contracts = search (needs, unmapped);
-      accounts = search (needs, unmapped);
-      buys = search (needs, unmapped);
-      sells = search (needs, unmapped);
-      holdings = λ a h. each-at _ _ (λ v. length (v .holdings) ≡ 4) (λ v u s. unmapped _ (v .holdings) 4 (s .1 .1 .1 .0 .1 .0 .1)) (c .args .t1 .accounts) _ (c .good .0 .1 .1 .1 .0 .1 .1) a noAccount (let e : length (c .args .t1 .accounts) ≡ 32 = search (needs, unmapped) in omega arith);
-    }
+-- ---- what the tests have shown
 
--- src/payments.rt:48:8
+present : (c : tie.Else1) → isAbsent (c .before .before .before .before .before .args .account) (c .before .before .before .before .before .args .t1 .accountcount) ≡ false
+present c = sym (c .before .is-absent .ensures) ∙ c .if1 .left
+
+right : (c : tie.Else2) → amountRefused (c .before .before .before .before .before .before .before .args .amount) ≡ false
+right c = sym (c .before .amount-refused .ensures) ∙ c .if2 .left
+
+small : (c : tie.Else2) → Within (10 ^ 15) (pos (c .before .before .before .before .before .before .before .args .amount))
+small c = within-pos (amount-high _ (right c))
+
+balance : (c : tie.After-wide) → Within (2 * 10 ^ 18) (getD (c .before .before .before .before .before .before .before .before .args .t1 .accounts) (c .wide .result - 1) noAccount .balance)
+balance c = balance-fits (c .before .before .before .before .before .before .before .before .pre) _ (present (c .before .before .before)) (c .wide .ensures)
+
+high : (c : tie.After-lifts-too-high)
+    → c .lifts-too-high .result ≡ ltZ (pos (10 ^ 18)) (getD (c .before .before .before .before .before .before .before .before .before .before .before .args .t1 .accounts) (c .before .before .before .wide .result - 1) noAccount .balance +ℤ pos (c .before .before .before .before .before .before .before .before .before .before .before .args .amount))
+high c = c .lifts-too-high .ensures ∙ rw (back (2 * 10 ^ 18) (omega arith) (balance (c .before .before .before)))
+
+-- ---- the needs
+
 is-absent-requires : tie.Need-is-absent-requires
 is-absent-requires c κs = search needs
 
--- src/payments.rt:49:9
 refused-requires : tie.Need-refused-requires
 refused-requires c κs = search needs
 
--- src/payments.rt:49:9
 returns : tie.Need-returns
-returns c =
-    refusal (c .before .before .before .before .before .before .args .t1) (now (c .before .before .before .before .before .before .args .buys)) (now (c .before .before .before .before .before .before .args .sells)) (now (c .before .before .before .before .before .before .args .trades)) _ 1 _ (deposit-absent (c .before .before .before .before .before .before .args .t1) (now (c .before .before .before .before .before .before .args .buys)) (now (c .before .before .before .before .before .before .args .sells)) (now (c .before .before .before .before .before .before .args .trades)) (declared (c .before .before .before .before .before .before)) (c .before .before .before .before .before .before .pre) (c .before .before .before .before .before .before .args .account) (c .before .before .before .before .before .before .args .amount) (sym (c .before .before .is-absent .ensures) ∙ c .before .if1 .taken)) (c .refused .ensures)
+returns c = deposit-absent (c .before .before .before .before .before .before .pre) _ _ (sym (c .before .before .is-absent .ensures) ∙ c .before .if1 .taken) (c .refused .ensures)
 
--- src/payments.rt:51:8
 amount-refused-requires : tie.Need-amount-refused-requires
 amount-refused-requires c κs = search needs
 
--- src/payments.rt:52:9
 refused-requires-2 : tie.Need-refused-requires-2
 refused-requires-2 c κs = search needs
 
--- src/payments.rt:52:9
 returns-2 : tie.Need-returns-2
 returns-2 c =
-    refusal (c .before .before .before .before .before .before .before .before .args .t1) (now (c .before .before .before .before .before .before .before .before .args .buys)) (now (c .before .before .before .before .before .before .before .before .args .sells)) (now (c .before .before .before .before .before .before .before .before .args .trades)) _ 15 _ (deposit-amount (c .before .before .before .before .before .before .before .before .args .t1) (now (c .before .before .before .before .before .before .before .before .args .buys)) (now (c .before .before .before .before .before .before .before .before .args .sells)) (now (c .before .before .before .before .before .before .before .before .args .trades)) (declared (c .before .before .before .before .before .before .before .before)) (c .before .before .before .before .before .before .before .before .pre) (c .before .before .before .before .before .before .before .before .args .account) (c .before .before .before .before .before .before .before .before .args .amount) (sym (c .before .before .before .before .is-absent .ensures) ∙ c .before .before .before .if1 .left) (sym (c .before .before .amount-refused .ensures) ∙ c .before .if2 .taken)) (c .refused2 .ensures)
+    deposit-amount (c .before .before .before .before .before .before .before .before .pre) _ _ (present (c .before .before .before)) (sym (c .before .before .amount-refused .ensures) ∙ c .before .if2 .taken)
+    (c .refused2 .ensures)
 
--- src/payments.rt:54:17
 wide-requires : tie.Need-wide-requires
 wide-requires c κs = search needs
 
--- src/payments.rt:54:17
 sub-place : tie.Need-sub-place
-sub-place c = ?
+sub-place c = number-low (c .before .before .before .before .before .before .before .before .pre) _ (present (c .before .before .before)) (c .wide .ensures)
 
--- src/payments.rt:55:15
 mul-who : tie.Need-mul-who
 mul-who c = search needs
 
--- src/payments.rt:55:15
 element-copy-out-who : tie.Need-element-copy-out-who
-element-copy-out-who c = ?
+element-copy-out-who c = place-fits (c .before .before .before .before .before .before .before .before .pre) _ (present (c .before .before .before)) (c .wide .ensures)
 
--- src/payments.rt:57:8
 lifts-too-high-requires : tie.Need-lifts-too-high-requires
-lifts-too-high-requires c κs = ?
+lifts-too-high-requires c κs = (rw (back (2 * 10 ^ 18) (omega arith) (balance (c .before .before))) (balance (c .before .before)), amount-high _ (right (c .before .before .before)))
 
--- src/payments.rt:58:9
 refused-requires-3 : tie.Need-refused-requires-3
 refused-requires-3 c κs = search needs
 
--- src/payments.rt:58:9
 returns-3 : tie.Need-returns-3
-returns-3 c = ?
+returns-3 c =
+    deposit-high (c .before .before .before .before .before .before .before .before .before .before .before .before .before .pre) _ _ (present (c .before .before .before .before .before .before .before .before)) (right (c .before .before .before .before .before .before)) (c .before .before .before .before .before .wide .ensures)
+    (sym (high (c .before .before)) ∙ c .before .if3 .taken) (c .refused3 .ensures)
 
--- src/payments.rt:60:60
 cast-with-balance : tie.Need-cast-with-balance
-cast-with-balance c = ?
+cast-with-balance c = within-fits (10 ^ 15) (omega arith) (small (c .before .before .before .before .before))
 
--- src/payments.rt:60:50
 add-with-balance : tie.Need-add-with-balance
-add-with-balance c = ?
+add-with-balance c = add-fits (balance (c .before .before .before .before)) (small (c .before .before .before .before .before)) (omega arith)
 
--- src/payments.rt:60:23
 with-balance-requires : tie.Need-with-balance-requires
-with-balance-requires c κs = ?
+with-balance-requires c κs = place-fits (c .before .before .before .before .before .before .before .before .before .before .before .before .pre) _ (present (c .before .before .before .before .before .before .before)) (c .before .before .before .before .wide .ensures)
 
--- src/payments.rt:60:5
 accepted-requires : tie.Need-accepted-requires
 accepted-requires c κs = search needs
 
--- src/payments.rt:44:1
 returns-4 : tie.Need-returns-4
-returns-4 c = ?
+returns-4 c =
+    deposit-accepted (c .before .before .before .before .before .before .before .before .before .before .before .before .before .before .pre) _ _ (present (c .before .before .before .before .before .before .before .before .before)) (right (c .before .before .before .before .before .before .before)) (c .before .before .before .before .before .before .wide .ensures)
+    (sym (high (c .before .before .before)) ∙ c .before .before .if3 .left)
+    (c .before .with-balance .ensures ∙ rw (add-back (balance (c .before .before .before .before .before .before)) (small (c .before .before .before .before .before .before .before)) (omega arith)))
+    (c .accepted .ensures)
 
 pub deposit-spec : {M : Type 1} → statement M
 deposit-spec =
