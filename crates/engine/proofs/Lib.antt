@@ -1,0 +1,7 @@
+pub mod Accounts
+pub mod Declared
+pub mod Formed
+pub mod Outcomes
+pub mod Paying
+pub mod Puts
+pub mod Tests
