@@ -1,0 +1,140 @@
+-- The by-value arrays of a state have the places of their types, before and after every command; so each account in use has a
+-- holding in each contract in use. Assumes nothing.
+use mathlib.Core.Bool.{Bool, true, false, _&&_}
+use mathlib.Core.List.{List, [], _∷_, _++_, map}
+use mathlib.Core.Path.{_≡_, refl, sym, ap, _∙_}
+use Prim.Native.Nat.{ℕ, zero, suc, _+_, _-_, _<_, _≤_, min}
+use native.Mathlib.Nat.{le-of-suc-le-suc, not-suc-le-zero}
+use native.Mathlib.Omega.{arith}
+use borrow.Author.Tests.{leb-true}
+use lib.Dec.{leb, eqb}
+use lib.ListN.{length, getD, take, drop, length-append, length-take, length-drop, length-map, List·getD-map}
+use lib.Seq.{getD-take}
+use Rattle.laws.specs.Choice.{pick, all, both-true}
+use Rattle.laws.specs.Tabulate.{length-tabulate}
+use Rattle.rules.specs.Answers.{codeOf}
+use Rattle.rules.specs.Bounds.{within, maxContracts, maxAccounts, maxTrades, maxResting}
+use Rattle.rules.specs.Command.{commandOf}
+use Rattle.rules.specs.Exchange.{Exchange, Listing, noAccount, accountAt}
+use Rattle.rules.specs.Memory.{Memory, Declared, listingIn, inUse, exchangeOf, putFirst, putAccount, putAccounts, putState, put, countsInRange, hasRoom, wellFormedMemory, refusedIn, inMemory, stepIn, respond}
+use Rattle.rules.specs.Step.{carriedOut}
+use Rattle.rules.specs.WellFormed.{wellFormedContents}
+use Rattle.rules.specs.declared.Account.{Account}
+use Rattle.rules.specs.declared.Record.{Record}
+use Rattle.rules.specs.declared.State.{State}
+use Rattle.accounting.specs.Shape.{Shaped}
+use Rattle.accounting.proofs.Facts.{passed}
+use Rattle.accounting.proofs.StepShape.{SameShape, carried-shape}
+
+-- ---- the counts of a well-formed state
+
+pub record Counts (s : State) : Type 0 where
+  pub contracts : s .contractcount ≤ maxContracts
+  pub accounts : s .accountcount ≤ maxAccounts
+
+in-range : (n k : ℕ) → within 1 k n ≡ true → n ≤ k
+in-range n k h = leb-true n k (both-true (leb 1 n) (leb n k) h .1)
+
+pub counts : (m : Memory) → wellFormedMemory m ≡ true → Counts (m .state)
+unfolding wellFormedMemory countsInRange
+counts m w =
+    let s = m .state in
+    let c = passed (countsInRange s) (hasRoom m ∷ wellFormedContents (exchangeOf m) ∷ []) w in
+    let p = passed (within 1 maxContracts (s .contractcount))
+    (within 1 maxAccounts (s .accountcount) ∷ leb (s .tradecount) maxTrades
+    ∷ all (λ i. leb (getD (s .buys) i 0) maxResting) (s .contractcount)
+    ∷ all (λ i. leb (getD (s .sells) i 0) maxResting) (s .contractcount) ∷ []) (c .0) in
+    record { contracts = in-range (s .contractcount) maxContracts (p .0); accounts = in-range (s .accountcount) maxAccounts (p .1 .0) }
+
+-- ---- each account in use has a holding in each contract in use
+
+account-in-use : (n : ℕ) (accounts : List Account) (k a : ℕ) → a < length (take k accounts) →
+    getD (map (inUse n) (take k accounts)) a noAccount .holdings ≡ take n (getD accounts a noAccount .holdings)
+account-in-use n [] zero a l = absurd (not-suc-le-zero l)
+account-in-use n [] (suc k) a l = absurd (not-suc-le-zero l)
+account-in-use n (x ∷ xs) zero a l = absurd (not-suc-le-zero l)
+account-in-use n (x ∷ xs) (suc k) zero l = refl
+account-in-use n (x ∷ xs) (suc k) (suc a) l = account-in-use n xs k a (le-of-suc-le-suc l)
+
+module _ (m : Memory) (d : Declared (m .state)) where
+  accounts-in-use : length (exchangeOf m .accounts) ≡ min (m .state .accountcount) maxAccounts
+  unfolding exchangeOf
+  accounts-in-use =
+      length-map (take (m .state .accountcount) (m .state .accounts)) (inUse (m .state .contractcount))
+      ∙ length-take (m .state .accountcount) (m .state .accounts)
+      ∙ ap (λ (n : ℕ). min (m .state .accountcount) n) (d .accounts)
+
+  contracts-in-use : length (exchangeOf m .listings) ≡ m .state .contractcount
+  unfolding exchangeOf
+  contracts-in-use = length-tabulate (m .state .contractcount) (listingIn m)
+
+  pub declared-shaped : wellFormedMemory m ≡ true → Shaped (exchangeOf m)
+  unfolding Shaped exchangeOf accountAt
+  declared-shaped w = λ a l.
+      let k : a < length (take (m .state .accountcount) (m .state .accounts)) = rw (length-map (take (m .state .accountcount) (m .state .accounts)) (inUse (m .state .contractcount))) at l in
+      ap length (account-in-use (m .state .contractcount) (m .state .accounts) (m .state .accountcount) a k)
+      ∙ length-take (m .state .contractcount) (getD (m .state .accounts) a noAccount .holdings)
+      ∙ omega (arith, d .holdings a (omega (arith, d .accounts, length-take (m .state .accountcount) (m .state .accounts), k)), counts m w .contracts)
+      ∙ sym contracts-in-use
+
+-- ---- a state written back keeps the lengths of its arrays
+
+length-putFirst : {A : Type 0} (values room : List A) → length values ≤ length room → length (putFirst values room) ≡ length room
+length-putFirst values room h = length-append values (drop (length values) room) ∙ omega (arith, length-drop (length values) room)
+
+length-putAccounts : (as′ rooms : List Account) → length as′ ≤ length rooms → length (putAccounts as′ rooms) ≡ length rooms
+unfolding putAccounts
+length-putAccounts [] rooms h = refl
+length-putAccounts (a ∷ as′) [] h = absurd (not-suc-le-zero h)
+length-putAccounts (a ∷ as′) (room ∷ rooms) h = ap suc (length-putAccounts as′ rooms (le-of-suc-le-suc h))
+
+wide-putAccounts : (n : ℕ) (as′ rooms : List Account) → ((a : ℕ) → a < length as′ → length (getD as′ a noAccount .holdings) ≤ n) →
+    ((a : ℕ) → a < length rooms → length (getD rooms a noAccount .holdings) ≡ n) →
+    (a : ℕ) → a < length rooms → length (getD (putAccounts as′ rooms) a noAccount .holdings) ≡ n
+unfolding putAccounts
+wide-putAccounts n [] rooms f g a l = g a l
+wide-putAccounts n (x ∷ as′) [] f g a l = absurd (not-suc-le-zero l)
+wide-putAccounts n (x ∷ as′) (room ∷ rooms) f g zero l =
+    length-putFirst (x .holdings) (room .holdings) (omega (arith, f 0 (omega arith), g 0 (omega arith))) ∙ g 0 (omega arith)
+wide-putAccounts n (x ∷ as′) (room ∷ rooms) f g (suc a) l =
+    wide-putAccounts n as′ rooms (λ i k. f (suc i) (omega arith)) (λ i k. g (suc i) (omega arith)) a (le-of-suc-le-suc l)
+
+module _ (m : Memory) (d : Declared (m .state)) (w : wellFormedMemory m ≡ true) (x : Exchange) (s : SameShape (exchangeOf m) x) where
+  listings-fit : length (x .listings) ≤ maxContracts
+  listings-fit = omega (arith, s .listings, contracts-in-use m d, counts m w .contracts)
+
+  accounts-fit : length (x .accounts) ≤ maxAccounts
+  accounts-fit = omega (arith, s .accounts, accounts-in-use m d)
+
+  holdings-fit : (a : ℕ) → a < length (x .accounts) → length (accountAt (x .accounts) a .holdings) ≤ maxContracts
+  unfolding Shaped
+  holdings-fit a l =
+      let k : a < length (exchangeOf m .accounts) = rw (s .accounts) at l in
+      omega (arith, s .wide a k, declared-shaped m d w a k, contracts-in-use m d, counts m w .contracts)
+
+  array-kept : {A : Type 0} (f : Listing → A) (room : List A) → length room ≡ maxContracts → length (putFirst (map f (x .listings)) room) ≡ maxContracts
+  array-kept f room e =
+      length-putFirst (map f (x .listings)) room (omega (arith, length-map (x .listings) f, listings-fit)) ∙ e
+
+  put-declared : Declared (put m x .state)
+  unfolding put putState accountAt
+  put-declared = record {
+    contracts = array-kept (λ l. l .contract) (m .state .contracts) (d .contracts);
+    accounts = length-putAccounts (x .accounts) (m .state .accounts) (omega (arith, accounts-fit, d .accounts)) ∙ d .accounts;
+    buys = array-kept (λ l. length (l .buys)) (m .state .buys) (d .buys);
+    sells = array-kept (λ l. length (l .sells)) (m .state .sells) (d .sells);
+    holdings = λ a l.
+        wide-putAccounts maxContracts (x .accounts) (m .state .accounts) holdings-fit
+        (λ b k. d .holdings b (rw (d .accounts) at k)) a (rw (d .accounts) l);
+  }
+
+-- no command changes the lengths of the arrays
+pub declared-kept : (m : Memory) (r : Record) → Declared (m .state) → Declared (respond m r .memory .state)
+unfolding respond stepIn
+declared-kept m r d = by (wellFormedMemory m) refl (eqb (codeOf (exchangeOf m) (commandOf r)) 0)
+  where
+    by : (w : Bool) → wellFormedMemory m ≡ w → (accepted : Bool) →
+        Declared (pick w (pick accepted (inMemory m (carriedOut (exchangeOf m) (commandOf r))) (refusedIn m (codeOf (exchangeOf m) (commandOf r)))) (refusedIn m 21) .memory .state)
+    by true w true = put-declared m d w (carriedOut (exchangeOf m) (commandOf r) .exchange) (carried-shape (exchangeOf m) (commandOf r))
+    by true w false = d
+    by false w accepted = d

@@ -1,0 +1,188 @@
+-- What a well-formed state says, as far as money needs it: trades between accounts in use, prices and terms in range, starting
+-- lots within the limit, a replay that holds. Assumes nothing.
+use mathlib.Core.Bool.{Bool, true, false, not, _&&_}
+use mathlib.Core.List.{List, [], _∷_}
+use mathlib.Core.Path.{_≡_}
+use Prim.Native.Nat.{ℕ, _+_, _*_, _/_, _%_, _<_, _≤_, min}
+use native.Mathlib.Nat.{div-add-mod'}
+use native.Mathlib.Omega.{arith}
+use borrow.Author.Tests.{leb-true, ltb-true}
+use lib.Dec.{leb, ltb, eqb}
+use lib.ListN.{length}
+use Rattle.laws.specs.Choice.{all, allOf, all-at, allOf-at, both-true}
+use Rattle.rules.specs.Bounds.{within, onTick, tickMultiple, termsInRange, dayLow, dayHigh, allowedToday, maxPrice, maxLots}
+use Rattle.rules.specs.Exchange.{Exchange, Listing, noListing, listingAt, holdingAt, restingOpens, restingCloses}
+use Rattle.rules.specs.WellFormed.{contractInRange, sorted, uncrossed, orderInRange, listingInRange, tradeInRange, replays, holdingInRange, holdingsInRange, balanceInRange, countersInRange, usedOnce, allNumbers, wellFormedContents}
+use Rattle.rules.specs.declared.Contract.{Contract}
+use Rattle.rules.specs.declared.Holding.{Holding}
+use Rattle.rules.specs.declared.Order.{Order}
+use Rattle.rules.specs.declared.Trade.{Trade}
+use Rattle.accounting.specs.Money.{AllKnown}
+
+-- ---- tests joined by `_&&_`, taken apart in one go
+
+abbrev pub joined : Bool → List Bool → Bool
+joined a [] = a
+joined a (b ∷ bs) = joined (a && b) bs
+
+abbrev pub Passed : Bool → List Bool → Type 0
+Passed a [] = a ≡ true
+Passed a (b ∷ bs) = (a ≡ true) × Passed b bs
+
+pub passed : (a : Bool) (bs : List Bool) → joined a bs ≡ true → Passed a bs
+passed a [] h = h
+passed a (b ∷ bs) h = front a b bs (passed (a && b) bs h)
+  where
+    front : (a b : Bool) (bs : List Bool) → Passed (a && b) bs → Passed a (b ∷ bs)
+    front a b [] p = both-true a b p
+    front a b (c ∷ cs) p = let q = both-true a b (p .0) in (q .0, (q .1, p .1))
+
+-- ---- prices
+
+pub allowed-price : (c : Contract) (p : ℕ) → allowedToday c p ≡ true → p ≤ maxPrice
+unfolding allowedToday dayHigh
+allowed-price c p h =
+    let q = both-true (onTick (c .tick) p) (within (dayLow c) (dayHigh c) p) h in
+    let r = leb-true p (dayHigh c) (both-true (leb (dayLow c) p) (leb p (dayHigh c)) (q .1) .1) in
+    omega (arith, r, div-add-mod' maxPrice (c .tick))
+
+pub order-price : (accounts next : ℕ) (c : Contract) (o : Order) → orderInRange accounts next c o ≡ true → o .price ≤ maxPrice
+unfolding orderInRange
+order-price accounts next c o h =
+    allowed-price c (o .price)
+    (passed (within 1 maxLots (o .lots))
+    (ltb (o .account) accounts ∷ allowedToday c (o .price) ∷ leb 1 (o .number) ∷ ltb (o .number) next ∷ leb (o .close) 1 ∷ []) h .1 .1 .0)
+
+-- ---- a contract's terms
+
+pub record Terms (c : Contract) : Type 0 where
+  pub multiplier : c .multiplier ≤ 1_000
+  pub reference : c .reference ≤ maxPrice
+  pub limit : c .limit ≤ 100_000
+
+tick-price : (tick n : ℕ) → tickMultiple tick n ≡ true → n ≤ maxPrice
+unfolding tickMultiple
+tick-price tick n h = leb-true n maxPrice (both-true (leb tick n) (leb n maxPrice) (both-true (onTick tick n) (within tick maxPrice n) h .1) .1)
+
+terms : (c : Contract) → termsInRange c ≡ true → Terms c
+unfolding termsInRange
+terms c h =
+    let p = passed (within 1 1_000 (c .multiplier))
+    (within 1 1_000 (c .tick) ∷ tickMultiple (c .tick) (c .reference) ∷ tickMultiple (c .tick) (c .band)
+    ∷ within 1 100_000 (c .limit) ∷ within 1 10_000 (c .rate) ∷ []) h in
+    record {
+      multiplier = leb-true (c .multiplier) 1_000 (both-true (leb 1 (c .multiplier)) (leb (c .multiplier) 1_000) (p .0) .1);
+      reference = tick-price (c .tick) (c .reference) (p .1 .1 .0);
+      limit = leb-true (c .limit) 100_000 (both-true (leb 1 (c .limit)) (leb (c .limit) 100_000) (p .1 .1 .1 .1 .0) .1);
+    }
+
+-- ---- a recorded trade
+
+pub record TradeFacts (x : Exchange) (t : Trade) : Type 0 where
+  pub contract : t .contract < length (x .listings)
+  pub buyer : t .buyer < length (x .accounts)
+  pub seller : t .seller < length (x .accounts)
+  pub price : t .price ≤ maxPrice
+  pub lots-low : 1 ≤ t .lots
+  pub lots-high : t .lots ≤ maxLots
+
+pub trade-facts : (x : Exchange) (t : Trade) → tradeInRange x t ≡ true → TradeFacts x t
+unfolding tradeInRange
+trade-facts x t h =
+    let p = passed (ltb (t .contract) (length (x .listings)))
+    (ltb (t .buyer) (length (x .accounts)) ∷ ltb (t .seller) (length (x .accounts)) ∷ not (eqb (t .buyorder) (t .sellorder))
+    ∷ leb 1 (t .buyorder) ∷ ltb (t .buyorder) (x .next) ∷ leb 1 (t .sellorder) ∷ ltb (t .sellorder) (x .next)
+    ∷ allowedToday (listingAt x (t .contract) .contract) (t .price) ∷ within 1 maxLots (t .lots)
+    ∷ leb (t .buyclose) 1 ∷ leb (t .sellclose) 1 ∷ []) h in
+    let lots = both-true (leb 1 (t .lots)) (leb (t .lots) maxLots) (p .1 .1 .1 .1 .1 .1 .1 .1 .1 .0) in
+    record {
+      contract = ltb-true _ _ (p .0);
+      buyer = ltb-true _ _ (p .1 .0);
+      seller = ltb-true _ _ (p .1 .1 .0);
+      price = allowed-price _ (t .price) (p .1 .1 .1 .1 .1 .1 .1 .1 .0);
+      lots-low = leb-true 1 (t .lots) (lots .0);
+      lots-high = leb-true (t .lots) maxLots (lots .1);
+    }
+
+-- ---- the state
+
+pub record Facts (x : Exchange) : Type 0 where
+  pub terms-of : (c : ℕ) → c < length (x .listings) → Terms (listingAt x c .contract)
+  pub buys : (c : ℕ) → c < length (x .listings) → allOf (orderInRange (length (x .accounts)) (x .next) (listingAt x c .contract)) (listingAt x c .buys) ≡ true
+  pub trades : allOf (tradeInRange x) (x .trades) ≡ true
+  pub replay : replays x ≡ true
+  pub startlong : (a c : ℕ) → a < length (x .accounts) → c < length (x .listings) → holdingAt (x .accounts) a c .startlong ≤ 100_000
+  pub startshort : (a c : ℕ) → a < length (x .accounts) → c < length (x .listings) → holdingAt (x .accounts) a c .startshort ≤ 100_000
+
+module _ (x : Exchange) (h : wellFormedContents x ≡ true) where
+  clauses : Passed (countersInRange x)
+      (allOf (listingInRange (length (x .accounts)) (x .next)) (x .listings) ∷ usedOnce (allNumbers (x .listings)) ∷ allOf (tradeInRange x) (x .trades)
+      ∷ replays x ∷ all (holdingsInRange x) (length (x .accounts)) ∷ allOf (balanceInRange (x .settlements)) (x .accounts) ∷ [])
+  unfolding wellFormedContents
+  clauses = passed (countersInRange x)
+      (allOf (listingInRange (length (x .accounts)) (x .next)) (x .listings) ∷ usedOnce (allNumbers (x .listings)) ∷ allOf (tradeInRange x) (x .trades)
+      ∷ replays x ∷ all (holdingsInRange x) (length (x .accounts)) ∷ allOf (balanceInRange (x .settlements)) (x .accounts) ∷ []) h
+
+  listing-in-range : (c : ℕ) → c < length (x .listings) → listingInRange (length (x .accounts)) (x .next) (listingAt x c) ≡ true
+  unfolding listingAt
+  listing-in-range c l = allOf-at (listingInRange (length (x .accounts)) (x .next)) (x .listings) c noListing (clauses .1 .0) l
+
+  listing-clauses : (m : Listing) → listingInRange (length (x .accounts)) (x .next) m ≡ true →
+      (contractInRange (m .contract) ≡ true) × (allOf (orderInRange (length (x .accounts)) (x .next) (m .contract)) (m .buys) ≡ true)
+  unfolding listingInRange
+  listing-clauses m e =
+      let p = passed (contractInRange (m .contract))
+      (sorted false (m .buys) ∷ sorted true (m .sells) ∷ uncrossed (m .buys) (m .sells)
+      ∷ allOf (orderInRange (length (x .accounts)) (x .next) (m .contract)) (m .buys)
+      ∷ allOf (orderInRange (length (x .accounts)) (x .next) (m .contract)) (m .sells) ∷ []) e in
+      (p .0, p .1 .1 .1 .1 .0)
+
+  contract-terms : (c : Contract) → contractInRange c ≡ true → Terms c
+  unfolding contractInRange
+  contract-terms c e =
+      terms c (passed (termsInRange c) (leb (c .phase) 3 ∷ tickMultiple (c .tick) (c .last) ∷ []) e .0)
+
+  terms-at : (c : ℕ) → c < length (x .listings) → Terms (listingAt x c .contract)
+  terms-at c l = contract-terms _ (listing-clauses (listingAt x c) (listing-in-range c l) .0)
+
+  holding-in-range : (a c : ℕ) → a < length (x .accounts) → c < length (x .listings) →
+      holdingInRange (listingAt x c) a (holdingAt (x .accounts) a c) ≡ true
+  unfolding holdingsInRange
+  holding-in-range a c la lc =
+      all-at (λ c. holdingInRange (listingAt x c) a (holdingAt (x .accounts) a c)) c (length (x .listings))
+      (all-at (holdingsInRange x) a (length (x .accounts)) (clauses .1 .1 .1 .1 .1 .0) la) lc
+
+  start-lots : (m : Listing) (a : ℕ) (k : Holding) → holdingInRange m a k ≡ true →
+      (k .startlong ≤ m .contract .limit) × (k .startshort ≤ m .contract .limit)
+  unfolding holdingInRange
+  start-lots m a k e =
+      let p = passed (leb (k .startlong) (m .contract .limit))
+      (leb (k .startshort) (m .contract .limit)
+      ∷ leb (k .long + restingOpens a (m .buys)) (m .contract .limit) ∷ leb (k .short + restingOpens a (m .sells)) (m .contract .limit)
+      ∷ leb (restingCloses a (m .sells)) (k .long) ∷ leb (restingCloses a (m .buys)) (k .short) ∷ []) e in
+      (leb-true _ _ (p .0), leb-true _ _ (p .1 .0))
+
+  starts : (a c : ℕ) → a < length (x .accounts) → c < length (x .listings) →
+      (holdingAt (x .accounts) a c .startlong ≤ 100_000) × (holdingAt (x .accounts) a c .startshort ≤ 100_000)
+  starts a c la lc =
+      let s = start-lots (listingAt x c) a (holdingAt (x .accounts) a c) (holding-in-range a c la lc) in
+      let t = terms-at c lc .limit in
+      (omega (arith, s .0), omega (arith, s .1))
+
+  pub facts : Facts x
+  facts = record {
+    terms-of = terms-at;
+    buys = λ c l. listing-clauses (listingAt x c) (listing-in-range c l) .1;
+    trades = clauses .1 .1 .1 .0;
+    replay = clauses .1 .1 .1 .1 .0;
+    startlong = λ a c la lc. starts a c la lc .0;
+    startshort = λ a c la lc. starts a c la lc .1;
+  }
+
+pub known-trades : (x : Exchange) (ts : List Trade) → allOf (tradeInRange x) ts ≡ true → AllKnown (length (x .accounts)) ts
+unfolding allOf AllKnown
+known-trades x [] h = tt
+known-trades x (t ∷ ts) h =
+    let b = both-true (tradeInRange x t) (allOf (tradeInRange x) ts) h in
+    let f = trade-facts x t (b .0) in
+    ((f .buyer, f .seller), known-trades x ts (b .1))

@@ -1,0 +1,14 @@
+pub mod DayProfit
+pub mod Trades
+pub mod Booking
+pub mod Replay
+pub mod Facts
+pub mod Identity
+pub mod Reach
+pub mod PriceBound
+pub mod ProfitBound
+pub mod BooksLaws
+pub mod StepMoves
+pub mod StepShape
+pub mod Declared
+pub mod Condition3

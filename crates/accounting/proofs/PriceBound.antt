@@ -1,0 +1,77 @@
+-- The settlement price of a well-formed state is at most the largest price. Assumes nothing.
+use mathlib.Core.Bool.{Bool, true, false, _&&_}
+use mathlib.Core.List.{List, [], _∷_}
+use mathlib.Core.Path.{_≡_, refl}
+use Prim.Native.Nat.{ℕ, zero, suc, _+_, _*_, _/_, _<_, _≤_, min, max}
+use native.Mathlib.Nat.{mul-le-mul-right, div-mul-le-self, div-le-of-le-mul}
+use native.Mathlib.Omega.{arith}
+use lib.Dec.{leb, ltb, eqb}
+use lib.ListN.{length}
+use Rattle.laws.specs.Choice.{pick, allOf, both-true}
+use Rattle.laws.specs.Sums.{sumOf}
+use Rattle.rules.specs.Bounds.{within, allowedToday, maxPrice, maxLots}
+use Rattle.rules.specs.Exchange.{Exchange, listingAt}
+use Rattle.rules.specs.Matching.{middle, tradedLots}
+use Rattle.rules.specs.Settlement.{tradesIn, tradedValue, weightedPrice, quotedPrice, priceFrom, settlementPrice}
+use Rattle.rules.specs.WellFormed.{orderInRange, tradeInRange, wellFormedContents}
+use Rattle.rules.specs.declared.Contract.{Contract}
+use Rattle.rules.specs.declared.Order.{Order}
+use Rattle.rules.specs.declared.Trade.{Trade}
+use Rattle.accounting.proofs.Facts.{Facts, facts, trade-facts, order-price}
+
+unfoldable TradesTo : ℕ → List Trade → Type 0
+TradesTo M [] = Unit {0}
+TradesTo M (t ∷ ts) = (t .price ≤ M) × TradesTo M ts
+
+trades-to : (x : Exchange) (ts : List Trade) → allOf (tradeInRange x) ts ≡ true → TradesTo maxPrice ts
+unfolding allOf TradesTo
+trades-to x [] h = tt
+trades-to x (t ∷ ts) h =
+    let b = both-true (tradeInRange x t) (allOf (tradeInRange x) ts) h in
+    (trade-facts x t (b .0) .price, trades-to x ts (b .1))
+
+one-contract : (M c : ℕ) (ts : List Trade) → TradesTo M ts → TradesTo M (tradesIn c ts)
+unfolding TradesTo tradesIn
+one-contract M c [] q = tt
+one-contract M c (t ∷ ts) q = by (eqb (t .contract) c) (one-contract M c ts (q .1))
+  where
+    by : (here : Bool) → TradesTo M (tradesIn c ts) → TradesTo M (pick here (t ∷ tradesIn c ts) (tradesIn c ts))
+    by true r = (q .0, r)
+    by false r = r
+
+value-to : (M : ℕ) (ts : List Trade) → TradesTo M ts → tradedValue ts ≤ tradedLots ts * M
+unfolding TradesTo tradedValue tradedLots sumOf
+value-to M [] q = omega arith
+value-to M (t ∷ ts) q = omega (arith, mul-le-mul-right (t .lots) (q .0), value-to M ts (q .1))
+
+weighted-to : (M tick : ℕ) (ts : List Trade) → TradesTo M ts → weightedPrice tick ts ≤ M
+unfolding weightedPrice
+weighted-to M tick ts q =
+    omega (arith, div-mul-le-self (tradedValue ts / tradedLots ts) tick, div-le-of-le-mul (tradedLots ts) {n = M} (value-to M ts q))
+
+-- the middle of three is no more than the larger of the first and the third
+middle-to : (M a b c : ℕ) → a ≤ M → c ≤ M → middle a b c ≤ M
+unfolding middle
+middle-to M a b c h k = omega arith
+
+quoted-to : (M reference accounts next : ℕ) (c : Contract) (buys sells : List Order) → maxPrice ≤ M → reference ≤ M →
+    allOf (orderInRange accounts next c) buys ≡ true → quotedPrice reference buys sells ≤ M
+unfolding quotedPrice allOf
+quoted-to M reference accounts next c [] sells m h q = h
+quoted-to M reference accounts next c (b ∷ bs) [] m h q = h
+quoted-to M reference accounts next c (b ∷ bs) (s ∷ ss) m h q =
+    middle-to M (b .price) (s .price) reference
+    (omega (arith, order-price accounts next c b (both-true (orderInRange accounts next c b) (allOf (orderInRange accounts next c) bs) q .0))) h
+
+price-to : (reference tick accounts next : ℕ) (c : Contract) (ts : List Trade) (buys sells : List Order) → TradesTo maxPrice ts → reference ≤ maxPrice →
+    allOf (orderInRange accounts next c) buys ≡ true → priceFrom tick reference ts buys sells ≤ maxPrice
+unfolding priceFrom
+price-to reference tick accounts next c [] buys sells t h q = quoted-to maxPrice reference accounts next c buys sells (omega arith) h q
+price-to reference tick accounts next c (t ∷ ts) buys sells q h o = weighted-to maxPrice tick (t ∷ ts) q
+
+pub settlement-price-bound : (x : Exchange) → wellFormedContents x ≡ true → (c : ℕ) → c < length (x .listings) → settlementPrice x c ≤ maxPrice
+unfolding settlementPrice
+settlement-price-bound x w c l =
+    let f = facts x w in
+    price-to _ _ (length (x .accounts)) (x .next) (listingAt x c .contract) _ _ _
+    (one-contract maxPrice c (x .trades) (trades-to x (x .trades) (f .trades))) (f .terms-of c l .reference) (f .buys c l)

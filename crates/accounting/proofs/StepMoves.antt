@@ -1,0 +1,196 @@
+-- Each command makes the move of money that the rules give it: the books after a step are the books before it after that move.
+-- Assumes nothing.
+use mathlib.Core.Bool.{Bool, true, false}
+use mathlib.Core.List.{List, [], _∷_, _++_, map, append-nil}
+use mathlib.Core.Path.{_≡_, refl, sym, ap, ap₂, subst, _∙_}
+use Prim.Native.Nat.{ℕ, zero, suc, _+_, _<_}
+use native.Mathlib.Omega.{arith}
+use borrow.Author.Tests.{eqb-true, eqb-false, eq-eqb}
+use lib.Dec.{eqb}
+use lib.IntN.{ℤ, pos, negℤ, _+ℤ_, _-ℤ_, _*ℤ_, +ℤ-idr}
+use lib.ListN.{length, getD, set, List·getD-map, length-set, length-map}
+use lib.Seq.{getD-set-same, getD-set-other}
+use Rattle.laws.specs.Choice.{pick}
+use Rattle.laws.specs.Ring.{*ℤ-add}
+use Rattle.laws.specs.Sums.{sumTo, sumTo-ext, sumTo-add}
+use Rattle.laws.specs.Tabulate.{tabulate, length-tabulate, getD-tabulate}
+use Rattle.rules.specs.Answers.{codeOf, listingOf}
+use Rattle.rules.specs.Condition3.{netHolding}
+use Rattle.rules.specs.Exchange.{Exchange, Listing, noAccount, noHolding, noListing, listingAt, accountAt, holdingAt, placeOf}
+use Rattle.rules.specs.Holdings.{bookTrades}
+use Rattle.rules.specs.Settlement.{dayOf, holdingGain, settlementPrice, closingProfit, holdingProfit, carriedHolding, settledAccount, settledContract, settledListing, settled}
+use Rattle.rules.specs.Step.{withListing, withBalance, paid, deposited, withdrawn, enteredOf, listingAfter, exchangeAfter, inserted, removed, cancelled, pulled, phaseChanged, refused, carriedOut, step}
+use Rattle.rules.specs.WellFormed.{replays, wellFormedContents}
+use Rattle.rules.specs.declared.Account.{Account}
+use Rattle.rules.specs.declared.Contract.{Contract}
+use Rattle.rules.specs.declared.Holding.{Holding}
+use Rattle.rules.specs.declared.NewOrder.{NewOrder}
+use Rattle.rules.specs.declared.Command.{Command}
+use Rattle.rules.specs.declared.Command.the-variants.{Malformed, Deposit, Withdraw, Insert, Cancel, Pull, Phase, Settle}
+use Rattle.accounting.specs.Books.{Books, Move, pays, makes, settles, marked, after, Same}
+use Rattle.accounting.specs.Money.{proceeds, netAtStart, netNow}
+use Rattle.accounting.specs.Moves.{booksOf, moveBy}
+use Rattle.accounting.specs.Shape.{Placed, Shaped}
+use Rattle.accounting.proofs.Booking.{set-keeps, all-booked-length, all-booked-wide, all-booked-balance, all-booked-start}
+use Rattle.accounting.proofs.Facts.{facts}
+use Rattle.accounting.proofs.Identity.{day-money, net-moves, placed}
+
+-- x′ has the books of x after a move
+abbrev pub Makes : Exchange → Move → Exchange → Type 0
+Makes x m x′ = Same (length (x .accounts)) (length (x .listings)) (after (length (x .listings)) (booksOf x) m) (booksOf x′)
+
+-- ---- nothing moves
+
+-- a listing replaced by one with the same reference and multiplier
+same-listing : (x : Exchange) (c : ℕ) (l : Listing) →
+    l .contract .reference ≡ listingAt x c .contract .reference → l .contract .multiplier ≡ listingAt x c .contract .multiplier →
+    Makes x (makes []) (withListing x c l)
+unfolding after booksOf listingAt netAtStart
+same-listing x c l r m = record {
+  balance = λ a k. refl;
+  start = λ a e k j. refl;
+  reference = λ e k. sym (set-keeps (λ (n : Listing). n .contract .reference) (x .listings) c l noListing r e);
+  multiplier = λ e k. sym (set-keeps (λ (n : Listing). n .contract .multiplier) (x .listings) c l noListing m e);
+  trades = append-nil (x .trades);
+}
+
+pub unchanged : (x : Exchange) → Makes x (makes []) x
+unfolding after booksOf
+unchanged x = record {
+  balance = λ a k. refl;
+  start = λ a e k j. refl;
+  reference = λ e k. refl;
+  multiplier = λ e k. refl;
+  trades = append-nil (x .trades);
+}
+
+-- ---- money is paid
+
+paid-balance : (accounts : List Account) (u a : ℕ) (z : ℤ) → a < length accounts →
+    accountAt accounts a .balance +ℤ pick (eqb u a) z (pos 0)
+    ≡ accountAt (set accounts u (withBalance (accountAt accounts u) (accountAt accounts u .balance +ℤ z))) a .balance
+unfolding accountAt
+paid-balance accounts u a z l = by (eqb u a) refl
+  where
+    after-payment : List Account
+    after-payment = set accounts u (withBalance (getD accounts u noAccount) (getD accounts u noAccount .balance +ℤ z))
+
+    by : (whose : Bool) → eqb u a ≡ whose → getD accounts a noAccount .balance +ℤ pick whose z (pos 0) ≡ getD after-payment a noAccount .balance
+    by true e =
+        subst (λ (k : ℕ). getD accounts k noAccount .balance +ℤ z ≡ getD after-payment k noAccount .balance) (eqb-true u a e)
+        (sym (ap (λ (x : Account). x .balance) (getD-set-same accounts u _ noAccount (rw (eqb-true u a e) l))))
+    by false e =
+        +ℤ-idr (getD accounts a noAccount .balance)
+        ∙ sym (ap (λ (x : Account). x .balance) (getD-set-other accounts u a _ noAccount (λ q. eqb-false u a e (sym q))))
+
+paid-start : (x : Exchange) (u : ℕ) (b : ℤ) (a c : ℕ) → netAtStart x a c ≡ netAtStart (paid x u b) a c
+unfolding paid netAtStart holdingAt accountAt
+paid-start x u b a c =
+    sym (set-keeps (λ (k : Account). pos (getD (k .holdings) c noHolding .startlong) -ℤ pos (getD (k .holdings) c noHolding .startshort))
+    (x .accounts) u _ noAccount refl a)
+
+paid-moves : (x : Exchange) (u : ℕ) (z : ℤ) → Makes x (pays u z) (paid x u (accountAt (x .accounts) u .balance +ℤ z))
+unfolding after booksOf paid listingAt
+paid-moves x u z = record {
+  balance = λ a l. paid-balance (x .accounts) u a z l;
+  start = λ a c l k. paid-start x u _ a c;
+  reference = λ c k. refl;
+  multiplier = λ c k. refl;
+  trades = refl;
+}
+
+-- ---- trades are made
+
+inserted-moves : (x : Exchange) (o : NewOrder) → Makes x (makes (enteredOf x o .trades)) (exchangeAfter x o (enteredOf x o))
+unfolding after booksOf exchangeAfter netAtStart listingAt listingAfter listingOf
+inserted-moves x o = record {
+  balance = λ a l. sym (all-booked-balance (x .accounts) (enteredOf x o .trades) a);
+  start = λ a c l k. sym (all-booked-start (x .accounts) (enteredOf x o .trades) (λ i j. pos i -ℤ pos j) a c);
+  reference = λ c k. sym (set-keeps (λ (n : Listing). n .contract .reference) (x .listings) (placeOf (o .contract)) _ noListing refl c);
+  multiplier = λ c k. sym (set-keeps (λ (n : Listing). n .contract .multiplier) (x .listings) (placeOf (o .contract)) _ noListing refl c);
+  trades = refl;
+}
+
+-- ---- all is settled
+
+module _ (x : Exchange) (r : replays x ≡ true) (shaped : Shaped x) where
+  settled-listing : (c : ℕ) → c < length (x .listings) → listingAt (settled x) c ≡ settledListing x c
+  unfolding settled listingAt
+  settled-listing c l = getD-tabulate (length (x .listings)) c (settledListing x) noListing l
+
+  settled-account : (a : ℕ) → a < length (x .accounts) → accountAt (settled x .accounts) a ≡ settledAccount x a
+  unfolding settled accountAt
+  settled-account a l = getD-tabulate (length (x .accounts)) a (settledAccount x) noAccount l
+
+  -- the two profits together are what the contracts are marked
+  profit-marked : (a : ℕ) →
+      closingProfit x a +ℤ holdingProfit x a
+      ≡ sumTo (length (x .listings)) (λ c. pos (listingAt x c .contract .multiplier) *ℤ marked (booksOf x) (settlementPrice x c) a c)
+  unfolding closingProfit holdingProfit marked booksOf
+  profit-marked a =
+      sym (sumTo-add (length (x .listings)) (λ c. pos (listingAt x c .contract .multiplier) *ℤ dayOf x a c .closing)
+      (λ c. pos (listingAt x c .contract .multiplier) *ℤ holdingGain (settlementPrice x c) (dayOf x a c)))
+      ∙ sumTo-ext (length (x .listings)) _ _
+      (λ c l. sym (*ℤ-add (pos (listingAt x c .contract .multiplier)) (dayOf x a c .closing) (holdingGain (settlementPrice x c) (dayOf x a c)))
+      ∙ ap (λ (z : ℤ). pos (listingAt x c .contract .multiplier) *ℤ z) (day-money x r a c (settlementPrice x c)))
+
+  settled-balance : (a : ℕ) → a < length (x .accounts) →
+      accountAt (x .accounts) a .balance
+      +ℤ sumTo (length (x .listings)) (λ c. pos (listingAt x c .contract .multiplier) *ℤ marked (booksOf x) (settlementPrice x c) a c)
+      ≡ accountAt (settled x .accounts) a .balance
+  unfolding settledAccount
+  settled-balance a l =
+      ap (λ (z : ℤ). accountAt (x .accounts) a .balance +ℤ z) (sym (profit-marked a))
+      ∙ ap (λ (k : Account). k .balance) (sym (settled-account a l))
+
+  -- "holdings become start-of-day"
+  settled-start : (a c : ℕ) → a < length (x .accounts) → netNow x a c ≡ netAtStart (settled x) a c
+  unfolding netNow netAtStart holdingAt settledAccount
+  settled-start a c l =
+      ap (λ (h : Holding). pos (h .startlong) -ℤ pos (h .startshort)) (sym (List·getD-map carriedHolding (accountAt (x .accounts) a .holdings) c noHolding))
+      ∙ ap (λ (k : Account). pos (getD (k .holdings) c noHolding .startlong) -ℤ pos (getD (k .holdings) c noHolding .startshort)) (sym (settled-account a l))
+
+  settled-reference : (c : ℕ) → c < length (x .listings) → settlementPrice x c ≡ listingAt (settled x) c .contract .reference
+  unfolding settledListing settledContract
+  settled-reference c l = ap (λ (n : Listing). n .contract .reference) (sym (settled-listing c l))
+
+  settled-multiplier : (c : ℕ) → c < length (x .listings) → listingAt x c .contract .multiplier ≡ listingAt (settled x) c .contract .multiplier
+  unfolding settledListing settledContract
+  settled-multiplier c l = ap (λ (n : Listing). n .contract .multiplier) (sym (settled-listing c l))
+
+  settled-trades : [] ≡ settled x .trades
+  unfolding settled
+  settled-trades = refl
+
+  settled-moves : Makes x (settles (settlementPrice x)) (settled x)
+  unfolding after booksOf
+  settled-moves = record {
+    balance = settled-balance;
+    start = λ a c l k. sym (net-moves x r a c (placed x shaped a c l k)) ∙ settled-start a c l;
+    reference = settled-reference;
+    multiplier = settled-multiplier;
+    trades = settled-trades;
+  }
+
+  -- ---- EACH COMMAND, accepted or refused
+
+  carried-moves : (command : Command) → Makes x (moveBy x command) (carriedOut x command .exchange)
+  unfolding moveBy carriedOut deposited withdrawn inserted cancelled pulled removed phaseChanged
+  carried-moves Malformed = unchanged x
+  carried-moves (Deposit account amount) = paid-moves x (placeOf account) (pos amount)
+  carried-moves (Withdraw account amount) = paid-moves x (placeOf account) (negℤ (pos amount))
+  carried-moves (Insert o) = inserted-moves x o
+  carried-moves (Cancel account contract operator number) = same-listing x (placeOf contract) _ refl refl
+  carried-moves (Pull account contract operator) = same-listing x (placeOf contract) _ refl refl
+  carried-moves (Phase contract phase) = same-listing x (placeOf contract) _ refl refl
+  carried-moves Settle = settled-moves
+
+  pub step-moves : (command : Command) →
+      Makes x (pick (eqb (codeOf x command) 0) (moveBy x command) (makes [])) (step x command .exchange)
+  unfolding step
+  step-moves command = by (eqb (codeOf x command) 0)
+    where
+      by : (accepted : Bool) →
+          Makes x (pick accepted (moveBy x command) (makes [])) (pick accepted (carriedOut x command) (refused x (codeOf x command)) .exchange)
+      by true = carried-moves command
+      by false = unchanged x

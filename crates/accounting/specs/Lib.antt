@@ -1,0 +1,5 @@
+pub mod Article32
+pub mod Shape
+pub mod Money
+pub mod Books
+pub mod Moves

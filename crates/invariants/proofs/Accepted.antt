@@ -1,0 +1,53 @@
+-- What an accepted command has passed: code 0 says that every refusal of its kind failed. Assumes nothing.
+use mathlib.Core.Bool.{Bool, true, false}
+use mathlib.Core.List.{List, [], _∷_}
+use mathlib.Core.Logic.{_≢_}
+use mathlib.Core.Path.{_≡_, refl}
+use Prim.Native.Nat.{ℕ, _<_}
+use native.Mathlib.Omega.{arith}
+use borrow.Author.Tests.{eqb-true, eqb-false, ltb-false}
+use lib.Dec.{ltb, eqb}
+use lib.ListN.{length}
+use Rattle.laws.specs.Choice.{either-false}
+use Rattle.rules.specs.Answers.{Refusal, _when_, firstOf, codeOf}
+use Rattle.rules.specs.Exchange.{Exchange, absent, placeOf}
+use Rattle.rules.specs.Step.{step, carriedOut}
+use Rattle.rules.specs.declared.Command.{Command}
+
+-- ---- the tests of a list of refusals all failed
+
+abbrev pub Failed : List Refusal → Type 0
+Failed [] = Unit {0}
+Failed ((code when test) ∷ rs) = (test ≡ false) × Failed rs
+
+abbrev pub Coded : List Refusal → Type 0
+Coded [] = Unit {0}
+Coded ((code when test) ∷ rs) = (0 < code) × Coded rs
+
+pub failed : (rs : List Refusal) → Coded rs → firstOf rs ≡ 0 → Failed rs
+unfolding firstOf
+failed [] k e = tt
+failed ((code when true) ∷ rs) k e = absurd (omega arith)
+failed ((code when false) ∷ rs) k e = (refl, failed rs (k .1) e)
+
+-- ---- a number that is not absent is that of a place
+
+pub present : {A : Type 0} (number : ℕ) (places : List A) → absent number places ≡ false → placeOf number < length places
+unfolding absent
+present number places e =
+    let p = either-false (eqb number 0) (ltb (length places) number) e in
+    let l = ltb-false (length places) number (p .1) in
+    let n : number ≢ 0 = eqb-false number 0 (p .0) in
+    omega arith
+
+-- ---- a step is either a refusal, which changes nothing, or what the command does
+
+pub by-code :
+    (P : Exchange → Type 0) (x : Exchange) (command : Command) → P x →
+    (codeOf x command ≡ 0 → P (carriedOut x command .exchange)) → P (step x command .exchange)
+unfolding step
+by-code P x command same done = go (eqb (codeOf x command) 0) refl
+  where
+    go : (b : Bool) → eqb (codeOf x command) 0 ≡ b → P (step x command .exchange)
+    go true e = rw e (done (eqb-true (codeOf x command) 0 e))
+    go false e = rw e same

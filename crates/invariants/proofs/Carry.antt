@@ -1,0 +1,62 @@
+-- A clause carried from one state to the next where what it depends on has not changed. Assumes nothing.
+use mathlib.Core.Bool.{true}
+use mathlib.Core.List.{List}
+use mathlib.Core.Path.{_≡_}
+use Prim.Native.Nat.{ℕ, _≤_}
+use native.Mathlib.Omega.{arith}
+use lib.ListN.{length}
+use Rattle.laws.specs.Choice.{allOf, allOf-imp}
+use Rattle.rules.specs.Bounds.{allowedToday}
+use Rattle.rules.specs.Exchange.{Exchange, listingAt}
+use Rattle.rules.specs.WellFormed.{orderInRange, tradeInRange}
+use Rattle.rules.specs.declared.Contract.{Contract}
+use Rattle.rules.specs.declared.Order.{Order}
+use Rattle.rules.specs.declared.Trade.{Trade}
+use Rattle.invariants.proofs.Clauses.{order-ok, order-test, trade-ok, trade-test}
+
+-- the same prices are allowed
+abbrev pub Allows : Contract → Contract → Type 0
+Allows c d = (price : ℕ) → allowedToday c price ≡ true → allowedToday d price ≡ true
+
+-- resting orders, for the same accounts, a later number and a contract that allows their prices
+pub orders-carried : (accounts next next′ : ℕ) (c d : Contract) → next ≤ next′ → Allows c d →
+    (queue : List Order) → allOf (orderInRange accounts next c) queue ≡ true → allOf (orderInRange accounts next′ d) queue ≡ true
+orders-carried accounts next next′ c d later allows queue =
+    allOf-imp (orderInRange accounts next c) (orderInRange accounts next′ d) queue
+    (λ o h.
+    let k = order-ok accounts next c o h in
+    order-test accounts next′ d o
+    (record {
+      lots-low = k .lots-low;
+      lots-high = k .lots-high;
+      account = k .account;
+      price = allows (o .price) (k .price);
+      number-low = k .number-low;
+      number-high = omega arith;
+      close = k .close;
+    }))
+
+-- recorded trades
+module _ (x y : Exchange) (listings : length (x .listings) ≡ length (y .listings)) (accounts : length (x .accounts) ≡ length (y .accounts))
+    (later : x .next ≤ y .next) (allows : (c : ℕ) → Allows (listingAt x c .contract) (listingAt y c .contract)) where
+  pub trades-carried : (ts : List Trade) → allOf (tradeInRange x) ts ≡ true → allOf (tradeInRange y) ts ≡ true
+  trades-carried ts =
+      allOf-imp (tradeInRange x) (tradeInRange y) ts
+      (λ t h.
+      let k = trade-ok x t h in
+      trade-test y t
+      (record {
+        contract = omega arith;
+        buyer = omega arith;
+        seller = omega arith;
+        two = k .two;
+        buy-low = k .buy-low;
+        buy-high = omega arith;
+        sell-low = k .sell-low;
+        sell-high = omega arith;
+        price = allows (t .contract) (t .price) (k .price);
+        lots-low = k .lots-low;
+        lots-high = k .lots-high;
+        buyclose = k .buyclose;
+        sellclose = k .sellclose;
+      }))

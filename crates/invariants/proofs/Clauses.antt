@@ -1,0 +1,300 @@
+-- The clauses of "a state is well formed" as facts with names, and the two ways between them and the test of `WellFormed.antt`.
+-- Assumes nothing.
+use mathlib.Core.Bool.{Bool, true, false, not}
+use mathlib.Core.List.{List, [], _∷_}
+use mathlib.Core.Path.{_≡_}
+use Prim.Native.Nat.{ℕ, _+_, _*_, _<_, _≤_}
+use native.Mathlib.Omega.{arith}
+use borrow.Author.Tests.{leb-true, ltb-true, le-leb, lt-ltb}
+use lib.Dec.{leb, ltb, eqb}
+use lib.IntN.{natAbs}
+use lib.ListN.{length}
+use Rattle.laws.specs.Choice.{pick, all, allOf, all-at, all-true, allOf-at, allOf-true, both-true, true-both}
+use Rattle.rules.specs.Bounds.{within, allowedToday, numbersEnd, maxContracts, maxTrades, maxResting, maxLots, maxSettlements, maxBalance, maxDayProfit}
+use Rattle.rules.specs.Exchange.{Exchange, Listing, listingAt, accountAt, holdingAt, own, restingOpens, restingCloses, noListing, noAccount}
+use Rattle.rules.specs.Holdings.{bookTrades, neverBelowZero, startOfDay, sameHoldings}
+use Rattle.rules.specs.WellFormed.{contractInRange, countersInRange, sorted, uncrossed, orderInRange, listingInRange, allNumbers, usedOnce, tradeInRange, replays, holdingInRange, holdingsInRange, balanceInRange, wellFormedContents}
+use Rattle.rules.specs.declared.Contract.{Contract}
+use Rattle.rules.specs.declared.Holding.{Holding}
+use Rattle.rules.specs.declared.Order.{Order}
+use Rattle.rules.specs.declared.Trade.{Trade}
+use Rattle.accounting.proofs.Facts.{passed}
+use Rattle.invariants.proofs.Tests.{join}
+
+-- ---- a resting order
+
+pub record OrderOk (accounts next : ℕ) (c : Contract) (o : Order) : Type 0 where
+  pub lots-low : 1 ≤ o .lots
+  pub lots-high : o .lots ≤ maxLots
+  pub account : o .account < accounts
+  pub price : allowedToday c (o .price) ≡ true
+  pub number-low : 1 ≤ o .number
+  pub number-high : o .number < next
+  pub close : o .close ≤ 1
+
+module _ (accounts next : ℕ) (c : Contract) (o : Order) where
+  abbrev orderTests : List Bool
+  orderTests =
+      leb (o .lots) maxLots
+      ∷ ltb (o .account) accounts
+      ∷ allowedToday c (o .price)
+      ∷ leb 1 (o .number)
+      ∷ ltb (o .number) next
+      ∷ leb (o .close) 1
+      ∷ []
+
+  pub order-ok : orderInRange accounts next c o ≡ true → OrderOk accounts next c o
+  unfolding orderInRange
+  order-ok h =
+      let p = passed (leb 1 (o .lots)) orderTests h in
+      record {
+        lots-low = omega (arith, leb-true);
+        lots-high = omega (arith, leb-true);
+        account = omega (arith, ltb-true);
+        price = p .1 .1 .1 .0;
+        number-low = omega (arith, leb-true);
+        number-high = omega (arith, ltb-true);
+        close = omega (arith, leb-true);
+      }
+
+  pub order-test : OrderOk accounts next c o → orderInRange accounts next c o ≡ true
+  unfolding orderInRange
+  order-test k =
+      join (leb 1 (o .lots)) orderTests
+      (omega (arith, le-leb), (omega (arith, le-leb), (omega (arith, lt-ltb), (k .price, (omega (arith, le-leb), (omega (arith, lt-ltb), omega (arith, le-leb)))))))
+
+-- ---- a contract with its queues; of a side, `sell` is false for the buys and true for the sells
+
+pub record ListingOk (accounts next : ℕ) (m : Listing) : Type 0 where
+  pub contract : contractInRange (m .contract) ≡ true
+  pub order : (sell : Bool) → sorted sell (own sell m) ≡ true
+  pub apart : uncrossed (m .buys) (m .sells) ≡ true
+  pub orders : (sell : Bool) → allOf (orderInRange accounts next (m .contract)) (own sell m) ≡ true
+
+module _ (accounts next : ℕ) (m : Listing) where
+  abbrev listingTests : List Bool
+  listingTests =
+      sorted false (m .buys)
+      ∷ sorted true (m .sells)
+      ∷ uncrossed (m .buys) (m .sells)
+      ∷ allOf (orderInRange accounts next (m .contract)) (m .buys)
+      ∷ allOf (orderInRange accounts next (m .contract)) (m .sells)
+      ∷ []
+
+  pub listing-ok : listingInRange accounts next m ≡ true → ListingOk accounts next m
+  unfolding listingInRange
+  listing-ok h =
+      let p = passed (contractInRange (m .contract)) listingTests h in
+      record {
+        contract = p .0;
+        order = λ sell. elim sell [ false ↦ p .1 .0 | true ↦ p .1 .1 .0 ];
+        apart = p .1 .1 .1 .0;
+        orders = λ sell. elim sell [ false ↦ p .1 .1 .1 .1 .0 | true ↦ p .1 .1 .1 .1 .1 ];
+      }
+
+  pub listing-test : ListingOk accounts next m → listingInRange accounts next m ≡ true
+  unfolding listingInRange
+  listing-test k =
+      join (contractInRange (m .contract)) listingTests
+      (k .contract, (k .order false, (k .order true, (k .apart, (k .orders false, k .orders true)))))
+
+-- ---- a recorded trade
+
+pub record TradeOk (x : Exchange) (t : Trade) : Type 0 where
+  pub contract : t .contract < length (x .listings)
+  pub buyer : t .buyer < length (x .accounts)
+  pub seller : t .seller < length (x .accounts)
+  pub two : not (eqb (t .buyorder) (t .sellorder)) ≡ true
+  pub buy-low : 1 ≤ t .buyorder
+  pub buy-high : t .buyorder < x .next
+  pub sell-low : 1 ≤ t .sellorder
+  pub sell-high : t .sellorder < x .next
+  pub price : allowedToday (listingAt x (t .contract) .contract) (t .price) ≡ true
+  pub lots-low : 1 ≤ t .lots
+  pub lots-high : t .lots ≤ maxLots
+  pub buyclose : t .buyclose ≤ 1
+  pub sellclose : t .sellclose ≤ 1
+
+module _ (x : Exchange) (t : Trade) where
+  abbrev tradeTests : List Bool
+  tradeTests =
+      ltb (t .buyer) (length (x .accounts))
+      ∷ ltb (t .seller) (length (x .accounts))
+      ∷ not (eqb (t .buyorder) (t .sellorder))
+      ∷ leb 1 (t .buyorder)
+      ∷ ltb (t .buyorder) (x .next)
+      ∷ leb 1 (t .sellorder)
+      ∷ ltb (t .sellorder) (x .next)
+      ∷ allowedToday (listingAt x (t .contract) .contract) (t .price)
+      ∷ within 1 maxLots (t .lots)
+      ∷ leb (t .buyclose) 1
+      ∷ leb (t .sellclose) 1
+      ∷ []
+
+  pub trade-ok : tradeInRange x t ≡ true → TradeOk x t
+  unfolding tradeInRange
+  trade-ok h =
+      let p = passed (ltb (t .contract) (length (x .listings))) tradeTests h in
+      let q = both-true (leb 1 (t .lots)) (leb (t .lots) maxLots) (p .1 .1 .1 .1 .1 .1 .1 .1 .1 .0) in
+      record {
+        contract = omega (arith, ltb-true);
+        buyer = omega (arith, ltb-true);
+        seller = omega (arith, ltb-true);
+        two = p .1 .1 .1 .0;
+        buy-low = omega (arith, leb-true);
+        buy-high = omega (arith, ltb-true);
+        sell-low = omega (arith, leb-true);
+        sell-high = omega (arith, ltb-true);
+        price = p .1 .1 .1 .1 .1 .1 .1 .1 .0;
+        lots-low = omega (arith, leb-true);
+        lots-high = omega (arith, leb-true);
+        buyclose = omega (arith, leb-true);
+        sellclose = omega (arith, leb-true);
+      }
+
+  pub trade-test : TradeOk x t → tradeInRange x t ≡ true
+  unfolding tradeInRange
+  trade-test k =
+      join (ltb (t .contract) (length (x .listings))) tradeTests (
+        omega (arith, lt-ltb),
+        (
+          omega (arith, lt-ltb),
+          (
+            omega (arith, lt-ltb),
+            (
+              k .two,
+              (
+                omega (arith, le-leb),
+                (
+                  omega (arith, lt-ltb),
+                  (
+                    omega (arith, le-leb),
+                    (
+                      omega (arith, lt-ltb),
+                      (
+                        k .price,
+                        (true-both (leb 1 (t .lots)) (leb (t .lots) maxLots) (omega (arith, le-leb)) (omega (arith, le-leb)), (omega (arith, le-leb), omega (arith, le-leb))),
+                      ),
+                    ),
+                  ),
+                ),
+              ),
+            ),
+          ),
+        ),
+      )
+
+-- ---- what an account holds in a contract. Opens of a side add to `held sell`, closes of a side lower `held (not sell)`.
+
+abbrev pub held : Bool → Holding → ℕ
+held sell h = pick sell (h .short) (h .long)
+
+pub record HoldingOk (m : Listing) (a : ℕ) (h : Holding) : Type 0 where
+  pub startlong : h .startlong ≤ m .contract .limit
+  pub startshort : h .startshort ≤ m .contract .limit
+  pub opens : (sell : Bool) → held sell h + restingOpens a (own sell m) ≤ m .contract .limit
+  pub closes : (sell : Bool) → restingCloses a (own sell m) ≤ held (not sell) h
+
+module _ (m : Listing) (a : ℕ) (h : Holding) where
+  abbrev holdingTests : List Bool
+  holdingTests =
+      leb (h .startshort) (m .contract .limit)
+      ∷ leb (h .long + restingOpens a (m .buys)) (m .contract .limit)
+      ∷ leb (h .short + restingOpens a (m .sells)) (m .contract .limit)
+      ∷ leb (restingCloses a (m .sells)) (h .long)
+      ∷ leb (restingCloses a (m .buys)) (h .short)
+      ∷ []
+
+  pub holding-ok : holdingInRange m a h ≡ true → HoldingOk m a h
+  unfolding holdingInRange
+  holding-ok e =
+      let p = passed (leb (h .startlong) (m .contract .limit)) holdingTests e in
+      record {
+        startlong = omega (arith, leb-true);
+        startshort = omega (arith, leb-true);
+        opens = λ sell. elim sell [ false ↦ leb-true _ _ (p .1 .1 .0) | true ↦ leb-true _ _ (p .1 .1 .1 .0) ];
+        closes = λ sell. elim sell [ false ↦ leb-true _ _ (p .1 .1 .1 .1 .1) | true ↦ leb-true _ _ (p .1 .1 .1 .1 .0) ];
+      }
+
+  pub holding-test : HoldingOk m a h → holdingInRange m a h ≡ true
+  unfolding holdingInRange
+  holding-test k =
+      join (leb (h .startlong) (m .contract .limit)) holdingTests
+      (omega (arith, le-leb), (omega (arith, le-leb), (le-leb _ _ (k .opens false), (le-leb _ _ (k .opens true), (le-leb _ _ (k .closes true), le-leb _ _ (k .closes false))))))
+
+-- ---- the whole state
+
+pub record WellFormed (x : Exchange) : Type 0 where
+  pub next-low : 1 ≤ x .next
+  pub next-high : x .next ≤ numbersEnd
+  pub settlements : x .settlements ≤ maxSettlements
+  pub listing : (c : ℕ) → c < length (x .listings) → ListingOk (length (x .accounts)) (x .next) (listingAt x c)
+  pub once : usedOnce (allNumbers (x .listings)) ≡ true
+  pub trades : allOf (tradeInRange x) (x .trades) ≡ true
+  pub covered : neverBelowZero (startOfDay (x .accounts)) (x .trades) ≡ true
+  pub replay : sameHoldings (bookTrades (startOfDay (x .accounts)) (x .trades)) (x .accounts) ≡ true
+  pub holding : (a c : ℕ) → a < length (x .accounts) → c < length (x .listings) → HoldingOk (listingAt x c) a (holdingAt (x .accounts) a c)
+  pub balance : (a : ℕ) → a < length (x .accounts) → natAbs (accountAt (x .accounts) a .balance) ≤ maxBalance + x .settlements * maxDayProfit
+
+module _ (x : Exchange) where
+  abbrev stateTests : List Bool
+  stateTests =
+      allOf (listingInRange (length (x .accounts)) (x .next)) (x .listings)
+      ∷ usedOnce (allNumbers (x .listings))
+      ∷ allOf (tradeInRange x) (x .trades)
+      ∷ replays x
+      ∷ all (holdingsInRange x) (length (x .accounts))
+      ∷ allOf (balanceInRange (x .settlements)) (x .accounts)
+      ∷ []
+
+  abbrev replayTests : List Bool
+  replayTests = sameHoldings (bookTrades (startOfDay (x .accounts)) (x .trades)) (x .accounts) ∷ []
+
+  pub well-formed : wellFormedContents x ≡ true → WellFormed x
+  unfolding wellFormedContents countersInRange replays holdingsInRange balanceInRange listingAt accountAt
+  well-formed h =
+      let p = passed (countersInRange x) stateTests h in
+      let q = passed (leb 1 (x .next)) (leb (x .next) numbersEnd ∷ leb (x .settlements) maxSettlements ∷ []) (p .0) in
+      let r = passed (neverBelowZero (startOfDay (x .accounts)) (x .trades)) replayTests (p .1 .1 .1 .1 .0) in
+      record {
+        next-low = leb-true _ _ (q .0);
+        next-high = leb-true _ _ (q .1 .0);
+        settlements = leb-true _ _ (q .1 .1);
+        listing = λ c l. listing-ok _ _ _ (allOf-at (listingInRange (length (x .accounts)) (x .next)) (x .listings) c noListing (p .1 .0) l);
+        once = p .1 .1 .0;
+        trades = p .1 .1 .1 .0;
+        covered = r .0;
+        replay = r .1;
+        holding = λ a c la lc. holding-ok _ _ _ (all-at (λ c. holdingInRange (listingAt x c) a (holdingAt (x .accounts) a c)) c (length (x .listings)) (all-at (holdingsInRange x) a (length (x .accounts)) (p .1 .1 .1 .1 .1 .0) la) lc);
+        balance = λ a l. leb-true _ _ (allOf-at (balanceInRange (x .settlements)) (x .accounts) a noAccount (p .1 .1 .1 .1 .1 .1) l);
+      }
+
+  pub well-formed-test : WellFormed x → wellFormedContents x ≡ true
+  unfolding wellFormedContents countersInRange replays holdingsInRange balanceInRange listingAt accountAt
+  well-formed-test k =
+      join (countersInRange x) stateTests (
+        join (leb 1 (x .next)) (leb (x .next) numbersEnd ∷ leb (x .settlements) maxSettlements ∷ []) (le-leb _ _ (k .next-low), (le-leb _ _ (k .next-high), le-leb _ _ (k .settlements))),
+        (
+          allOf-true (listingInRange (length (x .accounts)) (x .next)) (x .listings) noListing (λ c l. listing-test _ _ _ (k .listing c l)),
+          (
+            k .once,
+            (
+              k .trades,
+              (
+                join (neverBelowZero (startOfDay (x .accounts)) (x .trades)) replayTests (k .covered, k .replay),
+                (
+                  all-true (holdingsInRange x) (length (x .accounts)) (λ a la. all-true (λ c. holdingInRange (listingAt x c) a (holdingAt (x .accounts) a c)) (length (x .listings)) (λ c lc. holding-test _ _ _ (k .holding a c la lc))),
+                  allOf-true (balanceInRange (x .settlements)) (x .accounts) noAccount (λ a l. le-leb _ _ (k .balance a l)),
+                ),
+              ),
+            ),
+          ),
+        ),
+      )
+
+-- ---- the counts, which `countsInRange` of Memory.antt tests: not part of `wellFormedContents`
+
+pub record Counted (x : Exchange) : Type 0 where
+  pub contracts : length (x .listings) ≤ maxContracts
+  pub trades : length (x .trades) ≤ maxTrades
+  pub queues : (c : ℕ) (sell : Bool) → c < length (x .listings) → length (own sell (listingAt x c)) ≤ maxResting

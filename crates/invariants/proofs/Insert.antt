@@ -1,0 +1,305 @@
+-- An accepted insert keeps a state well formed: its trades, its remainder and the number it used. Assumes nothing.
+use mathlib.Core.Bool.{Bool, true, false, not, _&&_}
+use mathlib.Core.List.{List, _∷_, _++_}
+use mathlib.Core.Path.{_≡_, refl, sym, ap, subst}
+use Prim.Native.Nat.{ℕ, _+_, _-_, _<_, _≤_}
+use native.Mathlib.Omega.{arith}
+use borrow.Author.Tests.{eqb-true, leb-true, leb-false}
+use lib.Dec.{leb, eqb}
+use lib.ListN.{length, set, length-set, length-append}
+use Rattle.laws.specs.Choice.{pick, allOf, allOf-append, true-both}
+use Rattle.rules.specs.Answers.{codeOf, isGoodForDay, mark, listingOf, takerOf, tradesNeeded, fillableLots}
+use Rattle.rules.specs.Bounds.{maxResting, maxTrades}
+use Rattle.rules.specs.Exchange.{Exchange, Listing, listingAt, holdingAt, placeOf, own, opposite, withQueues, noListing, restingOpens, restingCloses}
+use Rattle.rules.specs.Holdings.{bookTrades}
+use Rattle.rules.specs.Matching.{Swept, tradedLots, remainder, restLots, restedLots, enter}
+use Rattle.rules.specs.Step.{limitOf, enteredOf, listingAfter, exchangeAfter, inserted, carriedOut}
+use Rattle.rules.specs.WellFormed.{allNumbers, usedOnce, orderInRange, tradeInRange}
+use Rattle.rules.specs.declared.Account.{Account}
+use Rattle.rules.specs.declared.Command.the-variants.{Insert}
+use Rattle.rules.specs.declared.Contract.{Contract}
+use Rattle.rules.specs.declared.Holding.{Holding}
+use Rattle.rules.specs.declared.NewOrder.{NewOrder}
+use Rattle.rules.specs.declared.Order.{Order}
+use Rattle.rules.proofs.Fillable.{swept-fillable}
+use Rattle.rules.proofs.Holdings.{length-bookTrades, booked-balance, booked-start-holding, replay-more, never-more}
+use Rattle.rules.proofs.Rest.{rest-sum, length-rest}
+use Rattle.invariants.proofs.Carry.{Allows, orders-carried, trades-carried}
+use Rattle.invariants.proofs.Clauses.{ListingOk, held, HoldingOk, WellFormed, Counted}
+use Rattle.invariants.proofs.InsertAccepted.{Passes, passes}
+use Rattle.invariants.proofs.InsertListing.{allows-last, mark-low, contractOf, swept, rested, sides, last-on-tick, contractAfter, rested-left, listing-after}
+use Rattle.invariants.proofs.InsertQueues.{rested-sum, rested-length, rested-length-one, rested-fewer}
+use Rattle.invariants.proofs.Legs.{resting-cons, KeptAt}
+use Rattle.invariants.proofs.Numbers.{occurs, uses, usesIn, once-count, once-changed, next-unused}
+use Rattle.invariants.proofs.SweptHoldings.{SweptKept, swept-kept, fewer-by}
+use Rattle.invariants.proofs.SweptTrades.{ofContract, swept-in-range, swept-contract, other-holding}
+use Rattle.invariants.proofs.Tests.{at-set}
+
+-- ---- limits and coverage with the arriving lots in front of the own side's queue
+
+-- from the clauses of the state, if the arriving lots keep them for their own account
+kept-by : (sell : Bool) (m : Listing) (c : ℕ) (accounts : List Account) (a : ℕ) (r : Order) → HoldingOk m a (holdingAt accounts a c) →
+    held sell (holdingAt accounts a c) + restingOpens a (r ∷ own sell m) ≤ m .contract .limit → restingCloses a (r ∷ own sell m) ≤ held (not sell) (holdingAt accounts a c) →
+    KeptAt (m .contract .limit) c accounts (pick sell (opposite sell m) (r ∷ own sell m)) (pick sell (r ∷ own sell m) (opposite sell m)) a
+kept-by false m c accounts a r k p q = record { buy-opens = p; sell-opens = k .opens true; buy-closes = q; sell-closes = k .closes true }
+kept-by true m c accounts a r k p q = record { buy-opens = k .opens false; sell-opens = p; buy-closes = k .closes false; sell-closes = q }
+
+-- and back, for the queues after it
+holding-by : (sell : Bool) (c : Contract) (mine others : List Order) (d : ℕ) (accounts : List Account) (a : ℕ) →
+    holdingAt accounts a d .startlong ≤ c .limit → holdingAt accounts a d .startshort ≤ c .limit →
+    KeptAt (c .limit) d accounts (pick sell others mine) (pick sell mine others) a → HoldingOk (withQueues sell c mine others) a (holdingAt accounts a d)
+holding-by sell c mine others d accounts a l s k =
+    record {
+      startlong = l;
+      startshort = s;
+      opens = λ side. elim side [ false ↦ k .buy-opens | true ↦ k .sell-opens ];
+      closes = λ side. elim side [ false ↦ k .buy-closes | true ↦ k .sell-closes ];
+    }
+
+-- the arriving lots count for one account, as an open or as a close
+own-opens : (b close : Bool) (lots h r limit : ℕ) → h + r ≤ limit → (b ≡ true → close ≡ false → h + r + lots ≤ limit) → h + (pick (b && eqb (mark close) 0) lots 0 + r) ≤ limit
+own-opens false close lots h r limit p q = omega arith
+own-opens true true lots h r limit p q = omega arith
+own-opens true false lots h r limit p q = omega (arith, q refl refl)
+
+own-closes : (b close : Bool) (lots h r : ℕ) → r ≤ h → (b ≡ true → close ≡ true → r + lots ≤ h) → pick (b && eqb (mark close) 1) lots 0 + r ≤ h
+own-closes false close lots h r p q = omega arith
+own-closes true false lots h r p q = omega arith
+own-closes true true lots h r p q = omega (arith, q refl refl)
+
+-- a listing that the insert does not touch
+listing-later : (accounts next : ℕ) (m : Listing) → ListingOk accounts next m → ListingOk accounts (next + 1) m
+listing-later accounts next m k =
+    record {
+      contract = k .contract;
+      order = k .order;
+      apart = k .apart;
+      orders = λ sell. orders-carried accounts next (next + 1) (m .contract) (m .contract) (omega arith) (λ p h. h) (own sell m) (k .orders sell);
+    }
+
+module _ (x : Exchange) (k : WellFormed x) (o : NewOrder) (p : Passes x o) where
+  abbrev lots-swept : Swept
+  lots-swept = swept x k o p
+
+  abbrev arrived : Order
+  arrived = remainder (takerOf x o) (limitOf (o .condition)) (o .lots)
+
+  abbrev account : ℕ
+  account = placeOf (o .account)
+
+  abbrev place : ℕ
+  place = placeOf (o .contract)
+
+  abbrev mine : List Order
+  mine = own (o .sell) (listingOf x o)
+
+  abbrev others : List Order
+  others = opposite (o .sell) (listingOf x o)
+
+  holding-before : (a : ℕ) → a < length (x .accounts) → HoldingOk (listingOf x o) a (holdingAt (x .accounts) a place)
+  unfolding listingOf
+  holding-before a l = k .holding a place l (p .contract)
+
+  opens-start : (a : ℕ) → a < length (x .accounts) → held (o .sell) (holdingAt (x .accounts) a place) + restingOpens a (arrived ∷ mine) ≤ contractOf x k o p .limit
+  unfolding takerOf remainder
+  opens-start a l =
+      rw (resting-cons 0 a arrived mine)
+      (own-opens (eqb account a) (o .close) (o .lots) (held (o .sell) (holdingAt (x .accounts) a place)) (restingOpens a mine) (contractOf x k o p .limit) (holding-before a l .opens (o .sell))
+      (λ e q. rw (← eqb-true account a e) (p .opens q)))
+
+  closes-start : (a : ℕ) → a < length (x .accounts) → restingCloses a (arrived ∷ mine) ≤ held (not (o .sell)) (holdingAt (x .accounts) a place)
+  unfolding takerOf remainder
+  closes-start a l =
+      rw (resting-cons 1 a arrived mine)
+      (own-closes (eqb account a) (o .close) (o .lots) (held (not (o .sell)) (holdingAt (x .accounts) a place)) (restingCloses a mine) (holding-before a l .closes (o .sell))
+      (λ e q. rw (← eqb-true account a e) (p .closes q)))
+
+  -- so the sweep keeps them, and its trades close nothing that is not held
+  swept-holdings : SweptKept (length (x .accounts)) (contractOf x k o p .limit) (limitOf (o .condition)) (takerOf x o) mine (x .accounts) (o .lots) lots-swept
+  unfolding takerOf
+  swept-holdings =
+      swept-kept (length (x .accounts)) (contractOf x k o p .limit) (limitOf (o .condition)) (x .next) (contractOf x k o p) (takerOf x o) mine (p .account) (mark-low (o .close))
+      (o .lots) (contractOf x k o p .last) others (x .accounts) (sides x k o p .others-orders)
+      (λ a l. kept-by (o .sell) (listingOf x o) place (x .accounts) a arrived (holding-before a l) (opens-start a l) (closes-start a l))
+
+  -- ---- the parts of the state after it
+
+  abbrev after : Listing
+  after = listingAfter (listingOf x o) (o .sell) (enteredOf x o)
+
+  abbrev accountsAfter : List Account
+  accountsAfter = bookTrades (x .accounts) (lots-swept .trades)
+
+  holding-after : (a : ℕ) → a < length (x .accounts) → HoldingOk after a (holdingAt accountsAfter a place)
+  unfolding listingAfter enteredOf enter takerOf
+  holding-after a l =
+      let s = booked-start-holding (x .accounts) (lots-swept .trades) a place in
+      let q = holding-before a l in
+      holding-by (o .sell) (contractAfter x k o p) (restLots (takerOf x o) (limitOf (o .condition)) (rested x k o p) mine) (lots-swept .rest) place accountsAfter a
+      (rw (ap (λ (h : Holding). h .startlong) s) (q .startlong)) (rw (ap (λ (h : Holding). h .startshort) s) (q .startshort))
+      (fewer-by (o .sell) (length (x .accounts)) (contractOf x k o p .limit) place accountsAfter
+      (remainder (takerOf x o) (limitOf (o .condition)) (o .lots - tradedLots (lots-swept .trades)) ∷ mine) (restLots (takerOf x o) (limitOf (o .condition)) (rested x k o p) mine) (lots-swept .rest) (lots-swept .rest)
+      (rested-fewer (takerOf x o) (limitOf (o .condition)) (rested x k o p) (o .lots - tradedLots (lots-swept .trades)) mine (rested-left x k o p)) (λ close b. omega arith) (swept-holdings .kept) a l)
+
+  -- the numbers: one more, the next, if a remainder rests
+  uses-by : (n : ℕ) (sell : Bool) (us vs : List Order) → uses n (pick sell vs us) + uses n (pick sell us vs) ≡ uses n us + uses n vs
+  uses-by n true us vs = omega arith
+  uses-by n false us vs = refl
+
+  own-uses : (n : ℕ) (sell : Bool) (m : Listing) → uses n (own sell m) + uses n (opposite sell m) ≡ uses n (m .buys) + uses n (m .sells)
+  own-uses n true m = omega arith
+  own-uses n false m = refl
+
+  mine-uses : (n : ℕ) → uses n (restLots (takerOf x o) (limitOf (o .condition)) (rested x k o p) mine) ≤ pick (eqb n (x .next)) 1 0 + uses n mine
+  unfolding uses takerOf remainder
+  mine-uses n = rested-sum (takerOf x o) (limitOf (o .condition)) (λ r. pick (eqb n (r .number)) 1 0) (rested x k o p) mine
+
+  others-uses : (n : ℕ) → uses n (lots-swept .rest) ≤ uses n others
+  unfolding uses
+  others-uses n = rest-sum (λ r. pick (eqb n (r .number)) 1 0) (λ r m low high. omega arith) (takerOf x o) (o .lots) (contractOf x k o p .last) others
+
+  uses-after : (n : ℕ) → usesIn n after ≤ usesIn n (listingOf x o) + pick (eqb n (x .next)) 1 0
+  unfolding usesIn listingAfter enteredOf enter
+  uses-after n =
+      omega (arith, uses-by n (o .sell) (restLots (takerOf x o) (limitOf (o .condition)) (rested x k o p) mine) (lots-swept .rest), own-uses n (o .sell) (listingOf x o), mine-uses n, others-uses n)
+
+  one-more : (n : ℕ) → occurs n (allNumbers (x .listings)) + pick (eqb n (x .next)) 1 0 ≤ 1
+  unfolding listingAt
+  one-more n = go (eqb n (x .next)) refl
+    where
+      go : (b : Bool) → eqb n (x .next) ≡ b → occurs n (allNumbers (x .listings)) + pick (eqb n (x .next)) 1 0 ≤ 1
+      go true e =
+          let z : occurs n (allNumbers (x .listings)) ≡ 0 = rw (eqb-true n (x .next) e) (next-unused (length (x .accounts)) (x .next) (x .listings) (k .listing)) in
+          rw e (omega arith)
+      go false e = rw e (omega (arith, once-count (allNumbers (x .listings)) (k .once) n))
+
+  once-after : usedOnce (allNumbers (set (x .listings) place after)) ≡ true
+  unfolding listingOf listingAt
+  once-after = once-changed (x .listings) place after (p .contract) (k .once) (λ n. omega (arith, uses-after n, one-more n))
+
+  -- ---- the state after it
+
+  abbrev afterwards : Exchange
+  afterwards = exchangeAfter x o (enteredOf x o)
+
+  same-listings : length (afterwards .listings) ≡ length (x .listings)
+  unfolding exchangeAfter
+  same-listings = length-set (x .listings) place after
+
+  same-accounts : length (afterwards .accounts) ≡ length (x .accounts)
+  unfolding exchangeAfter
+  same-accounts = length-bookTrades (x .accounts) _
+
+  allows-here : Allows (contractOf x k o p) (after .contract)
+  unfolding listingAfter
+  allows-here = allows-last (contractOf x k o p) _
+
+  allows-after : (c : ℕ) → Allows (listingAt x c .contract) (listingAt afterwards c .contract)
+  unfolding exchangeAfter listingAt listingOf
+  allows-after c = at-set (λ (j : ℕ) (m : Listing). Allows (listingAt x j .contract) (m .contract)) (x .listings) place after noListing (p .contract) allows-here c (λ n q h. h)
+
+  old-trades : allOf (tradeInRange afterwards) (x .trades) ≡ true
+  unfolding exchangeAfter
+  old-trades = trades-carried x afterwards (sym same-listings) (sym same-accounts) (omega arith) allows-after (x .trades) (k .trades)
+
+  new-trades : allOf (tradeInRange afterwards) (lots-swept .trades) ≡ true
+  unfolding exchangeAfter takerOf listingOf
+  new-trades =
+      swept-in-range afterwards (takerOf x o) (contractOf x k o p) (omega (arith, same-listings, p .contract)) (omega (arith, same-accounts, p .account)) (k .next-low) (omega arith) (mark-low (o .close)) (p .price)
+      (allows-after place) (o .lots) (contractOf x k o p .last) others (last-on-tick x k o p)
+      (subst (λ (n : ℕ). allOf (orderInRange n (x .next) (contractOf x k o p)) others ≡ true) (sym same-accounts) (sides x k o p .others-orders))
+
+  its-trades : allOf (ofContract place) (lots-swept .trades) ≡ true
+  unfolding takerOf
+  its-trades = swept-contract (takerOf x o) (o .lots) (contractOf x k o p .last) others
+
+  holdings-after : (a c : ℕ) → a < length (x .accounts) → c < length (x .listings) → HoldingOk (listingAt afterwards c) a (holdingAt accountsAfter a c)
+  unfolding exchangeAfter listingAt
+  holdings-after a c la lc =
+      at-set (λ (j : ℕ) (m : Listing). HoldingOk m a (holdingAt accountsAfter a j)) (x .listings) place after noListing (p .contract) (holding-after a la) c
+      (λ n. rw (other-holding place (x .accounts) (lots-swept .trades) a c its-trades n) (k .holding a c la lc))
+
+  listings-after : (c : ℕ) → c < length (x .listings) → ListingOk (length (afterwards .accounts)) (x .next + 1) (listingAt afterwards c)
+  unfolding exchangeAfter listingAt
+  listings-after c l =
+      subst (λ (n : ℕ). ListingOk n (x .next + 1) (listingAt afterwards c)) (sym same-accounts)
+      (at-set (λ (j : ℕ) (m : Listing). ListingOk (length (x .accounts)) (x .next + 1) m) (x .listings) place after noListing (p .contract) (listing-after x k o p) c
+      (λ n. listing-later (length (x .accounts)) (x .next) (listingAt x c) (k .listing c l)))
+
+  pub inserted-keeps : WellFormed afterwards
+  unfolding exchangeAfter enteredOf enter
+  inserted-keeps =
+      record {
+        next-low = omega arith;
+        next-high = omega (arith, p .next);
+        settlements = k .settlements;
+        listing = λ c l. listings-after c (omega (arith, same-listings));
+        once = once-after;
+        trades = rw (allOf-append (tradeInRange afterwards) (x .trades) (lots-swept .trades)) (true-both (allOf (tradeInRange afterwards) (x .trades)) (allOf (tradeInRange afterwards) (lots-swept .trades)) old-trades new-trades);
+        covered = never-more (x .accounts) (x .trades) (lots-swept .trades) (k .replay) (k .covered) (swept-holdings .never);
+        replay = replay-more (x .accounts) (x .trades) (lots-swept .trades) (k .replay);
+        holding = λ a c la lc. holdings-after a c (omega (arith, same-accounts)) (omega (arith, same-listings));
+        balance = λ a l. rw (booked-balance (x .accounts) (lots-swept .trades) a) (k .balance a (omega (arith, same-accounts)));
+      }
+
+  -- ---- the counts
+
+  filled : o .lots ≤ fillableLots x o → tradedLots (lots-swept .trades) ≡ o .lots
+  unfolding takerOf fillableLots
+  filled h = omega (arith, swept-fillable (takerOf x o) (o .lots) (contractOf x k o p .last) others (sides x k o p .others-sorted) refl)
+
+  -- code 13: with 64 on its own side nothing rests
+  none-rests : maxResting ≤ length mine → rested x k o p ≡ 0
+  none-rests full = go (isGoodForDay (o .time)) refl
+    where
+      go : (b : Bool) → isGoodForDay (o .time) ≡ b → rested x k o p ≡ 0
+      go true e = omega (arith, rested-left x k o p, filled (p .room e full))
+      go false e = rw e (unfold restedLots in refl)
+
+  mine-length : length mine ≤ maxResting → length (restLots (takerOf x o) (limitOf (o .condition)) (rested x k o p) mine) ≤ maxResting
+  mine-length h = go (leb maxResting (length mine)) refl
+    where
+      go : (b : Bool) → leb maxResting (length mine) ≡ b → length (restLots (takerOf x o) (limitOf (o .condition)) (rested x k o p) mine) ≤ maxResting
+      go true e = omega (arith, rested-length (takerOf x o) (limitOf (o .condition)) (rested x k o p) mine, none-rests (leb-true _ _ e))
+      go false e = omega (arith, rested-length-one (takerOf x o) (limitOf (o .condition)) (rested x k o p) mine, leb-false maxResting (length mine) e)
+
+  others-length : length (lots-swept .rest) ≤ length others
+  others-length = length-rest (takerOf x o) (o .lots) (contractOf x k o p .last) others
+
+  queue-after : ((sell : Bool) → length (own sell (listingOf x o)) ≤ maxResting) → (sell : Bool) → length (own sell after) ≤ maxResting
+  unfolding listingAfter enteredOf enter
+  queue-after h = by (o .sell) _ _ (mine-length (h (o .sell))) (omega (arith, others-length, either (o .sell)))
+    where
+      by : (s : Bool) (us vs : List Order) → length us ≤ maxResting → length vs ≤ maxResting → (sell : Bool) → length (pick sell (pick s us vs) (pick s vs us)) ≤ maxResting
+      by true us vs p q true = p
+      by true us vs p q false = q
+      by false us vs p q true = q
+      by false us vs p q false = p
+
+      either : (s : Bool) → length (opposite s (listingOf x o)) ≤ maxResting
+      either true = h false
+      either false = h true
+
+  -- code 12
+  trades-length : length (x .trades ++ lots-swept .trades) ≤ maxTrades
+  unfolding tradesNeeded
+  trades-length = rw length-append (p .trades)
+
+  pub inserted-counted : Counted x → Counted afterwards
+  unfolding exchangeAfter enteredOf enter listingAt listingOf
+  inserted-counted n =
+      record {
+        contracts = omega (arith, same-listings, n .contracts);
+        trades = trades-length;
+        queues = λ c sell l. at-set (λ (j : ℕ) (m : Listing). length (own sell m) ≤ maxResting) (x .listings) place after noListing (p .contract)
+            (queue-after (λ s. n .queues place s (p .contract)) sell) c (λ q. n .queues c sell (omega (arith, same-listings)));
+      }
+
+module _ (x : Exchange) (o : NewOrder) (e : codeOf x (Insert o) ≡ 0) (k : WellFormed x) where
+  pub insert-keeps : WellFormed (carriedOut x (Insert o) .exchange)
+  unfolding carriedOut inserted
+  insert-keeps = inserted-keeps x k o (passes x o e)
+
+  pub insert-counted : Counted x → Counted (carriedOut x (Insert o) .exchange)
+  unfolding carriedOut inserted
+  insert-counted = inserted-counted x k o (passes x o e)

@@ -1,0 +1,108 @@
+-- "Used once over all queues", by counting: a number is used once if it occurs at most once, and a change of one contract's
+-- queues changes the counts there alone. Assumes nothing.
+use mathlib.Core.Bool.{Bool, true, false, not}
+use mathlib.Core.List.{List, [], _∷_, _++_}
+use mathlib.Core.Path.{_≡_, refl, _∙_}
+use Prim.Native.Nat.{ℕ, _+_, _<_, _≤_}
+use native.Mathlib.Omega.{arith}
+use borrow.Author.Tests.{eqb-true, eq-eqb, ne-eqb, not-true}
+use lib.Dec.{eqb}
+use lib.ListN.{length, getD, set}
+use Rattle.laws.specs.Choice.{pick, allOf, both-true, true-both}
+use Rattle.laws.specs.Sums.{sumOf, sumOf-append, sumOf-set, sumOf-bound}
+use Rattle.rules.specs.Exchange.{Listing, noListing}
+use Rattle.rules.specs.WellFormed.{orderInRange, numbers, allNumbers, usedOnce}
+use Rattle.rules.specs.declared.Contract.{Contract}
+use Rattle.rules.specs.declared.Order.{Order}
+use Rattle.invariants.proofs.Clauses.{order-ok, ListingOk}
+
+-- how often a number occurs in a list, in a queue, in a contract's two queues
+unfoldable pub occurs : ℕ → List ℕ → ℕ
+occurs n l = sumOf (λ k. pick (eqb n k) 1 0) l
+
+unfoldable pub uses : ℕ → List Order → ℕ
+uses n queue = sumOf (λ o. pick (eqb n (o .number)) 1 0) queue
+
+unfoldable pub usesIn : ℕ → Listing → ℕ
+usesIn n m = uses n (m .buys) + uses n (m .sells)
+
+-- ---- used once is occurring at most once
+
+none : (n : ℕ) (l : List ℕ) → allOf (λ k. not (eqb n k)) l ≡ true → occurs n l ≡ 0
+unfolding occurs sumOf allOf
+none n [] h = refl
+none n (k ∷ ks) h =
+    let p = both-true (not (eqb n k)) (allOf (λ j. not (eqb n j)) ks) h in
+    rw (not-true (eqb n k) (p .0)) (omega (arith, none n ks (p .1)))
+
+absent-all : (n : ℕ) (l : List ℕ) → occurs n l ≡ 0 → allOf (λ k. not (eqb n k)) l ≡ true
+unfolding occurs sumOf allOf
+absent-all n [] h = refl
+absent-all n (k ∷ ks) h = go (eqb n k) refl (λ z. absent-all n ks z)
+  where
+    go : (b : Bool) → eqb n k ≡ b → (occurs n ks ≡ 0 → allOf (λ j. not (eqb n j)) ks ≡ true) → allOf (λ j. not (eqb n j)) (k ∷ ks) ≡ true
+    go true e ih = let h′ : 1 + occurs n ks ≡ 0 = rw e at h in absurd (omega arith)
+    go false e ih = let h′ : 0 + occurs n ks ≡ 0 = rw e at h in rw e (ih (omega arith))
+
+pub once-count : (l : List ℕ) → usedOnce l ≡ true → (n : ℕ) → occurs n l ≤ 1
+unfolding occurs sumOf usedOnce
+once-count [] h n = omega arith
+once-count (k ∷ ks) h n = go (eqb n k) refl (once-count ks (p .1) n)
+  where
+    p : (allOf (λ j. not (eqb k j)) ks ≡ true) × (usedOnce ks ≡ true)
+    p = both-true (allOf (λ j. not (eqb k j)) ks) (usedOnce ks) h
+
+    go : (b : Bool) → eqb n k ≡ b → occurs n ks ≤ 1 → pick (eqb n k) 1 0 + occurs n ks ≤ 1
+    go true e ih =
+        let z : occurs n ks ≡ 0 = rw (eqb-true n k e) (none k ks (p .0)) in
+        rw e (omega arith)
+    go false e ih = rw e (omega arith)
+
+pub count-once : (l : List ℕ) → ((n : ℕ) → occurs n l ≤ 1) → usedOnce l ≡ true
+unfolding occurs sumOf usedOnce
+count-once [] h = refl
+count-once (k ∷ ks) h =
+    let e : 1 + occurs k ks ≤ 1 = rw (eq-eqb k k refl) at (h k) in
+    true-both (allOf (λ j. not (eqb k j)) ks) (usedOnce ks) (absent-all k ks (omega arith)) (count-once ks (λ n. omega (arith, h n)))
+
+-- ---- the counts of a queue, and of all of them
+
+numbers-uses : (n : ℕ) (queue : List Order) → occurs n (numbers queue) ≡ uses n queue
+unfolding occurs sumOf numbers uses
+numbers-uses n [] = refl
+numbers-uses n (o ∷ os) = rw (numbers-uses n os)
+
+occurs-append : (n : ℕ) (xs ys : List ℕ) → occurs n (xs ++ ys) ≡ occurs n xs + occurs n ys
+unfolding occurs
+occurs-append n xs ys = sumOf-append (λ k. pick (eqb n k) 1 0) xs ys
+
+pub all-uses : (n : ℕ) (ms : List Listing) → occurs n (allNumbers ms) ≡ sumOf (usesIn n) ms
+unfolding sumOf allNumbers usesIn
+all-uses n [] = unfold occurs in refl
+all-uses n (m ∷ ms) =
+    occurs-append n (numbers (m .buys)) _
+    ∙ rw (occurs-append n (numbers (m .sells)) (allNumbers ms), numbers-uses n (m .buys), numbers-uses n (m .sells), all-uses n ms) (omega arith)
+
+-- one contract's queues replaced: each number may come back only as often as is left
+pub once-changed :
+    (ms : List Listing) (c : ℕ) (m : Listing) → c < length ms → usedOnce (allNumbers ms) ≡ true →
+    ((n : ℕ) → occurs n (allNumbers ms) + usesIn n m ≤ 1 + usesIn n (getD ms c noListing)) → usedOnce (allNumbers (set ms c m)) ≡ true
+once-changed ms c m there once few =
+    count-once (allNumbers (set ms c m))
+    (λ n. rw (all-uses n (set ms c m)) (omega (arith, few n, all-uses n ms, sumOf-set (usesIn n) ms c m noListing there)))
+
+-- a number that every order stays below occurs nowhere
+uses-none : (accounts next : ℕ) (c : Contract) (queue : List Order) → allOf (orderInRange accounts next c) queue ≡ true → uses next queue ≡ 0
+unfolding uses sumOf allOf
+uses-none accounts next c [] h = refl
+uses-none accounts next c (o ∷ os) h =
+    let p = both-true (orderInRange accounts next c o) (allOf (orderInRange accounts next c) os) h in
+    let l = order-ok accounts next c o (p .0) .number-high in
+    rw (ne-eqb next (o .number) (λ e. let z : _≡_ {A = ℕ} next (o .number) = e in omega arith)) (omega (arith, uses-none accounts next c os (p .1)))
+
+pub next-unused : (accounts next : ℕ) (ms : List Listing) → ((c : ℕ) → c < length ms → ListingOk accounts next (getD ms c noListing)) → occurs next (allNumbers ms) ≡ 0
+unfolding usesIn
+next-unused accounts next ms ok =
+    let none : (c : ℕ) → c < length ms → usesIn next (getD ms c noListing) ≤ 0 =
+    λ c l. omega (arith, uses-none accounts next _ (getD ms c noListing .buys) (ok c l .orders false), uses-none accounts next _ (getD ms c noListing .sells) (ok c l .orders true)) in
+    omega (arith, all-uses next ms, sumOf-bound (usesIn next) 0 ms noListing none)

@@ -1,0 +1,55 @@
+-- A step that replaces one contract's listing and nothing else: cancel, pull, change of state. Assumes nothing.
+use mathlib.Core.Bool.{Bool}
+use mathlib.Core.Path.{_≡_, refl, sym}
+use Prim.Native.Nat.{ℕ, _<_, _≤_}
+use native.Mathlib.Nat.{le-refl}
+use native.Mathlib.Omega.{arith}
+use lib.ListN.{length, set, length-set}
+use Rattle.rules.specs.Bounds.{maxResting}
+use Rattle.rules.specs.Exchange.{Exchange, Listing, listingAt, holdingAt, noListing, own}
+use Rattle.rules.specs.Step.{withListing}
+use Rattle.rules.specs.declared.Holding.{Holding}
+use Rattle.invariants.proofs.Carry.{Allows, trades-carried}
+use Rattle.invariants.proofs.Clauses.{ListingOk, HoldingOk, WellFormed, Counted}
+use Rattle.invariants.proofs.Numbers.{usesIn, once-count, once-changed}
+use Rattle.invariants.proofs.Tests.{at-set}
+use Rattle.rules.specs.WellFormed.{allNumbers}
+
+module _ (x : Exchange) (k : WellFormed x) (c : ℕ) (there : c < length (x .listings)) (m : Listing)
+    (ok : ListingOk (length (x .accounts)) (x .next) m)
+    (allows : Allows (listingAt x c .contract) (m .contract))
+    (holds : (a : ℕ) (h : Holding) → HoldingOk (listingAt x c) a h → HoldingOk m a h)
+    (fewer : (n : ℕ) → usesIn n m ≤ usesIn n (listingAt x c)) where
+  same-count : length (set (x .listings) c m) ≡ length (x .listings)
+  same-count = length-set (x .listings) c m
+
+  pub relisted-keeps : WellFormed (withListing x c m)
+  unfolding listingAt
+  relisted-keeps =
+      record {
+        next-low = k .next-low;
+        next-high = k .next-high;
+        settlements = k .settlements;
+        listing = λ d l. at-set (λ (j : ℕ) (n : Listing). ListingOk (length (x .accounts)) (x .next) n) (x .listings) c m noListing there ok d (λ n. k .listing d (rw same-count at l));
+        once = once-changed (x .listings) c m there (k .once) (λ n. omega (arith, fewer n, once-count (allNumbers (x .listings)) (k .once) n));
+        trades = trades-carried x (withListing x c m) (sym same-count) refl (le-refl (x .next))
+            (λ d. at-set (λ (j : ℕ) (n : Listing). Allows (listingAt x j .contract) (n .contract)) (x .listings) c m noListing there allows d (λ n p h. h))
+            (x .trades) (k .trades);
+        covered = k .covered;
+        replay = k .replay;
+        holding = λ a d la ld. at-set (λ (j : ℕ) (n : Listing). HoldingOk n a (holdingAt (x .accounts) a j)) (x .listings) c m noListing there
+            (holds a (holdingAt (x .accounts) a c) (k .holding a c la there)) d (λ n. k .holding a d la (rw same-count at ld));
+        balance = k .balance;
+      }
+
+-- and where its queues are no longer
+module _ (x : Exchange) (c : ℕ) (there : c < length (x .listings)) (m : Listing) where
+  pub relisted-counted : Counted x → ((sell : Bool) → length (own sell m) ≤ length (own sell (listingAt x c))) → Counted (withListing x c m)
+  unfolding listingAt
+  relisted-counted n shorter =
+      record {
+        contracts = rw (length-set (x .listings) c m) (n .contracts);
+        trades = n .trades;
+        queues = λ d sell l. at-set (λ (j : ℕ) (o : Listing). length (own sell o) ≤ maxResting) (x .listings) c m noListing there
+            (omega (arith, shorter sell, n .queues c sell there)) d (λ n′. n .queues d sell (rw (length-set (x .listings) c m) at l));
+      }

@@ -1,0 +1,95 @@
+-- The trades of a sweep are in range: accounts and contract exist, the two order numbers differ, the price is allowed today, the
+-- lots are 1 to 1,000. They leave the holdings in other contracts alone. Assumes nothing.
+use mathlib.Core.Bool.{Bool, true, false, not}
+use mathlib.Core.List.{List, [], _∷_}
+use mathlib.Core.Path.{_≡_, refl, ap, _∙_}
+use Prim.Native.Nat.{ℕ, _<_, _≤_}
+use native.Mathlib.Omega.{arith}
+use borrow.Author.Tests.{eqb-true, eq-eqb, ne-eqb}
+use lib.Dec.{eqb}
+use lib.ListN.{length}
+use Rattle.laws.specs.Choice.{pick, allOf, both-true, true-both}
+use Rattle.rules.specs.Bounds.{onTick, allowedToday}
+use Rattle.rules.specs.Exchange.{Exchange, listingAt, holdingAt}
+use Rattle.rules.specs.Holdings.{bookTrade, bookTrades}
+use Rattle.rules.specs.Matching.{tradePrice, sweep, tradeWith}
+use Rattle.rules.specs.WellFormed.{orderInRange, tradeInRange}
+use Rattle.rules.specs.declared.Account.{Account}
+use Rattle.rules.specs.declared.Contract.{Contract}
+use Rattle.rules.specs.declared.Order.{Order}
+use Rattle.rules.specs.declared.PriceCondition.the-variants.{Limit}
+use Rattle.rules.specs.declared.Taker.{Taker}
+use Rattle.rules.specs.declared.Trade.{Trade}
+use Rattle.rules.proofs.Holdings.{holding-other-trade}
+use Rattle.rules.proofs.Prices.{allowed-facts, price-allowed}
+use Rattle.rules.proofs.Sweep.{sweep-ind, swept-each}
+use Rattle.invariants.proofs.Carry.{Allows}
+use Rattle.invariants.proofs.Clauses.{order-ok, trade-test}
+
+-- ---- in range
+
+one-of : (P : ℕ → Type 0) (b : Bool) (m n : ℕ) → P m → P n → P (pick b m n)
+one-of P true m n p q = p
+one-of P false m n p q = q
+
+two-numbers : (b : Bool) (m n : ℕ) → m < n → not (eqb (pick b m n) (pick b n m)) ≡ true
+two-numbers true m n h = ap not (ne-eqb m n (λ e. let z : _≡_ {A = ℕ} m n = e in omega arith))
+two-numbers false m n h = ap not (ne-eqb n m (λ e. let z : _≡_ {A = ℕ} n m = e in omega arith))
+
+module _ (y : Exchange) (t : Taker) (c : Contract)
+    (there : t .contract < length (y .listings)) (here : t .account < length (y .accounts))
+    (number-low : 1 ≤ t .number) (number-high : t .number < y .next) (mark : t .close ≤ 1)
+    (limits : (limit : ℕ) → t .condition ≡ Limit limit → allowedToday c limit ≡ true)
+    (allows : Allows c (listingAt y (t .contract) .contract)) where
+  -- the orders have lower numbers
+  abbrev test : Order → Bool
+  test = orderInRange (length (y .accounts)) (t .number) c
+
+  its-price : (o : Order) (last : ℕ) → test o ≡ true → onTick (c .tick) last ≡ true → allowedToday c (tradePrice (t .condition) (o .price) last) ≡ true
+  its-price o last h tick = price-allowed c (t .condition) (o .price) last limits (order-ok _ _ _ o h .price) tick
+
+  one-trade : (o : Order) (left last : ℕ) → 0 < left → test o ≡ true → onTick (c .tick) last ≡ true → tradeInRange y (tradeWith t o left last) ≡ true
+  unfolding tradeWith
+  one-trade o left last some h tick =
+      let k = order-ok (length (y .accounts)) (t .number) c o h in
+      trade-test y (tradeWith t o left last)
+      (record {
+        contract = there;
+        buyer = one-of (λ n. n < length (y .accounts)) (t .sell) (o .account) (t .account) (k .account) here;
+        seller = one-of (λ n. n < length (y .accounts)) (t .sell) (t .account) (o .account) here (k .account);
+        two = two-numbers (t .sell) (o .number) (t .number) (k .number-high);
+        buy-low = one-of (λ n. 1 ≤ n) (t .sell) (o .number) (t .number) (k .number-low) number-low;
+        buy-high = one-of (λ n. n < y .next) (t .sell) (o .number) (t .number) (omega arith) number-high;
+        sell-low = one-of (λ n. 1 ≤ n) (t .sell) (t .number) (o .number) number-low (k .number-low);
+        sell-high = one-of (λ n. n < y .next) (t .sell) (t .number) (o .number) number-high (omega arith);
+        price = allows (tradePrice (t .condition) (o .price) last) (its-price o last h tick);
+        lots-low = omega arith;
+        lots-high = omega arith;
+        buyclose = one-of (λ n. n ≤ 1) (t .sell) (o .close) (t .close) (k .close) mark;
+        sellclose = one-of (λ n. n ≤ 1) (t .sell) (t .close) (o .close) mark (k .close);
+      })
+
+  pub swept-in-range : (left last : ℕ) (os : List Order) → onTick (c .tick) last ≡ true → allOf test os ≡ true → allOf (tradeInRange y) (sweep t left last os .trades) ≡ true
+  swept-in-range =
+      swept-each t (tradeInRange y) test (λ last. onTick (c .tick) last ≡ true)
+      (λ o left last some met h tick. (one-trade o left last some h tick, allowed-facts c (tradePrice (t .condition) (o .price) last) (its-price o last h tick) .tick))
+
+-- ---- all of one contract
+
+abbrev pub ofContract : ℕ → Trade → Bool
+ofContract c t = eqb (t .contract) c
+
+pub swept-contract : (t : Taker) (left last : ℕ) (os : List Order) → allOf (ofContract (t .contract)) (sweep t left last os .trades) ≡ true
+unfolding allOf tradeWith
+swept-contract t =
+    sweep-ind t (λ left last os s. allOf (ofContract (t .contract)) (s .trades) ≡ true)
+    (λ left last os w. refl)
+    (λ left last o os some met short. true-both (eqb (t .contract) (t .contract)) true (eq-eqb (t .contract) (t .contract) refl) refl)
+    (λ left last o os s some met enough ih. true-both (eqb (t .contract) (t .contract)) (allOf (ofContract (t .contract)) (s .trades)) (eq-eqb (t .contract) (t .contract) refl) ih)
+
+pub other-holding : (c : ℕ) (l : List Account) (ts : List Trade) (a d : ℕ) → allOf (ofContract c) ts ≡ true → (d ≡ c → ⊥) → holdingAt (bookTrades l ts) a d ≡ holdingAt l a d
+unfolding allOf bookTrades
+other-holding c l [] a d h n = refl
+other-holding c l (t ∷ ts) a d h n =
+    let p = both-true (eqb (t .contract) c) (allOf (ofContract c) ts) h in
+    other-holding c (bookTrade l t) ts a d (p .1) n ∙ holding-other-trade l t a d (λ e. n (e ∙ eqb-true (t .contract) c (p .0)))
