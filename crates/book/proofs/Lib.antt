@@ -1,0 +1,4 @@
+pub mod Pulls
+pub mod Queues
+pub mod Scans
+pub mod Sides
