@@ -1,4 +1,7 @@
+pub mod Bookings
 pub mod Pulls
 pub mod Queues
+pub mod Recorded
 pub mod Scans
 pub mod Sides
+pub mod Turns

@@ -8,8 +8,11 @@ ghost use Rattle.rules.specs.Memory.{queueIn, putQueue};
 ghost use Rattle.book.specs.Bounds.{HeldWithin};
 ghost use Rattle.book.specs.Entry.{EntryIs};
 ghost use Rattle.book.specs.Sweep.{SweptQueue};
-use crate::{queue, sweep};
-use rules::{Account, Order, Taker};
+use crate::queue;
+use crate::sweep;
+use rules::Account;
+use rules::Order;
+use rules::Taker;
 
 // Lots traded and rested; orders in the own and in the opposite queue, trades of the day; the last price; the accounts.
 pub struct Entry {
@@ -63,7 +66,17 @@ pub fn enter(
     ensures { λ r. ⌜ EntryIs (matching.enter t lots price day last (queueIn (now (own .entry)) (t .contract) owncount) (queueIn (now (opposite .entry)) (t .contract) oppositecount)) (t .contract) (now (own .entry)) owncount (now (opposite .entry)) oppositecount (now (area .entry)) before last accounts r (now (own .exit)) (now (opposite .exit)) (now (area .exit)) ⌝ }
 {
     let c = laws::wide(t.contract);
-    let f = sweep::sweep(opposite, c, oppositecount, area, before, t, lots, last, accounts);
+    let f = sweep::sweep(
+        opposite,
+        c,
+        oppositecount,
+        area,
+        before,
+        t,
+        lots,
+        last,
+        accounts,
+    );
     let filled = f.filled;
     queue::drop_front(opposite, c, oppositecount, filled);
     let traded = f.traded;

@@ -5,7 +5,8 @@ ghost use lib.ListN.{getD};
 ghost use Rattle.rules.specs.Exchange.{noHolding};
 ghost use Rattle.rules.specs.Holdings.{afterLeg, withHolding};
 ghost use Rattle.book.specs.Bounds.{HoldingWithin};
-use rules::{Account, Holding};
+use rules::Account;
+use rules::Holding;
 
 // What a close leaves: no less than none.
 fn lowered(held: u32, lots: u32) -> u32

@@ -1,7 +1,10 @@
 // Counterparts and trade prices (document 01, "Matching").
 ghost use mathlib.Core.Path.{_≡_};
 ghost use Rattle.rules.specs.Matching as matching;
-use rules::{Order, PriceCondition, Taker, Trade};
+use rules::Order;
+use rules::PriceCondition;
+use rules::Taker;
+use rules::Trade;
 
 pub fn middle(a: u32, b: u32, c: u32) -> u32
     ensures { λ r. ⌜ r ≡ matching.middle a b c ⌝ }
@@ -18,6 +21,13 @@ pub fn meets(condition: PriceCondition, sell: bool, best: u32, price: u32) -> bo
         PriceCondition::Market => true,
         PriceCondition::Best => price == best,
     }
+}
+
+pub fn is_counterpart(t: Taker, o: Order) -> bool
+    ensures { λ r. ⌜ r ≡ matching.counterpart t o ⌝ }
+{
+    let condition = t.condition;
+    meets(condition, t.sell, t.best, o.price)
 }
 
 // Market and best trade at the resting price, a limit order at the middle of its price, the resting price and the last.
