@@ -8,9 +8,9 @@ use Prim.Native.Nat.{ℕ, _+_, _*_, _<_, _≤_}
 use lib.Dec.{leb, ltb, eqb}
 use lib.ListN.{length, getD, set}
 use Rattle.laws.specs.Choice.{pick}
-use Rattle.rules.specs.Answers.{Refusal, _when_, isFillOrKill, isGoodForDay, isLimit, mark, priceRefused}
+use Rattle.rules.specs.Answers.{Refusal, _when_, holdingRefused, moneyRefused, isFillOrKill, isGoodForDay, isLimit, mark, priceRefused}
 use Rattle.rules.specs.Bounds.{within, maxLots, maxResting, maxTrades, numbersEnd}
-use Rattle.rules.specs.Exchange.{bestPrice, noContract, placeOf}
+use Rattle.rules.specs.Exchange.{Exchange, bestPrice, noContract, placeOf}
 use Rattle.rules.specs.Matching.{Entered, enter, fillable, sweep}
 use Rattle.rules.specs.Memory.{queueIn}
 use Rattle.rules.specs.Step.{limitOf, withLast}
@@ -47,6 +47,10 @@ lotsRefused c h rested o =
     pick (o .close)
     (ltb (pick (o .sell) (h .long) (h .short)) (rested + o .lots))
     (ltb (c .limit) (pick (o .sell) (h .short) (h .long) + rested + o .lots))
+
+-- 8 and 9: the account's lots and its money
+unfoldable pub accountRefusals : Exchange → NewOrder → List Refusal
+accountRefusals x o = (8 when holdingRefused x o) ∷ (9 when moneyRefused x o) ∷ []
 
 -- 11: "fill or kill: fillable lots below lots"
 abbrev pub killRefused : Taker → List Order → ℕ → TimeCondition → Bool

@@ -12,7 +12,7 @@ ghost use Rattle.rules.specs.Matching as matching;
 ghost use Rattle.rules.specs.Memory.{exchangeOf, queueIn, stepIn};
 ghost use Rattle.rules.specs.Step.{limitOf};
 ghost use Rattle.rules.specs.declared.Command.the-variants.{Insert};
-ghost use Rattle.engine.specs.Insertion.{dayWithoutLimit, termsRefusals, lotsRefused, killRefused, tradesRefused, fullRefused, bookRefusals, sideArea, sideCount, QueueRoom, Facing, takerFor, Arriving, Arrived, withEntry};
+ghost use Rattle.engine.specs.Insertion.{dayWithoutLimit, termsRefusals, lotsRefused, killRefused, tradesRefused, fullRefused, accountRefusals, bookRefusals, Present, sideArea, sideCount, QueueRoom, Facing, takerFor, Arriving, Arrived, withEntry};
 ghost use Rattle.engine.specs.Outcome.{memory, OutcomeIs, WellFormedState};
 use crate::answers::Outcome;
 use crate::answers::{self};
@@ -246,14 +246,14 @@ fn book_code(
     terms: Contract,
     own: usize,
     area: &[u32],
+    c: usize,
     count: usize,
     t: Taker,
     o: NewOrder,
 ) -> u32
-    requires { ⌜ Facing t (now area) (t .contract) count × (state .tradecount ≤ 1024) ⌝ }
-    ensures { λ r. ⌜ r ≡ answer.firstOf (bookRefusals (state .next) (state .tradecount) own t (terms .last) (queueIn (now (area .entry)) (t .contract) count) o) ⌝ }
+    requires { ⌜ Facing t (now area) c count × (state .tradecount ≤ 1024) ⌝ }
+    ensures { λ r. ⌜ r ≡ answer.firstOf (bookRefusals (state .next) (state .tradecount) own t (terms .last) (queueIn (now (area .entry)) c count) o) ⌝ }
 {
-    let c = laws::wide(t.contract);
     let time = o.time;
     let lots = o.lots;
     if 1000000 <= state.next {
@@ -288,6 +288,80 @@ fn taker_of(next: u32, area: &[u32], count: usize, o: NewOrder) -> Taker
         condition,
         best,
     }
+}
+
+// 9: "open .. too little available". A close is never refused for money.
+fn money_refused<'a>(
+    state: State,
+    buys: &'a [u32],
+    sells: &'a [u32],
+    trades: &'a [u32],
+    terms: Contract,
+    o: NewOrder,
+) -> bool
+    requires { ⌜ WellFormedState state (now buys) (now sells) (now trades) × Present state o ⌝ }
+    ensures { λ r. ⌜ r ≡ answer.moneyRefused (exchangeOf (memory state (now (buys .entry)) (now (sells .entry)) (now (trades .entry)))) o ⌝ }
+{
+    if o.close {
+        return false;
+    }
+    false
+}
+
+// Codes 8 and 9, 0 where neither holds.
+fn account_code<'a>(
+    state: State,
+    buys: &'a [u32],
+    sells: &'a [u32],
+    trades: &'a [u32],
+    o: NewOrder,
+) -> u32
+    requires { ⌜ WellFormedState state (now buys) (now sells) (now trades) × Present state o ⌝ }
+    ensures { λ r. ⌜ r ≡ answer.firstOf (accountRefusals (exchangeOf (memory state (now (buys .entry)) (now (sells .entry)) (now (trades .entry)))) o) ⌝ }
+{
+    let c = laws::wide(o.contract) - 1;
+    let terms = state.contracts[c];
+    let a = laws::wide(o.account) - 1;
+    let who = state.accounts[a];
+    let h = who.holdings[c];
+    let own = side_area(o.sell, buys, sells);
+    let count = side_count(o.sell, state, c);
+    let rested = book::scan::resting(own, c, count, o.account - 1, mark(o.close));
+    if lots_refused(terms, h, rested, o) {
+        return 8;
+    }
+    if money_refused(state, buys, sells, trades, terms, o) {
+        return 9;
+    }
+    0
+}
+
+// The code of the first refusal that holds, 0 where none does.
+fn code<'a>(state: State, buys: &'a [u32], sells: &'a [u32], trades: &'a [u32], o: NewOrder) -> u32
+    requires { ⌜ WellFormedState state (now buys) (now sells) (now trades) ⌝ }
+    ensures { λ r. ⌜ r ≡ answer.codeOf (exchangeOf (memory state (now (buys .entry)) (now (sells .entry)) (now (trades .entry)))) (Insert o) ⌝ }
+{
+    if answers::is_absent(o.account, state.accountcount) {
+        return 2;
+    }
+    if answers::is_absent(o.contract, state.contractcount) {
+        return 3;
+    }
+    let c = laws::wide(o.contract) - 1;
+    let terms = state.contracts[c];
+    let fields = terms_code(terms, o);
+    if fields != 0 {
+        return fields;
+    }
+    let account = account_code(state, buys, sells, trades, o);
+    if account != 0 {
+        return account;
+    }
+    let own = side_count(o.sell, state, c);
+    let area = side_area(!o.sell, buys, sells);
+    let count = side_count(!o.sell, state, c);
+    let t = taker_of(state.next, area, count, o);
+    book_code(state, terms, own, area, c, count, t, o)
 }
 
 // The order enters on its own side, against the opposite one.
@@ -343,4 +417,31 @@ fn with_entry(state: State, c: usize, bought: usize, sold: usize, e: Entry) -> S
     let accounts = e.accounts;
     next.accounts = accounts;
     next
+}
+
+pub fn insert(
+    state: State,
+    buys: &mut [u32],
+    sells: &mut [u32],
+    trades: &mut [u32],
+    o: NewOrder,
+) -> Outcome
+    requires { ⌜ WellFormedState state (now buys) (now sells) (now trades) ⌝ }
+    ensures { λ r. ⌜ OutcomeIs (stepIn (memory state (now (buys .entry)) (now (sells .entry)) (now (trades .entry))) (Insert o)) r (now (buys .exit)) (now (sells .exit)) (now (trades .exit)) ⌝ }
+{
+    let refusal = code(state, &buys[..], &sells[..], &trades[..], o);
+    if refusal != 0 {
+        return answers::refused(state, refusal);
+    }
+    let c = laws::wide(o.contract) - 1;
+    let bought = state.buys[c];
+    let sold = state.sells[c];
+    if o.sell {
+        let e = enter(state, sells, sold, buys, bought, trades, o);
+        let next = with_entry(state, c, e.opposite, e.own, e);
+        return answers::accepted(next, state.next, e.traded, e.rested);
+    }
+    let e = enter(state, buys, bought, sells, sold, trades, o);
+    let next = with_entry(state, c, e.own, e.opposite, e);
+    answers::accepted(next, state.next, e.traded, e.rested)
 }

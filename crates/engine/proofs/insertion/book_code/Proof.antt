@@ -6,11 +6,6 @@ use Rattle.engine.proofs.insertion.book_code.Lts as lts
 use Rattle.engine.proofs.insertion.full_refused.Reads as full-refused-reads
 use Rattle.engine.proofs.insertion.kill_refused.Reads as kill-refused-reads
 use Rattle.engine.proofs.insertion.trades_refused.Reads as trades-refused-reads
-use Rattle.laws.proofs.wide.Reads as wide-reads
-
--- src/insertion.rt:256:9
-wide-requires : tie.Need-wide-requires
-wide-requires c κs = search needs
 
 -- src/insertion.rt:260:9
 returns : tie.Need-returns
@@ -18,7 +13,7 @@ returns c = ?
 
 -- src/insertion.rt:262:8
 kill-refused-requires : tie.Need-kill-refused-requires
-kill-refused-requires c κs = ?
+kill-refused-requires c κs = search needs
 
 -- src/insertion.rt:263:9
 returns-2 : tie.Need-returns-2
@@ -34,7 +29,7 @@ returns-3 c = ?
 
 -- src/insertion.rt:268:8
 full-refused-requires : tie.Need-full-refused-requires
-full-refused-requires c κs = ?
+full-refused-requires c κs = search needs
 
 -- src/insertion.rt:269:9
 returns-4 : tie.Need-returns-4
@@ -48,7 +43,6 @@ pub book-code-spec : {M : Type 1} → statement M
 book-code-spec =
     tie.close
     (tie.spec
-    wide-requires
     returns
     kill-refused-requires
     returns-2
