@@ -1,4 +1,5 @@
 pub mod Accounts
+pub mod Changes
 pub mod Declared
 pub mod Formed
 pub mod Outcomes

@@ -59,12 +59,6 @@ module _ {s : State} {buys sells trades : List ℕ} (w : WellFormedState s buys 
         (rw read (account-put m f (account - 1) v here refl))
 
     module _ {k : ℕ} (is : k ≡ account) where
-      pub number-low : 1 ≤ k
-      number-low = rw is (place-below account (s .accountcount) present .0)
-
-      pub place-fits : k - 1 < 32
-      place-fits = omega (arith, here, f .accounts-high, is)
-
       pub balance-fits : Within (2 * 10 ^ 18) (getD (s .accounts) (k - 1) noAccount .balance)
       unfolding accountAt
       balance-fits = rw is (balance-within m f (account - 1) here)

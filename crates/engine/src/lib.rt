@@ -1,3 +1,4 @@
 // The engine: one command on a state and the areas lent with it, exactly as document 01 says.
 pub mod answers;
 pub mod payments;
+pub mod phases;
