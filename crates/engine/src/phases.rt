@@ -5,8 +5,8 @@ ghost use Rattle.rules.specs.Answers.{changeListed};
 ghost use Rattle.rules.specs.Memory.{stepIn};
 ghost use Rattle.rules.specs.declared.Command.the-variants.{Phase};
 ghost use Rattle.engine.specs.Outcome.{memory, OutcomeIs, WellFormedState, withPhaseAt};
+use crate::answers;
 use crate::answers::Outcome;
-use crate::answers::{self};
 use rules::State;
 
 // 0 to 1, 0 to 3, 1 to 2, 2 to 1, 1 to 3, 2 to 3.

@@ -1,0 +1,8 @@
+pub mod Bookings
+pub mod Entries
+pub mod Pulls
+pub mod Queues
+pub mod Recorded
+pub mod Scans
+pub mod Sides
+pub mod Turns

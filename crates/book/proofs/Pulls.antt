@@ -1,0 +1,140 @@
+-- A pull: a queue walked from front to back, the account's orders taken out and the others written closed up. What holds when i
+-- orders are read and `kept` of them are kept, what a turn does to it, and the end. Assumes nothing.
+use mathlib.Core.Bool.{true, false}
+use mathlib.Core.List.{List, [], _∷_, _++_, append-nil}
+use mathlib.Core.Path.{_≡_, refl, sym, ap, _∙_}
+use borrow.Author.Tests.{eq-eqb, ne-eqb}
+use borrow.Rule.Slice.PartMut.{putMid}
+use Prim.Native.Nat.{ℕ, _+_, _-_, _*_, _<_, _≤_}
+use native.Mathlib.Numerals.{add-one}
+use native.Mathlib.Omega.{arith}
+use lib.ListN.{length, take, drop, getD, replicate, length-append}
+use lib.Seq.{take-all, take-suc}
+use Rattle.areas.specs.Lists.{over, padded}
+use Rattle.areas.specs.Records.{encode, store}
+use Rattle.areas.proofs.Lists.{drop-over}
+use Rattle.areas.proofs.Moves.{lent-zeros}
+use Rattle.areas.proofs.Records.{length-encode, length-store, encode-one, encode-zeros, store-append, store-nil, store-over}
+use Rattle.rules.specs.Exchange.{lotsWhere, noOrder}
+use Rattle.rules.specs.Memory.{orderWords, orderFrom, queueIn, putQueue}
+use Rattle.rules.specs.Step.{without, isOf}
+use Rattle.rules.specs.declared.Order.{Order}
+use Rattle.rules.proofs.Codecs.{order-codec, length-queue, order-at}
+use Rattle.rules.proofs.Queue.{lots-nil, lots-met, lots-unmet, lots-append, without-nil, without-met, without-unmet, without-append}
+use Rattle.book.specs.Removal.{PulledIs}
+use Rattle.book.proofs.Queues.{put-over}
+
+-- the orders kept of the first i
+abbrev pub keptOf : ℕ → List ℕ → ℕ → ℕ → ℕ → List Order
+keptOf account start c n i = without (isOf account) (take i (queueIn start c n))
+
+-- `start` is the area at the start, `lots` what was taken out; no order adds more to it than its word holds
+pub record Pulling (account : ℕ) (start : List ℕ) (c n : ℕ) (area : List ℕ) (kept lots i : ℕ) : Type 0 where
+  pub within : i ≤ n
+  pub fewer : kept ≤ i
+  pub long : length area ≡ length start
+  pub small : lots ≤ 4294967296 * i
+  pub count : kept ≡ length (keptOf account start c n i)
+  pub pulled : lots ≡ lotsWhere (isOf account) (take i (queueIn start c n))
+  pub queue : area ≡ store orderWords start (320 * c) (keptOf account start c n i)
+
+pub pull-start : (account : ℕ) (area : List ℕ) (c n : ℕ) → Pulling account area c n area 0 0 0
+pull-start account area c n =
+    record {
+      within = omega arith;
+      fewer = omega arith;
+      long = refl;
+      small = omega arith;
+      count = rw (without-nil (isOf account));
+      pulled = sym (lots-nil (isOf account));
+      queue = sym (rw (without-nil (isOf account)) (store-nil order-codec area (320 * c)));
+    }
+
+module _ (account : ℕ) (start : List ℕ) (c n : ℕ) (room : 320 * c + 5 * n ≤ length start) (area : List ℕ) (kept lots i : ℕ) (p : Pulling account start c n area kept lots i) where
+  -- from order i on nothing is written yet
+  unread : drop (320 * c + 5 * i) area ≡ drop (320 * c + 5 * i) start
+  unread =
+      let stay : List Order = keptOf account start c n i in
+      let written : length (encode orderWords stay) ≡ 5 * kept = length-encode order-codec stay ∙ ap (λ (k : ℕ). 5 * k) (sym (p .count)) in
+      ap (drop (320 * c + 5 * i)) (p .queue ∙ store-over order-codec start (320 * c) stay)
+      ∙ drop-over start (320 * c) (encode orderWords stay) (omega arith) (320 * c + 5 * i) (omega (arith, p .fewer))
+
+  -- orders written behind those kept
+  behind : (s : ℕ) (more : List Order) → s ≡ 320 * c + 5 * kept
+      → over area s (encode orderWords more) ≡ store orderWords start (320 * c) (keptOf account start c n i ++ more)
+  behind s more es =
+      let stay : List Order = keptOf account start c n i in
+      let next : s ≡ 320 * c + 5 * length stay = es ∙ ap (λ (k : ℕ). 320 * c + 5 * k) (p .count) in
+      sym (store-over order-codec area s more) ∙ ap (λ (a : List ℕ). store orderWords a s more) (p .queue)
+      ∙ ap (λ (k : ℕ). store orderWords (store orderWords start (320 * c) stay) k more) next
+      ∙ sym (store-append order-codec start (320 * c) stay more (omega arith))
+
+  module _ (o : Order) (h : i < n) (e : o ≡ orderFrom (drop (320 * c + 5 * i) area)) where
+    -- the first i orders and one more
+    one-more : take (i + 1) (queueIn start c n) ≡ take i (queueIn start c n) ++ (o ∷ [])
+    one-more =
+        let read : getD (queueIn start c n) i noOrder ≡ o = order-at start c n i h ∙ sym (e ∙ ap orderFrom unread) in
+        rw (add-one, take-suc (queueIn start c n) i noOrder (rw (length-queue start c n) h), read)
+
+    -- an order of the account goes
+    pub pull-out : (a : ℕ) → a ≡ o .lots → a < 4294967296 → o .account ≡ account → Pulling account start c n area kept (lots + a) (i + 1)
+    pull-out a ea fits own =
+        let met : isOf account o ≡ true = eq-eqb (o .account) account own in
+        let first : List Order = take i (queueIn start c n) in
+        let stay : keptOf account start c n (i + 1) ≡ without (isOf account) first =
+        rw (one-more, without-append (isOf account) first (o ∷ []), without-met (isOf account) o [] met, without-nil (isOf account), append-nil) in
+        let out : lotsWhere (isOf account) (take (i + 1) (queueIn start c n)) ≡ lots + a =
+        rw one-more (omega (arith, p .pulled, lots-append (isOf account) first (o ∷ []), lots-met (isOf account) o [] met, lots-nil (isOf account))) in
+        record {
+          within = omega arith;
+          fewer = omega (arith, p .fewer);
+          long = p .long;
+          small = omega (arith, p .small);
+          count = p .count ∙ ap length (sym stay);
+          pulled = sym out;
+          queue = p .queue ∙ ap (store orderWords start (320 * c)) (sym stay);
+        }
+
+    -- another's order stays
+    pub pull-past : (s : ℕ) (part : List ℕ) → (o .account ≡ account → ⊥) → s ≡ 320 * c + 5 * kept → part ≡ orderWords o ++ drop 5 (take (length area - s) (drop s area))
+        → Pulling account start c n (putMid s (length area - s) area part) (kept + 1) lots (i + 1)
+    pull-past s part other es ep =
+        let unmet : isOf account o ≡ false = ne-eqb (o .account) account other in
+        let first : List Order = take i (queueIn start c n) in
+        let few : kept ≤ i = p .fewer in
+        let long : length area ≡ length start = p .long in
+        let stay : keptOf account start c n (i + 1) ≡ without (isOf account) first ++ (o ∷ []) =
+        rw (one-more, without-append (isOf account) first (o ∷ []), without-unmet (isOf account) o [] unmet, without-nil (isOf account)) in
+        let out : lotsWhere (isOf account) (take (i + 1) (queueIn start c n)) ≡ lots =
+        rw one-more (omega (arith, p .pulled, lots-append (isOf account) first (o ∷ []), lots-unmet (isOf account) o [] unmet, lots-nil (isOf account))) in
+        let size : length (keptOf account start c n (i + 1)) ≡ kept + 1 = rw (stay, length-append) (omega (arith, p .count)) in
+        let written : putMid s (length area - s) area part ≡ store orderWords start (320 * c) (keptOf account start c n (i + 1)) =
+        put-over area s o part (omega arith) ep ∙ ap (over area s) (sym (encode-one order-codec o)) ∙ behind s (o ∷ []) es ∙ ap (store orderWords start (320 * c)) (sym stay) in
+        record {
+          within = omega arith;
+          fewer = omega arith;
+          long = ap length written ∙ length-store order-codec start (320 * c) (keptOf account start c n (i + 1)) (omega arith);
+          small = omega (arith, p .small);
+          count = sym size;
+          pulled = sym out;
+          queue = written;
+        }
+
+  -- all are read, and the places behind those kept are cleared
+  pub pull-end : (s e : ℕ) (part : List ℕ) → n ≤ i → s ≡ 320 * c + 5 * kept → e ≡ 320 * c + 5 * n → part ≡ replicate (length (take (e - s) (drop s area))) 0
+      → PulledIs account start c n (record { count = kept; lots = lots }) (putMid s (e - s) area part)
+  unfolding putQueue padded
+  pull-end s e part all es ee ep =
+      let few : kept ≤ i = p .fewer in
+      let size : kept ≡ length (keptOf account start c n i) = p .count in
+      let read : take i (queueIn start c n) ≡ queueIn start c n = take-all i (queueIn start c n) (rw (length-queue start c n) all) in
+      let free : e - s ≡ 5 * (n - kept) = omega (arith, p .within) in
+      let cleared : putMid s (e - s) area part ≡ store orderWords start (320 * c) (keptOf account start c n i ++ replicate (n - kept) noOrder) =
+      lent-zeros area part s e (omega (arith, p .within)) (omega (arith, p .long)) ep
+      ∙ ap (over area s) (ap (λ (k : ℕ). replicate k 0) free ∙ sym (encode-zeros order-codec (n - kept) noOrder refl))
+      ∙ behind s (replicate (n - kept) noOrder) es in
+      record {
+        queue = cleared ∙ ap (λ (k : ℕ). store orderWords start (320 * c) (keptOf account start c n i ++ replicate (n - k) noOrder)) size ∙ rw read;
+        count = size ∙ rw read;
+        lots = p .pulled ∙ rw read;
+      }

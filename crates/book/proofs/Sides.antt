@@ -1,0 +1,73 @@
+-- The queue asked for as a part of its area: what each test of the code decides, and that the part holds just that queue.
+-- Assumes nothing.
+use mathlib.Core.Bool.{Bool, false, _||_}
+use mathlib.Core.List.{List, []}
+use mathlib.Core.Path.{_≡_}
+use Prim.Native.Nat.{ℕ, _+_, _-_, _*_, _≤_, _<_}
+use native.Mathlib.Nat.{add-sub-cancel-left}
+use native.Mathlib.Omega.{arith}
+use borrow.Author.Tests.{eq-eqb, ne-eqb, lt-ltb, le-ltb, ltb-false}
+use lib.Dec.{eqb, ltb}
+use lib.ListN.{length, take, drop, length-drop}
+use lib.Seq.{length-take-le}
+use Rattle.laws.specs.Choice.{pick, either-false}
+use Rattle.areas.proofs.Records.{records-part}
+use Rattle.rules.specs.Memory.{queueIn}
+use Rattle.rules.proofs.Codecs.{order-codec}
+use Rattle.book.specs.Side.{noQueue, queueWords, sideWords}
+
+-- ---- the tests in the code's order
+
+module _ (buys sells : List ℕ) (sell : Bool) (contract contracts count : ℕ) where
+  pub no-contract : contract ≡ 0 → [] ≡ sideWords buys sells sell contract contracts count
+  unfolding sideWords queueWords noQueue
+  no-contract e = rw (eq-eqb contract 0 e)
+
+  module _ (some : contract ≡ 0 → ⊥) where
+    pub unlisted : contracts < contract → [] ≡ sideWords buys sells sell contract contracts count
+    unfolding sideWords queueWords noQueue
+    unlisted h = rw (ne-eqb contract 0 some, lt-ltb contracts contract h)
+
+    module _ (listed : contract ≤ contracts) where
+      pub no-place : 4 < contract → [] ≡ sideWords buys sells sell contract contracts count
+      unfolding sideWords queueWords noQueue
+      no-place h = rw (ne-eqb contract 0 some, le-ltb contracts contract listed, lt-ltb 4 contract h)
+
+      module _ (placed : contract ≤ 4) where
+        pub too-many : 64 < count → [] ≡ sideWords buys sells sell contract contracts count
+        unfolding sideWords queueWords noQueue
+        too-many h = rw (ne-eqb contract 0 some, le-ltb contracts contract listed, le-ltb 4 contract placed, lt-ltb 64 count h)
+
+        module _ (few : count ≤ 64) (area : List ℕ) (picked : area ≡ pick sell sells buys) where
+          pub too-short : length area < 320 * (contract - 1) + 5 * count → [] ≡ sideWords buys sells sell contract contracts count
+          unfolding sideWords queueWords noQueue
+          too-short h =
+              rw (← picked, ne-eqb contract 0 some, le-ltb contracts contract listed, le-ltb 4 contract placed, le-ltb 64 count few, lt-ltb (length area) (320 * (contract - 1) + 5 * count) h)
+
+          pub whole-queue : 320 * (contract - 1) + 5 * count ≤ length area
+              → take (320 * (contract - 1) + 5 * count - 320 * (contract - 1)) (drop (320 * (contract - 1)) area) ≡ sideWords buys sells sell contract contracts count
+          unfolding sideWords queueWords noQueue
+          whole-queue h =
+              rw (← picked, ne-eqb contract 0 some, le-ltb contracts contract listed, le-ltb 4 contract placed, le-ltb 64 count few, le-ltb (length area) (320 * (contract - 1) + 5 * count) h, add-sub-cancel-left)
+
+-- ---- the part holds the queue and nothing else
+
+-- an area whose queue can be given is long enough for it
+queue-fits : (area : List ℕ) (contract contracts count : ℕ) → noQueue area contract contracts count ≡ false → 320 * (contract - 1) + 5 * count ≤ length area
+unfolding noQueue
+queue-fits area contract contracts count h =
+    let short = ltb (length area) (320 * (contract - 1) + 5 * count) in
+    ltb-false (length area) (320 * (contract - 1) + 5 * count) (either-false (eqb contract 0 || ltb contracts contract || ltb 4 contract || ltb 64 count) short h .1)
+
+pub side-queue : (buys sells : List ℕ) (sell : Bool) (contract contracts count : ℕ) → noQueue (pick sell sells buys) contract contracts count ≡ false
+    → queueIn (sideWords buys sells sell contract contracts count) 0 count ≡ queueIn (pick sell sells buys) (contract - 1) count
+unfolding sideWords queueWords queueIn
+side-queue buys sells sell contract contracts count h =
+    rw h (records-part order-codec (pick sell sells buys) (320 * (contract - 1)) (5 * count) count (omega arith) (queue-fits (pick sell sells buys) contract contracts count h))
+
+pub side-length : (buys sells : List ℕ) (sell : Bool) (contract contracts count : ℕ) → noQueue (pick sell sells buys) contract contracts count ≡ false
+    → length (sideWords buys sells sell contract contracts count) ≡ 5 * count
+unfolding sideWords queueWords
+side-length buys sells sell contract contracts count h =
+    let fits = queue-fits (pick sell sells buys) contract contracts count h in
+    rw h (length-take-le (5 * count) (drop (320 * (contract - 1)) (pick sell sells buys)) (rw length-drop (omega arith)))

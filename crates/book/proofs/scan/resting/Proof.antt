@@ -1,0 +1,66 @@
+-- `book::scan::resting` meets its contract. The invariant: the lots so far, and those from order i on, are the answer; and no
+-- order adds more than its word holds, so the sum of 64 fits. Assumes nothing.
+use mathlib.Core.Path.{_≡_}
+use Prim.Native.Nat.{_+_, _-_, _*_, _≤_}
+use native.Mathlib.Nat.{zero-add}
+use native.Mathlib.Omega.{arith}
+use borrow.Author.Needs.{needs}
+use lib.ListN.{drop}
+use Rattle.rules.specs.Exchange.{resting}
+use Rattle.rules.specs.Memory.{queueIn}
+use Rattle.book.proofs.Queues.{tally-on, tally-end}
+use Rattle.book.proofs.Scans.{resting-nil, resting-on, resting-within}
+use Rattle.book.proofs.scan.resting.Statement.{statement}
+use Rattle.book.proofs.scan.resting.Tie as tie
+
+abbrev Inv-loop : tie.InvT-loop
+Inv-loop area c count account close lots₀ i₀ lots i =
+    (i ≤ count) × ((lots ≤ 4294967296 * i) × (lots + resting close account (drop i (queueIn area c count)) ≡ resting close account (queueIn area c count)))
+
+abbrev μ-loop : tie.MeasureT-loop
+μ-loop area c count account close lots₀ i₀ lots i = count - i
+
+few : (c : tie.After-lots-of Inv-loop μ-loop) → c .lots-of .result ≤ c .before .order-at .result .lots
+few c = resting-within _ _ _ _ (c .lots-of .ensures)
+
+loop-holds : tie.Need-loop-holds Inv-loop μ-loop
+loop-holds c = (omega arith, (omega arith, zero-add _))
+
+order-at-requires : tie.Need-order-at-requires Inv-loop μ-loop
+order-at-requires c κs = omega arith
+
+lots-of-requires : tie.Need-lots-of-requires Inv-loop μ-loop
+lots-of-requires c κs = search needs
+
+add-lots : tie.Need-add-lots Inv-loop μ-loop
+add-lots c = omega (arith, few c)
+
+add-i : tie.Need-add-i Inv-loop μ-loop
+add-i c = omega arith
+
+loop-less : tie.Need-loop-less Inv-loop μ-loop
+loop-less c = omega arith
+
+loop-again : tie.Need-loop-again Inv-loop μ-loop
+loop-again c =
+    let read = c .before in
+    let at = read .before .before in
+    (omega arith, (omega (arith, few c), tally-on (resting _ _) _ _ _ _ _ _ (at .loop .inv .1 .1) _ (read .before .loop-test .taken) (read .order-at .ensures) (resting _ _) _ (resting-on _ _ _ _ (c .lots-of .ensures))))
+
+returns : tie.Need-returns Inv-loop μ-loop
+returns c = tally-end (resting _ _) _ _ _ _ _ _ (c .before .loop .inv .1 .1) (c .loop-test .left) (resting-nil _ _)
+
+pub resting-spec : {M : Type 1} → statement M
+resting-spec =
+    tie.close
+    (tie.spec
+    Inv-loop
+    μ-loop
+    loop-holds
+    order-at-requires
+    lots-of-requires
+    add-lots
+    add-i
+    loop-less
+    loop-again
+    returns)

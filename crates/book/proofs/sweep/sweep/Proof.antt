@@ -1,0 +1,266 @@
+-- `book::sweep::sweep` meets its contract. What the loop keeps is `Going`: what it ends with if it goes on by the rules is what
+-- the whole sweep ends with. The measure is the number of orders not yet reached. Assumes nothing.
+use mathlib.Core.Logic.{⊎-elim}
+use mathlib.Core.Path.{_≡_, refl, sym, ap, _∙_}
+use Prim.Native.Nat.{ℕ, _+_, _-_, _*_, _<_, _≤_}
+use native.Mathlib.Nat.{sub-zero}
+use native.Mathlib.Omega.{arith}
+use borrow.Author.Needs.{needs}
+use borrow.Author.Tests.{eqb-true, eqb-false, not-true, not-false}
+use lib.ListN.{length, set}
+use Rattle.rules.specs.Holdings.{bookTrade}
+use Rattle.book.proofs.Bookings.{held-more, holding-read, buyer-held, trade-booked}
+use Rattle.book.proofs.Turns.{Going, Meeting, order-read, trade-size, trade-contract, trade-parties, stopped, queue-ended, lots-used, no-counterpart, trade-room, going-on, part-filled}
+use Rattle.book.proofs.sweep.sweep.Statement.{statement}
+use Rattle.book.proofs.sweep.sweep.Tie as tie
+
+abbrev Inv-sweep : tie.InvT-sweep
+Inv-sweep opposite₀ count area₀ before t lots last c held₀ price₀ made₀ filled₀ done₀ opposite area held price made filled done =
+    Going t lots last held₀ opposite₀ count area₀ before opposite area held price made filled done
+
+abbrev μ-sweep : tie.MeasureT-sweep
+μ-sweep opposite₀ count area₀ before t lots last c held₀ price₀ made₀ filled₀ done₀ opposite area held price made filled done =
+    count - filled
+
+wide-requires : tie.Need-wide-requires Inv-sweep μ-sweep
+wide-requires c κs = search needs
+
+sweep-holds : tie.Need-sweep-holds Inv-sweep μ-sweep
+sweep-holds c =
+    record {
+      same = refl;
+      within = search needs;
+      some = search needs;
+      long = refl;
+      holdings = held-more (c .before .before .before .pre .holdings) (omega arith);
+      answer = simp sub-zero;
+    }
+
+sub-left : tie.Need-sub-left Inv-sweep μ-sweep
+sub-left c = c .sweep .inv .some
+
+order-at-requires : tie.Need-order-at-requires Inv-sweep μ-sweep
+order-at-requires c κs =
+    let s = c .before .before .before in
+    let ready = s .before .before .before .before .pre in
+    omega (arith, ready .queue .room, s .before .wide .ensures, ap length (s .sweep .inv .same), s .sweep .inv .within, c .before .before .if1 .left)
+
+is-counterpart-requires : tie.Need-is-counterpart-requires Inv-sweep μ-sweep
+is-counterpart-requires c κs = search needs
+
+trade-with-requires : tie.Need-trade-with-requires Inv-sweep μ-sweep
+trade-with-requires c κs = search needs
+
+-- from a trade back to the loop's head, and from there to the start
+abbrev Head : tie.After-trade-with Inv-sweep μ-sweep → tie.At-sweep Inv-sweep μ-sweep
+Head c = c .before .before .before .before .before .before .before
+
+abbrev Begun : tie.At-sweep Inv-sweep μ-sweep → tie.Start Inv-sweep μ-sweep
+Begun s = s .before .before .before .before
+
+-- what a turn that trades knows
+meeting : (c : tie.After-trade-with Inv-sweep μ-sweep)
+    → let s = Head c in
+    let a = Begun s .args in
+    Meeting (a .t) (a .opposite .now) (a .count) (s .sweep .filled) (a .lots - s .sweep .done) (s .sweep .price) (c .before .before .before .order-at .result) (c .trade-with .result)
+meeting c =
+    let s = Head c in
+    let inv = s .sweep .inv in
+    record {
+      here = omega (arith, inv .within, c .before .before .before .before .before .before .if1 .left);
+      order = order-read (s .sweep .filled) (c .before .before .before .order-at .ensures) (s .before .wide .ensures) (inv .same);
+      some = omega (arith, eqb-false (Begun s .args .lots - s .sweep .done) 0 (c .before .before .before .before .before .if2 .left));
+      met = sym (c .before .before .is-counterpart .ensures) ∙ not-false _ (c .before .if3 .left);
+      trade = c .trade-with .ensures;
+    }
+
+wide-requires-2 : tie.Need-wide-requires-2 Inv-sweep μ-sweep
+wide-requires-2 c κs = search needs
+
+-- its lots are few, and its accounts exist
+few : (c : tie.After-trade-with Inv-sweep μ-sweep) → Head c .sweep .done + c .trade-with .result .lots ≤ 1000
+few c = omega (arith, trade-size (meeting c), Head c .sweep .inv .some, Begun (Head c) .pre .size)
+
+buyer : (c : tie.After-wide2 Inv-sweep μ-sweep) → c .wide2 .result < 32
+buyer c = rw (c .wide2 .ensures) (trade-parties (meeting (c .before)) (Begun (Head (c .before)) .pre .account) (Begun (Head (c .before)) .pre .queue) .0)
+
+mul-book-leg : tie.Need-mul-book-leg Inv-sweep μ-sweep
+mul-book-leg c = omega (arith, buyer c)
+
+array-copy-out-book-leg : tie.Need-array-copy-out-book-leg Inv-sweep μ-sweep
+array-copy-out-book-leg c = buyer c
+
+book-leg-requires : tie.Need-book-leg-requires Inv-sweep μ-sweep
+book-leg-requires c κs =
+    let w = c .before .before in
+    let s = Head w in
+    (rw (s .before .wide .ensures) (Begun s .pre .contract), omega (arith, few w), holding-read _ _ (s .sweep .inv .holdings) (omega (arith, few w)))
+
+mul-held : tie.Need-mul-held Inv-sweep μ-sweep
+mul-held c = omega (arith, buyer (c .before .before))
+
+array-set-from-held : tie.Need-array-set-from-held Inv-sweep μ-sweep
+array-set-from-held c = buyer (c .before .before)
+
+wide-requires-3 : tie.Need-wide-requires-3 Inv-sweep μ-sweep
+wide-requires-3 c κs = search needs
+
+-- from the seller's leg back to the trade
+abbrev Selling : tie.After-wide3 Inv-sweep μ-sweep → tie.After-trade-with Inv-sweep μ-sweep
+Selling c = c .before .before .before .before
+
+seller : (c : tie.After-wide3 Inv-sweep μ-sweep) → c .wide3 .result < 32
+seller c = rw (c .wide3 .ensures) (trade-parties (meeting (Selling c)) (Begun (Head (Selling c)) .pre .account) (Begun (Head (Selling c)) .pre .queue) .1)
+
+-- the contract's place is the trade's
+place : (c : tie.After-trade-with Inv-sweep μ-sweep) → Head c .before .wide .result ≡ c .trade-with .result .contract
+place c = Head c .before .wide .ensures ∙ sym (trade-contract (meeting c))
+
+mul-book-leg-2 : tie.Need-mul-book-leg-2 Inv-sweep μ-sweep
+mul-book-leg-2 c = omega (arith, seller c)
+
+array-copy-out-book-leg-2 : tie.Need-array-copy-out-book-leg-2 Inv-sweep μ-sweep
+array-copy-out-book-leg-2 c = seller c
+
+book-leg-requires-2 : tie.Need-book-leg-requires-2 Inv-sweep μ-sweep
+book-leg-requires-2 c κs =
+    let w = Selling (c .before) in
+    let s = Head w in
+    let bought = buyer-held (s .sweep .held) (w .trade-with .result) (place w) (c .before .before .before .before .wide2 .ensures) (c .before .before .book-leg .ensures) (s .sweep .inv .holdings) in
+    (rw (s .before .wide .ensures) (Begun s .pre .contract), omega (arith, few w), holding-read _ _ bought (omega (arith, few w)))
+
+mul-held-2 : tie.Need-mul-held-2 Inv-sweep μ-sweep
+mul-held-2 c = omega (arith, seller (c .before .before))
+
+array-set-from-held-2 : tie.Need-array-set-from-held-2 Inv-sweep μ-sweep
+array-set-from-held-2 c = seller (c .before .before)
+
+-- both legs are booked
+legs : (c : tie.After-book-leg2 Inv-sweep μ-sweep)
+    → let w = Selling (c .before .before) in
+    set (set (Head w .sweep .held) (c .before .before .before .before .before .wide2 .result) (c .before .before .before .book-leg .result)) (c .before .before .wide3 .result) (c .book-leg2 .result)
+    ≡ bookTrade (Head w .sweep .held) (w .trade-with .result)
+legs c =
+    let w = Selling (c .before .before) in
+    trade-booked (Head w .sweep .held) (w .trade-with .result) (place w) (c .before .before .before .before .before .wide2 .ensures) (c .before .before .before .book-leg .ensures) (c .before .before .wide3 .ensures) (c .book-leg2 .ensures)
+
+-- the area has room for the trade
+fits : (c : tie.After-trade-with Inv-sweep μ-sweep) → 9 * Head c .sweep .made + 9 ≤ length (Head c .sweep .area)
+fits c = trade-room (Head c .sweep .inv) (Begun (Head c) .pre .queue .room) (meeting c) (Begun (Head c) .pre .room)
+
+put-trade-requires : tie.Need-put-trade-requires Inv-sweep μ-sweep
+put-trade-requires c κs = fits (Selling (c .before .before .before))
+
+-- from after the trade's words are written back to the trade
+abbrev Trading : tie.After-slice-known3 Inv-sweep μ-sweep → tie.After-trade-with Inv-sweep μ-sweep
+Trading c = Selling (c .before .before .before .before .before .before)
+
+add-made : tie.Need-add-made Inv-sweep μ-sweep
+add-made c = omega (arith, fits (Trading c), Head (Trading c) .sweep .inv .long, Begun (Head (Trading c)) .good)
+
+add-done : tie.Need-add-done Inv-sweep μ-sweep
+add-done c = omega (arith, few (Trading c))
+
+sub-set-lots : tie.Need-sub-set-lots Inv-sweep μ-sweep
+sub-set-lots c = search needs
+
+set-lots-requires : tie.Need-set-lots-requires Inv-sweep μ-sweep
+set-lots-requires c κs =
+    let w = Trading (c .before .before) in
+    let s = Head w in
+    (meeting w .here, omega (arith, Begun s .pre .queue .room, s .before .wide .ensures, ap length (s .sweep .inv .same)))
+
+add-filled : tie.Need-add-filled Inv-sweep μ-sweep
+add-filled c = omega (arith, meeting (Trading (c .before)) .here, Begun (Head (Trading (c .before))) .fits .count)
+
+sweep-less : tie.Need-sweep-less Inv-sweep μ-sweep
+sweep-less c = omega (arith, meeting (Trading (c .before)) .here)
+
+sweep-again : tie.Need-sweep-again Inv-sweep μ-sweep
+sweep-again c =
+    let b = c .before in
+    let w = Trading b in
+    going-on (Head w .sweep .inv) (Begun (Head w) .pre .queue .room) (meeting w) (fits w) (legs (b .before .before .before .before)) (b .before .before .put-trade .ensures) (c .if4 .left)
+
+same-length : tie.Need-same-length Inv-sweep μ-sweep
+same-length c = search needs
+
+same-length-2 : tie.Need-same-length-2 Inv-sweep μ-sweep
+same-length-2 c = search needs
+
+returns : tie.Need-returns Inv-sweep μ-sweep
+returns c =
+    let s = c .before in
+    stopped (s .sweep .inv) (Begun s .pre .queue .room)
+    (⊎-elim (λ ended. queue-ended (ended .taken)) (λ used. lots-used (eqb-true _ _ (used .1 .taken))) (c .if1 .came))
+
+same-length-3 : tie.Need-same-length-3 Inv-sweep μ-sweep
+same-length-3 c = search needs
+
+same-length-4 : tie.Need-same-length-4 Inv-sweep μ-sweep
+same-length-4 c = search needs
+
+returns-2 : tie.Need-returns-2 Inv-sweep μ-sweep
+returns-2 c =
+    let s = c .before .before .before .before .before .before in
+    let o = c .before .before .order-at in
+    stopped (s .sweep .inv) (Begun s .pre .queue .room)
+    (no-counterpart (omega (arith, s .sweep .inv .within, c .before .before .before .before .before .if1 .left))
+    (order-read (s .sweep .filled) (o .ensures) (s .before .wide .ensures) (s .sweep .inv .same))
+    (sym (c .before .is-counterpart .ensures) ∙ not-true _ (c .if3 .taken)))
+
+same-length-5 : tie.Need-same-length-5 Inv-sweep μ-sweep
+same-length-5 c = c .before .before .set-lots .kept .0 ∙ ap length (Head (Trading (c .before .before .before .before .before)) .sweep .inv .same)
+
+same-length-6 : tie.Need-same-length-6 Inv-sweep μ-sweep
+same-length-6 c =
+    let b = c .before .before .before .before .before in
+    b .before .before .put-trade .kept .0 ∙ Head (Trading b) .sweep .inv .long
+
+returns-3 : tie.Need-returns-3 Inv-sweep μ-sweep
+returns-3 c =
+    let b = c .before .before .before .before .before in
+    let w = Trading b in
+    part-filled (Head w .sweep .inv) (Begun (Head w) .pre .queue .room) (meeting w) (fits w) (legs (b .before .before .before .before)) (b .before .before .put-trade .ensures) (c .before .before .before .before .if4 .taken) (Head w .before .wide .ensures) (c .before .before .set-lots .ensures)
+
+pub sweep-spec : {M : Type 1} → statement M
+sweep-spec =
+    tie.close
+    (tie.spec
+    Inv-sweep
+    μ-sweep
+    wide-requires
+    sweep-holds
+    sub-left
+    order-at-requires
+    is-counterpart-requires
+    trade-with-requires
+    wide-requires-2
+    mul-book-leg
+    array-copy-out-book-leg
+    book-leg-requires
+    mul-held
+    array-set-from-held
+    wide-requires-3
+    mul-book-leg-2
+    array-copy-out-book-leg-2
+    book-leg-requires-2
+    mul-held-2
+    array-set-from-held-2
+    put-trade-requires
+    add-made
+    add-done
+    sub-set-lots
+    set-lots-requires
+    add-filled
+    sweep-less
+    sweep-again
+    same-length
+    same-length-2
+    returns
+    same-length-3
+    same-length-4
+    returns-2
+    same-length-5
+    same-length-6
+    returns-3)

@@ -1,0 +1,5 @@
+pub mod Bounds
+pub mod Entry
+pub mod Removal
+pub mod Side
+pub mod Sweep

@@ -1,0 +1,41 @@
+-- What a sweep asks for, and what it leaves, for its contract. Assumes nothing.
+use mathlib.Core.List.{List, _++_}
+use mathlib.Core.Path.{_≡_}
+use Prim.Native.Nat.{ℕ, _+_, _*_, _<_, _≤_}
+use lib.ListN.{length, take, getD}
+use Rattle.areas.specs.Records.{store}
+use Rattle.rules.specs.Exchange.{noOrder}
+use Rattle.rules.specs.Holdings.{bookTrades}
+use Rattle.rules.specs.Matching.{Swept, sweep, tradedLots, lastPrice}
+use Rattle.rules.specs.Memory.{queueIn, putQueue, tradeWords}
+use Rattle.rules.specs.declared.Account.{Account}
+use Rattle.rules.specs.declared.Taker.{Taker}
+use Rattle.book.specs.Bounds.{HeldWithin}
+use Rattle.book.specs.declared.sweep.Filled.{Filled}
+
+-- room for a queue's orders, each of an account that exists
+pub record SweptQueue (queues : List ℕ) (c count : ℕ) : Type 0 where
+  pub room : 320 * c + 5 * count ≤ length queues
+  pub accounts : (i : ℕ) → i < count → getD (queueIn queues c count) i noOrder .account < 32
+
+-- an order whose account and contract exist, a queue to trade with, room for the trades, and no holding near its width
+pub record SweepReady
+    (t : Taker) (lots last : ℕ) (held : List Account) (queues : List ℕ) (count : ℕ) (area : List ℕ) (before : ℕ) : Type 0 where
+  pub contract : t .contract < 4
+  pub account : t .account < 32
+  pub size : lots ≤ 1_000
+  pub queue : SweptQueue queues (t .contract) count
+  pub room : 9 * (before + length (sweep t lots last (queueIn queues (t .contract) count) .trades)) ≤ length area
+  pub holdings : HeldWithin 1_000_000 held
+
+-- the answer, and both areas: the trades at the next free places, the rest of the queue behind its filled orders
+pub record FilledIs
+    (s : Swept) (queues : List ℕ) (c count : ℕ) (area : List ℕ) (before last₀ : ℕ) (held : List Account)
+    (r : Filled) (queues′ area′ : List ℕ) : Type 0 where
+  pub traded : r .traded ≡ tradedLots (s .trades)
+  pub filled : r .filled + length (s .rest) ≡ count
+  pub made : r .made ≡ before + length (s .trades)
+  pub last : r .last ≡ lastPrice last₀ (s .trades)
+  pub accounts : r .accounts ≡ bookTrades held (s .trades)
+  pub trades : area′ ≡ store tradeWords area (9 * before) (s .trades)
+  pub queue : queues′ ≡ putQueue queues c count (take (r .filled) (queueIn queues c count) ++ s .rest)

@@ -1,0 +1,76 @@
+// Counterparts and trade prices (document 01, "Matching").
+ghost use mathlib.Core.Path.{_≡_};
+ghost use Rattle.rules.specs.Matching as matching;
+use rules::Order;
+use rules::PriceCondition;
+use rules::Taker;
+use rules::Trade;
+
+pub fn middle(a: u32, b: u32, c: u32) -> u32
+    ensures { λ r. ⌜ r ≡ matching.middle a b c ⌝ }
+{
+    laws::larger(laws::smaller(a, b), laws::smaller(laws::larger(a, b), c))
+}
+
+// A match on the price condition picks the counterparts.
+pub fn meets(condition: PriceCondition, sell: bool, best: u32, price: u32) -> bool
+    ensures { λ r. ⌜ r ≡ matching.meets condition sell best price ⌝ }
+{
+    match condition {
+        PriceCondition::Limit(limit) => if sell { limit <= price } else { price <= limit },
+        PriceCondition::Market => true,
+        PriceCondition::Best => price == best,
+    }
+}
+
+pub fn is_counterpart(t: Taker, o: Order) -> bool
+    ensures { λ r. ⌜ r ≡ matching.counterpart t o ⌝ }
+{
+    let condition = t.condition;
+    meets(condition, t.sell, t.best, o.price)
+}
+
+// Market and best trade at the resting price, a limit order at the middle of its price, the resting price and the last.
+pub fn trade_price(condition: PriceCondition, price: u32, last: u32) -> u32
+    ensures { λ r. ⌜ r ≡ matching.tradePrice condition price last ⌝ }
+{
+    match condition {
+        PriceCondition::Limit(limit) => middle(limit, price, last),
+        PriceCondition::Market => price,
+        PriceCondition::Best => price,
+    }
+}
+
+// The trade of an arriving order that has `left` lots left with a resting order.
+pub fn trade_with(t: Taker, o: Order, left: u32, last: u32) -> Trade
+    ensures { λ r. ⌜ r ≡ matching.tradeWith t o left last ⌝ }
+{
+    let condition = t.condition;
+    let price = trade_price(condition, o.price, last);
+    let lots = laws::smaller(left, o.lots);
+    if t.sell {
+        Trade {
+            contract: t.contract,
+            price,
+            lots,
+            buyorder: o.number,
+            sellorder: t.number,
+            buyer: o.account,
+            seller: t.account,
+            buyclose: o.close,
+            sellclose: t.close,
+        }
+    } else {
+        Trade {
+            contract: t.contract,
+            price,
+            lots,
+            buyorder: t.number,
+            sellorder: o.number,
+            buyer: t.account,
+            seller: o.account,
+            buyclose: t.close,
+            sellclose: o.close,
+        }
+    }
+}

@@ -1,0 +1,115 @@
+// One queue of a lent area: 64 places of five words for each contract, best price first; `c` is the contract's place. What a
+// function does to the whole area is one equation. For our own crates: each asks that the area has room for the orders it names.
+ghost use mathlib.Core.List.{_++_};
+ghost use mathlib.Core.Path.{_≡_};
+ghost use Prim.Native.Nat.{_+_, _-_, _*_, _≤_, _<_};
+ghost use lib.ListN.{length, take, drop, getD, set};
+ghost use Rattle.areas.specs.Lists.{removeAt};
+ghost use Rattle.rules.specs.Exchange as exchange;
+ghost use Rattle.rules.specs.Matching as matching;
+ghost use Rattle.rules.specs.Memory.{queueIn, putQueue, orderFrom, orderWords};
+ghost use Rattle.rules.specs.Places.{placeIn};
+use rules::Order;
+
+// The order at a place.
+pub fn order_at(area: &[u32], c: usize, i: usize) -> Order
+    requires { ⌜ 320 * c + 5 * i + 5 ≤ length (now area) ⌝ }
+    ensures { λ r. ⌜ r ≡ orderFrom (drop (320 * c + 5 * i) (now (area .entry))) ⌝ }
+{
+    let at = 320 * c + 5 * i;
+    Order {
+        price: area[at],
+        number: area[at + 1],
+        account: area[at + 2],
+        lots: area[at + 3],
+        close: area[at + 4],
+    }
+}
+
+// Writes an order over the first five words.
+pub fn put(part: &mut [u32], o: Order)
+    requires { ⌜ 5 ≤ length (now part) ⌝ }
+    ensures { λ _. ⌜ now (part .exit) ≡ orderWords o ++ drop 5 (now (part .entry)) ⌝ }
+{
+    part[0] = o.price;
+    part[1] = o.number;
+    part[2] = o.account;
+    part[3] = o.lots;
+    part[4] = o.close;
+}
+
+// Whether a price stands strictly behind another on a side.
+pub fn worse(sell: bool, price: u32, other: u32) -> bool
+    ensures { λ r. ⌜ r ≡ exchange.worse sell price other ⌝ }
+{
+    if sell {
+        return other < price;
+    }
+    price < other
+}
+
+// The place behind every order at this price or better.
+pub fn place(area: &[u32], c: usize, count: usize, sell: bool, price: u32) -> usize
+    requires { ⌜ 320 * c + 5 * count ≤ length (now area) ⌝ }
+    ensures { λ r. ⌜ r ≡ placeIn sell price (queueIn (now (area .entry)) c count) ⌝ }
+{
+    let mut k: usize = 0;
+    while k < count {
+        let o = order_at(area, c, k);
+        if worse(sell, o.price, price) {
+            return k;
+        }
+        k += 1;
+    }
+    k
+}
+
+// Moves each order of a part one place back, and writes the new one in front. The last place's words go.
+pub fn shift(part: &mut [u32], o: Order)
+    requires { ⌜ 5 ≤ length (now part) ⌝ }
+    ensures { λ _. ⌜ now (part .exit) ≡ orderWords o ++ take (length (now (part .entry)) - 5) (now (part .entry)) ⌝ }
+{
+    areas::move_back(part, 5);
+    put(part, o);
+}
+
+// "A good-for-day remainder rests, and every later order moves one place back": the queue from the insertion place on is
+// lent as a writable part and shifted by one order.
+pub fn insert(area: &mut [u32], c: usize, count: usize, sell: bool, o: Order)
+    requires { ⌜ 320 * c + 5 * count + 5 ≤ length (now area) ⌝ }
+    ensures { λ _. ⌜ now (area .exit) ≡ putQueue (now (area .entry)) c count (matching.restIn sell o (queueIn (now (area .entry)) c count)) ⌝ }
+{
+    let i = place(&area[..], c, count, sell, o.price);
+    let a = 320 * c + 5 * i;
+    let e = 320 * c + 5 * count + 5;
+    shift(&mut area[a..e], o);
+}
+
+// Takes the order at a place out: later ones close up, and the freed place is set to zero.
+pub fn remove(area: &mut [u32], c: usize, count: usize, i: usize)
+    requires { ⌜ (i < count) × (320 * c + 5 * count ≤ length (now area)) ⌝ }
+    ensures { λ _. ⌜ now (area .exit) ≡ putQueue (now (area .entry)) c count (removeAt i (queueIn (now (area .entry)) c count)) ⌝ }
+{
+    let a = 320 * c + 5 * i;
+    let e = 320 * c + 5 * count;
+    areas::close_up(&mut area[a..e], 5);
+}
+
+// Takes the first k orders out: later ones close up, and the freed places are set to zero.
+pub fn drop_front(area: &mut [u32], c: usize, count: usize, k: usize)
+    requires { ⌜ (k ≤ count) × (320 * c + 5 * count ≤ length (now area)) ⌝ }
+    ensures { λ _. ⌜ now (area .exit) ≡ putQueue (now (area .entry)) c count (drop k (queueIn (now (area .entry)) c count)) ⌝ }
+{
+    let a = 320 * c;
+    let e = 320 * c + 5 * count;
+    areas::close_up(&mut area[a..e], 5 * k);
+}
+
+// Changes the remaining lots of the order at a place.
+pub fn set_lots(area: &mut [u32], c: usize, count: usize, i: usize, lots: u32)
+    requires { ⌜ (i < count) × (320 * c + 5 * count ≤ length (now area)) ⌝ }
+    ensures { λ _. ⌜ now (area .exit) ≡ putQueue (now (area .entry)) c count (set (queueIn (now (area .entry)) c count) i (matching.withLots (getD (queueIn (now (area .entry)) c count) i exchange.noOrder) lots)) ⌝ }
+{
+    let at = 320 * c + 5 * i + 3;
+    area[at] = lots;
+}

@@ -1,0 +1,55 @@
+// Cancel and pull at the level of one queue. For our own crates: each asks for the room of the orders it names.
+ghost use mathlib.Core.Path.{_≡_};
+ghost use Prim.Native.Nat.{_+_, _*_, _≤_};
+ghost use lib.ListN.{length};
+ghost use Rattle.rules.specs.Memory.{queueIn};
+ghost use Rattle.rules.specs.Places.{indexOf};
+ghost use Rattle.book.specs.Removal.{PulledIs};
+use crate::queue;
+
+// The place of the order with a number; the count where there is none.
+pub fn find(area: &[u32], c: usize, count: usize, number: u32) -> usize
+    requires { ⌜ 320 * c + 5 * count ≤ length (now area) ⌝ }
+    ensures { λ r. ⌜ r ≡ indexOf number (queueIn (now (area .entry)) c count) ⌝ }
+{
+    let mut k: usize = 0;
+    while k < count {
+        let o = queue::order_at(area, c, k);
+        if o.number == number {
+            return k;
+        }
+        k += 1;
+    }
+    k
+}
+
+// The orders that stay in a queue, and the lots taken out of it.
+pub struct Pulled {
+    pub count: usize,
+    pub lots: u64,
+}
+
+// Takes out all orders of an account, perhaps none: the others close up, and the freed places are set to zero.
+pub fn pull(area: &mut [u32], c: usize, count: usize, account: u32) -> Pulled
+    requires { ⌜ (count ≤ 64) × (320 * c + 5 * count ≤ length (now area)) ⌝ }
+    ensures { λ r. ⌜ PulledIs account (now (area .entry)) c count r (now (area .exit)) ⌝ }
+{
+    let mut kept: usize = 0;
+    let mut lots: u64 = 0;
+    let mut i: usize = 0;
+    while i < count {
+        let o = queue::order_at(&area[..], c, i);
+        i += 1;
+        if o.account == account {
+            lots += laws::wide32(o.lots);
+        } else {
+            let at = 320 * c + 5 * kept;
+            queue::put(&mut area[at..], o);
+            kept += 1;
+        }
+    }
+    let a = 320 * c + 5 * kept;
+    let e = 320 * c + 5 * count;
+    areas::clear(&mut area[a..e]);
+    Pulled { count: kept, lots }
+}
