@@ -17,12 +17,12 @@ use Rattle.rules.specs.Step.{carriedOut, phaseChanged, withPhase}
 use Rattle.rules.specs.declared.Command.the-variants.{Phase}
 use Rattle.rules.specs.declared.Contract.{Contract}
 use Rattle.rules.specs.declared.State.{State}
-use Rattle.engine.specs.Outcome.{memory, WellFormedState, OutcomeIs, refusedWith, acceptedWith, withPhaseAt}
+use Rattle.engine.specs.Outcome.{isAbsent, memory, WellFormedState, OutcomeIs, refusedWith, acceptedWith, withPhaseAt}
 use Rattle.engine.specs.declared.answers.Outcome.{Outcome}
 use Rattle.engine.proofs.Formed.{Formed, formed, listing-at, no-contract}
 use Rattle.engine.proofs.Outcomes.{refusal, acceptance}
 use Rattle.engine.proofs.Puts.{put-contract}
-use Rattle.engine.proofs.Tests.{isAbsent, place-below}
+use Rattle.engine.proofs.Tests.{place-below}
 
 -- ---- the changes listed, by the state they start from
 

@@ -20,9 +20,9 @@ use Rattle.rules.specs.declared.Account.{Account}
 use Rattle.rules.specs.declared.State.{State}
 use Rattle.invariants.proofs.Clauses.{WellFormed, well-formed}
 use Rattle.invariants.proofs.Tests.{passed}
-use Rattle.engine.specs.Outcome.{memory, WellFormedState}
+use Rattle.engine.specs.Outcome.{isAbsent, memory, WellFormedState}
 use Rattle.engine.proofs.Accounts.{put-account-set, same-room, same-room-put, used-at, used-holding}
-use Rattle.engine.proofs.Tests.{isAbsent, place-below}
+use Rattle.engine.proofs.Tests.{place-below}
 
 pub record Formed (m : Memory) : Type 0 where
   pub contracts-low : 1 ≤ m .state .contractcount

@@ -5,4 +5,5 @@ pub mod Formed
 pub mod Outcomes
 pub mod Paying
 pub mod Puts
+pub mod Removals
 pub mod Tests

@@ -19,12 +19,12 @@ use Rattle.rules.specs.Step.{carriedOut, deposited, paid, withBalance}
 use Rattle.rules.specs.declared.Account.{Account}
 use Rattle.rules.specs.declared.Command.the-variants.{Deposit}
 use Rattle.rules.specs.declared.State.{State}
-use Rattle.engine.specs.Outcome.{memory, WellFormedState, OutcomeIs, refusedWith, acceptedWith, withBalanceAt}
+use Rattle.engine.specs.Outcome.{isAbsent, memory, WellFormedState, OutcomeIs, refusedWith, acceptedWith, withBalanceAt}
 use Rattle.engine.specs.declared.answers.Outcome.{Outcome}
 use Rattle.engine.proofs.Formed.{Formed, formed, no-account, account-at, account-put, balance-within}
 use Rattle.engine.proofs.Outcomes.{refusal, acceptance}
 use Rattle.engine.proofs.Puts.{put-accounts}
-use Rattle.engine.proofs.Tests.{isAbsent, place-below}
+use Rattle.engine.proofs.Tests.{place-below}
 
 -- an amount that is not refused
 pub amount-high : (amount : ℕ) → amountRefused amount ≡ false → amount ≤ 10 ^ 15

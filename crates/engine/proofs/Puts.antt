@@ -192,15 +192,13 @@ module _ (m : Memory) (f : Formed m) where
         ∙ rw (lb, ls, set-getD (m .state .buys) c 0, set-getD (m .state .sells) c 0, queue-same (m .buys) (m .state .buys) (f .buys-high) (f .buys-room) c h, queue-same (m .sells) (m .state .sells) (f .sells-high) (f .sells-room) c h))
 
     pub put-queues : (buys sells : List Order) → length buys ≤ 64 → length sells ≤ 64
-        → put m (withListing (exchangeOf m) c (record { contract = listingAt (exchangeOf m) c .contract; buys = buys; sells = sells }))
+        → put m (withListing (exchangeOf m) c (record { contract = getD (m .state .contracts) c noContract; buys = buys; sells = sells }))
         ≡ record {
           state = withCountsIn (m .state) (set (m .state .buys) c (length buys)) (set (m .state .sells) c (length sells));
           buys = putQueue (m .buys) c (getD (m .state .buys) c 0) buys;
           sells = putQueue (m .sells) c (getD (m .state .sells) c 0) sells;
           trades = m .trades;
         }
-    unfolding listingIn
     put-queues buys sells short-buys short-sells =
-        rw (listing-at m f c h)
-        (put-listing c (record { contract = getD (m .state .contracts) c noContract; buys = buys; sells = sells }) h short-buys short-sells
-        ∙ rw (set-getD (m .state .contracts) c noContract))
+        put-listing c (record { contract = getD (m .state .contracts) c noContract; buys = buys; sells = sells }) h short-buys short-sells
+        ∙ rw (set-getD (m .state .contracts) c noContract)

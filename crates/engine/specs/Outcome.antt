@@ -1,8 +1,9 @@
 -- What a kind asks for, and what it gives and leaves, against the rules' response. Assumes nothing.
-use mathlib.Core.Bool.{true}
+use mathlib.Core.Bool.{Bool, true, _||_}
 use mathlib.Core.List.{List}
 use mathlib.Core.Path.{_≡_}
 use Prim.Native.Nat.{ℕ}
+use lib.Dec.{eqb, ltb}
 use lib.IntN.{ℤ}
 use lib.ListN.{getD, set}
 use Rattle.rules.specs.Exchange.{noAccount, noContract}
@@ -26,6 +27,10 @@ pub record WellFormedState (state : State) (buys sells trades : List ℕ) : Type
 pub record OutcomeIs (response : Responded) (r : Outcome) (buys sells trades : List ℕ) : Type 0 where
   pub answer : r .answer ≡ response .answer
   pub memory : memory (r .state) buys sells trades ≡ response .memory
+
+-- a number that no place below a count has
+abbrev pub isAbsent : ℕ → ℕ → Bool
+isAbsent number count = eqb number 0 || ltb count number
 
 -- ---- an outcome as the code makes it
 

@@ -2,3 +2,4 @@
 pub mod answers;
 pub mod payments;
 pub mod phases;
+pub mod removal;

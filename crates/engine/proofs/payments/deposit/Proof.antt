@@ -11,9 +11,9 @@ use Rattle.laws.specs.Bound.{Within, within-fits, within-pos}
 use Rattle.laws.proofs.Signed.{add-fits, add-back, back}
 use Rattle.rules.specs.Answers.{amountRefused}
 use Rattle.rules.specs.Exchange.{noAccount}
+use Rattle.engine.specs.Outcome.{isAbsent}
 use Rattle.engine.proofs.Formed.{account-low, account-fits}
 use Rattle.engine.proofs.Paying.{amount-high, balance-fits, deposit-absent, deposit-amount, deposit-high, deposit-accepted}
-use Rattle.engine.proofs.Tests.{isAbsent}
 use Rattle.engine.proofs.payments.deposit.Statement.{statement}
 use Rattle.engine.proofs.payments.deposit.Tie as tie
 

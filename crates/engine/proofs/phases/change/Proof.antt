@@ -3,9 +3,9 @@ use mathlib.Core.Bool.{true, false}
 use mathlib.Core.Path.{_≡_, sym, _∙_}
 use borrow.Author.Needs.{needs}
 use borrow.Author.Tests.{not-true, not-false}
+use Rattle.engine.specs.Outcome.{isAbsent}
 use Rattle.engine.proofs.Changes.{phase-absent, phase-unlisted, phase-accepted}
 use Rattle.engine.proofs.Formed.{contract-low, contract-fits}
-use Rattle.engine.proofs.Tests.{isAbsent}
 use Rattle.engine.proofs.phases.change.Statement.{statement}
 use Rattle.engine.proofs.phases.change.Tie as tie
 
