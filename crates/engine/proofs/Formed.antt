@@ -1,9 +1,9 @@
 -- What the engine's code takes from a well-formed state: counts and room, and the rules' view of accounts and listings as
 -- values of the arrays and areas. Assumes nothing.
-use mathlib.Core.Bool.{true}
+use mathlib.Core.Bool.{true, false}
 use mathlib.Core.List.{List, [], _∷_}
 use mathlib.Core.Path.{_≡_, ap, _∙_}
-use Prim.Native.Nat.{ℕ, _+_, _*_, _<_, _≤_, _^_}
+use Prim.Native.Nat.{ℕ, _+_, _-_, _*_, _<_, _≤_, _^_}
 use native.Mathlib.Omega.{arith}
 use borrow.Author.Tests.{leb-true}
 use lib.Dec.{leb}
@@ -20,9 +20,9 @@ use Rattle.rules.specs.declared.Account.{Account}
 use Rattle.rules.specs.declared.State.{State}
 use Rattle.invariants.proofs.Clauses.{WellFormed, well-formed}
 use Rattle.accounting.proofs.Facts.{passed}
-use Rattle.engine.specs.Outcome.{memory, WellFormedState}
+use Rattle.engine.specs.Outcome.{isAbsent, memory, WellFormedState}
 use Rattle.engine.proofs.Accounts.{put-account-set, same-room, same-room-put, used-at, used-holding}
-use Rattle.engine.proofs.Tests.{isAbsent}
+use Rattle.engine.proofs.Tests.{place-below}
 
 pub record Formed (m : Memory) : Type 0 where
   pub contracts-low : 1 ≤ m .state .contractcount
@@ -124,3 +124,20 @@ module _ (m : Memory) (f : Formed m) where
       → putAccounts (set (exchangeOf m .accounts) a (inUse (m .state .contractcount) v)) (m .state .accounts) ≡ set (m .state .accounts) a v
   unfolding exchangeOf
   account-put a v h e = put-account-set (m .state .contractcount) (m .state .accountcount) (m .state .accounts) a v few-accounts wide h e
+
+-- ---- places as the code computes them: k is a number as the code widens it
+
+module _ {s : State} {buys sells trades : List ℕ} (w : WellFormedState s buys sells trades) (number : ℕ) {k : ℕ} (is : k ≡ number) where
+  module _ (present : isAbsent number (s .accountcount) ≡ false) where
+    pub account-low : 1 ≤ k
+    account-low = omega (arith, is, place-below number (s .accountcount) present .0)
+
+    pub account-fits : k - 1 < 32
+    account-fits = omega (arith, is, place-below number (s .accountcount) present .1, formed w .accounts-high)
+
+  module _ (present : isAbsent number (s .contractcount) ≡ false) where
+    pub contract-low : 1 ≤ k
+    contract-low = omega (arith, is, place-below number (s .contractcount) present .0)
+
+    pub contract-fits : k - 1 < 4
+    contract-fits = omega (arith, is, place-below number (s .contractcount) present .1, formed w .contracts-high)

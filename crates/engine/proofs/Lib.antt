@@ -1,8 +1,10 @@
 pub mod Accounts
 pub mod Arrivals
+pub mod Changes
 pub mod Declared
 pub mod Formed
 pub mod Outcomes
 pub mod Paying
 pub mod Puts
+pub mod Removals
 pub mod Tests

@@ -19,12 +19,12 @@ use Rattle.rules.specs.Step.{carriedOut, deposited, paid, withBalance}
 use Rattle.rules.specs.declared.Account.{Account}
 use Rattle.rules.specs.declared.Command.the-variants.{Deposit}
 use Rattle.rules.specs.declared.State.{State}
-use Rattle.engine.specs.Outcome.{memory, WellFormedState, OutcomeIs, refusedWith, acceptedWith, withBalanceAt}
+use Rattle.engine.specs.Outcome.{isAbsent, memory, WellFormedState, OutcomeIs, refusedWith, acceptedWith, withBalanceAt}
 use Rattle.engine.specs.declared.answers.Outcome.{Outcome}
 use Rattle.engine.proofs.Formed.{Formed, formed, no-account, account-at, account-put, balance-within}
 use Rattle.engine.proofs.Outcomes.{refusal, acceptance}
 use Rattle.engine.proofs.Puts.{put-accounts}
-use Rattle.engine.proofs.Tests.{isAbsent, place-below}
+use Rattle.engine.proofs.Tests.{place-below}
 
 -- an amount that is not refused
 pub amount-high : (amount : ℕ) → amountRefused amount ≡ false → amount ≤ 10 ^ 15
@@ -59,12 +59,6 @@ module _ {s : State} {buys sells trades : List ℕ} (w : WellFormedState s buys 
         (rw read (account-put m f (account - 1) v here refl))
 
     module _ {k : ℕ} (is : k ≡ account) where
-      pub number-low : 1 ≤ k
-      number-low = rw is (place-below account (s .accountcount) present .0)
-
-      pub place-fits : k - 1 < 32
-      place-fits = omega (arith, here, f .accounts-high, is)
-
       pub balance-fits : Within (2 * 10 ^ 18) (getD (s .accounts) (k - 1) noAccount .balance)
       unfolding accountAt
       balance-fits = rw is (balance-within m f (account - 1) here)

@@ -5,20 +5,20 @@ use mathlib.Core.Path.{_≡_, refl, sym, ap, _∙_}
 use Prim.Native.Nat.{ℕ, _*_, _<_, _≤_}
 use native.Mathlib.Omega.{arith}
 use lib.ListN.{length, getD, set, take, length-set}
-use lib.Seq.{getD-set-same, getD-set-other, take-set-lt, drop-set-lt}
+use lib.Seq.{getD-set-same, getD-set-other, set-getD, take-set-lt, drop-set-lt}
 use Rattle.laws.specs.Lists.{map-set}
 use Rattle.laws.specs.Tabulate.{tabulate, length-tabulate, getD-tabulate, map-tabulate, tabulate-ext, tabulate-take}
 use Rattle.rules.specs.Exchange.{Exchange, Listing, listingAt, noContract, noListing}
 use Rattle.rules.specs.Memory.{Memory, exchangeOf, listingIn, put, putAccounts, putFirst, putQueue, putQueues, putState, putTrades, queueIn}
-use Rattle.rules.specs.Step.{withListing}
-use Rattle.rules.proofs.Codecs.{length-queue, length-trades, put-trades, putQueues-same, putQueues-one}
+use Rattle.rules.specs.Step.{withContract, withListing}
+use Rattle.rules.proofs.Codecs.{length-queue, put-queue, length-trades, put-trades, putQueues-same, putQueues-one}
 use Rattle.rules.specs.declared.Account.{Account}
 use Rattle.rules.specs.declared.Contract.{Contract}
 use Rattle.rules.specs.declared.Order.{Order}
 use Rattle.rules.specs.declared.State.{State}
 use Rattle.rules.specs.declared.Trade.{Trade}
 use Rattle.engine.proofs.Accounts.{first-room}
-use Rattle.engine.specs.Outcome.{withContractAt}
+use Rattle.engine.specs.Outcome.{withAccountsIn, withContractsIn, withCountsIn}
 use Rattle.engine.proofs.Formed.{Formed, accounts-put, listing-at}
 
 module _ (m : Memory) (f : Formed m) where
@@ -153,30 +153,15 @@ module _ (m : Memory) (f : Formed m) where
 
   pub put-accounts : (accounts placed : List Account) → putAccounts accounts (m .state .accounts) ≡ placed
       → put m (record { listings = exchangeOf m .listings; accounts = accounts; trades = exchangeOf m .trades; next = exchangeOf m .next; settlements = exchangeOf m .settlements })
-      ≡ record {
-        state = record {
-          contracts = m .state .contracts;
-          accounts = placed;
-          buys = m .state .buys;
-          sells = m .state .sells;
-          contractcount = m .state .contractcount;
-          accountcount = m .state .accountcount;
-          tradecount = m .state .tradecount;
-          next = m .state .next;
-          settlements = m .state .settlements;
-        };
-        buys = m .buys;
-        sells = m .sells;
-        trades = m .trades;
-      }
+      ≡ record { state = withAccountsIn (m .state) placed; buys = m .buys; sells = m .sells; trades = m .trades }
   unfolding exchangeOf
   put-accounts accounts placed e =
       put-same-listings accounts (exchangeOf m .trades) (exchangeOf m .next) (exchangeOf m .settlements) ∙ rw (e, trades-count, trades-same)
 
-  pub put-listing : (c : ℕ) (l : Listing) → c < m .state .contractcount → length (l .buys) ≤ 64 → length (l .sells) ≤ 64
+  put-listing : (c : ℕ) (l : Listing) → c < m .state .contractcount → length (l .buys) ≤ 64 → length (l .sells) ≤ 64
       → put m (withListing (exchangeOf m) c l)
       ≡ record {
-        state = withContractAt (m .state) c (l .contract) (length (l .buys)) (length (l .sells));
+        state = withCountsIn (withContractsIn (m .state) (set (m .state .contracts) c (l .contract))) (set (m .state .buys) c (length (l .buys))) (set (m .state .sells) c (length (l .sells)));
         buys = putQueue (m .buys) c (getD (m .state .buys) c 0) (l .buys);
         sells = putQueue (m .sells) c (getD (m .state .sells) c 0) (l .sells);
         trades = m .trades;
@@ -185,3 +170,35 @@ module _ (m : Memory) (f : Formed m) where
   put-listing c l h short-buys short-sells =
       put-one-listing (exchangeOf m .accounts) (exchangeOf m .trades) (exchangeOf m .next) (exchangeOf m .settlements) c l h short-buys short-sells
       ∙ rw (accounts-put m f, trades-count, trades-same)
+
+  -- writing a queue as it is changes nothing
+  queue-same : (area counts : List ℕ) → ((d : ℕ) → d < m .state .contractcount → getD counts d 0 ≤ 64) → 320 * m .state .contractcount ≤ length area
+      → (c : ℕ) → c < m .state .contractcount → putQueue area c (getD counts c 0) (queueIn area c (getD counts c 0)) ≡ area
+  queue-same area counts few room c h = put-queue area c (getD counts c 0) (omega (arith, few c h))
+
+  -- a contract of which the terms, or the two queues, are new
+  module _ (c : ℕ) (h : c < m .state .contractcount) where
+    pub put-contract : (contract : Contract)
+        → put m (withListing (exchangeOf m) c (withContract (listingAt (exchangeOf m) c) contract))
+        ≡ record { state = withContractsIn (m .state) (set (m .state .contracts) c contract); buys = m .buys; sells = m .sells; trades = m .trades }
+    unfolding listingIn
+    put-contract contract =
+        let b : ℕ = getD (m .state .buys) c 0 in
+        let s : ℕ = getD (m .state .sells) c 0 in
+        let lb : length (queueIn (m .buys) c b) ≡ b = length-queue (m .buys) c b in
+        let ls : length (queueIn (m .sells) c s) ≡ s = length-queue (m .sells) c s in
+        rw (listing-at m f c h)
+        (put-listing c (withContract (listingIn m c) contract) h (rw lb (f .buys-high c h)) (rw ls (f .sells-high c h))
+        ∙ rw (lb, ls, set-getD (m .state .buys) c 0, set-getD (m .state .sells) c 0, queue-same (m .buys) (m .state .buys) (f .buys-high) (f .buys-room) c h, queue-same (m .sells) (m .state .sells) (f .sells-high) (f .sells-room) c h))
+
+    pub put-queues : (buys sells : List Order) → length buys ≤ 64 → length sells ≤ 64
+        → put m (withListing (exchangeOf m) c (record { contract = getD (m .state .contracts) c noContract; buys = buys; sells = sells }))
+        ≡ record {
+          state = withCountsIn (m .state) (set (m .state .buys) c (length buys)) (set (m .state .sells) c (length sells));
+          buys = putQueue (m .buys) c (getD (m .state .buys) c 0) buys;
+          sells = putQueue (m .sells) c (getD (m .state .sells) c 0) sells;
+          trades = m .trades;
+        }
+    put-queues buys sells short-buys short-sells =
+        put-listing c (record { contract = getD (m .state .contracts) c noContract; buys = buys; sells = sells }) h short-buys short-sells
+        ∙ rw (set-getD (m .state .contracts) c noContract)

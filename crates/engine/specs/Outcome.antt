@@ -1,13 +1,15 @@
 -- What a kind asks for, and what it gives and leaves, against the rules' response. Assumes nothing.
-use mathlib.Core.Bool.{true}
+use mathlib.Core.Bool.{Bool, true, _||_}
 use mathlib.Core.List.{List}
 use mathlib.Core.Path.{_≡_}
 use Prim.Native.Nat.{ℕ}
+use lib.Dec.{eqb, ltb}
 use lib.IntN.{ℤ}
 use lib.ListN.{getD, set}
-use Rattle.rules.specs.Exchange.{noAccount}
-use Rattle.rules.specs.Step.{answerOf, withBalance}
+use Rattle.rules.specs.Exchange.{noAccount, noContract}
+use Rattle.rules.specs.Step.{answerOf, withBalance, withPhase}
 use Rattle.rules.specs.Memory.{Declared, Memory, Responded, wellFormedMemory}
+use Rattle.rules.specs.declared.Account.{Account}
 use Rattle.rules.specs.declared.Contract.{Contract}
 use Rattle.rules.specs.declared.State.{State}
 use Rattle.engine.specs.declared.answers.Outcome.{Outcome}
@@ -26,6 +28,10 @@ pub record OutcomeIs (response : Responded) (r : Outcome) (buys sells trades : L
   pub answer : r .answer ≡ response .answer
   pub memory : memory (r .state) buys sells trades ≡ response .memory
 
+-- a number that no place below a count has
+abbrev pub isAbsent : ℕ → ℕ → Bool
+isAbsent number count = eqb number 0 || ltb count number
+
 -- ---- an outcome as the code makes it
 
 abbrev pub refusedWith : State → ℕ → Outcome
@@ -36,12 +42,11 @@ acceptedWith state number traded lots = record { answer = answerOf 0 number trad
 
 -- ---- states with a part replaced
 
--- the state with another balance at one account's place
-abbrev pub withBalanceAt : State → ℕ → ℤ → State
-withBalanceAt s a balance =
+abbrev pub withContractsIn : State → List Contract → State
+withContractsIn s contracts =
     record {
-      contracts = s .contracts;
-      accounts = set (s .accounts) a (withBalance (getD (s .accounts) a noAccount) balance);
+      contracts = contracts;
+      accounts = s .accounts;
       buys = s .buys;
       sells = s .sells;
       contractcount = s .contractcount;
@@ -51,17 +56,38 @@ withBalanceAt s a balance =
       settlements = s .settlements;
     }
 
--- the state with another contract and other counts of resting orders at one contract's place
-abbrev pub withContractAt : State → ℕ → Contract → ℕ → ℕ → State
-withContractAt s c contract bought sold =
+abbrev pub withAccountsIn : State → List Account → State
+withAccountsIn s accounts =
     record {
-      contracts = set (s .contracts) c contract;
-      accounts = s .accounts;
-      buys = set (s .buys) c bought;
-      sells = set (s .sells) c sold;
+      contracts = s .contracts;
+      accounts = accounts;
+      buys = s .buys;
+      sells = s .sells;
       contractcount = s .contractcount;
       accountcount = s .accountcount;
       tradecount = s .tradecount;
       next = s .next;
       settlements = s .settlements;
     }
+
+-- other counts of resting orders
+abbrev pub withCountsIn : State → List ℕ → List ℕ → State
+withCountsIn s buys sells =
+    record {
+      contracts = s .contracts;
+      accounts = s .accounts;
+      buys = buys;
+      sells = sells;
+      contractcount = s .contractcount;
+      accountcount = s .accountcount;
+      tradecount = s .tradecount;
+      next = s .next;
+      settlements = s .settlements;
+    }
+
+-- another balance at one account's place, another phase at one contract's
+abbrev pub withBalanceAt : State → ℕ → ℤ → State
+withBalanceAt s a balance = withAccountsIn s (set (s .accounts) a (withBalance (getD (s .accounts) a noAccount) balance))
+
+abbrev pub withPhaseAt : State → ℕ → ℕ → State
+withPhaseAt s c phase = withContractsIn s (set (s .contracts) c (withPhase (getD (s .contracts) c noContract) phase))

@@ -1,8 +1,6 @@
 // Answers, and the tests that several kinds share.
 ghost use mathlib.Core.Path.{_≡_};
-ghost use mathlib.Core.Bool.{_||_};
-ghost use lib.Dec.{eqb, ltb};
-ghost use Rattle.engine.specs.Outcome.{refusedWith, acceptedWith};
+ghost use Rattle.engine.specs.Outcome.{refusedWith, acceptedWith, isAbsent};
 use rules::Answer;
 use rules::State;
 
@@ -43,7 +41,7 @@ pub fn accepted(state: State, number: u32, traded: u32, lots: u32) -> Outcome
 
 // A number that no place has: 0, or above the count.
 pub fn is_absent(number: u32, count: usize) -> bool
-    ensures { λ r. ⌜ r ≡ (eqb number 0 || ltb count number) ⌝ }
+    ensures { λ r. ⌜ r ≡ isAbsent number count ⌝ }
 {
     if number == 0 {
         return true;

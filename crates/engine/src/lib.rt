@@ -2,3 +2,5 @@
 pub mod answers;
 pub mod insertion;
 pub mod payments;
+pub mod phases;
+pub mod removal;

@@ -8,8 +8,8 @@ ghost use Rattle.rules.specs.Memory.{stepIn};
 ghost use Rattle.rules.specs.declared.Command.the-variants.{Deposit};
 ghost use Rattle.laws.specs.Bound.{Within};
 ghost use Rattle.engine.specs.Outcome.{memory, OutcomeIs, WellFormedState, withBalanceAt};
+use crate::answers;
 use crate::answers::Outcome;
-use crate::answers::{self};
 use rules::State;
 
 fn amount_refused(amount: u64) -> bool

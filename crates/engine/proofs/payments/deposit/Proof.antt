@@ -11,8 +11,9 @@ use Rattle.laws.specs.Bound.{Within, within-fits, within-pos}
 use Rattle.laws.proofs.Signed.{add-fits, add-back, back}
 use Rattle.rules.specs.Answers.{amountRefused}
 use Rattle.rules.specs.Exchange.{noAccount}
-use Rattle.engine.proofs.Paying.{amount-high, number-low, place-fits, balance-fits, deposit-absent, deposit-amount, deposit-high, deposit-accepted}
-use Rattle.engine.proofs.Tests.{isAbsent}
+use Rattle.engine.specs.Outcome.{isAbsent}
+use Rattle.engine.proofs.Formed.{account-low, account-fits}
+use Rattle.engine.proofs.Paying.{amount-high, balance-fits, deposit-absent, deposit-amount, deposit-high, deposit-accepted}
 use Rattle.engine.proofs.payments.deposit.Statement.{statement}
 use Rattle.engine.proofs.payments.deposit.Tie as tie
 
@@ -60,13 +61,13 @@ wide-requires : tie.Need-wide-requires
 wide-requires c κs = search needs
 
 sub-place : tie.Need-sub-place
-sub-place c = number-low (c .before .before .before .before .before .before .before .before .pre) _ (present (c .before .before .before)) (c .wide .ensures)
+sub-place c = account-low (c .before .before .before .before .before .before .before .before .pre) _ (c .wide .ensures) (present (c .before .before .before))
 
 mul-who : tie.Need-mul-who
 mul-who c = search needs
 
 element-copy-out-who : tie.Need-element-copy-out-who
-element-copy-out-who c = place-fits (c .before .before .before .before .before .before .before .before .pre) _ (present (c .before .before .before)) (c .wide .ensures)
+element-copy-out-who c = account-fits (c .before .before .before .before .before .before .before .before .pre) _ (c .wide .ensures) (present (c .before .before .before))
 
 lifts-too-high-requires : tie.Need-lifts-too-high-requires
 lifts-too-high-requires c κs = (rw (back (2 * 10 ^ 18) (omega arith) (balance (c .before .before))) (balance (c .before .before)), amount-high _ (right (c .before .before .before)))
@@ -86,7 +87,7 @@ add-with-balance : tie.Need-add-with-balance
 add-with-balance c = add-fits (balance (c .before .before .before .before)) (small (c .before .before .before .before .before)) (omega arith)
 
 with-balance-requires : tie.Need-with-balance-requires
-with-balance-requires c κs = place-fits (c .before .before .before .before .before .before .before .before .before .before .before .before .pre) _ (present (c .before .before .before .before .before .before .before)) (c .before .before .before .before .wide .ensures)
+with-balance-requires c κs = account-fits (c .before .before .before .before .before .before .before .before .before .before .before .before .pre) _ (c .before .before .before .before .wide .ensures) (present (c .before .before .before .before .before .before .before))
 
 accepted-requires : tie.Need-accepted-requires
 accepted-requires c κs = search needs
