@@ -3,8 +3,11 @@ pub mod Arrivals
 pub mod Changes
 pub mod Declared
 pub mod Formed
+pub mod Inserting
 pub mod Outcomes
 pub mod Paying
 pub mod Puts
+pub mod Refusals
 pub mod Removals
+pub mod Sides
 pub mod Tests

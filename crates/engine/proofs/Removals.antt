@@ -39,6 +39,7 @@ use Rattle.engine.specs.declared.removal.Cancelled.{Cancelled}
 use Rattle.engine.proofs.Formed.{Formed, formed, contracts-count, listing-at, no-account, no-contract}
 use Rattle.engine.proofs.Outcomes.{refusal, acceptance}
 use Rattle.engine.proofs.Puts.{put-queues}
+use Rattle.engine.proofs.Refusals.{first-append}
 use Rattle.engine.proofs.Tests.{place-below}
 
 -- ---- a cancel in one queue
@@ -131,14 +132,6 @@ missing-code a n os h k =
 -- "buys first"
 numbered-first : (n : ℕ) (os ps : List Order) → indexOf n os < length os → numbered n (os ++ ps) ≡ numbered n os
 numbered-first n os ps h = numbered-append-found n os ps h ∙ sym (numbered-found n os h)
-
--- ---- tests one after the other
-
-first-append : (rs ss : List Refusal) → Coded rs → firstOf (rs ++ ss) ≡ pick (eqb (firstOf rs) 0) (firstOf ss) (firstOf rs)
-unfolding firstOf
-first-append [] ss k = refl
-first-append ((code when true) ∷ rs) ss k = rw (ne-eqb code 0 (λ e. omega (arith, k .0)))
-first-append ((code when false) ∷ rs) ss k = first-append rs ss (k .1)
 
 -- ---- numbers used once over all queues are so in one contract's two
 

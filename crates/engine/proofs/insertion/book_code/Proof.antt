@@ -1,43 +1,39 @@
+-- `insertion::book_code` meets its contract: the tests in the order of the list. Assumes nothing.
+use borrow.Author.Tests.{le-leb, lt-leb}
 use borrow.Author.Needs.{needs}
+use Rattle.rules.specs.Answers.{firstOf}
+use Rattle.engine.specs.Insertion.{bookRefusals}
 use Rattle.engine.proofs.insertion.book_code.Statement.{statement}
 use Rattle.engine.proofs.insertion.book_code.Tie as tie
-use Rattle.engine.proofs.insertion.book_code.Reads as reads
-use Rattle.engine.proofs.insertion.book_code.Lts as lts
-use Rattle.engine.proofs.insertion.full_refused.Reads as full-refused-reads
-use Rattle.engine.proofs.insertion.kill_refused.Reads as kill-refused-reads
-use Rattle.engine.proofs.insertion.trades_refused.Reads as trades-refused-reads
 
--- src/insertion.rt:260:9
 returns : tie.Need-returns
-returns c = ?
+unfolding firstOf bookRefusals
+returns c = rw (le-leb _ _ (c .if1 .taken))
 
--- src/insertion.rt:262:8
 kill-refused-requires : tie.Need-kill-refused-requires
 kill-refused-requires c κs = search needs
 
--- src/insertion.rt:263:9
 returns-2 : tie.Need-returns-2
-returns-2 c = ?
+unfolding firstOf bookRefusals
+returns-2 c = rw (lt-leb _ _ (c .before .before .if1 .left), ← c .before .kill-refused .ensures, c .if2 .taken)
 
--- src/insertion.rt:265:8
 trades-refused-requires : tie.Need-trades-refused-requires
 trades-refused-requires c κs = search needs
 
--- src/insertion.rt:266:9
 returns-3 : tie.Need-returns-3
-returns-3 c = ?
+unfolding firstOf bookRefusals
+returns-3 c = rw (lt-leb _ _ (c .before .before .before .before .if1 .left), ← c .before .before .before .kill-refused .ensures, c .before .before .if2 .left, ← c .before .trades-refused .ensures, c .if3 .taken)
 
--- src/insertion.rt:268:8
 full-refused-requires : tie.Need-full-refused-requires
 full-refused-requires c κs = search needs
 
--- src/insertion.rt:269:9
 returns-4 : tie.Need-returns-4
-returns-4 c = ?
+unfolding firstOf bookRefusals
+returns-4 c = rw (lt-leb _ _ (c .before .before .before .before .before .before .if1 .left), ← c .before .before .before .before .before .kill-refused .ensures, c .before .before .before .before .if2 .left, ← c .before .before .before .trades-refused .ensures, c .before .before .if3 .left, ← c .before .full-refused .ensures, c .if4 .taken)
 
--- src/insertion.rt:244:1
 returns-5 : tie.Need-returns-5
-returns-5 c = ?
+unfolding firstOf bookRefusals
+returns-5 c = rw (lt-leb _ _ (c .before .before .before .before .before .before .if1 .left), ← c .before .before .before .before .before .kill-refused .ensures, c .before .before .before .before .if2 .left, ← c .before .before .before .trades-refused .ensures, c .before .before .if3 .left, ← c .before .full-refused .ensures, c .if4 .left)
 
 pub book-code-spec : {M : Type 1} → statement M
 book-code-spec =
