@@ -90,6 +90,9 @@ module _ {s : State} {buys sells trades : List ℕ} (w : WellFormedState s buys 
     pub place-fits : k - 1 < 4
     place-fits = omega (arith, p .contract, f .contracts-high)
 
+    pub holder-fits : {j : ℕ} → j ≡ o .account → j - 1 < 32
+    holder-fits ej = omega (arith, p .account, f .accounts-high)
+
     pub terms-in-range : termsInRange (getD (s .contracts) (k - 1) noContract) ≡ true
     terms-in-range = rw is (contract-terms m f c (p .contract))
 
@@ -107,12 +110,28 @@ module _ {s : State} {buys sells trades : List ℕ} (w : WellFormedState s buys 
         pub rested-low : rested ≤ 1_000_000
         rested-low = rw rested-is (resting-low m f c (p .contract) (o .account - 1) (p .account) (o .sell) (o .close))
 
-        pub lots-refused : {j : ℕ} → j ≡ o .account
-            → lotsRefused (getD (s .contracts) (k - 1) noContract) (getD (getD (s .accounts) (j - 1) noAccount .holdings) (k - 1) noHolding) rested o ≡ holdingRefused x o
-        unfolding holdingRefused overHolding overLimit lotsRefused listingOf holdingAt accountAt
-        lots-refused ej =
-            rw (rested-is, ej, is, contract-is m f c (p .contract), side-is m f c (p .contract) (o .sell), holding-at m f (o .account - 1) c (p .account) (p .contract))
-            (sym (lots-by-mark (o .close) _ _ _ (o .lots) (o .account - 1) _))
+        module _ {j : ℕ} (ej : j ≡ o .account) {r : Bool}
+            (el : r ≡ lotsRefused (getD (s .contracts) (k - 1) noContract) (getD (getD (s .accounts) (j - 1) noAccount .holdings) (k - 1) noHolding) rested o) where
+          holding-is : r ≡ holdingRefused x o
+          unfolding holdingRefused overHolding overLimit lotsRefused listingOf holdingAt accountAt
+          holding-is =
+              el
+              ∙ rw (rested-is, ej, is, contract-is m f c (p .contract), side-is m f c (p .contract) (o .sell), holding-at m f (o .account - 1) c (p .account) (p .contract))
+              (sym (lots-by-mark (o .close) _ _ _ (o .lots) (o .account - 1) _))
+
+          pub account-lots : r ≡ true → 8 ≡ firstOf (accountRefusals x o)
+          unfolding firstOf accountRefusals
+          account-lots t = rw (← holding-is, t)
+
+          -- 9
+          module _ (t : r ≡ false) {q : Bool} (eq : q ≡ moneyRefused x o) where
+            pub account-money : q ≡ true → 9 ≡ firstOf (accountRefusals x o)
+            unfolding firstOf accountRefusals
+            account-money u = rw (← holding-is, t, ← eq, u)
+
+            pub account-clear : q ≡ false → 0 ≡ firstOf (accountRefusals x o)
+            unfolding firstOf accountRefusals
+            account-clear u = rw (← holding-is, t, ← eq, u)
 
     -- ---- the parts one after the other
 

@@ -1,88 +1,81 @@
+-- `insertion::code` meets its contract: the parts of the list one after the other. Assumes nothing.
+use mathlib.Core.Path.{sym, _∙_}
+use mathlib.Core.Bool.{false}
+use mathlib.Core.Path.{_≡_}
+use native.Mathlib.Omega.{arith}
 use borrow.Author.Needs.{needs}
+use Rattle.engine.specs.Insertion.{Present}
+use Rattle.engine.specs.Outcome.{isAbsent}
+use Rattle.engine.proofs.Inserting.{present, place-fits, terms-in-range, code-account, code-contract, code-terms, code-lots-or-money, code-book, opposite-room, facing, recorded-few}
 use Rattle.engine.proofs.insertion.code.Statement.{statement}
 use Rattle.engine.proofs.insertion.code.Tie as tie
-use Rattle.engine.proofs.insertion.code.Reads as reads
-use Rattle.engine.proofs.insertion.code.Lts as lts
-use Rattle.engine.proofs.answers.is_absent.Reads as is-absent-reads
-use Rattle.engine.proofs.insertion.account_code.Reads as account-code-reads
-use Rattle.engine.proofs.insertion.book_code.Reads as book-code-reads
-use Rattle.engine.proofs.insertion.side_area.Reads as side-area-reads
-use Rattle.engine.proofs.insertion.side_count.Reads as side-count-reads
-use Rattle.engine.proofs.insertion.taker_of.Reads as taker-of-reads
-use Rattle.engine.proofs.insertion.terms_code.Reads as terms-code-reads
-use Rattle.laws.proofs.wide.Reads as wide-reads
 
--- src/insertion.rt:344:8
+-- ---- what the first two tests have shown
+
+account-there : (c : tie.Else1) → isAbsent (c .before .before .before .before .before .args .o .account) (c .before .before .before .before .before .args .t1 .accountcount) ≡ false
+account-there c = sym (c .before .is-absent .ensures) ∙ c .if1 .left
+
+contract-there : (c : tie.Else2) → isAbsent (c .before .before .before .before .before .before .before .args .o .contract) (c .before .before .before .before .before .before .before .args .t1 .contractcount) ≡ false
+contract-there c = sym (c .before .is-absent2 .ensures) ∙ c .if2 .left
+
+here : (c : tie.Else2) → Present (c .before .before .before .before .before .before .before .args .t1) (c .before .before .before .before .before .before .before .args .o)
+here c = present (c .before .before .before .before .before .before .before .pre) (c .before .before .before .before .before .before .before .args .o) (account-there (c .before .before)) (contract-there c)
+
+-- ---- the needs
+
 is-absent-requires : tie.Need-is-absent-requires
 is-absent-requires c κs = search needs
 
--- src/insertion.rt:345:9
 returns : tie.Need-returns
-returns c = ?
+returns c = code-account (c .before .before .before .before .before .pre) (c .before .before .before .before .before .args .o) (sym (c .before .is-absent .ensures) ∙ c .if1 .taken)
 
--- src/insertion.rt:347:8
 is-absent-requires-2 : tie.Need-is-absent-requires-2
 is-absent-requires-2 c κs = search needs
 
--- src/insertion.rt:348:9
 returns-2 : tie.Need-returns-2
-returns-2 c = ?
+returns-2 c = code-contract (c .before .before .before .before .before .before .before .pre) (c .before .before .before .before .before .before .before .args .o) (account-there (c .before .before)) (sym (c .before .is-absent2 .ensures) ∙ c .if2 .taken)
 
--- src/insertion.rt:350:13
 wide-requires : tie.Need-wide-requires
 wide-requires c κs = search needs
 
--- src/insertion.rt:350:13
 sub-c : tie.Need-sub-c
-sub-c c = ?
+sub-c c = omega (arith, c .wide .ensures, here (c .before) .contract-low)
 
--- src/insertion.rt:351:17
 mul-terms : tie.Need-mul-terms
 mul-terms c = search needs
 
--- src/insertion.rt:351:17
 element-copy-out-terms : tie.Need-element-copy-out-terms
-element-copy-out-terms c = ?
+element-copy-out-terms c = place-fits (c .before .before .before .before .before .before .before .before .pre) (c .before .before .before .before .before .before .before .before .args .o) (here (c .before)) (c .wide .ensures)
 
--- src/insertion.rt:352:9
 terms-code-requires : tie.Need-terms-code-requires
-terms-code-requires c κs = ?
+terms-code-requires c κs = terms-in-range (c .before .before .before .before .before .before .before .before .before .pre) (c .before .before .before .before .before .before .before .before .before .args .o) (here (c .before .before)) (c .before .wide .ensures)
 
--- src/insertion.rt:354:9
 returns-3 : tie.Need-returns-3
-returns-3 c = ?
+returns-3 c = code-terms (c .before .before .before .before .before .before .before .before .before .before .before .pre) (c .before .before .before .before .before .before .before .before .before .before .before .args .o) (here (c .before .before .before .before)) (c .before .before .before .wide .ensures) (account-there (c .before .before .before .before .before .before)) (contract-there (c .before .before .before .before)) (c .before .terms-code .ensures) (c .if3 .taken)
 
--- src/insertion.rt:356:9
 account-code-requires : tie.Need-account-code-requires
-account-code-requires c κs = ?
+account-code-requires c κs = (c .before .before .before .before .before .before .before .before .before .before .before .pre, here (c .before .before .before .before))
 
--- src/insertion.rt:358:9
 returns-4 : tie.Need-returns-4
-returns-4 c = ?
+returns-4 c = code-lots-or-money (c .before .before .before .before .before .before .before .before .before .before .before .before .before .pre) (c .before .before .before .before .before .before .before .before .before .before .before .before .before .args .o) (here (c .before .before .before .before .before .before)) (c .before .before .before .before .before .wide .ensures) (account-there (c .before .before .before .before .before .before .before .before)) (contract-there (c .before .before .before .before .before .before)) (c .before .before .before .terms-code .ensures) (c .before .before .if3 .left) (c .before .account-code .ensures) (c .if4 .taken)
 
--- src/insertion.rt:360:9
 side-count-requires : tie.Need-side-count-requires
-side-count-requires c κs = ?
+side-count-requires c κs = place-fits (c .before .before .before .before .before .before .before .before .before .before .before .before .before .pre) (c .before .before .before .before .before .before .before .before .before .before .before .before .before .args .o) (here (c .before .before .before .before .before .before)) (c .before .before .before .before .before .wide .ensures)
 
--- src/insertion.rt:361:9
 side-area-requires : tie.Need-side-area-requires
 side-area-requires c κs = search needs
 
--- src/insertion.rt:362:9
 side-count-requires-2 : tie.Need-side-count-requires-2
-side-count-requires-2 c κs = ?
+side-count-requires-2 c κs = place-fits (c .before .before .before .before .before .before .before .before .before .before .before .before .before .before .before .before .before .pre) (c .before .before .before .before .before .before .before .before .before .before .before .before .before .before .before .before .before .args .o) (here (c .before .before .before .before .before .before .before .before .before .before)) (c .before .before .before .before .before .before .before .before .before .wide .ensures)
 
--- src/insertion.rt:363:9
 taker-of-requires : tie.Need-taker-of-requires
-taker-of-requires c κs = ?
+taker-of-requires c κs = (here (c .before .before .before .before .before .before .before .before .before .before .before) .account-low, here (c .before .before .before .before .before .before .before .before .before .before .before) .contract-low, opposite-room (c .before .before .before .before .before .before .before .before .before .before .before .before .before .before .before .before .before .before .pre) (c .before .before .before .before .before .before .before .before .before .before .before .before .before .before .before .before .before .before .args .o) (here (c .before .before .before .before .before .before .before .before .before .before .before)) (c .before .before .before .before .before .before .before .before .before .before .wide .ensures) (account-there (c .before .before .before .before .before .before .before .before .before .before .before .before .before)) (contract-there (c .before .before .before .before .before .before .before .before .before .before .before)) (c .before .before .before .before .before .before .before .before .terms-code .ensures) (c .before .before .before .before .before .before .before .if3 .left) (c .before .before .before .before .before .before .account-code .ensures) (c .before .before .before .before .before .if4 .left) (c .before .before .before .before .side-count .ensures) (c .before .before .side-area .ensures) (c .side-count2 .ensures))
 
--- src/insertion.rt:364:5
 book-code-requires : tie.Need-book-code-requires
-book-code-requires c κs = ?
+book-code-requires c κs = (facing (c .before .before .before .before .before .before .before .before .before .before .before .before .before .before .before .before .before .before .before .pre) (c .before .before .before .before .before .before .before .before .before .before .before .before .before .before .before .before .before .before .before .args .o) (here (c .before .before .before .before .before .before .before .before .before .before .before .before)) (c .before .before .before .before .before .before .before .before .before .before .before .wide .ensures) (account-there (c .before .before .before .before .before .before .before .before .before .before .before .before .before .before)) (contract-there (c .before .before .before .before .before .before .before .before .before .before .before .before)) (c .before .before .before .before .before .before .before .before .before .terms-code .ensures) (c .before .before .before .before .before .before .before .before .if3 .left) (c .before .before .before .before .before .before .before .account-code .ensures) (c .before .before .before .before .before .before .if4 .left) (c .before .before .before .before .before .side-count .ensures) (c .before .before .before .side-area .ensures) (c .before .side-count2 .ensures) (c .taker-of .ensures), recorded-few (c .before .before .before .before .before .before .before .before .before .before .before .before .before .before .before .before .before .before .before .pre) (c .before .before .before .before .before .before .before .before .before .before .before .before .before .before .before .before .before .before .before .args .o) (here (c .before .before .before .before .before .before .before .before .before .before .before .before)) (c .before .before .before .before .before .before .before .before .before .before .before .wide .ensures) (account-there (c .before .before .before .before .before .before .before .before .before .before .before .before .before .before)) (contract-there (c .before .before .before .before .before .before .before .before .before .before .before .before)) (c .before .before .before .before .before .before .before .before .before .terms-code .ensures) (c .before .before .before .before .before .before .before .before .if3 .left) (c .before .before .before .before .before .before .before .account-code .ensures) (c .before .before .before .before .before .before .if4 .left) (c .before .before .before .before .before .side-count .ensures) (c .before .before .before .side-area .ensures) (c .before .side-count2 .ensures) (c .taker-of .ensures))
 
--- src/insertion.rt:340:1
 returns-5 : tie.Need-returns-5
-returns-5 c = ?
+returns-5 c = code-book (c .before .before .before .before .before .before .before .before .before .before .before .before .before .before .before .before .before .before .before .before .pre) (c .before .before .before .before .before .before .before .before .before .before .before .before .before .before .before .before .before .before .before .before .args .o) (here (c .before .before .before .before .before .before .before .before .before .before .before .before .before)) (c .before .before .before .before .before .before .before .before .before .before .before .before .wide .ensures) (account-there (c .before .before .before .before .before .before .before .before .before .before .before .before .before .before .before)) (contract-there (c .before .before .before .before .before .before .before .before .before .before .before .before .before)) (c .before .before .before .before .before .before .before .before .before .before .terms-code .ensures) (c .before .before .before .before .before .before .before .before .before .if3 .left) (c .before .before .before .before .before .before .before .before .account-code .ensures) (c .before .before .before .before .before .before .before .if4 .left) (c .before .before .before .before .before .before .side-count .ensures) (c .before .before .before .before .side-area .ensures) (c .before .before .side-count2 .ensures) (c .before .taker-of .ensures) (c .book-code .ensures)
 
 pub code-spec : {M : Type 1} → statement M
 code-spec =
