@@ -81,7 +81,7 @@ module _ (k n : ℕ) where
       rw (used-holding l a c h m hc, used-at l a h m, e) (sym (used-set l a (withHolding (accountAt l a) c v) h))
 
   -- trades of accounts and contracts in use
-  pub TradesUsed : List Trade → Type 0
+  unfoldable pub TradesUsed : List Trade → Type 0
   TradesUsed [] = Unit {0}
   TradesUsed (t ∷ ts) = ((t .contract < k) × ((t .buyer < n) × (t .seller < n))) × TradesUsed ts
 

@@ -73,11 +73,11 @@ module _ {s : State} {buys sells trades : List ℕ} (w : WellFormedState s buys 
 -- ---- the rules' view, place by place
 
 module _ (m : Memory) (f : Formed m) where
-  few-accounts : m .state .accountcount ≤ length (m .state .accounts)
+  pub few-accounts : m .state .accountcount ≤ length (m .state .accounts)
   few-accounts = omega (arith, f .declared .accounts, f .accounts-high)
 
   -- each account in use has a holding for each contract in use
-  wide : (a : ℕ) → a < m .state .accountcount → m .state .contractcount ≤ length (accountAt (m .state .accounts) a .holdings)
+  pub wide : (a : ℕ) → a < m .state .accountcount → m .state .contractcount ≤ length (accountAt (m .state .accounts) a .holdings)
   wide a i = omega (arith, f .declared .holdings a (omega (arith, f .accounts-high)), f .contracts-high)
 
   pub accounts-count : length (exchangeOf m .accounts) ≡ m .state .accountcount

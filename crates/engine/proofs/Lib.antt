@@ -2,6 +2,7 @@ pub mod Accounts
 pub mod Arrivals
 pub mod Changes
 pub mod Declared
+pub mod Entering
 pub mod Formed
 pub mod Inserting
 pub mod Outcomes

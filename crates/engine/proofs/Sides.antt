@@ -49,6 +49,11 @@ module _ (m : Memory) (f : Formed m) (c : ℕ) (h : c < m .state .contractcount)
   side-room true = record { few = f .sells-high c h; room = omega (arith, f .sells-high c h, f .sells-room) }
   side-room false = record { few = f .buys-high c h; room = omega (arith, f .buys-high c h, f .buys-room) }
 
+  -- room for 64 orders
+  pub side-long : (side : Bool) → 320 * c + 5 * 64 ≤ length (sideArea side (m .buys) (m .sells))
+  side-long true = omega (arith, f .sells-room)
+  side-long false = omega (arith, f .buys-room)
+
   there : c < length (x .listings)
   there = rw (contracts-count m f) h
 
