@@ -374,7 +374,7 @@ fn enter(
     trades: &mut [u32],
     o: NewOrder,
 ) -> Entry
-    requires { ⌜ Arriving state (now own) owncount (now opposite) oppositecount (now trades) o × (o .contract ≤ 4) ⌝ }
+    requires { ⌜ Arriving state (now own) owncount (now opposite) oppositecount (now trades) o ⌝ }
     ensures { λ r. ⌜ Arrived state (now (own .entry)) owncount (now (opposite .entry)) oppositecount (now (trades .entry)) o r (now (own .exit)) (now (opposite .exit)) (now (trades .exit)) ⌝ }
 {
     let t = taker_of(state.next, &opposite[..], oppositecount, o);

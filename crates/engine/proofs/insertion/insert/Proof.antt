@@ -1,118 +1,91 @@
+-- `insertion::insert` meets its contract: a refusal leaves all as it was, and each side enters by one law. The order of the two queues is that of the side. Assumes nothing.
+use mathlib.Core.Bool.{true, false}
+use mathlib.Core.Path.{sym, _∙_}
+use native.Mathlib.Omega.{arith}
 use borrow.Author.Needs.{needs}
+use Rattle.engine.proofs.Entering.{here, next-low, arriving, insert-accepted}
+use Rattle.engine.proofs.Inserting.{place-fits}
+use Rattle.engine.proofs.Outcomes.{refusal}
 use Rattle.engine.proofs.insertion.insert.Statement.{statement}
 use Rattle.engine.proofs.insertion.insert.Tie as tie
-use Rattle.engine.proofs.insertion.insert.Reads as reads
-use Rattle.engine.proofs.insertion.insert.Lts as lts
-use Rattle.engine.proofs.answers.accepted.Reads as accepted-reads
-use Rattle.engine.proofs.answers.refused.Reads as refused-reads
-use Rattle.engine.proofs.insertion.code.Reads as code-reads
-use Rattle.engine.proofs.insertion.enter.Reads as enter-reads
-use Rattle.engine.proofs.insertion.with_entry.Reads as with-entry-reads
-use Rattle.laws.proofs.wide.Reads as wide-reads
 
--- src/insertion.rt:432:9
 code-requires : tie.Need-code-requires
 code-requires c κs = search needs
 
--- src/insertion.rt:434:9
 refused-requires : tie.Need-refused-requires
 refused-requires c κs = search needs
 
--- src/insertion.rt:434:9
 same-length : tie.Need-same-length
 same-length c = search needs
 
--- src/insertion.rt:434:9
 same-length-2 : tie.Need-same-length-2
 same-length-2 c = search needs
 
--- src/insertion.rt:434:9
 same-length-3 : tie.Need-same-length-3
 same-length-3 c = search needs
 
--- src/insertion.rt:434:9
 returns : tie.Need-returns
-returns c = ?
+returns c = refusal _ _ _ _ _ _ (omega (arith, c .before .if1 .taken)) (sym (c .before .before .code .ensures)) (c .refused .ensures)
 
--- src/insertion.rt:436:13
 wide-requires : tie.Need-wide-requires
 wide-requires c κs = search needs
 
--- src/insertion.rt:436:13
 sub-c : tie.Need-sub-c
-sub-c c = ?
+sub-c c = omega (arith, c .wide .ensures, here (c .before .before .before .before .before .before .before .before .before .pre) (c .before .before .before .before .before .before .before .before .before .args .o) (sym (c .before .before .code .ensures) ∙ c .before .if1 .left) .contract-low)
 
--- src/insertion.rt:437:18
 mul-bought : tie.Need-mul-bought
 mul-bought c = search needs
 
--- src/insertion.rt:437:18
 element-copy-out-bought : tie.Need-element-copy-out-bought
-element-copy-out-bought c = ?
+element-copy-out-bought c = place-fits (c .before .before .before .before .before .before .before .before .before .pre) (c .before .before .before .before .before .before .before .before .before .args .o) (here (c .before .before .before .before .before .before .before .before .before .pre) (c .before .before .before .before .before .before .before .before .before .args .o) (sym (c .before .before .code .ensures) ∙ c .before .if1 .left)) (c .wide .ensures)
 
--- src/insertion.rt:438:16
 mul-sold : tie.Need-mul-sold
 mul-sold c = search needs
 
--- src/insertion.rt:438:16
 element-copy-out-sold : tie.Need-element-copy-out-sold
-element-copy-out-sold c = ?
+element-copy-out-sold c = place-fits (c .before .before .before .before .before .before .before .before .before .before .pre) (c .before .before .before .before .before .before .before .before .before .before .args .o) (here (c .before .before .before .before .before .before .before .before .before .before .pre) (c .before .before .before .before .before .before .before .before .before .before .args .o) (sym (c .before .before .before .code .ensures) ∙ c .before .before .if1 .left)) (c .before .wide .ensures)
 
--- src/insertion.rt:440:13
 enter-requires : tie.Need-enter-requires
-enter-requires c κs = ?
+enter-requires c κs = arriving (c .before .before .before .before .before .before .before .before .before .before .before .before .before .before .before .pre) (c .before .before .before .before .before .before .before .before .before .before .before .before .before .before .before .args .o) (sym (c .before .before .before .before .before .before .before .before .code .ensures) ∙ c .before .before .before .before .before .before .before .if1 .left) true (c .before .before .before .if2 .taken) (c .before .before .before .before .before .before .wide .ensures)
 
--- src/insertion.rt:441:13
 with-entry-requires : tie.Need-with-entry-requires
-with-entry-requires c κs = ?
+with-entry-requires c κs = (place-fits (c .before .before .before .before .before .before .before .before .before .before .before .before .before .before .before .before .before .before .before .before .before .before .pre) (c .before .before .before .before .before .before .before .before .before .before .before .before .before .before .before .before .before .before .before .before .before .before .args .o) (here (c .before .before .before .before .before .before .before .before .before .before .before .before .before .before .before .before .before .before .before .before .before .before .pre) (c .before .before .before .before .before .before .before .before .before .before .before .before .before .before .before .before .before .before .before .before .before .before .args .o) (sym (c .before .before .before .before .before .before .before .before .before .before .before .before .before .before .before .code .ensures) ∙ c .before .before .before .before .before .before .before .before .before .before .before .before .before .before .if1 .left)) (c .before .before .before .before .before .before .before .before .before .before .before .before .before .wide .ensures), next-low (c .before .before .before .before .before .before .before .before .before .before .before .before .before .before .before .before .before .before .before .before .before .before .pre) (c .before .before .before .before .before .before .before .before .before .before .before .before .before .before .before .before .before .before .before .before .before .before .args .o) (sym (c .before .before .before .before .before .before .before .before .before .before .before .before .before .before .before .code .ensures) ∙ c .before .before .before .before .before .before .before .before .before .before .before .before .before .before .if1 .left))
 
--- src/insertion.rt:442:9
 accepted-requires : tie.Need-accepted-requires
 accepted-requires c κs = search needs
 
--- src/insertion.rt:442:9
 same-length-4 : tie.Need-same-length-4
 same-length-4 c = search needs
 
--- src/insertion.rt:442:9
 same-length-5 : tie.Need-same-length-5
 same-length-5 c = search needs
 
--- src/insertion.rt:442:9
 same-length-6 : tie.Need-same-length-6
 same-length-6 c = search needs
 
--- src/insertion.rt:442:9
 returns-2 : tie.Need-returns-2
-returns-2 c = ?
+returns-2 c = insert-accepted (c .before .before .before .before .before .before .before .before .before .before .before .before .before .before .before .before .before .before .before .before .before .before .before .before .pre) (c .before .before .before .before .before .before .before .before .before .before .before .before .before .before .before .before .before .before .before .before .before .before .before .before .args .o) (sym (c .before .before .before .before .before .before .before .before .before .before .before .before .before .before .before .before .before .code .ensures) ∙ c .before .before .before .before .before .before .before .before .before .before .before .before .before .before .before .before .if1 .left) true (c .before .before .before .before .before .before .before .before .before .before .before .before .if2 .taken) (c .before .before .before .before .before .before .before .before .before .before .before .before .before .before .before .wide .ensures) (c .before .before .before .before .before .before .before .before .enter .ensures) (c .before .with-entry .ensures) (c .accepted .ensures)
 
--- src/insertion.rt:444:9
 enter-requires-2 : tie.Need-enter-requires-2
-enter-requires-2 c κs = ?
+enter-requires-2 c κs = arriving (c .before .before .before .before .before .before .before .before .before .before .before .before .before .before .before .pre) (c .before .before .before .before .before .before .before .before .before .before .before .before .before .before .before .args .o) (sym (c .before .before .before .before .before .before .before .before .code .ensures) ∙ c .before .before .before .before .before .before .before .if1 .left) false (c .before .before .before .if2 .left) (c .before .before .before .before .before .before .wide .ensures)
 
--- src/insertion.rt:445:9
 with-entry-requires-2 : tie.Need-with-entry-requires-2
-with-entry-requires-2 c κs = ?
+with-entry-requires-2 c κs = (place-fits (c .before .before .before .before .before .before .before .before .before .before .before .before .before .before .before .before .before .before .before .before .before .before .pre) (c .before .before .before .before .before .before .before .before .before .before .before .before .before .before .before .before .before .before .before .before .before .before .args .o) (here (c .before .before .before .before .before .before .before .before .before .before .before .before .before .before .before .before .before .before .before .before .before .before .pre) (c .before .before .before .before .before .before .before .before .before .before .before .before .before .before .before .before .before .before .before .before .before .before .args .o) (sym (c .before .before .before .before .before .before .before .before .before .before .before .before .before .before .before .code .ensures) ∙ c .before .before .before .before .before .before .before .before .before .before .before .before .before .before .if1 .left)) (c .before .before .before .before .before .before .before .before .before .before .before .before .before .wide .ensures), next-low (c .before .before .before .before .before .before .before .before .before .before .before .before .before .before .before .before .before .before .before .before .before .before .pre) (c .before .before .before .before .before .before .before .before .before .before .before .before .before .before .before .before .before .before .before .before .before .before .args .o) (sym (c .before .before .before .before .before .before .before .before .before .before .before .before .before .before .before .code .ensures) ∙ c .before .before .before .before .before .before .before .before .before .before .before .before .before .before .if1 .left))
 
--- src/insertion.rt:446:5
 accepted-requires-2 : tie.Need-accepted-requires-2
 accepted-requires-2 c κs = search needs
 
--- src/insertion.rt:422:1
 same-length-7 : tie.Need-same-length-7
 same-length-7 c = search needs
 
--- src/insertion.rt:422:1
 same-length-8 : tie.Need-same-length-8
 same-length-8 c = search needs
 
--- src/insertion.rt:422:1
 same-length-9 : tie.Need-same-length-9
 same-length-9 c = search needs
 
--- src/insertion.rt:422:1
 returns-3 : tie.Need-returns-3
-returns-3 c = ?
+returns-3 c = insert-accepted (c .before .before .before .before .before .before .before .before .before .before .before .before .before .before .before .before .before .before .before .before .before .before .before .before .pre) (c .before .before .before .before .before .before .before .before .before .before .before .before .before .before .before .before .before .before .before .before .before .before .before .before .args .o) (sym (c .before .before .before .before .before .before .before .before .before .before .before .before .before .before .before .before .before .code .ensures) ∙ c .before .before .before .before .before .before .before .before .before .before .before .before .before .before .before .before .if1 .left) false (c .before .before .before .before .before .before .before .before .before .before .before .before .if2 .left) (c .before .before .before .before .before .before .before .before .before .before .before .before .before .before .before .wide .ensures) (c .before .before .before .before .before .before .before .before .enter2 .ensures) (c .before .with-entry2 .ensures) (c .accepted2 .ensures)
 
 pub insert-spec : {M : Type 1} → statement M
 insert-spec =
