@@ -120,21 +120,19 @@ module _ (account : ℕ) (start : List ℕ) (c n : ℕ) (room : 320 * c + 5 * n 
           queue = written;
         }
 
-  -- all are read, and the places behind those kept are cleared
+  -- the places behind those kept are cleared
+  cleared : (s e : ℕ) (part : List ℕ) → s ≡ 320 * c + 5 * kept → e ≡ 320 * c + 5 * n → part ≡ replicate (length (take (e - s) (drop s area))) 0
+      → putMid s (e - s) area part ≡ putQueue start c n (keptOf account start c n i)
+  unfolding putQueue padded
+  cleared s e part es ee ep =
+      let few : kept ≤ n = omega (arith, p .fewer, p .within) in
+      let free : e - s ≡ 5 * (n - kept) = omega arith in
+      let zeros : replicate (e - s) 0 ≡ encode orderWords (replicate (n - kept) noOrder) = rw (free, encode-zeros order-codec (n - kept) noOrder refl) in
+      rw (lent-zeros area part s e (omega arith) (omega (arith, p .long)) ep, zeros, behind s (replicate (n - kept) noOrder) es, p .count)
+
+  -- all are read
   pub pull-end : (s e : ℕ) (part : List ℕ) → n ≤ i → s ≡ 320 * c + 5 * kept → e ≡ 320 * c + 5 * n → part ≡ replicate (length (take (e - s) (drop s area))) 0
       → PulledIs account start c n (record { count = kept; lots = lots }) (putMid s (e - s) area part)
-  unfolding putQueue padded
   pull-end s e part all es ee ep =
-      let few : kept ≤ i = p .fewer in
-      let size : kept ≡ length (keptOf account start c n i) = p .count in
       let read : take i (queueIn start c n) ≡ queueIn start c n = take-all i (queueIn start c n) (rw (length-queue start c n) all) in
-      let free : e - s ≡ 5 * (n - kept) = omega (arith, p .within) in
-      let cleared : putMid s (e - s) area part ≡ store orderWords start (320 * c) (keptOf account start c n i ++ replicate (n - kept) noOrder) =
-      lent-zeros area part s e (omega (arith, p .within)) (omega (arith, p .long)) ep
-      ∙ ap (over area s) (ap (λ (k : ℕ). replicate k 0) free ∙ sym (encode-zeros order-codec (n - kept) noOrder refl))
-      ∙ behind s (replicate (n - kept) noOrder) es in
-      record {
-        queue = cleared ∙ ap (λ (k : ℕ). store orderWords start (320 * c) (keptOf account start c n i ++ replicate (n - k) noOrder)) size ∙ rw read;
-        count = size ∙ rw read;
-        lots = p .pulled ∙ rw read;
-      }
+      record { queue = cleared s e part es ee ep ∙ rw read; count = p .count ∙ rw read; lots = p .pulled ∙ rw read }

@@ -19,7 +19,7 @@ use Rattle.rules.specs.WellFormed.{wellFormedContents}
 use Rattle.rules.specs.declared.Account.{Account}
 use Rattle.rules.specs.declared.State.{State}
 use Rattle.invariants.proofs.Clauses.{WellFormed, well-formed}
-use Rattle.invariants.proofs.Tests.{passed}
+use Rattle.accounting.proofs.Facts.{passed}
 use Rattle.engine.specs.Outcome.{isAbsent, memory, WellFormedState}
 use Rattle.engine.proofs.Accounts.{put-account-set, same-room, same-room-put, used-at, used-holding}
 use Rattle.engine.proofs.Tests.{place-below}

@@ -1,17 +1,17 @@
 -- What an accepted command has passed: code 0 says that every refusal of its kind failed. Assumes nothing.
-use mathlib.Core.Bool.{Bool, true, false, not, _&&_, _||_}
+use mathlib.Core.Bool.{Bool, true, false}
 use mathlib.Core.List.{List, [], _∷_}
 use mathlib.Core.Logic.{_≢_}
-use mathlib.Core.Path.{_≡_, refl, sym}
-use Prim.Native.Nat.{ℕ, zero, suc, _+_, _-_, _<_, _≤_}
+use mathlib.Core.Path.{_≡_, refl}
+use Prim.Native.Nat.{ℕ, _<_}
 use native.Mathlib.Omega.{arith}
-use borrow.Author.Tests.{eqb-true, eqb-false, ltb-false, leb-true, not-false, leb-false}
-use lib.Dec.{leb, ltb, eqb}
+use borrow.Author.Tests.{eqb-true, eqb-false, ltb-false}
+use lib.Dec.{ltb, eqb}
 use lib.ListN.{length}
-use Rattle.laws.specs.Choice.{pick, either-false, both-true}
-use Rattle.rules.specs.Answers.{Refusal, _when_, firstOf, refusals, codeOf, depositRefusals, withdrawRefusals, insertRefusals, cancelRefusals, pullRefusals, phaseRefusals, settleRefusals}
+use Rattle.laws.specs.Choice.{either-false}
+use Rattle.rules.specs.Answers.{Refusal, _when_, firstOf, codeOf}
 use Rattle.rules.specs.Exchange.{Exchange, absent, placeOf}
-use Rattle.rules.specs.Step.{Stepped, step, carriedOut}
+use Rattle.rules.specs.Step.{step, carriedOut}
 use Rattle.rules.specs.declared.Command.{Command}
 
 -- ---- the tests of a list of refusals all failed

@@ -1,8 +1,8 @@
 -- A clause carried from one state to the next where what it depends on has not changed. Assumes nothing.
-use mathlib.Core.Bool.{Bool, true, false}
+use mathlib.Core.Bool.{true}
 use mathlib.Core.List.{List}
 use mathlib.Core.Path.{_≡_}
-use Prim.Native.Nat.{ℕ, _<_, _≤_}
+use Prim.Native.Nat.{ℕ, _≤_}
 use native.Mathlib.Omega.{arith}
 use lib.ListN.{length}
 use Rattle.laws.specs.Choice.{allOf, allOf-imp}
@@ -12,7 +12,7 @@ use Rattle.rules.specs.WellFormed.{orderInRange, tradeInRange}
 use Rattle.rules.specs.declared.Contract.{Contract}
 use Rattle.rules.specs.declared.Order.{Order}
 use Rattle.rules.specs.declared.Trade.{Trade}
-use Rattle.invariants.proofs.Clauses.{OrderOk, order-ok, order-test, TradeOk, trade-ok, trade-test}
+use Rattle.invariants.proofs.Clauses.{order-ok, order-test, trade-ok, trade-test}
 
 -- the same prices are allowed
 abbrev pub Allows : Contract → Contract → Type 0

@@ -1,17 +1,16 @@
 -- The contract after an accepted insert: its last price is a tick multiple and its queues are in order. Assumes nothing.
-use mathlib.Core.Bool.{Bool, true, false, not, _&&_, true≢false, false≢true}
-use mathlib.Core.List.{List, [], _∷_, _++_}
-use mathlib.Core.Logic.{_⊎_, inl, inr, ⊎-elim}
-use mathlib.Core.Path.{_≡_, refl, sym, ap, _∙_}
-use Prim.Native.Nat.{ℕ, zero, suc, _+_, _-_, _<_, _≤_}
+use mathlib.Core.Bool.{Bool, true, false, not, false≢true}
+use mathlib.Core.List.{List, [], _∷_}
+use mathlib.Core.Path.{_≡_, refl}
+use Prim.Native.Nat.{ℕ, _+_, _-_, _<_, _≤_}
 use native.Mathlib.Omega.{arith}
-use borrow.Author.Tests.{leb-true, le-leb, lt-ltb}
-use lib.Dec.{leb, ltb, eqb}
+use borrow.Author.Tests.{lt-ltb}
+use lib.Dec.{leb, ltb}
 use lib.ListN.{length}
-use Rattle.laws.specs.Choice.{pick, allOf, allOf-imp}
+use Rattle.laws.specs.Choice.{allOf, allOf-imp}
 use Rattle.rules.specs.Answers.{isGoodForDay, isLimit, mark, listingOf, takerOf}
 use Rattle.rules.specs.Bounds.{onTick, tickMultiple, termsInRange, allowedToday, dayLow, dayHigh}
-use Rattle.rules.specs.Exchange.{Exchange, Listing, listingAt, placeOf, own, opposite, withQueues}
+use Rattle.rules.specs.Exchange.{Exchange, placeOf, own, opposite}
 use Rattle.rules.specs.Matching.{Swept, sweep, tradedLots, lastPrice, remainder, restLots, restedLots, enter}
 use Rattle.rules.specs.Step.{withLast, limitOf, enteredOf, listingAfter}
 use Rattle.rules.specs.WellFormed.{contractInRange, orderInRange}
@@ -20,17 +19,16 @@ use Rattle.rules.specs.declared.NewOrder.{NewOrder}
 use Rattle.rules.specs.declared.Order.{Order}
 use Rattle.rules.specs.declared.PriceCondition.{PriceCondition}
 use Rattle.rules.specs.declared.PriceCondition.the-variants.{Limit, Market, Best}
-use Rattle.rules.specs.declared.Taker.{Taker}
 use Rattle.rules.specs.declared.Trade.{Trade}
-use Rattle.rules.proofs.Fillable.{swept-at-most}
 use Rattle.rules.proofs.Prices.{swept-allowed, last-test}
 use Rattle.rules.proofs.Rest.{rest-sorted, uncrossedFrom, entered-uncrossed}
 use Rattle.invariants.proofs.Carry.{Allows, orders-carried}
-use Rattle.invariants.proofs.Clauses.{OrderOk, order-ok, order-test, ListingOk, WellFormed}
+use Rattle.invariants.proofs.Clauses.{order-ok, order-test, ListingOk, WellFormed}
 use Rattle.invariants.proofs.InsertAccepted.{Passes}
 use Rattle.invariants.proofs.InsertQueues.{SidesOk, listing-sides, sides-listing, rested-all, rested-sorted, rest-orders}
-use Rattle.invariants.proofs.Tests.{passed, join}
-use Rattle.invariants.proofs.Ticks.{Multiple, multiple, multiple-test, allowed-multiple}
+use Rattle.accounting.proofs.Facts.{passed}
+use Rattle.invariants.proofs.Tests.{join}
+use Rattle.invariants.proofs.Ticks.{multiple, multiple-test, allowed-multiple}
 
 -- ---- the contract with another last price
 
@@ -94,7 +92,8 @@ module _ (x : Exchange) (k : WellFormed x) (o : NewOrder) (p : Passes x o) where
   unfolding takerOf
   trade-prices =
       swept-allowed contractOf (takerOf x o) (o .lots) (contractOf .last) (opposite (o .sell) (listingOf x o)) (p .price) last-on-tick
-      (allOf-imp (orderInRange (length (x .accounts)) (x .next) contractOf) (λ r. allowedToday contractOf (r .price)) (opposite (o .sell) (listingOf x o))
+      (allOf-imp (orderInRange (length (x .accounts)) (x .next) contractOf) (λ r. allowedToday contractOf (r .price))
+      (opposite (o .sell) (listingOf x o))
       (λ r h. order-ok (length (x .accounts)) (x .next) contractOf r h .price) (sides .others-orders))
 
   abbrev pub contractAfter : Contract
@@ -114,7 +113,8 @@ module _ (x : Exchange) (k : WellFormed x) (o : NewOrder) (p : Passes x o) where
   pub rested-left : rested ≤ o .lots - tradedLots (swept .trades)
   rested-left = rested-most (isGoodForDay (o .time)) (o .lots) (swept .trades)
 
-  remainder-ok : 0 < rested → orderInRange (length (x .accounts)) (x .next + 1) contractAfter (remainder (takerOf x o) (limitOf (o .condition)) rested) ≡ true
+  remainder-ok : 0 < rested →
+      orderInRange (length (x .accounts)) (x .next + 1) contractAfter (remainder (takerOf x o) (limitOf (o .condition)) rested) ≡ true
   unfolding takerOf remainder
   remainder-ok some =
       order-test (length (x .accounts)) (x .next + 1) contractAfter (remainder (takerOf x o) (limitOf (o .condition)) rested)
@@ -122,19 +122,25 @@ module _ (x : Exchange) (k : WellFormed x) (o : NewOrder) (p : Passes x o) where
         lots-low = some;
         lots-high = omega (arith, rested-left, p .lots-high);
         account = p .account;
-        price = allows-last contractOf (lastPrice (contractOf .last) (swept .trades)) (limitOf (o .condition)) (p .price (limitOf (o .condition)) (limit-rests some));
+        price =
+            allows-last contractOf (lastPrice (contractOf .last) (swept .trades)) (limitOf (o .condition))
+            (p .price (limitOf (o .condition)) (limit-rests some));
         number-low = k .next-low;
         number-high = omega arith;
         close = mark-low (o .close);
       })
 
-  carried : (queue : List Order) → allOf (orderInRange (length (x .accounts)) (x .next) contractOf) queue ≡ true → allOf (orderInRange (length (x .accounts)) (x .next + 1) contractAfter) queue ≡ true
-  carried = orders-carried (length (x .accounts)) (x .next) (x .next + 1) contractOf contractAfter (omega arith) (allows-last contractOf (lastPrice (contractOf .last) (swept .trades)))
+  carried : (queue : List Order) → allOf (orderInRange (length (x .accounts)) (x .next) contractOf) queue ≡ true →
+      allOf (orderInRange (length (x .accounts)) (x .next + 1) contractAfter) queue ≡ true
+  carried =
+      orders-carried (length (x .accounts)) (x .next) (x .next + 1) contractOf contractAfter (omega arith)
+      (allows-last contractOf (lastPrice (contractOf .last) (swept .trades)))
 
   uncrossed-after : uncrossedFrom (o .sell) (restLots (takerOf x o) (limitOf (o .condition)) rested (own (o .sell) (listingOf x o))) (swept .rest) ≡ true
   unfolding takerOf enter
   uncrossed-after =
-      entered-uncrossed (takerOf x o) (o .lots) (limitOf (o .condition)) (isGoodForDay (o .time)) (contractOf .last) (own (o .sell) (listingOf x o)) (opposite (o .sell) (listingOf x o))
+      entered-uncrossed (takerOf x o) (o .lots) (limitOf (o .condition)) (isGoodForDay (o .time)) (contractOf .last)
+      (own (o .sell) (listingOf x o)) (opposite (o .sell) (listingOf x o))
       (λ g. is-limit (o .condition) (p .limited g)) (sides .others-sorted) (sides .sides-uncrossed)
 
   sides-after : SidesOk (length (x .accounts)) (x .next + 1) contractAfter (o .sell) (restLots (takerOf x o) (limitOf (o .condition)) rested (own (o .sell) (listingOf x o))) (swept .rest)
@@ -144,10 +150,16 @@ module _ (x : Exchange) (k : WellFormed x) (o : NewOrder) (p : Passes x o) where
         mine-sorted = rested-sorted (takerOf x o) (limitOf (o .condition)) rested (own (o .sell) (listingOf x o)) (sides .mine-sorted)
             (allOf-imp (orderInRange (length (x .accounts)) (x .next) contractOf) (λ r. ltb (r .number) (x .next)) (own (o .sell) (listingOf x o))
             (λ r h. lt-ltb (r .number) (x .next) (order-ok (length (x .accounts)) (x .next) contractOf r h .number-high)) (sides .mine-orders));
-        others-sorted = rest-sorted (not (o .sell)) (takerOf x o) (o .lots) (contractOf .last) (opposite (o .sell) (listingOf x o)) (sides .others-sorted);
+        others-sorted =
+            rest-sorted (not (o .sell)) (takerOf x o) (o .lots) (contractOf .last) (opposite (o .sell) (listingOf x o)) (sides .others-sorted);
         sides-uncrossed = uncrossed-after;
-        mine-orders = rested-all (takerOf x o) (limitOf (o .condition)) _ rested (own (o .sell) (listingOf x o)) remainder-ok (carried (own (o .sell) (listingOf x o)) (sides .mine-orders));
-        others-orders = carried (swept .rest) (rest-orders (length (x .accounts)) (x .next) contractOf (takerOf x o) (o .lots) (contractOf .last) (opposite (o .sell) (listingOf x o)) (sides .others-orders));
+        mine-orders =
+            rested-all (takerOf x o) (limitOf (o .condition)) _ rested (own (o .sell) (listingOf x o)) remainder-ok
+            (carried (own (o .sell) (listingOf x o)) (sides .mine-orders));
+        others-orders =
+            carried (swept .rest)
+            (rest-orders (length (x .accounts)) (x .next) contractOf (takerOf x o) (o .lots) (contractOf .last)
+            (opposite (o .sell) (listingOf x o)) (sides .others-orders));
       }
 
   pub listing-after : ListingOk (length (x .accounts)) (x .next + 1) (listingAfter (listingOf x o) (o .sell) (enteredOf x o))

@@ -1,16 +1,9 @@
 -- EVERY STEP KEEPS A WELL-FORMED STATE WELL FORMED, and its counts in range. Assumes nothing.
-use mathlib.Core.Bool.{Bool, true, false}
-use mathlib.Core.Path.{_≡_, refl}
-use Prim.Native.Nat.{ℕ, _<_, _≤_}
-use lib.IntN.{_+ℤ_}
-use lib.ListN.{length}
-use Rattle.laws.specs.Bound.{Within}
+use mathlib.Core.Bool.{true}
+use mathlib.Core.Path.{_≡_}
 use Rattle.rules.specs.Answers.{codeOf}
-use Rattle.rules.specs.Bounds.{maxContracts, maxTrades, maxDayProfit}
 use Rattle.rules.specs.Exchange.{Exchange}
-use Rattle.rules.specs.Settlement.{closingProfit, holdingProfit}
 use Rattle.rules.specs.Step.{step, carriedOut}
-use Rattle.accounting.proofs.ProfitBound.{day-profit-within}
 use Rattle.rules.specs.WellFormed.{wellFormedContents}
 use Rattle.rules.specs.declared.Command.{Command}
 use Rattle.rules.specs.declared.Command.the-variants.{Malformed, Deposit, Withdraw, Insert, Cancel, Pull, Phase, Settle}
@@ -27,22 +20,21 @@ pub record Sound (x : Exchange) : Type 0 where
   pub contents : WellFormed x
   pub counts : Counted x
 
--- a settlement's profit stays within its bound
-bounded : (x : Exchange) → Sound x → (a : ℕ) → a < length (x .accounts) → Within maxDayProfit (closingProfit x a +ℤ holdingProfit x a)
-bounded x k a l = day-profit-within x (well-formed-test x (k .contents)) (k .counts .contracts) (k .counts .trades) a l
-
 -- an accepted command
 pub carried-keeps : (x : Exchange) (command : Command) → Sound x → codeOf x command ≡ 0 → Sound (carriedOut x command .exchange)
 carried-keeps x Malformed k e = unfold carriedOut in k
-carried-keeps x (Deposit account amount) k e = record { contents = deposit-keeps x (k .contents) account amount e; counts = deposit-counted x account amount (k .counts) }
-carried-keeps x (Withdraw account amount) k e = record { contents = withdraw-keeps x (k .contents) account amount e; counts = withdraw-counted x account amount (k .counts) }
+carried-keeps x (Deposit account amount) k e =
+    record { contents = deposit-keeps x (k .contents) account amount e; counts = deposit-counted x account amount (k .counts) }
+carried-keeps x (Withdraw account amount) k e =
+    record { contents = withdraw-keeps x (k .contents) account amount e; counts = withdraw-counted x account amount (k .counts) }
 carried-keeps x (Insert o) k e = record { contents = insert-keeps x o e (k .contents); counts = insert-counted x o e (k .contents) (k .counts) }
 carried-keeps x (Cancel account contract operator number) k e =
     record { contents = cancel-keeps x account contract operator number e (k .contents); counts = cancel-counted x account contract operator number e (k .counts) }
 carried-keeps x (Pull account contract operator) k e =
     record { contents = pull-keeps x account contract operator e (k .contents); counts = pull-counted x account contract operator e (k .counts) }
-carried-keeps x (Phase contract phase) k e = record { contents = phase-keeps x contract phase e (k .contents); counts = phase-counted x contract phase e (k .counts) }
-carried-keeps x Settle k e = record { contents = settle-keeps x e (bounded x k) (k .contents); counts = settle-counted x e (k .contents) (k .counts) }
+carried-keeps x (Phase contract phase) k e =
+    record { contents = phase-keeps x contract phase e (k .contents); counts = phase-counted x contract phase e (k .counts) }
+carried-keeps x Settle k e = record { contents = settle-keeps x e (k .contents) (k .counts); counts = settle-counted x e (k .contents) (k .counts) }
 
 -- any command: a refusal changes nothing
 pub step-keeps : (x : Exchange) (command : Command) → Sound x → Sound (step x command .exchange)

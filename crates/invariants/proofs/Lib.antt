@@ -10,6 +10,7 @@ pub mod Phases
 pub mod Sorting
 pub mod Removal
 pub mod Ticks
+pub mod FreshDay
 pub mod Settle
 pub mod Legs
 pub mod SweptHoldings
@@ -19,3 +20,8 @@ pub mod InsertQueues
 pub mod InsertListing
 pub mod Insert
 pub mod Keeps
+pub mod MemoryRoom
+pub mod MemoryLaws
+pub mod MemoryKeeps
+pub mod Opening
+pub mod Condition3

@@ -1,12 +1,12 @@
 -- "Used once over all queues", by counting: a number is used once if it occurs at most once, and a change of one contract's
 -- queues changes the counts there alone. Assumes nothing.
-use mathlib.Core.Bool.{Bool, true, false, not, false≢true}
+use mathlib.Core.Bool.{Bool, true, false, not}
 use mathlib.Core.List.{List, [], _∷_, _++_}
-use mathlib.Core.Path.{_≡_, refl, sym, _∙_}
-use Prim.Native.Nat.{ℕ, zero, suc, _+_, _<_, _≤_}
+use mathlib.Core.Path.{_≡_, refl, _∙_}
+use Prim.Native.Nat.{ℕ, _+_, _<_, _≤_}
 use native.Mathlib.Omega.{arith}
 use borrow.Author.Tests.{eqb-true, eq-eqb, ne-eqb, not-true}
-use lib.Dec.{eqb, ltb}
+use lib.Dec.{eqb}
 use lib.ListN.{length, getD, set}
 use Rattle.laws.specs.Choice.{pick, allOf, both-true, true-both}
 use Rattle.laws.specs.Sums.{sumOf, sumOf-append, sumOf-set, sumOf-bound}
@@ -14,7 +14,7 @@ use Rattle.rules.specs.Exchange.{Listing, noListing}
 use Rattle.rules.specs.WellFormed.{orderInRange, numbers, allNumbers, usedOnce}
 use Rattle.rules.specs.declared.Contract.{Contract}
 use Rattle.rules.specs.declared.Order.{Order}
-use Rattle.invariants.proofs.Clauses.{OrderOk, order-ok, ListingOk}
+use Rattle.invariants.proofs.Clauses.{order-ok, ListingOk}
 
 -- how often a number occurs in a list, in a queue, in a contract's two queues
 unfoldable pub occurs : ℕ → List ℕ → ℕ
@@ -100,9 +100,15 @@ uses-none accounts next c (o ∷ os) h =
     let l = order-ok accounts next c o (p .0) .number-high in
     rw (ne-eqb next (o .number) (λ e. let z : _≡_ {A = ℕ} next (o .number) = e in omega arith)) (omega (arith, uses-none accounts next c os (p .1)))
 
-pub next-unused : (accounts next : ℕ) (ms : List Listing) → ((c : ℕ) → c < length ms → ListingOk accounts next (getD ms c noListing)) → occurs next (allNumbers ms) ≡ 0
+pub next-unused : (accounts next : ℕ) (ms : List Listing) → ((c : ℕ) → c < length ms → ListingOk accounts next (getD ms c noListing)) →
+    occurs next (allNumbers ms) ≡ 0
 unfolding usesIn
 next-unused accounts next ms ok =
     let none : (c : ℕ) → c < length ms → usesIn next (getD ms c noListing) ≤ 0 =
-    λ c l. omega (arith, uses-none accounts next _ (getD ms c noListing .buys) (ok c l .orders false), uses-none accounts next _ (getD ms c noListing .sells) (ok c l .orders true)) in
+    λ c l. omega (
+      arith,
+      uses-none accounts next _ (getD ms c noListing .buys) (ok c l .orders false),
+      uses-none accounts next _
+          (getD ms c noListing .sells) (ok c l .orders true),
+    ) in
     omega (arith, all-uses next ms, sumOf-bound (usesIn next) 0 ms noListing none)

@@ -1,7 +1,7 @@
 -- A change of a contract's state keeps the exchange's state well formed. Assumes nothing.
-use mathlib.Core.Bool.{Bool, true, false, not, _&&_, _||_, false≢true}
-use mathlib.Core.List.{List, [], _∷_}
-use mathlib.Core.Path.{_≡_, refl, sym}
+use mathlib.Core.Bool.{Bool, true, false, false≢true}
+use mathlib.Core.List.{[], _∷_}
+use mathlib.Core.Path.{_≡_, refl}
 use Prim.Native.Nat.{ℕ, _<_, _≤_}
 use native.Mathlib.Nat.{le-refl}
 use native.Mathlib.Omega.{arith}
@@ -11,17 +11,18 @@ use lib.ListN.{length}
 use Rattle.laws.specs.Choice.{both-false}
 use Rattle.rules.specs.Answers.{codeOf, refusals, phaseRefusals, changeListed}
 use Rattle.rules.specs.Bounds.{termsInRange, tickMultiple, allowedToday, dayLow, dayHigh}
-use Rattle.rules.specs.Exchange.{Exchange, Listing, listingAt, placeOf, own}
+use Rattle.rules.specs.Exchange.{Exchange, Listing, placeOf, own}
 use Rattle.rules.specs.Step.{withContract, withPhase, phaseChanged, carriedOut}
 use Rattle.rules.specs.WellFormed.{contractInRange}
 use Rattle.rules.specs.declared.Contract.{Contract}
 use Rattle.rules.specs.declared.Command.the-variants.{Phase}
 use Rattle.invariants.proofs.Accepted.{failed, present}
 use Rattle.invariants.proofs.Carry.{Allows, orders-carried}
-use Rattle.invariants.proofs.Clauses.{ListingOk, HoldingOk, WellFormed, Counted}
+use Rattle.invariants.proofs.Clauses.{ListingOk, WellFormed, Counted}
 use Rattle.invariants.proofs.Numbers.{usesIn}
 use Rattle.invariants.proofs.OneListing.{relisted-keeps, relisted-counted}
-use Rattle.invariants.proofs.Tests.{passed, join}
+use Rattle.accounting.proofs.Facts.{passed}
+use Rattle.invariants.proofs.Tests.{join}
 
 -- a listed change leads to one of the four states
 known : (from to : ℕ) → changeListed from to ≡ true → to ≤ 3
@@ -35,7 +36,15 @@ known from to h = go (leb to 3) refl
     go true e = leb-true to 3 e
     go false e =
         let l = leb-false to 3 e in
-        absurd (false≢true (rw (other 1 l (omega arith), other 2 l (omega arith), other 3 l (omega arith), both-false (eqb from 0) false refl, both-false (eqb from 1) false refl, both-false (eqb from 2) false refl) at h))
+        absurd (false≢true (rw (
+          other 1 l (omega arith),
+          other 2 l (omega arith),
+          other 3 l (omega arith),
+          both-false (eqb from 0) false refl,
+          both-false
+              (eqb from 1) false refl,
+          both-false (eqb from 2) false refl,
+        ) at h))
 
 -- the prices allowed do not depend on the state
 pub allows-phase : (c : Contract) (phase : ℕ) → Allows c (withPhase c phase)
@@ -55,7 +64,9 @@ module _ (accounts next : ℕ) (m : Listing) (phase : ℕ) (l : phase ≤ 3) whe
         contract = contract-phase (m .contract) phase l (k .contract);
         order = k .order;
         apart = k .apart;
-        orders = λ sell. orders-carried accounts next next (m .contract) (withPhase (m .contract) phase) (le-refl next) (allows-phase (m .contract) phase) (own sell m) (k .orders sell);
+        orders =
+            λ sell. orders-carried accounts next next (m .contract) (withPhase (m .contract) phase) (le-refl next)
+            (allows-phase (m .contract) phase) (own sell m) (k .orders sell);
       }
 
 module _ (x : Exchange) (contract phase : ℕ) (e : codeOf x (Phase contract phase) ≡ 0) where

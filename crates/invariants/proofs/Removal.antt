@@ -1,26 +1,25 @@
 -- A cancel and a pull keep the state well formed: orders are taken out of a contract's queues, and nothing else changes.
 -- Assumes nothing.
-use mathlib.Core.Bool.{Bool, true, false, not, _&&_, _||_, false≢true}
+use mathlib.Core.Bool.{Bool, true, false, _&&_}
 use mathlib.Core.List.{List, [], _∷_}
-use mathlib.Core.Path.{_≡_, refl, sym}
-use Prim.Native.Nat.{ℕ, suc, _+_, _<_, _≤_}
-use native.Mathlib.Nat.{le-refl}
+use mathlib.Core.Path.{_≡_, refl}
+use Prim.Native.Nat.{ℕ, _+_, _<_, _≤_}
 use native.Mathlib.Omega.{arith}
-use lib.Dec.{leb, eqb, ltb}
+use lib.Dec.{eqb}
 use lib.ListN.{length}
 use Rattle.laws.specs.Choice.{pick, allOf, allOf-imp, both-true, true-both}
 use Rattle.laws.specs.Sums.{sumOf}
 use Rattle.rules.specs.Answers.{codeOf, refusals, cancelRefusals, pullRefusals}
 use Rattle.rules.specs.Exchange.{Exchange, Listing, listingAt, placeOf, own, lotsWhere, resting}
 use Rattle.rules.specs.Step.{without, listingWithout, hasNumber, isOf, removed, cancelled, pulled, carriedOut}
-use Rattle.rules.specs.WellFormed.{ahead, aheadOfFirst, sorted, uncrossed, orderInRange}
+use Rattle.rules.specs.WellFormed.{ahead, sorted, orderInRange}
 use Rattle.rules.specs.declared.Order.{Order}
 use Rattle.rules.specs.declared.Holding.{Holding}
 use Rattle.rules.specs.declared.Command.the-variants.{Cancel, Pull}
 use Rattle.rules.proofs.Queue.{length-without}
 use Rattle.rules.proofs.Sorted.{sorted-tail}
 use Rattle.invariants.proofs.Accepted.{failed, present}
-use Rattle.invariants.proofs.Clauses.{ListingOk, HoldingOk, WellFormed, Counted, held}
+use Rattle.invariants.proofs.Clauses.{ListingOk, HoldingOk, WellFormed, Counted}
 use Rattle.invariants.proofs.Numbers.{uses, usesIn}
 use Rattle.invariants.proofs.OneListing.{relisted-keeps, relisted-counted}
 use Rattle.invariants.proofs.Sorting.{sorted-ahead, ahead-sorted, below, apart, uncrossed-apart, apart-uncrossed}
@@ -78,7 +77,9 @@ module _ (test : Order → Bool) where
         record {
           contract = k .contract;
           order = λ sell. rw (own-without m sell) (without-sorted sell (own sell m) (k .order sell));
-          apart = apart-uncrossed (without test (m .buys)) (without test (m .sells)) (without-apart (m .buys) (m .sells) (uncrossed-apart (m .buys) (m .sells) (k .order false) (k .order true) (k .apart)));
+          apart =
+              apart-uncrossed (without test (m .buys)) (without test (m .sells))
+              (without-apart (m .buys) (m .sells) (uncrossed-apart (m .buys) (m .sells) (k .order false) (k .order true) (k .apart)));
           orders = λ sell. rw (own-without m sell) (without-all (orderInRange accounts next (m .contract)) (own sell m) (k .orders sell));
         }
 
@@ -103,12 +104,14 @@ module _ (test : Order → Bool) where
     removed-keeps : WellFormed x → WellFormed (removed x c test number .exchange)
     unfolding removed
     removed-keeps k =
-        relisted-keeps x k c there (listingWithout test (listingAt x c)) (listing-without _ _ _ (k .listing c there)) (λ p h. h) (λ a h. holding-without (listingAt x c) a h) (fewer (listingAt x c))
+        relisted-keeps x k c there (listingWithout test (listingAt x c)) (listing-without _ _ _ (k .listing c there)) (λ p h. h)
+        (λ a h. holding-without (listingAt x c) a h) (fewer (listingAt x c))
 
     removed-counted : Counted x → Counted (removed x c test number .exchange)
     unfolding removed
     removed-counted n =
-        relisted-counted x c there (listingWithout test (listingAt x c)) n (λ sell. rw (own-without (listingAt x c) sell) (length-without test (own sell (listingAt x c))))
+        relisted-counted x c there (listingWithout test (listingAt x c)) n
+        (λ sell. rw (own-without (listingAt x c) sell) (length-without test (own sell (listingAt x c))))
 
 module _ (x : Exchange) (account contract : ℕ) (operator : Bool) where
   module _ (number : ℕ) (e : codeOf x (Cancel account contract operator number) ≡ 0) where

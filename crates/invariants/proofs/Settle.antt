@@ -1,37 +1,35 @@
 -- A settlement keeps a state well formed: its price is a tick multiple, holdings become starting ones, and each balance takes a
--- day's profit. Takes the bound of a day's profit from the caller. Assumes nothing.
-use mathlib.Core.Bool.{Bool, true, false, not, _&&_}
-use mathlib.Core.List.{List, [], _∷_, _++_, map}
-use mathlib.Core.Path.{_≡_, refl, sym, ap, _∙_}
-use Prim.Native.Nat.{ℕ, zero, suc, _+_, _*_, _<_, _≤_}
+-- day's profit, which accounting bounds. Assumes nothing.
+use mathlib.Core.Bool.{Bool, true, false, _&&_}
+use mathlib.Core.List.{List, [], _∷_, map}
+use mathlib.Core.Path.{_≡_, refl, ap}
+use Prim.Native.Nat.{ℕ, _+_, _<_, _≤_}
 use native.Mathlib.Omega.{arith}
-use borrow.Author.Tests.{leb-true, leb-false, le-leb, eqb-true}
+use borrow.Author.Tests.{leb-false, le-leb, eqb-true}
 use lib.Dec.{leb, eqb}
-use lib.IntN.{ℤ, pos, _+ℤ_, natAbs}
 use lib.ListN.{length, getD, List·getD-map}
-use Rattle.laws.specs.Bound.{Within, within-abs, abs-within, within-add, within-le}
 use Rattle.laws.specs.Choice.{pick, allOf, allOf-imp, both-true, true-both}
 use Rattle.laws.specs.Sums.{sumOf}
-use Rattle.laws.specs.Tabulate.{tabulate, length-tabulate, getD-tabulate}
 use Rattle.rules.specs.Answers.{codeOf, refusals, settleRefusals}
-use Rattle.rules.specs.Bounds.{within, tickMultiple, termsInRange, maxPrice, maxResting, maxSettlements, maxBalance, maxDayProfit}
-use Rattle.rules.specs.Exchange.{Exchange, Listing, listingAt, accountAt, holdingAt, own, noListing, noAccount, noHolding, lotsWhere, resting}
-use Rattle.rules.specs.Holdings.{bookTrades, neverBelowZero, startHolding, startAccount, startOfDay}
-use Rattle.rules.specs.Matching.{middle, tradedLots}
-use Rattle.rules.specs.Settlement.{tradesIn, weightedPrice, quotedPrice, priceFrom, settlementPrice, closingProfit, holdingProfit, carriedHolding, settledAccount, settledContract, settledListing, settled}
+use Rattle.rules.specs.Bounds.{within, tickMultiple, termsInRange, maxPrice, maxSettlements}
+use Rattle.rules.specs.Exchange.{Exchange, listingAt, accountAt, holdingAt, own, noHolding}
+use Rattle.rules.specs.Holdings.{startHolding, startAccount}
+use Rattle.rules.specs.Matching.{tradedLots}
+use Rattle.rules.specs.Settlement.{tradesIn, quotedPrice, priceFrom, settlementPrice, carriedHolding, settledAccount, settledContract, settledListing, settled}
 use Rattle.rules.specs.Step.{carriedOut}
-use Rattle.rules.specs.WellFormed.{contractInRange, sorted, uncrossed, orderInRange, numbers, allNumbers, usedOnce, tradeInRange}
-use Rattle.rules.specs.declared.Account.{Account}
+use Rattle.rules.specs.WellFormed.{contractInRange, orderInRange, tradeInRange}
 use Rattle.rules.specs.declared.Command.the-variants.{Settle}
 use Rattle.rules.specs.declared.Contract.{Contract}
 use Rattle.rules.specs.declared.Holding.{Holding}
 use Rattle.rules.specs.declared.Order.{Order}
 use Rattle.rules.specs.declared.Trade.{Trade}
 use Rattle.rules.proofs.Prices.{middle-any}
+use Rattle.accounting.proofs.ProfitBound.{settled-balance-bound}
 use Rattle.invariants.proofs.Accepted.{failed}
-use Rattle.invariants.proofs.Clauses.{OrderOk, order-ok, ListingOk, TradeOk, trade-ok, held, HoldingOk, WellFormed, Counted}
-use Rattle.invariants.proofs.Replay.{nowOnly, lotsOf, lotsOnly, holdings-same}
-use Rattle.invariants.proofs.Tests.{passed, join}
+use Rattle.invariants.proofs.Clauses.{order-ok, ListingOk, TradeOk, trade-ok, WellFormed, Counted, well-formed-test}
+use Rattle.accounting.proofs.Facts.{passed}
+use Rattle.invariants.proofs.FreshDay.{fresh-counted, fresh-day}
+use Rattle.invariants.proofs.Tests.{join}
 use Rattle.invariants.proofs.Ticks.{Terms, terms, terms-test, Multiple, multiple, multiple-test, allowed-multiple, weighted-multiple}
 
 -- ---- the settlement price
@@ -56,7 +54,10 @@ module _ (x : Exchange) (c : ℕ) (k : ListingOk (length (x .accounts)) (x .next
 
   its-terms : Terms (listingAt x c .contract)
   unfolding contractInRange
-  its-terms = terms (listingAt x c .contract) (passed (termsInRange (listingAt x c .contract)) (leb (listingAt x c .contract .phase) 3 ∷ tickMultiple tick (listingAt x c .contract .last) ∷ []) (k .contract) .0)
+  its-terms =
+      terms (listingAt x c .contract)
+      (passed (termsInRange (listingAt x c .contract))
+      (leb (listingAt x c .contract .phase) 3 ∷ tickMultiple tick (listingAt x c .contract .last) ∷ []) (k .contract) .0)
 
   -- its own trades
   abbrev ownTrade : Trade → Bool
@@ -89,12 +90,15 @@ module _ (x : Exchange) (c : ℕ) (k : ListingOk (length (x .accounts)) (x .next
   unfolding priceFrom quotedPrice
   price-from [] [] sells h b s = multiple tick _ (its-terms .reference)
   price-from [] (p ∷ ps) [] h b s = multiple tick _ (its-terms .reference)
-  price-from [] (p ∷ ps) (q ∷ qs) h b s = middle-any (Multiple tick) (p .price) (q .price) _ (first-multiple false p ps b) (first-multiple true q qs s) (multiple tick _ (its-terms .reference))
+  price-from [] (p ∷ ps) (q ∷ qs) h b s =
+      middle-any (Multiple tick) (p .price) (q .price) _ (first-multiple false p ps b) (first-multiple true q qs s)
+      (multiple tick _ (its-terms .reference))
   price-from (t ∷ ts) buys sells h b s = weighted-multiple tick (t ∷ ts) (its-terms .tick-low) (some-lots t ts h) (priced (t ∷ ts) h)
 
   pub price-multiple : allOf (tradeInRange x) (x .trades) ≡ true → Multiple tick (settlementPrice x c)
   unfolding settlementPrice
-  price-multiple h = price-from (tradesIn c (x .trades)) (listingAt x c .buys) (listingAt x c .sells) (trades-in c (tradeInRange x) (x .trades) h) refl refl
+  price-multiple h =
+      price-from (tradesIn c (x .trades)) (listingAt x c .buys) (listingAt x c .sells) (trades-in c (tradeInRange x) (x .trades) h) refl refl
 
 -- ---- what a settlement leaves
 
@@ -119,124 +123,57 @@ contract-settled c price h m =
       (le-leb 0 3 (omega arith), p .1 .1),
     )
 
--- no order rests
-no-numbers : (n : ℕ) (f : ℕ → Listing) → ((c : ℕ) → f c .buys ≡ []) → ((c : ℕ) → f c .sells ≡ []) → allNumbers (tabulate n f) ≡ []
-unfolding tabulate allNumbers numbers
-no-numbers zero f b s = refl
-no-numbers (suc n) f b s = rw (b 0, s 0) (no-numbers n (λ c. f (suc c)) (λ c. b (suc c)) (λ c. s (suc c)))
-
-once-none : usedOnce [] ≡ true
-unfolding usedOnce
-once-none = refl
-
 -- the holdings at the start of the new day are those now
-same-start : (n : ℕ) (f : ℕ → Account) → ((a : ℕ) → lotsOf (startAccount (f a)) ≡ lotsOf (f a)) → lotsOnly (startOfDay (tabulate n f)) ≡ lotsOnly (tabulate n f)
-unfolding tabulate lotsOnly startOfDay
-same-start zero f h = refl
-same-start (suc n) f h = rw (h 0, same-start n (λ a. f (suc a)) (λ a. h (suc a)))
-
-carried-start : (hs : List Holding) → map nowOnly (map startHolding (map carriedHolding hs)) ≡ map nowOnly (map carriedHolding hs)
+carried-start : (hs : List Holding) → map startHolding (map carriedHolding hs) ≡ map carriedHolding hs
 carried-start [] = refl
 carried-start (h ∷ hs) = rw (carried-start hs)
 
-module _ (x : Exchange) (k : WellFormed x) where
-  listing-settled : (accounts next c : ℕ) → c < length (x .listings) → ListingOk accounts next (settledListing x c)
-  unfolding settledListing sorted uncrossed allOf
-  listing-settled accounts next c l =
-      record {
-        contract = contract-settled (listingAt x c .contract) (settlementPrice x c) (k .listing c l .contract) (price-multiple x c (k .listing c l) (k .trades));
-        order = λ sell. elim sell [ false ↦ refl | true ↦ refl ];
-        apart = refl;
-        orders = λ sell. elim sell [ false ↦ refl | true ↦ refl ];
-      }
+module _ (x : Exchange) (k : WellFormed x) (n : Counted x) where
+  abbrev contractAt : ℕ → Contract
+  contractAt c = settledContract (listingAt x c .contract) (settlementPrice x c)
 
-  holding-settled : (a c : ℕ) → a < length (x .accounts) → c < length (x .listings) → HoldingOk (settledListing x c) a (carriedHolding (holdingAt (x .accounts) a c))
-  unfolding settledListing settledContract resting lotsWhere sumOf
-  holding-settled a c la lc =
-      let q = k .holding a c la lc in
-      let b = q .opens false in
-      let s = q .opens true in
-      record {
-        startlong = omega arith;
-        startshort = omega arith;
-        opens = λ sell. elim sell [ false ↦ omega arith | true ↦ omega arith ];
-        closes = λ sell. elim sell [ false ↦ omega arith | true ↦ omega arith ];
-      }
+  in-range : (c : ℕ) → c < length (x .listings) → contractInRange (contractAt c) ≡ true
+  in-range c l =
+      contract-settled (listingAt x c .contract) (settlementPrice x c) (k .listing c l .contract) (price-multiple x c (k .listing c l) (k .trades))
 
-  abbrev listings : List Listing
-  listings = tabulate (length (x .listings)) (settledListing x)
-
-  abbrev accounts : List Account
-  accounts = tabulate (length (x .accounts)) (settledAccount x)
-
-  listing-at : (c : ℕ) → c < length (x .listings) → getD listings c noListing ≡ settledListing x c
-  listing-at c l = getD-tabulate (length (x .listings)) c (settledListing x) noListing l
-
-  none-rest : allNumbers listings ≡ []
-  unfolding settledListing
-  none-rest = no-numbers (length (x .listings)) (settledListing x) (λ c. refl) (λ c. refl)
-
-  lots-settled : (a : ℕ) → lotsOf (startAccount (settledAccount x a)) ≡ lotsOf (settledAccount x a)
+  start : (a : ℕ) → startAccount (settledAccount x a) ≡ settledAccount x a
   unfolding settledAccount
-  lots-settled a = ap (λ (hs : List Holding). record { balance = pos 0; holdings = hs }) (carried-start (accountAt (x .accounts) a .holdings))
+  start a =
+      ap (λ (hs : List Holding). record { balance = settledAccount x a .balance; holdings = hs })
+      (carried-start (accountAt (x .accounts) a .holdings))
 
-  account-at : (a : ℕ) → a < length (x .accounts) → accountAt accounts a ≡ settledAccount x a
-  unfolding accountAt
-  account-at a l = getD-tabulate (length (x .accounts)) a (settledAccount x) noAccount l
+  held-at : (a c : ℕ) → getD (settledAccount x a .holdings) c noHolding ≡ carriedHolding (holdingAt (x .accounts) a c)
+  unfolding settledAccount holdingAt
+  held-at a c = List·getD-map carriedHolding (accountAt (x .accounts) a .holdings) c noHolding
 
-  holding-at : (a c : ℕ) → a < length (x .accounts) → holdingAt accounts a c ≡ carriedHolding (holdingAt (x .accounts) a c)
-  unfolding holdingAt accountAt settledAccount
-  holding-at a c l = rw (getD-tabulate (length (x .accounts)) a (settledAccount x) noAccount l) (List·getD-map carriedHolding (getD (x .accounts) a noAccount .holdings) c noHolding)
+  long-kept : (a c : ℕ) → a < length (x .accounts) → c < length (x .listings) →
+      getD (settledAccount x a .holdings) c noHolding .long ≤ contractAt c .limit
+  unfolding settledContract
+  long-kept a c la lc = rw (held-at a c) (omega (arith, k .holding a c la lc .opens false))
 
-  module _ (profit : (a : ℕ) → a < length (x .accounts) → Within maxDayProfit (closingProfit x a +ℤ holdingProfit x a)) (few : x .settlements < maxSettlements) where
-    balance-settled : (a : ℕ) → a < length (x .accounts) → natAbs (settledAccount x a .balance) ≤ maxBalance + (x .settlements + 1) * maxDayProfit
-    unfolding settledAccount
-    balance-settled a l =
-        let b : ℤ = accountAt (x .accounts) a .balance in
-        let p : ℤ = closingProfit x a +ℤ holdingProfit x a in
-        abs-within (b +ℤ p) (within-le (omega arith) (within-add {x = b} {y = p} (within-abs b _ (k .balance a l)) (profit a l)))
+  short-kept : (a c : ℕ) → a < length (x .accounts) → c < length (x .listings) →
+      getD (settledAccount x a .holdings) c noHolding .short ≤ contractAt c .limit
+  unfolding settledContract
+  short-kept a c la lc = rw (held-at a c) (omega (arith, k .holding a c la lc .opens true))
 
-    pub settled-keeps : WellFormed (settled x)
-    unfolding settled listingAt bookTrades neverBelowZero allOf
-    settled-keeps =
-        let nl = length-tabulate (length (x .listings)) (settledListing x) in
-        let na = length-tabulate (length (x .accounts)) (settledAccount x) in
-        record {
-          next-low = omega arith;
-          next-high = omega arith;
-          settlements = omega arith;
-          listing = λ c l. let h : c < length (x .listings) = rw nl at l in rw (listing-at c h) (listing-settled _ 1 c h);
-          once = rw none-rest once-none;
-          trades = refl;
-          covered = refl;
-          replay = holdings-same (startOfDay accounts) accounts (same-start (length (x .accounts)) (settledAccount x) lots-settled);
-          holding = λ a c la lc.
-              let p : a < length (x .accounts) = rw na at la in
-              let q : c < length (x .listings) = rw nl at lc in
-              rw (listing-at c q, holding-at a c p) (holding-settled a c p q);
-          balance = λ a l. let h : a < length (x .accounts) = rw na at l in rw (account-at a h) (balance-settled a h);
-        }
+  pub settled-keeps : x .settlements < maxSettlements → WellFormed (settled x)
+  unfolding settled settledListing
+  settled-keeps few =
+      fresh-day (length (x .listings)) contractAt (length (x .accounts)) (settledAccount x) (x .settlements + 1) in-range start
+      (omega arith) long-kept short-kept
+      (λ a l. settled-balance-bound x (well-formed-test x k) (n .contracts) (n .trades) a l (k .balance a l))
 
-  pub settled-counted : Counted x → Counted (settled x)
-  unfolding settled listingAt settledListing
-  settled-counted n =
-      let nl = length-tabulate (length (x .listings)) (settledListing x) in
-      record {
-        contracts = rw nl (n .contracts);
-        trades = omega arith;
-        queues = λ c sell l. let h : c < length (x .listings) = rw nl at l in rw (listing-at c h) (none sell);
-      }
-    where
-      none : (sell : Bool) → length (pick {A = List Order} sell [] []) ≤ maxResting
-      none true = omega arith
-      none false = omega arith
+  pub settled-counted : Counted (settled x)
+  unfolding settled settledListing
+  settled-counted =
+      fresh-counted (length (x .listings)) contractAt (length (x .accounts)) (settledAccount x) (x .settlements + 1) in-range start (n .contracts)
 
 -- ---- the step
 
 module _ (x : Exchange) (e : codeOf x Settle ≡ 0) where
-  pub settle-keeps : (profit : (a : ℕ) → a < length (x .accounts) → Within maxDayProfit (closingProfit x a +ℤ holdingProfit x a)) → WellFormed x → WellFormed (carriedOut x Settle .exchange)
+  pub settle-keeps : WellFormed x → Counted x → WellFormed (carriedOut x Settle .exchange)
   unfolding codeOf refusals settleRefusals carriedOut
-  settle-keeps profit k = settled-keeps x k profit (leb-false maxSettlements (x .settlements) (failed (settleRefusals x) (omega arith) e .1 .0))
+  settle-keeps k n = settled-keeps x k n (leb-false maxSettlements (x .settlements) (failed (settleRefusals x) (omega arith) e .1 .0))
 
   pub settle-counted : WellFormed x → Counted x → Counted (carriedOut x Settle .exchange)
   unfolding carriedOut

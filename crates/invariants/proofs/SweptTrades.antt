@@ -1,18 +1,18 @@
 -- The trades of a sweep are in range: accounts and contract exist, the two order numbers differ, the price is allowed today, the
 -- lots are 1 to 1,000. They leave the holdings in other contracts alone. Assumes nothing.
-use mathlib.Core.Bool.{Bool, true, false, not, _&&_}
-use mathlib.Core.List.{List, [], _∷_, _++_}
-use mathlib.Core.Path.{_≡_, refl, sym, ap, _∙_}
-use Prim.Native.Nat.{ℕ, zero, suc, _+_, _-_, _<_, _≤_, min}
+use mathlib.Core.Bool.{Bool, true, false, not}
+use mathlib.Core.List.{List, [], _∷_}
+use mathlib.Core.Path.{_≡_, refl, ap, _∙_}
+use Prim.Native.Nat.{ℕ, _<_, _≤_}
 use native.Mathlib.Omega.{arith}
-use borrow.Author.Tests.{eqb-true, eqb-false, eq-eqb, ne-eqb}
-use lib.Dec.{leb, eqb}
+use borrow.Author.Tests.{eqb-true, eq-eqb, ne-eqb}
+use lib.Dec.{eqb}
 use lib.ListN.{length}
 use Rattle.laws.specs.Choice.{pick, allOf, both-true, true-both}
-use Rattle.rules.specs.Bounds.{onTick, allowedToday, maxLots}
+use Rattle.rules.specs.Bounds.{onTick, allowedToday}
 use Rattle.rules.specs.Exchange.{Exchange, listingAt, holdingAt}
 use Rattle.rules.specs.Holdings.{bookTrade, bookTrades}
-use Rattle.rules.specs.Matching.{counterpart, tradePrice, Swept, sweep, tradeWith}
+use Rattle.rules.specs.Matching.{tradePrice, sweep, tradeWith}
 use Rattle.rules.specs.WellFormed.{orderInRange, tradeInRange}
 use Rattle.rules.specs.declared.Account.{Account}
 use Rattle.rules.specs.declared.Contract.{Contract}
@@ -21,10 +21,10 @@ use Rattle.rules.specs.declared.PriceCondition.the-variants.{Limit}
 use Rattle.rules.specs.declared.Taker.{Taker}
 use Rattle.rules.specs.declared.Trade.{Trade}
 use Rattle.rules.proofs.Holdings.{holding-other-trade}
-use Rattle.rules.proofs.Prices.{Allowed, allowed-facts, price-allowed}
+use Rattle.rules.proofs.Prices.{allowed-facts, price-allowed}
 use Rattle.rules.proofs.Sweep.{sweep-ind, swept-each}
 use Rattle.invariants.proofs.Carry.{Allows}
-use Rattle.invariants.proofs.Clauses.{OrderOk, order-ok, TradeOk, trade-test}
+use Rattle.invariants.proofs.Clauses.{order-ok, trade-test}
 
 -- ---- in range
 
@@ -45,7 +45,8 @@ module _ (y : Exchange) (t : Taker) (c : Contract)
   abbrev test : Order → Bool
   test = orderInRange (length (y .accounts)) (t .number) c
 
-  its-price : (o : Order) (last : ℕ) → test o ≡ true → onTick (c .tick) last ≡ true → allowedToday c (tradePrice (t .condition) (o .price) last) ≡ true
+  its-price : (o : Order) (last : ℕ) → test o ≡ true → onTick (c .tick) last ≡ true →
+      allowedToday c (tradePrice (t .condition) (o .price) last) ≡ true
   its-price o last h tick = price-allowed c (t .condition) (o .price) last limits (order-ok _ _ _ o h .price) tick
 
   one-trade : (o : Order) (left last : ℕ) → 0 < left → test o ≡ true → onTick (c .tick) last ≡ true → tradeInRange y (tradeWith t o left last) ≡ true
@@ -69,10 +70,12 @@ module _ (y : Exchange) (t : Taker) (c : Contract)
         sellclose = one-of (λ n. n ≤ 1) (t .sell) (t .close) (o .close) mark (k .close);
       })
 
-  pub swept-in-range : (left last : ℕ) (os : List Order) → onTick (c .tick) last ≡ true → allOf test os ≡ true → allOf (tradeInRange y) (sweep t left last os .trades) ≡ true
+  pub swept-in-range : (left last : ℕ) (os : List Order) → onTick (c .tick) last ≡ true → allOf test os ≡ true →
+      allOf (tradeInRange y) (sweep t left last os .trades) ≡ true
   swept-in-range =
       swept-each t (tradeInRange y) test (λ last. onTick (c .tick) last ≡ true)
-      (λ o left last some met h tick. (one-trade o left last some h tick, allowed-facts c (tradePrice (t .condition) (o .price) last) (its-price o last h tick) .tick))
+      (λ o left last some met h tick.
+      (one-trade o left last some h tick, allowed-facts c (tradePrice (t .condition) (o .price) last) (its-price o last h tick) .tick))
 
 -- ---- all of one contract
 
@@ -85,9 +88,11 @@ swept-contract t =
     sweep-ind t (λ left last os s. allOf (ofContract (t .contract)) (s .trades) ≡ true)
     (λ left last os w. refl)
     (λ left last o os some met short. true-both (eqb (t .contract) (t .contract)) true (eq-eqb (t .contract) (t .contract) refl) refl)
-    (λ left last o os s some met enough ih. true-both (eqb (t .contract) (t .contract)) (allOf (ofContract (t .contract)) (s .trades)) (eq-eqb (t .contract) (t .contract) refl) ih)
+    (λ left last o os s some met enough ih. true-both (eqb (t .contract) (t .contract)) (allOf (ofContract (t .contract)) (s .trades))
+    (eq-eqb (t .contract) (t .contract) refl) ih)
 
-pub other-holding : (c : ℕ) (l : List Account) (ts : List Trade) (a d : ℕ) → allOf (ofContract c) ts ≡ true → (d ≡ c → ⊥) → holdingAt (bookTrades l ts) a d ≡ holdingAt l a d
+pub other-holding : (c : ℕ) (l : List Account) (ts : List Trade) (a d : ℕ) → allOf (ofContract c) ts ≡ true → (d ≡ c → ⊥) →
+    holdingAt (bookTrades l ts) a d ≡ holdingAt l a d
 unfolding allOf bookTrades
 other-holding c l [] a d h n = refl
 other-holding c l (t ∷ ts) a d h n =

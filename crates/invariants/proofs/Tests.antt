@@ -1,31 +1,16 @@
--- A chain of tests joined by `_&&_`, taken apart and put together in one go; a place of a list after `set`. Assumes nothing.
-use mathlib.Core.Bool.{Bool, true, false, _&&_}
+-- A chain of tests joined by `_&&_`, put together in one go; a place of a list after `set`. Assumes nothing.
+use mathlib.Core.Bool.{Bool, true, _&&_}
 use mathlib.Core.List.{List, [], _∷_}
 use mathlib.Core.Logic.{_≢_}
-use mathlib.Core.Path.{_≡_, refl, sym, subst}
+use mathlib.Core.Path.{_≡_, sym, subst}
 use Prim.Native.Nat.{ℕ, _<_}
 use native.Mathlib.Decide.{ℕ-discrete}
 use lib.ListN.{length, getD, set}
 use lib.Seq.{getD-set-same, getD-set-other}
-use Rattle.laws.specs.Choice.{both-true, true-both}
+use Rattle.laws.specs.Choice.{true-both}
+use Rattle.accounting.proofs.Facts.{joined, Passed}
 
--- the tests joined from the left, as `a && b && c` reads, and each of them passed
-abbrev pub joined : Bool → List Bool → Bool
-joined a [] = a
-joined a (b ∷ bs) = joined (a && b) bs
-
-abbrev pub Passed : Bool → List Bool → Type 0
-Passed a [] = a ≡ true
-Passed a (b ∷ bs) = (a ≡ true) × Passed b bs
-
-pub passed : (a : Bool) (bs : List Bool) → joined a bs ≡ true → Passed a bs
-passed a [] h = h
-passed a (b ∷ bs) h = split-front a b bs (passed (a && b) bs h)
-  where
-    split-front : (a b : Bool) (bs : List Bool) → Passed (a && b) bs → Passed a (b ∷ bs)
-    split-front a b [] p = both-true a b p
-    split-front a b (c ∷ cs) p = let q = both-true a b (p .0) in (q .0, (q .1, p .1))
-
+-- the tests of a chain `a && b && c`, put together again (`passed` takes them apart)
 pub join : (a : Bool) (bs : List Bool) → Passed a bs → joined a bs ≡ true
 join a [] p = p
 join a (b ∷ bs) p = join (a && b) bs (join-front a b bs p)

@@ -1,12 +1,12 @@
 -- Prices on the tick: a price allowed today is a tick multiple, and so is a settlement price. Assumes nothing.
-use mathlib.Core.Bool.{Bool, true, false, not, _&&_}
+use mathlib.Core.Bool.{Bool, true}
 use mathlib.Core.List.{List, [], _∷_}
-use mathlib.Core.Path.{_≡_, refl, sym}
-use Prim.Native.Nat.{ℕ, zero, suc, _+_, _-_, _*_, _/_, _%_, _<_, _≤_, min, max}
-use native.Mathlib.Nat.{div-mul-le-self, le-div-iff-mul-le, div-le-of-le-mul, mul-mod-left, mul-le-mul-right, mul-add, add-mul}
+use mathlib.Core.Path.{_≡_}
+use Prim.Native.Nat.{ℕ, _+_, _-_, _*_, _/_, _%_, _≤_, min, max}
+use native.Mathlib.Nat.{div-mul-le-self, le-div-iff-mul-le, div-le-of-le-mul, mul-mod-left, mul-le-mul-right}
 use native.Mathlib.Omega.{arith}
 use borrow.Author.Tests.{leb-true, le-leb, eq-eqb}
-use lib.Dec.{leb, eqb}
+use lib.Dec.{leb}
 use Rattle.laws.specs.Choice.{allOf, both-true, true-both}
 use Rattle.laws.specs.Sums.{sumOf}
 use Rattle.rules.specs.Bounds.{within, onTick, tickMultiple, termsInRange, dayLow, dayHigh, allowedToday, maxPrice}
@@ -14,8 +14,9 @@ use Rattle.rules.specs.Matching.{tradedLots}
 use Rattle.rules.specs.Settlement.{tradedValue, weightedPrice}
 use Rattle.rules.specs.declared.Contract.{Contract}
 use Rattle.rules.specs.declared.Trade.{Trade}
-use Rattle.rules.proofs.Prices.{Allowed, allowed-facts}
-use Rattle.invariants.proofs.Tests.{passed, join}
+use Rattle.rules.proofs.Prices.{allowed-facts}
+use Rattle.accounting.proofs.Facts.{passed}
+use Rattle.invariants.proofs.Tests.{join}
 
 -- ---- a contract's terms
 
@@ -31,7 +32,9 @@ pub record Terms (c : Contract) : Type 0 where
 
 module _ (c : Contract) where
   abbrev termTests : List Bool
-  termTests = within 1 1_000 (c .tick) ∷ tickMultiple (c .tick) (c .reference) ∷ tickMultiple (c .tick) (c .band) ∷ within 1 100_000 (c .limit) ∷ within 1 10_000 (c .rate) ∷ []
+  termTests =
+      within 1 1_000 (c .tick) ∷ tickMultiple (c .tick) (c .reference) ∷ tickMultiple (c .tick) (c .band) ∷ within 1 100_000
+      (c .limit) ∷ within 1 10_000 (c .rate) ∷ []
 
   pub terms : termsInRange c ≡ true → Terms c
   unfolding termsInRange
@@ -55,7 +58,10 @@ module _ (c : Contract) where
   terms-test k =
       join (within 1 1_000 (c .multiplier)) termTests (
         true-both (leb 1 (c .multiplier)) (leb (c .multiplier) 1_000) (le-leb _ _ (k .multiplier-low)) (le-leb _ _ (k .multiplier-high)),
-        (true-both (leb 1 (c .tick)) (leb (c .tick) 1_000) (le-leb _ _ (k .tick-low)) (le-leb _ _ (k .tick-high)), (k .reference, (k .band, (k .limit, k .rate)))),
+        (
+          true-both (leb 1 (c .tick)) (leb (c .tick) 1_000) (le-leb _ _ (k .tick-low)) (le-leb _ _ (k .tick-high)),
+          (k .reference, (k .band, (k .limit, k .rate))),
+        ),
       )
 
 -- ---- a tick multiple from one tick on
@@ -76,7 +82,8 @@ module _ (tick n : ℕ) where
   pub multiple-test : Multiple tick n → tickMultiple tick n ≡ true
   unfolding tickMultiple
   multiple-test k =
-      true-both (onTick tick n) (within tick maxPrice n) (k .on-tick) (true-both (leb tick n) (leb n maxPrice) (le-leb _ _ (k .low)) (le-leb _ _ (k .high)))
+      true-both (onTick tick n) (within tick maxPrice n) (k .on-tick)
+      (true-both (leb tick n) (leb n maxPrice) (le-leb _ _ (k .low)) (le-leb _ _ (k .high)))
 
 -- the day's range lies within one tick and 1,000,000
 pub allowed-multiple : (c : Contract) (price : ℕ) → allowedToday c price ≡ true → Multiple (c .tick) price
@@ -104,7 +111,8 @@ value-between low high (t ∷ ts) h =
 
 -- "weighted by lots, rounded down, then down to a tick": from one tick to 1,000,000, since each price is
 pub weighted-multiple :
-    (tick : ℕ) (ts : List Trade) → 1 ≤ tick → 1 ≤ tradedLots ts → allOf (λ t. within tick maxPrice (t .price)) ts ≡ true → Multiple tick (weightedPrice tick ts)
+    (tick : ℕ) (ts : List Trade) → 1 ≤ tick → 1 ≤ tradedLots ts → allOf (λ t. within tick maxPrice (t .price)) ts ≡ true → Multiple tick
+    (weightedPrice tick ts)
 unfolding weightedPrice onTick
 weighted-multiple tick ts some lots h =
     let v = value-between tick maxPrice ts h in

@@ -1,0 +1,221 @@
+// A command's record as a command: kind, flags, and the fields that its kind leaves unused. Every record has an answer; what
+// document 01 gives code 1 is `Malformed`.
+ghost use mathlib.Core.Path.{_≡_};
+ghost use mathlib.Core.List.{[], _∷_};
+ghost use Rattle.rules.specs.Command.{zeros, priceCondition, timeCondition, insertFlags, newOrder, depositOf, withdrawOf, insertOf, cancelOf, pullOf, phaseOf, settleOf, commandOf};
+use rules::Command;
+use rules::NewOrder;
+use rules::PriceCondition;
+use rules::Record;
+use rules::TimeCondition;
+
+// "Fields not used are zero": each kind hands over its unused fields, and 0 for the others.
+fn all_zero(
+    account: u8,
+    contract: u8,
+    flags: u8,
+    lots: u32,
+    price: u32,
+    number: u32,
+    amount: u64,
+) -> bool
+    ensures { λ r. ⌜ r ≡ zeros (account ∷ contract ∷ flags ∷ lots ∷ price ∷ number ∷ amount ∷ []) ⌝ }
+{
+    if account != 0 {
+        return false;
+    }
+    if contract != 0 {
+        return false;
+    }
+    if flags != 0 {
+        return false;
+    }
+    if lots != 0 {
+        return false;
+    }
+    if price != 0 {
+        return false;
+    }
+    if number != 0 {
+        return false;
+    }
+    amount == 0
+}
+
+fn price_condition(value: u8, price: u32) -> PriceCondition
+    ensures { λ r. ⌜ r ≡ priceCondition value price ⌝ }
+{
+    match value {
+        0 => PriceCondition::Limit(price),
+        1 => PriceCondition::Market,
+        _ => PriceCondition::Best,
+    }
+}
+
+fn time_condition(value: u8) -> TimeCondition
+    ensures { λ r. ⌜ r ≡ timeCondition value ⌝ }
+{
+    match value {
+        0 => TimeCondition::GoodForDay,
+        1 => TimeCondition::ImmediateOrCancel,
+        _ => TimeCondition::FillOrKill,
+    }
+}
+
+// "bits 6 and 7 zero", and a known value in either condition.
+fn insert_flags(flags: u8) -> bool
+    ensures { λ r. ⌜ r ≡ insertFlags flags ⌝ }
+{
+    if (flags >> 6) & 3 != 0 {
+        return false;
+    }
+    if (flags >> 2) & 3 >= 3 {
+        return false;
+    }
+    (flags >> 4) & 3 < 3
+}
+
+fn new_order(r: Record) -> NewOrder
+    ensures { λ o. ⌜ o ≡ newOrder r ⌝ }
+{
+    let flags = r.flags;
+    let condition = price_condition((flags >> 2) & 3, r.price);
+    let time = time_condition((flags >> 4) & 3);
+    NewOrder {
+        account: r.account as u32,
+        contract: r.contract as u32,
+        sell: flags & 1 == 1,
+        close: (flags >> 1) & 1 == 1,
+        lots: r.lots,
+        price: r.price,
+        condition: condition,
+        time: time,
+    }
+}
+
+fn deposit_of(r: Record) -> Command
+    ensures { λ c. ⌜ c ≡ depositOf r ⌝ }
+{
+    if all_zero(0, r.contract, r.flags, r.lots, r.price, r.number, 0) {
+        Command::Deposit {
+            account: r.account as u32,
+            amount: r.amount,
+        }
+    } else {
+        Command::Malformed
+    }
+}
+
+fn withdraw_of(r: Record) -> Command
+    ensures { λ c. ⌜ c ≡ withdrawOf r ⌝ }
+{
+    if all_zero(0, r.contract, r.flags, r.lots, r.price, r.number, 0) {
+        Command::Withdraw {
+            account: r.account as u32,
+            amount: r.amount,
+        }
+    } else {
+        Command::Malformed
+    }
+}
+
+fn insert_of(r: Record) -> Command
+    ensures { λ c. ⌜ c ≡ insertOf r ⌝ }
+{
+    if !all_zero(0, 0, 0, 0, 0, r.number, r.amount) {
+        return Command::Malformed;
+    }
+    if !insert_flags(r.flags) {
+        return Command::Malformed;
+    }
+    let order = new_order(r);
+    Command::Insert(order)
+}
+
+// "Cancel and pull flags: bit 0 operator, the rest zero."
+fn cancel_of(r: Record) -> Command
+    ensures { λ c. ⌜ c ≡ cancelOf r ⌝ }
+{
+    if !all_zero(0, 0, 0, r.lots, r.price, 0, r.amount) {
+        return Command::Malformed;
+    }
+    let flags = r.flags;
+    if 1 < flags {
+        return Command::Malformed;
+    }
+    Command::Cancel {
+        account: r.account as u32,
+        contract: r.contract as u32,
+        operator: flags & 1 == 1,
+        number: r.number,
+    }
+}
+
+fn pull_of(r: Record) -> Command
+    ensures { λ c. ⌜ c ≡ pullOf r ⌝ }
+{
+    if !all_zero(0, 0, 0, r.lots, r.price, r.number, r.amount) {
+        return Command::Malformed;
+    }
+    let flags = r.flags;
+    if 1 < flags {
+        return Command::Malformed;
+    }
+    Command::Pull {
+        account: r.account as u32,
+        contract: r.contract as u32,
+        operator: flags & 1 == 1,
+    }
+}
+
+// "State flags: 0 pre-open, 1 continuous, 2 no trading, 3 closed; above 3 unknown."
+fn phase_of(r: Record) -> Command
+    ensures { λ c. ⌜ c ≡ phaseOf r ⌝ }
+{
+    if !all_zero(r.account, 0, 0, r.lots, r.price, r.number, r.amount) {
+        return Command::Malformed;
+    }
+    let flags = r.flags;
+    if 3 < flags {
+        return Command::Malformed;
+    }
+    Command::Phase {
+        contract: r.contract as u32,
+        phase: flags as u32,
+    }
+}
+
+fn settle_of(r: Record) -> Command
+    ensures { λ c. ⌜ c ≡ settleOf r ⌝ }
+{
+    if all_zero(
+        r.account,
+        r.contract,
+        r.flags,
+        r.lots,
+        r.price,
+        r.number,
+        r.amount,
+    ) {
+        Command::Settle
+    } else {
+        Command::Malformed
+    }
+}
+
+// The command that a record is, or `Malformed`: "kind, flag value or unused field is wrong".
+pub fn command_of(r: Record) -> Command
+    ensures { λ c. ⌜ c ≡ commandOf r ⌝ }
+{
+    let kind = r.kind;
+    match kind {
+        1 => deposit_of(r),
+        2 => withdraw_of(r),
+        3 => insert_of(r),
+        4 => cancel_of(r),
+        5 => pull_of(r),
+        6 => phase_of(r),
+        7 => settle_of(r),
+        _ => Command::Malformed,
+    }
+}

@@ -1,0 +1,43 @@
+-- A list filled from the front, one store a turn: the values of f in the first k places, z in the others. Assumes nothing.
+use mathlib.Core.List.{List, [], _∷_, _++_, append-assoc}
+use mathlib.Core.Path.{_≡_, refl, sym, ap}
+use Prim.Native.Nat.{ℕ, zero, suc, _+_, _-_, _≤_, _<_}
+use native.Mathlib.Numerals.{add-one}
+use native.Mathlib.Omega.{arith}
+use lib.ListN.{length, set, replicate}
+use lib.Seq.{set-at}
+use Rattle.areas.specs.Lists.{padded}
+use Rattle.areas.proofs.Lists.{length-padded, padded-nil}
+use Rattle.laws.specs.Tabulate.{tabulate, length-tabulate}
+
+module _ {A : Type 0} where
+  pub tabulate-more : (k : ℕ) (f : ℕ → A) → tabulate (k + 1) f ≡ tabulate k f ++ (f k ∷ [])
+  unfolding tabulate
+  tabulate-more k f = rw add-one (go k f)
+    where
+      go : (k : ℕ) (f : ℕ → A) → tabulate (suc k) f ≡ tabulate k f ++ (f k ∷ [])
+      go zero f = refl
+      go (suc k) f = ap (λ (l : List A). f 0 ∷ l) (go k (λ i. f (suc i)))
+
+  module _ (n : ℕ) (z : A) (f : ℕ → A) where
+    abbrev pub filled : ℕ → List A
+    filled k = padded n z (tabulate k f)
+
+    pub filled-none : filled 0 ≡ replicate n z
+    unfolding tabulate
+    filled-none = padded-nil n z
+
+    pub length-filled : (k : ℕ) → k ≤ n → length (filled k) ≡ n
+    length-filled k h = length-padded n z (tabulate k f) (rw length-tabulate h)
+
+    filled-more : (k : ℕ) → k < n → set (filled k) k (f k) ≡ filled (k + 1)
+    unfolding padded
+    filled-more k h =
+        let l : length (tabulate k f) ≡ k = length-tabulate k f in
+        let m : length (tabulate (k + 1) f) ≡ k + 1 = length-tabulate (k + 1) f in
+        let e : n - k ≡ suc (n - (k + 1)) = omega arith in
+        rw (l, m, e, set-at (tabulate k f) z (replicate (n - (k + 1)) z) (f k) k l, tabulate-more k f) (sym (append-assoc (tabulate k f) (f k ∷ []) (replicate (n - (k + 1)) z)))
+
+    -- one store of a loop that fills
+    pub fill : {l : List A} {v : A} (k : ℕ) → k < n → l ≡ filled k → v ≡ f k → set l k v ≡ filled (k + 1)
+    fill k h e d = rw (e, d) (filled-more k h)

@@ -1,0 +1,15 @@
+-- `dayfile::opening::account_with` meets its contract: a balance so small is the same number signed. Assumes nothing.
+use native.Mathlib.Omega.{arith}
+use borrow.Author.Needs.{needs}
+use Rattle.laws.proofs.Signed.{read-pos}
+use Rattle.dayfile.proofs.opening.account_with.Statement.{statement}
+use Rattle.dayfile.proofs.opening.account_with.Tie as tie
+
+cast-t4 : tie.Need-cast-t4
+cast-t4 c = search needs
+
+returns : tie.Need-returns
+returns c = rw (read-pos (c .args .balance) (omega arith))
+
+pub account-with-spec : {M : Type 1} → statement M
+account-with-spec = tie.close (tie.spec cast-t4 returns)

@@ -1,0 +1,56 @@
+-- The state that a day file's run opens with, as it lies in memory, and the part of `sound` that speaks of counts and length
+-- alone. Assumes nothing.
+use mathlib.Core.Bool.{Bool, _&&_}
+use mathlib.Core.List.{List}
+use Prim.Native.Nat.{ℕ}
+use lib.Dec.{leb, eqb}
+use lib.IntN.{pos}
+use lib.ListN.{length, replicate}
+use Rattle.areas.specs.Lists.{padded}
+use Rattle.laws.specs.Tabulate.{tabulate}
+use Rattle.rules.specs.Bounds.{within, maxContracts, maxAccounts}
+use Rattle.rules.specs.DayFile.{maxCommands, contractsIn, accountsIn, commandsIn, contractPlace, commandPlace, contractFrom, balanceFrom}
+use Rattle.rules.specs.Exchange.{noContract, noHolding}
+use Rattle.rules.specs.declared.Account.{Account}
+use Rattle.rules.specs.declared.Contract.{Contract}
+use Rattle.rules.specs.declared.State.{State}
+
+-- the counts are in range, and "The file ends with the last command."
+unfoldable pub shaped : List ℕ → Bool
+shaped file =
+    within 1 maxContracts (contractsIn file)
+    && within 1 maxAccounts (accountsIn file)
+    && leb (commandsIn file) maxCommands
+    && eqb (length file) (commandPlace file (commandsIn file))
+
+-- an account with room for its holdings in every contract, and none of them
+abbrev pub accountWith : ℕ → Account
+accountWith balance = record { balance = pos balance; holdings = replicate maxContracts noHolding }
+
+abbrev pub openingContract : List ℕ → ℕ → Contract
+openingContract file c = contractFrom file (contractPlace c)
+
+abbrev pub openingHolder : List ℕ → ℕ → Account
+openingHolder file a = accountWith (balanceFrom file a)
+
+-- the contracts and the accounts of the file in the first places, zeros in the others
+unfoldable pub openingContracts : List ℕ → List Contract
+openingContracts file = padded maxContracts noContract (tabulate (contractsIn file) (openingContract file))
+
+unfoldable pub openingAccounts : List ℕ → List Account
+openingAccounts file = padded maxAccounts (accountWith 0) (tabulate (accountsIn file) (openingHolder file))
+
+-- "Its run opens in pre-open, with no orders, trades, holdings or settlements."
+unfoldable pub openingState : List ℕ → State
+openingState file =
+    record {
+      contracts = openingContracts file;
+      accounts = openingAccounts file;
+      buys = replicate maxContracts 0;
+      sells = replicate maxContracts 0;
+      contractcount = contractsIn file;
+      accountcount = accountsIn file;
+      tradecount = 0;
+      next = 1;
+      settlements = 0;
+    }

@@ -1,0 +1,92 @@
+// The state that a sound file's run opens with: the file's contracts and accounts in the first places, zeros in the others.
+ghost use mathlib.Core.Bool.{true};
+ghost use mathlib.Core.Path.{_≡_};
+ghost use Prim.Native.Nat.{_≤_, _^_};
+ghost use Rattle.rules.specs.DayFile.{sound, contractsIn, accountsIn, accountPlace};
+ghost use Rattle.dayfile.specs.Opening.{accountWith, openingContracts, openingAccounts, openingState};
+use super::bytes::contract_at;
+use super::bytes::u64_at;
+use super::file::account_count;
+use super::file::contract_count;
+use rules::Account;
+use rules::Contract;
+use rules::Holding;
+use rules::State;
+
+fn opening_contracts(file: &[u8], contracts: usize) -> [Contract; 4]
+    requires { ⌜ (sound (now file) ≡ true) × (contracts ≡ contractsIn (now file)) ⌝ }
+    ensures { λ r. ⌜ r ≡ openingContracts (now (file .entry)) ⌝ }
+{
+    let none = Contract {
+        multiplier: 0,
+        tick: 0,
+        reference: 0,
+        band: 0,
+        limit: 0,
+        rate: 0,
+        phase: 0,
+        last: 0,
+    };
+    let mut places = [none; 4];
+    let mut c = 0;
+    while c < contracts {
+        places[c] = contract_at(file, 4 + 20 * c);
+        c += 1;
+    }
+    places
+}
+
+fn account_with(balance: u64) -> Account
+    requires { ⌜ balance ≤ 10 ^ 18 ⌝ }
+    ensures { λ r. ⌜ r ≡ accountWith balance ⌝ }
+{
+    let none = Holding {
+        long: 0,
+        short: 0,
+        startlong: 0,
+        startshort: 0,
+    };
+    let holdings = [none; 4];
+    Account {
+        balance: balance as i64,
+        holdings: holdings,
+    }
+}
+
+// The accounts begin at `start`.
+fn opening_accounts(file: &[u8], start: usize, accounts: usize) -> [Account; 32]
+    requires { ⌜ (sound (now file) ≡ true) × (start ≡ accountPlace (now file) 0) × (accounts ≡ accountsIn (now file)) ⌝ }
+    ensures { λ r. ⌜ r ≡ openingAccounts (now (file .entry)) ⌝ }
+{
+    let none = account_with(0);
+    let mut places = [none; 32];
+    let mut a = 0;
+    while a < accounts {
+        let balance = u64_at(file, start + 8 * a);
+        places[a] = account_with(balance);
+        a += 1;
+    }
+    places
+}
+
+// For the crates of this repository: requires a sound file.
+pub fn opening_state(file: &[u8]) -> State
+    requires { ⌜ sound (now file) ≡ true ⌝ }
+    ensures { λ r. ⌜ r ≡ openingState (now (file .entry)) ⌝ }
+{
+    let contracts = contract_count(file);
+    let accounts = account_count(file, contracts);
+    let terms = opening_contracts(file, contracts);
+    let holders = opening_accounts(file, 8 + 20 * contracts, accounts);
+    State {
+        contracts: terms,
+        accounts: holders,
+        buys: [0; 4],
+        sells: [0; 4],
+        contractcount: contracts,
+        accountcount: accounts,
+        tradecount: 0,
+        next: 1,
+        settlements: 0,
+    }
+}

@@ -1,0 +1,55 @@
+// The tests of a contract's terms, which a day file and a well-formed state share.
+ghost use mathlib.Core.Path.{_≡_};
+ghost use Prim.Native.Nat.{_≤_};
+ghost use Rattle.rules.specs.Bounds.{within as Bounds·within, onTick, tickMultiple, termsInRange};
+use rules::Contract;
+
+pub fn within(low: u32, high: u32, n: u32) -> bool
+    ensures { λ r. ⌜ r ≡ Bounds·within low high n ⌝ }
+{
+    if n < low {
+        return false;
+    }
+    n <= high
+}
+
+// For the crates of this repository: requires a tick, which `terms_in_range` tests before it divides.
+pub fn on_tick(tick: u32, n: u32) -> bool
+    requires { ⌜ 1 ≤ tick ⌝ }
+    ensures { λ r. ⌜ r ≡ onTick tick n ⌝ }
+{
+    n % tick == 0
+}
+
+// "each a multiple of the tick, from one tick to 1,000,000". For the crates of this repository: requires a tick.
+pub fn tick_multiple(tick: u32, n: u32) -> bool
+    requires { ⌜ 1 ≤ tick ⌝ }
+    ensures { λ r. ⌜ r ≡ tickMultiple tick n ⌝ }
+{
+    if !on_tick(tick, n) {
+        return false;
+    }
+    within(tick, 1000000, n)
+}
+
+pub fn terms_in_range(c: Contract) -> bool
+    ensures { λ r. ⌜ r ≡ termsInRange c ⌝ }
+{
+    let tick = c.tick;
+    if !within(1, 1000, c.multiplier) {
+        return false;
+    }
+    if !within(1, 1000, tick) {
+        return false;
+    }
+    if !tick_multiple(tick, c.reference) {
+        return false;
+    }
+    if !tick_multiple(tick, c.band) {
+        return false;
+    }
+    if !within(1, 100000, c.limit) {
+        return false;
+    }
+    within(1, 10000, c.rate)
+}

@@ -1,0 +1,528 @@
+"""Names for what a run meets, so that a comparison can say how much of the rules its files have reached.
+
+Each name stands beside the test that recognises it. A test looks at the state before a command, with the model's own
+definitions; nothing here takes part in an answer.
+"""
+
+from functools import cached_property
+from itertools import product
+
+import dayfile
+import model
+from bounds import (
+    CONTRACT_RULES,
+    MOST_LOTS,
+    MOST_RESTING,
+    MOST_SETTLEMENTS,
+    MOST_TRADES,
+    TOP_AMOUNT,
+    TOP_BALANCE,
+    TOP_PRICE,
+)
+
+
+class Case:
+    """One command and the state that it finds."""
+
+    def __init__(self, state, command):
+        self.state = state
+        self.command = command
+        self.kind = dayfile.KINDS.get(command.kind, "unknown")
+
+    @cached_property
+    def code(self):
+        return model.first_code(self.state, self.command)
+
+    @cached_property
+    def contract(self):
+        return self.state.contracts[self.command.contract]
+
+    @cached_property
+    def balance(self):
+        return self.state.balances[self.command.account]
+
+    @cached_property
+    def available(self):
+        return model.available(self.state, self.command.account)
+
+    @cached_property
+    def by_operator(self):
+        return self.command.flags == 1
+
+    # What follows is asked of inserts alone.
+
+    @cached_property
+    def order(self):
+        return model.arriving(self.command)
+
+    @cached_property
+    def opposite(self):
+        return model.opposite_queue(self.contract, self.order)
+
+    @cached_property
+    def own_side(self):
+        return self.contract.queues[self.order.side]
+
+    @cached_property
+    def fillable(self):
+        return model.fillable(self.contract, self.order)
+
+    @cached_property
+    def fills(self):
+        return model.sweep(self.contract, self.order)
+
+    @cached_property
+    def lots_traded(self):
+        return sum(lots for _, lots in self.fills)
+
+    @cached_property
+    def share_traded(self):
+        if self.lots_traded == 0:
+            return "none"
+        return "all" if self.lots_traded == self.order.lots else "some"
+
+    @cached_property
+    def rests(self):
+        return self.order.time_condition == "day" and self.share_traded != "all"
+
+    @cached_property
+    def better_or_equal(self):
+        """How many orders stand before this one once it rests."""
+        if self.order.side == "buy":
+            return sum(resting.price >= self.order.price for resting in self.own_side)
+        return sum(resting.price <= self.order.price for resting in self.own_side)
+
+    @cached_property
+    def trade_prices(self):
+        """The price of each trade beside the resting price and the last price that it was worked out from."""
+        prices = []
+        last_price = self.contract.last_price
+        for resting, _ in self.fills:
+            price = resting.price
+            if self.order.price_condition == "limit":
+                price = model.middle(self.order.price, resting.price, last_price)
+            prices.append((price, resting.price, last_price))
+            last_price = price
+        return prices
+
+    # What follows is asked of settlements alone.
+
+    @cached_property
+    def closes(self):
+        """Each closing leg: what it closes, and which lots it uses."""
+        found = []
+        closed = {}
+        for trade in self.state.trades:
+            for leg in trade.legs():
+                if leg.effect == "close":
+                    held = (leg.account, trade.contract, model.HELD[leg.side, leg.effect])
+                    before = closed.get(held, 0)
+                    closed[held] = before + trade.lots
+                    found.append((held[2], self.lots_used(held, before, before + trade.lots)))
+        return found
+
+    def lots_used(self, held, before, after):
+        start_lots = self.state.holdings_at_start[held]
+        if after <= start_lots:
+            return "start-of-day lots"
+        return "today's lots" if before >= start_lots else "both"
+
+    @cached_property
+    def price_sources(self):
+        return [self.price_source(number) for number in self.state.contracts]
+
+    def price_source(self, number):
+        """Where a contract's settlement price comes from."""
+        contract = self.state.contracts[number]
+        price = model.settlement_price(self.state, number)
+        trades = [trade for trade in self.state.trades if trade.contract == number]
+        if trades:
+            value = sum(trade.price * trade.lots for trade in trades)
+            lots = sum(trade.lots for trade in trades)
+            if value == price * lots:
+                return "trades, exact"
+            return "trades, rounded down" if value // lots == price else "trades, rounded down to the tick"
+        buys, sells = contract.queues["buy"], contract.queues["sell"]
+        if not (buys and sells):
+            return "only buys" if buys else "only sells" if sells else "no quotes"
+        if price == contract.reference:
+            return "quotes, middle is the reference"
+        return "quotes, middle is the buy" if price == buys[0].price else "quotes, middle is the sell"
+
+    @cached_property
+    def balances_after(self):
+        prices = {number: model.settlement_price(self.state, number) for number in self.state.contracts}
+        return [
+            balance + sum(model.profit_in_all_contracts(self.state, account, prices))
+            for account, balance in self.state.balances.items()
+        ]
+
+
+def for_each(values, name, test):
+    """A name and its test for each of the values: both are given the value."""
+    return {name(value): (lambda case, value=value: test(case, value)) for value in values}
+
+
+def codes(kind, numbers):
+    return for_each(numbers, lambda code: f"{kind}: code {code}", lambda case, code: case.code == code)
+
+
+MALFORMED = {
+    "malformed: unknown kind": lambda case: case.kind == "unknown",
+    **for_each(
+        [(kind, unused) for kind in dayfile.FIELDS_USED for unused in dayfile.unused_fields(kind)],
+        lambda value: f"malformed: {value[0]} with {value[1].replace('_', ' ')}",
+        lambda case, value: case.kind == value[0] and getattr(case.command, value[1]) != 0,
+    ),
+    "malformed: insert with price condition 3": lambda case: case.kind == "insert" and case.command.flags >> 2 & 3 == 3,
+    "malformed: insert with time condition 3": lambda case: case.kind == "insert" and case.command.flags >> 4 & 3 == 3,
+    "malformed: insert with bit 6": lambda case: case.kind == "insert" and case.command.flags & 64,
+    "malformed: insert with bit 7": lambda case: case.kind == "insert" and case.command.flags & 128,
+    "malformed: cancel with unknown flags": lambda case: case.kind == "cancel" and case.command.flags > 1,
+    "malformed: pull with unknown flags": lambda case: case.kind == "pull" and case.command.flags > 1,
+    "malformed: state with unknown flags": lambda case: case.kind == "state" and case.command.flags > 3,
+}
+
+# Market and best are never good for day, and what is filled or killed trades in full.
+TRADED_SHARES = [
+    (side, effect, price_condition, time_condition, share)
+    for side, effect, price_condition, time_condition, share in product(
+        dayfile.SIDES, dayfile.EFFECTS, dayfile.PRICE_CONDITIONS, dayfile.TIME_CONDITIONS, ("all", "some", "none")
+    )
+    if (price_condition == "limit" or time_condition != "day") and (time_condition != "kill" or share == "all")
+]
+
+INSERT_REFUSED = {
+    **codes("insert", (2, 3, 4, 5, 6, 7, 8, 9, 11, 12, 13)),
+    **for_each(
+        ("pre-open", "no-trading", "closed"),
+        lambda state: f"insert: refused in {state}",
+        lambda case, state: case.code == 4 and case.contract.state == state,
+    ),
+    "insert: 0 lots": lambda case: case.code == 5 and case.order.lots == 0,
+    "insert: 1,001 lots": lambda case: case.code == 5 and case.order.lots == MOST_LOTS + 1,
+    "insert: market good for day": lambda case: case.code == 6 and case.order.price_condition == "market",
+    "insert: best good for day": lambda case: case.code == 6 and case.order.price_condition == "best",
+    "insert: market with a price": lambda case: case.code == 7 and case.order.price_condition == "market",
+    "insert: best with a price": lambda case: case.code == 7 and case.order.price_condition == "best",
+    "insert: limit off tick": lambda case: (
+        case.code == 7 and case.order.price_condition == "limit" and case.order.price % case.contract.tick != 0
+    ),
+    "insert: limit one tick below the low": lambda case: (
+        case.code == 7 and case.order.price == model.low(case.contract) - case.contract.tick
+    ),
+    "insert: limit one tick above the high": lambda case: (
+        case.code == 7 and case.order.price == model.high(case.contract) + case.contract.tick
+    ),
+    **for_each(
+        product(dayfile.SIDES, dayfile.EFFECTS),
+        lambda value: f"insert: {value[0]} {value[1]} one lot above what the holding permits",
+        lambda case, value: (
+            case.code == 8
+            and (case.order.side, case.order.effect) == value
+            and case.order.lots == model.most_lots_by_holding(case.state, case.order) + 1
+        ),
+    ),
+    "insert: open one lot above what is available": lambda case: (
+        case.code == 9 and 0 <= case.available - model.charge(case.contract) * (case.order.lots - 1)
+    ),
+    "insert: open with less than nothing available": lambda case: case.code == 9 and case.available < 0,
+    **for_each(
+        dayfile.PRICE_CONDITIONS,
+        lambda price_condition: f"insert: fill or kill {price_condition}, one lot above the fillable",
+        lambda case, price_condition: (
+            case.code == 11 and case.order.price_condition == price_condition and case.order.lots == case.fillable + 1
+        ),
+    ),
+    "insert: fill or kill with nothing fillable": lambda case: case.code == 11 and case.fillable == 0,
+    "insert: one trade more than the day has room for": lambda case: (
+        case.code == 12 and len(case.state.trades) + len(case.fills) == MOST_TRADES + 1
+    ),
+    "insert: a full day, one trade": lambda case: case.code == 12 and len(case.state.trades) == MOST_TRADES,
+    "insert: a full day is refused before a full side": lambda case: (
+        case.code == 12 and case.rests and len(case.own_side) == MOST_RESTING
+    ),
+    "insert: own side full, nothing fillable": lambda case: case.code == 13 and case.fillable == 0,
+    "insert: own side full, fillable in part": lambda case: case.code == 13 and case.fillable > 0,
+}
+
+INSERT_ACCEPTED = {
+    **for_each(
+        TRADED_SHARES,
+        lambda value: "insert: {} {} {} {}, {} trades".format(*value),
+        lambda case, value: (*case.order[2:6], case.share_traded) == value,
+    ),
+    **for_each(
+        product(dayfile.SIDES, dayfile.EFFECTS),
+        lambda value: f"insert: {value[0]} {value[1]} for all that the holding permits",
+        lambda case, value: (
+            (case.order.side, case.order.effect) == value
+            and case.order.lots == model.most_lots_by_holding(case.state, case.order)
+        ),
+    ),
+    "insert: open takes all available": lambda case: (
+        case.order.effect == "open" and case.available == model.charge(case.contract) * case.order.lots
+    ),
+    "insert: close with less than nothing available": lambda case: (
+        case.order.effect == "close" and case.available < 0
+    ),
+    "insert: limit at the low, reference less band": lambda case: (
+        case.order.price == model.low(case.contract) == case.contract.reference - case.contract.band
+    ),
+    "insert: limit at the low, one tick": lambda case: (
+        case.order.price == model.low(case.contract) > case.contract.reference - case.contract.band
+    ),
+    "insert: limit at the high, reference plus band": lambda case: (
+        case.order.price == model.high(case.contract) == case.contract.reference + case.contract.band
+    ),
+    "insert: limit at the high, largest tick multiple": lambda case: (
+        case.order.price == model.high(case.contract) < case.contract.reference + case.contract.band
+    ),
+    "insert: limit at 1,000,000": lambda case: case.order.price == TOP_PRICE,
+    "insert: 1,000 lots": lambda case: case.order.lots == MOST_LOTS,
+    **for_each(
+        dayfile.PRICE_CONDITIONS,
+        lambda price_condition: f"insert: fill or kill {price_condition}, exactly the fillable",
+        lambda case, price_condition: (
+            case.order.time_condition == "kill"
+            and case.order.price_condition == price_condition
+            and case.order.lots == case.fillable
+        ),
+    ),
+    "insert: the day's last trade": lambda case: (
+        case.fills != [] and len(case.state.trades) + len(case.fills) == MOST_TRADES
+    ),
+    "insert: a full day, no trade": lambda case: len(case.state.trades) == MOST_TRADES,
+    "insert: own side full, filled at once": lambda case: (
+        case.order.time_condition == "day" and len(case.own_side) == MOST_RESTING
+    ),
+    "insert: own side full, remainder vanishes": lambda case: (
+        case.order.time_condition == "immediate"
+        and case.share_traded != "all"
+        and len(case.own_side) == MOST_RESTING
+    ),
+    "insert: rests first": lambda case: case.rests and case.own_side != [] and case.better_or_equal == 0,
+    "insert: rests between": lambda case: case.rests and 0 < case.better_or_equal < len(case.own_side),
+    "insert: rests last": lambda case: case.rests and 0 < case.better_or_equal == len(case.own_side),
+    "insert: rests behind its own price": lambda case: (
+        case.rests and any(resting.price == case.order.price for resting in case.own_side)
+    ),
+    "insert: rests as the 64th": lambda case: case.rests and len(case.own_side) == MOST_RESTING - 1,
+    "sweep: stops at an order that is no counterpart": lambda case: (
+        case.share_traded != "all" and 0 < len(case.fills) < len(case.opposite)
+    ),
+    "sweep: best stays at one price": lambda case: (
+        case.order.price_condition == "best" and case.share_traded != "all" and len(case.fills) < len(case.opposite)
+    ),
+    "sweep: lots used up with counterparts left": lambda case: (
+        case.share_traded == "all" and case.order.lots < case.fillable
+    ),
+    "sweep: empties the queue": lambda case: (
+        case.fills != [] and len(case.fills) == len(case.opposite) and case.order.lots >= case.fillable
+    ),
+    "sweep: 64 orders": lambda case: len(case.fills) == MOST_RESTING,
+    "sweep: several orders at one price": lambda case: (
+        len(case.fills) > len({resting.price for resting, _ in case.fills})
+    ),
+    "sweep: several prices": lambda case: len({resting.price for resting, _ in case.fills}) > 1,
+    "sweep: several trade prices": lambda case: len({price for price, _, _ in case.trade_prices}) > 1,
+    "sweep: leaves a resting order in part": lambda case: any(lots < resting.lots for resting, lots in case.fills),
+    **for_each(
+        product(dayfile.EFFECTS, dayfile.EFFECTS, dayfile.SIDES),
+        lambda value: f"sweep: own order met, {value[2]} {value[0]} arrives, {value[1]} rests",
+        lambda case, value: (
+            case.order.effect == value[0]
+            and case.order.side == value[2]
+            and any(
+                resting.account == case.order.account and resting.effect == value[1] for resting, _ in case.fills
+            )
+        ),
+    ),
+    "price: middle is the last price": lambda case: any(
+        price == last != case.order.price and price != resting for price, resting, last in case.trade_prices
+    ),
+    "price: middle is the resting price": lambda case: (
+        case.order.price_condition == "limit"
+        and any(price == resting != case.order.price and price != last for price, resting, last in case.trade_prices)
+    ),
+    "price: middle is the arriving price": lambda case: any(
+        price == case.order.price != resting and price != last for price, resting, last in case.trade_prices
+    ),
+    "price: last price outside the day's band": lambda case: (
+        case.order.price_condition == "limit"
+        and case.fills != []
+        and not model.allowed_today(case.contract, case.contract.last_price)
+    ),
+    **for_each(
+        ("market", "best"),
+        lambda price_condition: f"price: resting price for {price_condition}, not the middle",
+        lambda case, price_condition: (
+            case.order.price_condition == price_condition
+            and any(price != last for price, _, last in case.trade_prices)
+        ),
+    ),
+}
+
+
+def work_of_state(kind):
+    """Cancel and pull in each contract state, with and without the operator bit."""
+    return for_each(
+        product(dayfile.STATES, (False, True)),
+        lambda value: f"{kind}: in {value[0]}{' by operator' if value[1] else ''}",
+        lambda case, value: case.code not in (2, 3) and (case.contract.state, case.by_operator) == value,
+    )
+
+
+CANCEL = {
+    **codes("cancel", (0, 2, 3, 4, 14, 15)),
+    **work_of_state("cancel"),
+    "cancel: order number 0": lambda case: case.code == 14 and case.command.order_number == 0,
+    "cancel: a number not given yet": lambda case: (
+        case.code == 14 and case.command.order_number >= case.state.next_order_number
+    ),
+    "cancel: an order of another contract": lambda case: (
+        case.code == 14
+        and any(model.resting_order(other, case.command.order_number) for other in case.state.contracts.values())
+    ),
+    "cancel: another account's order by operator": lambda case: case.code == 15 and case.by_operator,
+    "cancel: an order filled in part": lambda case: (
+        case.code == 0
+        and any(case.command.order_number in (trade.buy_order, trade.sell_order) for trade in case.state.trades)
+    ),
+}
+
+
+def pulled(case, side):
+    return [order for order in case.contract.queues[side] if order.account == case.command.account]
+
+
+PULL = {
+    **codes("pull", (0, 2, 3, 4)),
+    **work_of_state("pull"),
+    "pull: none": lambda case: case.code == 0 and not pulled(case, "buy") and not pulled(case, "sell"),
+    "pull: both sides": lambda case: case.code == 0 and pulled(case, "buy") and pulled(case, "sell"),
+    "pull: several of one side": lambda case: (
+        case.code == 0 and max(len(pulled(case, "buy")), len(pulled(case, "sell"))) > 1
+    ),
+    "pull: leaves orders of others": lambda case: (
+        case.code == 0 and any(len(pulled(case, side)) < len(case.contract.queues[side]) for side in dayfile.SIDES)
+    ),
+}
+
+DEPOSIT = {
+    **codes("deposit", (0, 2, 16)),
+    "deposit: amount 0": lambda case: case.code == 16 and case.command.amount == 0,
+    "deposit: amount above 10^15": lambda case: case.code == 16 and case.command.amount == TOP_AMOUNT + 1,
+    "deposit: amount with bit 63": lambda case: case.code == 16 and case.command.amount >= 2**63,
+    "deposit: amount 10^15": lambda case: case.code == 0 and case.command.amount == TOP_AMOUNT,
+    "deposit: to 10^18": lambda case: case.code == 0 and case.balance + case.command.amount == TOP_BALANCE,
+    "deposit: one above 10^18": lambda case: (
+        case.code == 16 and case.balance + case.command.amount == TOP_BALANCE + 1
+    ),
+    "deposit: balance above 10^18 before": lambda case: case.code == 16 and case.balance > TOP_BALANCE,
+}
+
+WITHDRAW = {
+    **codes("withdraw", (0, 2, 9, 16)),
+    "withdraw: amount 0": lambda case: case.code == 16 and case.command.amount == 0,
+    "withdraw: amount above 10^15": lambda case: case.code == 16 and case.command.amount == TOP_AMOUNT + 1,
+    "withdraw: amount with bit 63": lambda case: case.code == 16 and case.command.amount >= 2**63,
+    "withdraw: all available": lambda case: case.code == 0 and case.command.amount == case.available,
+    "withdraw: one above what is available": lambda case: (
+        case.code == 9 and case.command.amount == case.available + 1
+    ),
+    "withdraw: less than nothing available": lambda case: case.code == 9 and case.available < 0,
+    "withdraw: balance above 10^18 before": lambda case: case.code == 0 and case.balance > TOP_BALANCE,
+}
+
+STATE = {
+    **codes("state", (0, 3, 17)),
+    **for_each(
+        product(dayfile.STATES, dayfile.STATES),
+        lambda value: f"state: {value[0]} to {value[1]}",
+        lambda case, value: (
+            case.code != 3 and (case.contract.state, dayfile.STATES[case.command.flags]) == value
+        ),
+    ),
+}
+
+SETTLE = {
+    **codes("settle", (0, 18, 19)),
+    "settle: 250 made and a contract not closed": lambda case: (
+        case.code == 18 and case.state.settlements == MOST_SETTLEMENTS
+    ),
+    "settle: the 250th": lambda case: case.code == 0 and case.state.settlements == MOST_SETTLEMENTS - 1,
+}
+
+SETTLE_ACCEPTED = {
+    **for_each(
+        (
+            "trades, exact",
+            "trades, rounded down",
+            "trades, rounded down to the tick",
+            "quotes, middle is the buy",
+            "quotes, middle is the sell",
+            "quotes, middle is the reference",
+            "only buys",
+            "only sells",
+            "no quotes",
+        ),
+        lambda source: f"settle: {source}",
+        lambda case, source: source in case.price_sources,
+    ),
+    **for_each(
+        product(("long", "short"), ("start-of-day lots", "today's lots", "both")),
+        lambda value: f"settle: a close of {value[0]} used {value[1]}",
+        lambda case, value: value in case.closes,
+    ),
+    "settle: a balance below zero": lambda case: min(case.balances_after) < 0,
+    "settle: a balance above 10^18": lambda case: max(case.balances_after) > TOP_BALANCE,
+}
+
+OF_KIND = {"deposit": DEPOSIT, "withdraw": WITHDRAW, "cancel": CANCEL, "pull": PULL, "state": STATE, "settle": SETTLE}
+
+BROKEN = [
+    *(f"broken: cut in the count of {name}" for name in ("contracts", "accounts", "commands")),
+    *(f"broken: cut in the {name}" for name in ("contracts", "accounts", "commands")),
+    "broken: bytes after the last command",
+    "broken: contracts not 1 to 4",
+    "broken: accounts not 1 to 32",
+    "broken: commands not 0 to 2,000",
+    *(f"broken: {fault}" for fault, _ in CONTRACT_RULES),
+    "broken: reserved bytes not zero",
+    "broken: balance not 0 to 10^18",
+]
+
+NAMES = [
+    *BROKEN,
+    *MALFORMED,
+    *INSERT_REFUSED,
+    *INSERT_ACCEPTED,
+    *(name for table in OF_KIND.values() for name in table),
+    *SETTLE_ACCEPTED,
+]
+
+
+def met(state, command):
+    """The names of what the command meets in this state."""
+    case = Case(state, command)
+    return [name for table in tables(case) for name, test in table.items() if test(case)]
+
+
+def tables(case):
+    if case.code == 1:
+        return [MALFORMED]
+    if case.kind == "insert":
+        return [INSERT_ACCEPTED if case.code == 0 else INSERT_REFUSED]
+    if case.kind == "settle" and case.code == 0:
+        return [SETTLE, SETTLE_ACCEPTED]
+    return [OF_KIND[case.kind]]
+
+
+def met_by_file(file):
+    """The names of what reading the file meets: how it is broken, if it is."""
+    try:
+        dayfile.read(file)
+    except dayfile.Broken as broken:
+        return [f"broken: {broken.fault}"]
+    return []

@@ -1,0 +1,565 @@
+#!/usr/bin/env python3
+"""Seeded random day files, sound and broken, which together reach every rule that a file can reach.
+
+Commands are chosen beside a running model, so that most of them are near the edge of what the rules accept.
+Two codes are out of reach. Code 10 takes 999,999 accepted orders in one day, and a file holds 2,000 commands. Code 21
+takes a state that is not well formed, and every run opens in a well-formed one.
+"""
+
+import argparse
+import random
+import sys
+
+import dayfile
+import model
+from bounds import (
+    MOST_COMMANDS,
+    MOST_LOTS,
+    MOST_RESTING,
+    MOST_SETTLEMENTS,
+    MOST_TRADES,
+    TOP_AMOUNT,
+    TOP_BALANCE,
+    TOP_PRICE,
+)
+from broken import broken_files
+from dayfile import Command, ContractRecord, DayFile
+
+
+def day_file(seed, index):
+    """File number `index` of a seed. The same two numbers always give the same bytes."""
+    rng = random.Random(f"{seed}/{index}")
+    return pick(rng, FILES)(rng)
+
+
+def pick(rng, weights):
+    return rng.choices(list(weights), list(weights.values()))[0]
+
+
+class Day:
+    """A day file in the making, beside the state that its commands so far lead to."""
+
+    def __init__(self, rng, contracts, balances):
+        self.rng = rng
+        self.records = DayFile(contracts, balances, [])
+        self.state = model.opening_state(self.records)
+
+    def is_full(self):
+        return len(self.records.commands) == MOST_COMMANDS
+
+    def give(self, command):
+        """Adds a command and carries it out, as long as the file has room."""
+        if not self.is_full():
+            self.records.commands.append(command)
+            model.carry_out(self.state, command)
+
+    def account(self):
+        return self.rng.choice(list(self.state.balances))
+
+    def contract(self):
+        """The number of a contract, rather one that trades."""
+        trading = [number for number, contract in self.state.contracts.items() if contract.state == "continuous"]
+        if trading and self.rng.random() < 0.95:
+            return self.rng.choice(trading)
+        return self.rng.choice(list(self.state.contracts))
+
+    def file(self):
+        return dayfile.write(self.records)
+
+
+# --- Contracts and accounts ---
+
+
+def some_contract(rng):
+    """Any contract: small and large ticks, narrow bands and bands beyond both ends, tight and wide limits."""
+    tick = pick(rng, {1: 5, 2: 2, 5: 2, 7: 1, 1_000: 1, rng.randint(1, 1_000): 1})
+    most_ticks = TOP_PRICE // tick
+    reference_ticks = pick(rng, {rng.randint(1, 20): 2, 100: 4, rng.randint(1, most_ticks): 2, most_ticks: 1})
+    band_ticks = pick(rng, {rng.randint(1, 5): 2, 10: 4, rng.randint(1, most_ticks): 2, most_ticks: 1})
+    return ContractRecord(
+        multiplier=pick(rng, {1: 2, 10: 4, 1_000: 1, rng.randint(1, 1_000): 1}),
+        tick=tick,
+        reference=min(reference_ticks, most_ticks) * tick,
+        band=min(band_ticks, most_ticks) * tick,
+        limit=pick(rng, {rng.randint(1, 12): 3, 50: 2, 1_000: 2, 100_000: 3}),
+        rate=pick(rng, {1: 2, 1_000: 4, 10_000: 1, rng.randint(1, 10_000): 1}),
+    )
+
+
+def wide_contract(rng, tick=1):
+    """A contract whose limit and band are in nobody's way."""
+    return ContractRecord(
+        rng.choice((1, 10)), tick, reference=500 * tick, band=400 * tick, limit=100_000, rate=rng.randint(1, 1_000)
+    )
+
+
+def some_balance(rng, charges):
+    """A balance for some lots at the charges given, or one at an end of its range."""
+    return pick(
+        rng,
+        {
+            0: 1,
+            min(rng.choice(charges) * rng.randint(1, 12), TOP_BALANCE): 4,
+            min(max(charges) * rng.randint(100, 5_000), TOP_BALANCE): 8,
+            TOP_BALANCE: 1,
+            TOP_BALANCE - rng.randint(1, 1_000): 1,
+        },
+    )
+
+
+def some_day(rng):
+    contracts = [some_contract(rng) for _ in range(pick(rng, {1: 5, 2: 3, 3: 1, 4: 1}))]
+    opening = model.opening_state(DayFile(contracts, [], []))
+    charges = [model.charge(contract) for contract in opening.contracts.values()]
+    accounts = pick(rng, {1: 1, 2: 4, 3: 3, rng.randint(4, 31): 1, 32: 1})
+    return Day(rng, contracts, [some_balance(rng, charges) for _ in range(accounts)])
+
+
+def wide_day(rng, contracts=1):
+    return Day(rng, [wide_contract(rng, rng.choice((1, 5))) for _ in range(contracts)], [10**15] * rng.randint(1, 4))
+
+
+# --- Single commands, chosen beside the state ---
+
+# Every pair of conditions; market and best good for day are refused, so they are rare.
+CONDITIONS = {
+    ("limit", "day"): 40,
+    ("limit", "immediate"): 10,
+    ("limit", "kill"): 8,
+    ("market", "immediate"): 8,
+    ("market", "kill"): 6,
+    ("best", "immediate"): 8,
+    ("best", "kill"): 6,
+    ("market", "day"): 1,
+    ("best", "day"): 1,
+}
+
+
+def some_insert(day):
+    rng = day.rng
+    account, number = day.account(), day.contract()
+    side = rng.choice(dayfile.SIDES)
+    price_condition, time_condition = pick(rng, CONDITIONS)
+    price = some_price(rng, day.state.contracts[number], side) if price_condition == "limit" else 0
+    if price_condition != "limit" and rng.random() < 0.03:
+        price = rng.choice((1, 5, day.state.contracts[number].reference))
+    effect = some_effect(day, account, number, side)
+    order = model.Arriving(account, number, side, effect, price_condition, time_condition, lots=1, price=price)
+    return dayfile.insert(
+        account, number, side, effect, price_condition, price, some_lots(day, order), time_condition
+    )
+
+
+def some_effect(day, account, number, side):
+    """Close where there is something to close, and now and then where there is not."""
+    has_holding = day.state.holdings[account, number, model.HELD[side, "close"]] > 0
+    return "close" if day.rng.random() < (0.6 if has_holding else 0.05) else "open"
+
+
+def some_price(rng, contract, side):
+    """A price near those that stand in the book, or near an end of what is allowed."""
+    opposite = [order.price for order in contract.queues[model.OPPOSITE[side]]]
+    own = [order.price for order in contract.queues[side]]
+    low, high = model.low(contract), model.high(contract)
+    ticks_apart = rng.randint(-3, 3) * contract.tick
+    price = pick(
+        rng,
+        {
+            (opposite or [contract.reference])[0]: 25,
+            rng.choice(opposite or [contract.last_price]): 15,
+            (own or [contract.reference])[0]: 10,
+            rng.choice(own or [contract.reference]) + ticks_apart: 15,
+            contract.reference + ticks_apart: 20,
+            contract.last_price + ticks_apart: 5,
+            rng.randint(low // contract.tick, high // contract.tick) * contract.tick: 8,
+            low: 3,
+            high: 3,
+            low - contract.tick: 1,
+            high + contract.tick: 1,
+            contract.reference + rng.randint(1, contract.tick): 1,
+            TOP_PRICE: 1,
+            2**32 - 1: 0.3,
+        },
+    )
+    return max(price, 0)
+
+
+def some_lots(day, order):
+    """Few lots, or a number at the edge of a rule and perhaps one beyond it."""
+    rng = day.rng
+    contract = day.state.contracts[order.contract]
+    affordable = max(model.available(day.state, order.account), 0) // model.charge(contract)
+    beyond = rng.choice((0, 0, 1))
+    edges = {
+        model.fillable(contract, order) + rng.choice((-1, 0, 0, 1)): 25,
+        model.most_lots_by_holding(day.state, order) + beyond: 40 if order.effect == "close" else 6,
+        affordable + beyond: 6,
+        MOST_LOTS: 1,
+    }
+    if rng.random() < 0.02:
+        return rng.choice((0, MOST_LOTS + 1, 2**32 - 1))
+    possible = {lots: weight for lots, weight in edges.items() if 1 <= lots <= MOST_LOTS + 1}
+    return pick(rng, {**possible, rng.randint(1, 6): 50, rng.randint(1, MOST_LOTS): 2})
+
+
+def resting_numbers(contract):
+    return [order.number for order in contract.queues["buy"] + contract.queues["sell"]]
+
+
+def some_cancel(day):
+    """Mostly a resting order's owner or another account; else an order of another contract, or none."""
+    rng = day.rng
+    number = day.contract()
+    contract = day.state.contracts[number]
+    orders = contract.queues["buy"] + contract.queues["sell"]
+    operator = rng.random() < (0.7 if contract.state == "no-trading" else 0.2)
+    if orders and rng.random() < 0.7:
+        order = rng.choice(orders)
+        account = pick(rng, {order.account: 6, day.account(): 1})
+        return dayfile.cancel(account, number, order.number, operator)
+    anywhere = [found for other in day.state.contracts.values() for found in resting_numbers(other)]
+    order_number = rng.choice(anywhere + [0, rng.randint(1, day.state.next_order_number), 2**32 - 1])
+    return dayfile.cancel(day.account(), number, order_number, operator)
+
+
+def some_pull(day):
+    number = day.contract()
+    operator = day.rng.random() < (0.7 if day.state.contracts[number].state == "no-trading" else 0.2)
+    return dayfile.pull(day.account(), number, operator)
+
+
+def some_deposit(day):
+    rng = day.rng
+    account = day.account()
+    room = TOP_BALANCE - day.state.balances[account] + rng.choice((0, 1))
+    amount = room if 1 <= room <= TOP_AMOUNT and rng.random() < 0.7 else some_amount(rng)
+    return dayfile.deposit(account, amount)
+
+
+def some_withdrawal(day):
+    rng = day.rng
+    account = day.account()
+    all_available = model.available(day.state, account) + rng.choice((0, 0, 1))
+    amount = all_available if 1 <= all_available <= TOP_AMOUNT and rng.random() < 0.3 else some_amount(rng)
+    return dayfile.withdraw(account, amount)
+
+
+def some_amount(rng):
+    return pick(
+        rng,
+        {
+            rng.randint(1, 1_000): 6,
+            rng.randint(1, TOP_AMOUNT): 2,
+            TOP_AMOUNT: 1,
+            TOP_AMOUNT + 1: 0.5,
+            0: 0.5,
+            2**63 + 1: 0.3,
+            2**64 - 1: 0.3,
+        },
+    )
+
+
+def some_state_change(day):
+    """Any change, listed or not, but seldom an end of trading."""
+    number = day.rng.choice(list(day.state.contracts))
+    return dayfile.state(number, pick(day.rng, {"no-trading": 4, "continuous": 2, "closed": 1, "pre-open": 1}))
+
+
+def some_opening(day):
+    """The change to continuous of a contract that may make it, if there is one."""
+    waiting = [
+        number for number, contract in day.state.contracts.items() if contract.state in ("pre-open", "no-trading")
+    ]
+    return dayfile.state(day.rng.choice(waiting), "continuous") if waiting else some_insert(day)
+
+
+def some_malformed(day):
+    """A reasonable command with one field spoilt, or bytes without any sense."""
+    rng = day.rng
+    if rng.random() < 0.1:
+        return Command(*dayfile.COMMAND.unpack(rng.randbytes(dayfile.COMMAND.size)))
+    command = rng.choice(list(REASONABLE))(day)
+    spoilt = rng.choice(Command._fields)
+    return command._replace(**{spoilt: rng.choice(spoiling_values(day, spoilt))})
+
+
+def spoiling_values(day, spoilt):
+    return {
+        "kind": (0, 8, 9, 255),
+        "account": (0, 1, len(day.state.balances) + 1, 255),
+        "contract": (0, 1, len(day.state.contracts) + 1, 255),
+        "flags": (1, 2, 3, 4, 64, 128, 12, 48, 255),
+        "lots": (0, 1, MOST_LOTS, MOST_LOTS + 1, 2**31, 2**32 - 1),
+        "price": (0, 1, 5, TOP_PRICE, TOP_PRICE + 1, 2**31, 2**32 - 1),
+        "order_number": (0, 1, 999_999, 1_000_000, 2**32 - 1),
+        "amount": (0, 1, TOP_AMOUNT, TOP_AMOUNT + 1, 2**63, 2**64 - 1),
+    }[spoilt]
+
+
+def settle(day):
+    return dayfile.settle()
+
+
+REASONABLE = {
+    some_insert: 70,
+    some_cancel: 6,
+    some_pull: 3,
+    some_deposit: 3,
+    some_withdrawal: 4,
+    some_state_change: 4,
+    some_opening: 12,
+    settle: 1,
+}
+
+ANY = {**REASONABLE, some_malformed: 4}
+
+
+# --- Runs of commands ---
+
+
+def open_all(day):
+    for number, contract in day.state.contracts.items():
+        if contract.state != "continuous":
+            day.give(dayfile.state(number, "continuous"))
+
+
+def end_of_day(day):
+    """Closes every contract that is not closed and settles."""
+    for number, contract in day.state.contracts.items():
+        if contract.state != "closed":
+            day.give(dayfile.state(number, "closed"))
+    day.give(dayfile.settle())
+
+
+def trade(day, commands, chance_of_end=0.0):
+    """Gives commands of every sort; with some chance each time, the day ends and the next one opens."""
+    for _ in range(commands):
+        if day.rng.random() < chance_of_end:
+            end_of_day(day)
+            if day.rng.random() < 0.9:
+                open_all(day)
+        day.give(pick(day.rng, ANY)(day))
+
+
+def rest_many(day, number, side, orders):
+    """Rests orders of a few lots on one side, away from the other side's half of the band."""
+    contract = day.state.contracts[number]
+    for _ in range(orders):
+        ticks_away = day.rng.randint(1, 9) * contract.tick
+        price = contract.reference - ticks_away if side == "buy" else contract.reference + ticks_away
+        day.give(dayfile.insert(day.account(), number, side, "open", "limit", price, day.rng.randint(1, 3), "day"))
+
+
+# --- Whole files ---
+
+
+def trading_file(rng):
+    day = some_day(rng)
+    if rng.random() < 0.8:
+        open_all(day)
+    trade(day, rng.randint(0, 160), chance_of_end=rng.choice((0, 0.01, 0.05, 0.2)))
+    if rng.random() < 0.7:
+        end_of_day(day)
+    return day.file()
+
+
+def quiet_file(rng):
+    """Days of a few commands each, so that many contracts settle with quotes or with nothing."""
+    day = some_day(rng)
+    for _ in range(rng.randint(2, 12)):
+        open_all(day)
+        for _ in range(rng.randint(0, 4) * len(day.state.contracts)):
+            day.give(some_insert(day))
+        end_of_day(day)
+    return day.file()
+
+
+def full_book_file(rng):
+    """One side filled to 64, then orders that would be the 65th beside orders that are filled at once."""
+    day = wide_day(rng, contracts=rng.choice((1, 2)))
+    open_all(day)
+    number = day.contract()
+    side = rng.choice(dayfile.SIDES)
+    other = model.OPPOSITE[side]
+    rest_many(day, number, side, MOST_RESTING)
+    rest_many(day, number, other, rng.randint(0, 3))
+    price = full_side_price(day, number, side)
+    for _ in range(rng.randint(5, 25)):
+        lots = model.fillable(day.state.contracts[number], arriving_limit(number, side, price)) + rng.choice((0, 0, 1))
+        time_condition = pick(rng, {"day": 5, "immediate": 2, "kill": 1})
+        day.give(dayfile.insert(day.account(), number, side, "open", "limit", price, max(lots, 1), time_condition))
+        rest_many(day, number, other, rng.randint(0, 2))
+    rest_many(day, number, side, rng.randint(0, 3))
+    if rng.random() < 0.5:
+        day.give(dayfile.insert(day.account(), number, other, "open", "market", 0, MOST_LOTS, "immediate"))
+    trade(day, rng.randint(0, 60), chance_of_end=0.02)
+    return day.file()
+
+
+def full_side_price(day, number, side):
+    """A price that reaches into the other side's orders."""
+    contract = day.state.contracts[number]
+    ticks_beyond = day.rng.randint(1, 9) * contract.tick
+    return contract.reference + ticks_beyond if side == "buy" else contract.reference - ticks_beyond
+
+
+def arriving_limit(number, side, price):
+    return model.Arriving(0, number, side, "open", "limit", "day", 1, price)
+
+
+def full_day_file(rng):
+    """A day of 1,024 trades and what follows it: no trade more, orders that make none, and a fresh day."""
+    day = wide_day(rng, contracts=rng.choice((1, 2)))
+    open_all(day)
+    while len(day.state.trades) < MOST_TRADES and not day.is_full():
+        room = MOST_TRADES - len(day.state.trades)
+        sweep_once(day, resting_orders=rng.randint(1, MOST_RESTING) if room > 100 else rng.randint(2, 5))
+    side = rng.choice(dayfile.SIDES)
+    number = day.contract()
+    rest_many(day, number, side, MOST_RESTING)
+    rest_many(day, number, model.OPPOSITE[side], 2)
+    trade(day, 10)
+    price = full_side_price(day, number, side)
+    day.give(dayfile.insert(day.account(), number, side, "open", "limit", price, MOST_LOTS, "day"))
+    end_of_day(day)
+    open_all(day)
+    trade(day, rng.randint(0, 30))
+    return day.file()
+
+
+def sweep_once(day, resting_orders):
+    """Rests orders on one side and takes them all with one order, or as many as the day has room for."""
+    number = day.contract()
+    side = day.rng.choice(dayfile.SIDES)
+    rest_many(day, number, side, resting_orders)
+    price_condition = day.rng.choice(("limit", "market"))
+    other = model.OPPOSITE[side]
+    price = full_side_price(day, number, other) if price_condition == "limit" else 0
+    queue = day.state.contracts[number].queues[side]
+    room = MOST_TRADES - len(day.state.trades)
+    for orders_taken in (len(queue), room):
+        lots = max(1, min(sum(order.lots for order in queue[:orders_taken]), MOST_LOTS))
+        day.give(
+            dayfile.insert(day.account(), number, other, "open", price_condition, price, lots, "immediate")
+        )
+
+
+def many_settlements_file(rng):
+    """250 settlements with a few trades on the way, and the 251st refused."""
+    contracts = pick(rng, {1: 5, 2: 2, 4: 1})
+    day = Day(rng, [some_contract(rng) for _ in range(contracts)], [10**15] * 2)
+    commands_a_day = rng.randint(contracts + 1, MOST_COMMANDS // (MOST_SETTLEMENTS + 2))
+    while day.state.settlements < MOST_SETTLEMENTS and not day.is_full():
+        spare = commands_a_day - 2 * contracts - 1
+        if spare > 0:
+            open_all(day)
+            for _ in range(spare):
+                day.give(some_insert(day))
+        end_of_day(day)
+    day.give(dayfile.settle())
+    end_of_day(day)
+    trade(day, rng.randint(0, 5))
+    return day.file()
+
+
+def rich_file(rng):
+    """Balances at 10^18 and large profits: deposits at the edge, balances carried beyond it."""
+    contract = ContractRecord(1_000, 1, 500_000, 500_000, 100_000, rng.choice((1, 10_000)))
+    day = Day(rng, [contract], [TOP_BALANCE - rng.choice((0, 0, 1, 10**9)) for _ in range(rng.randint(2, 3))])
+    for _ in range(rng.randint(2, 6)):
+        open_all(day)
+        trade(day, rng.randint(4, 20))
+        end_of_day(day)
+        for _ in range(rng.randint(1, 4)):
+            day.give(rng.choice((some_deposit, some_withdrawal))(day))
+    return day.file()
+
+
+def ruined_file(rng):
+    """Little margin and a wide band: losses larger than the balance."""
+    contract = ContractRecord(1_000, 1, 1_000, 999, rng.choice((50, 1_000)), 1)
+    day = Day(rng, [contract], [rng.randint(1_000, 100_000) for _ in range(rng.randint(2, 4))])
+    for _ in range(rng.randint(2, 6)):
+        open_all(day)
+        trade(day, rng.randint(4, 25))
+        end_of_day(day)
+    open_all(day)
+    trade(day, 10)
+    return day.file()
+
+
+def swinging_file(rng):
+    """A narrow band and trades at both its ends, so that the last price can be outside the next day's band."""
+    tick = rng.choice((1, 10))
+    contract = ContractRecord(10, tick, 50 * tick, rng.randint(1, 3) * tick, 1_000, 1_000)
+    day = Day(rng, [contract], [10**9] * rng.randint(1, 3))
+    for _ in range(rng.randint(3, 10)):
+        open_all(day)
+        for lots in (rng.randint(3, 9), 1):
+            price = rng.choice((model.low, model.high))(day.state.contracts[1])
+            day.give(dayfile.insert(day.account(), 1, "sell", "open", "limit", price, lots, "day"))
+            day.give(dayfile.insert(day.account(), 1, "buy", "open", "limit", price, lots, "day"))
+        trade(day, rng.randint(0, 4))
+        end_of_day(day)
+    return day.file()
+
+
+def senseless_file(rng):
+    """Commands that are mere bytes, most of them with a kind that exists."""
+    day = some_day(rng)
+    for _ in range(rng.randint(1, 40)):
+        bytes_of_command = bytes([rng.randint(0, 8)]) + bytes(rng.choices((0, 1, 2, 3, 255), k=23))
+        day.give(Command(*dayfile.COMMAND.unpack(bytes_of_command)))
+    return day.file()
+
+
+def empty_file(rng):
+    """A sound file without commands prints nothing."""
+    return some_day(rng).file()
+
+
+def broken_file(rng):
+    """A sound file with one fault of any sort."""
+    day = some_day(rng)
+    trade(day, rng.randint(0, 6))
+    contract = rng.randrange(len(day.records.contracts))
+    account = rng.randrange(len(day.records.balances))
+    return rng.choice(list(broken_files(day.records, contract, account).values()))
+
+
+def torn_file(rng):
+    """A sound file cut anywhere, with bytes added, or with a byte of its head changed; the last may leave it sound."""
+    file = trading_file(rng)
+    place = rng.randrange(min(len(file), 60))
+    return rng.choice(
+        (
+            file[: rng.randrange(len(file))],
+            file + rng.randbytes(rng.randint(1, 30)),
+            file[:place] + rng.randbytes(1) + file[place + 1 :],
+            rng.randbytes(rng.randint(0, 100)),
+        )
+    )
+
+
+FILES = {
+    trading_file: 50,
+    quiet_file: 12,
+    full_book_file: 5,
+    full_day_file: 1,
+    many_settlements_file: 1,
+    rich_file: 5,
+    ruined_file: 5,
+    swinging_file: 3,
+    senseless_file: 3,
+    empty_file: 1,
+    broken_file: 24,
+    torn_file: 5,
+}
+
+
+if __name__ == "__main__":
+    parser = argparse.ArgumentParser(description="Write one generated day file to standard output.")
+    parser.add_argument("seed", type=int)
+    parser.add_argument("index", type=int)
+    arguments = parser.parse_args()
+    sys.stdout.buffer.write(day_file(arguments.seed, arguments.index))

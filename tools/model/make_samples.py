@@ -1,0 +1,45 @@
+#!/usr/bin/env python3
+"""Makes the sample day files and their expected outputs again from the sample texts, and the broken files."""
+
+import sys
+from pathlib import Path
+
+sys.path.insert(0, str(Path(__file__).resolve().parents[1]))
+
+import dayfile
+import daytext
+import model
+from broken import broken_files
+
+SAMPLES = Path(__file__).resolve().parents[2] / "samples"
+
+
+def made_files():
+    """The content of every file that is made, by its path."""
+    files = {}
+    for text in sorted(SAMPLES.glob("*.txt")):
+        file = daytext.pack(text.read_text())
+        files[text.with_suffix(".day")] = file
+        files[text.with_suffix(".out")] = model.run(file)
+    example = dayfile.read(files[SAMPLES / "paper-example.day"])
+    for name, file in broken_files(example).items():
+        files[SAMPLES / "broken" / f"{name}.day"] = file
+    return files
+
+
+def files_present():
+    return {path for pattern in ("*.day", "*.out", "broken/*") for path in SAMPLES.glob(pattern)}
+
+
+def main():
+    files = made_files()
+    for path in files_present() - set(files):
+        path.unlink()
+    for path, content in files.items():
+        path.parent.mkdir(exist_ok=True)
+        path.write_bytes(content)
+    print(f"{len(files)} files made")
+
+
+if __name__ == "__main__":
+    main()

@@ -1,0 +1,344 @@
+"""The generated files: that they stay the same, reach the rules, and tell wrong engines from the right one.
+
+The wrong engines are the model with one definition changed in a way that someone might write it.
+"""
+
+import subprocess
+import sys
+import tempfile
+import unittest
+from collections import deque
+from pathlib import Path
+from unittest import mock
+
+import branches
+import compare
+import dayfile
+import generate
+import model
+
+FILES = 250
+
+# The right definitions, for wrong ones that differ from them in some cases only.
+right_is_counterpart = model.is_counterpart
+right_most_lots = model.most_lots_by_holding
+right_next_day = model.start_next_day
+right_profit = model.profit
+right_pull = model.pull
+right_settlement_price = model.settlement_price
+
+
+def replaced(**definitions):
+    return mock.patch.multiple(model, **definitions)
+
+
+def code_changed(kind, change):
+    """The model with another code for commands of one kind: the change is given the state, command and right code."""
+    right = model.CODE_OF_KIND[kind]
+    wrong = {kind: lambda state, command: change(state, command, right(state, command))}
+    return mock.patch.dict(model.CODE_OF_KIND, wrong)
+
+
+def insert_code_changed(change):
+    """As code_changed for inserts, with the contract and the order instead of state and command."""
+
+    def changed(state, command, code):
+        order = model.arriving(command)
+        return change(state.contracts[order.contract], order, code) if code not in (2, 3) else code
+
+    return code_changed("insert", changed)
+
+
+def one_price_for_the_sweep(contract, order, resting):
+    best = model.opposite_queue(contract, order)[0].price
+    return model.middle(order.price, best, contract.last_price) if order.price_condition == "limit" else resting.price
+
+
+def middle_for_market_too(contract, order, resting):
+    end_of_band = model.high(contract) if order.side == "buy" else model.low(contract)
+    price = order.price if order.price_condition == "limit" else end_of_band
+    return model.middle(price, resting.price, contract.last_price)
+
+
+def book_full_before_matching(contract, order, code):
+    own_side = contract.queues[order.side]
+    return 13 if code == 0 and order.time_condition == "day" and len(own_side) == 64 else code
+
+
+def limit_price_at_the_ends_refused(contract, order, code):
+    ends = (model.low(contract), model.high(contract))
+    return 7 if code == 0 and order.price_condition == "limit" and order.price in ends else code
+
+
+def blank_contract_is_all_contracts(state, command, code):
+    return 0 if code == 3 and command.contract == 0 else code
+
+
+def pull_everywhere(state, command):
+    numbers = [command.contract] if command.contract else list(state.contracts)
+    removed = [right_pull(state, command._replace(contract=number)).lots_rested_or_removed for number in numbers]
+    return model.Answer(0, lots_rested_or_removed=sum(removed))
+
+
+def close_against_yesterday(state, account, number, price):
+    """Closing profit of today's lots from the reference; the balance stays right only if nothing was opened today."""
+    contract = state.contracts[number]
+    closing = 0
+    for trade in state.trades:
+        for leg in trade.legs():
+            if trade.contract == number and leg.account == account and leg.effect == "close":
+                rise = (trade.price - contract.reference) * trade.lots * contract.multiplier
+                closing += rise if leg.side == "sell" else -rise
+    both = sum(right_profit(state, account, number, price))
+    return closing, both - closing
+
+
+def closes_last_opened_first(state, account, number, price):
+    with replaced(deque=LastInFirstOut):
+        return right_profit(state, account, number, price)
+
+
+class LastInFirstOut(deque):
+    def popleft(self):
+        return self.pop()
+
+
+def last_price_becomes_the_settlement_price(state, prices):
+    right_next_day(state, prices)
+    for number, price in prices.items():
+        state.contracts[number].last_price = price
+
+
+def order_numbers_run_on(state, prices):
+    next_order_number = state.next_order_number
+    right_next_day(state, prices)
+    state.next_order_number = next_order_number
+
+
+def long_and_short_together(state, order):
+    other = "short" if model.HELD[order.side, order.effect] == "long" else "long"
+    held = state.holdings[order.account, order.contract, other] if order.effect == "open" else 0
+    return right_most_lots(state, order) - held
+
+
+def resting_closes_not_counted(state, order):
+    if order.effect == "open":
+        return right_most_lots(state, order)
+    return state.holdings[order.account, order.contract, model.HELD[order.side, order.effect]]
+
+
+def margin_without_resting_opens(state, account):
+    return sum(
+        model.charge(contract) * (state.holdings[account, number, "long"] + state.holdings[account, number, "short"])
+        for number, contract in state.contracts.items()
+    )
+
+
+def margin_of_the_larger_side(state, account):
+    return sum(
+        model.charge(contract)
+        * max(
+            state.holdings[account, number, held] + model.resting_lots(contract, account, side, "open")
+            for held, side in (("long", "buy"), ("short", "sell"))
+        )
+        for number, contract in state.contracts.items()
+    )
+
+
+def settlement_price_rounded_once(state, number):
+    """Down to a tick, but the nearest whole price before it."""
+    contract = state.contracts[number]
+    trades = [trade for trade in state.trades if trade.contract == number]
+    if not trades:
+        return right_settlement_price(state, number)
+    lots = sum(trade.lots for trade in trades)
+    nearest = (2 * sum(trade.price * trade.lots for trade in trades) + lots) // (2 * lots)
+    return nearest - nearest % contract.tick
+
+
+def settlement_price_of_trades_unweighted(state, number):
+    trades = [trade.price for trade in state.trades if trade.contract == number]
+    if not trades:
+        return right_settlement_price(state, number)
+    mean = sum(trades) // len(trades)
+    return mean - mean % state.contracts[number].tick
+
+
+def settlement_price_from_the_last_price(state, number):
+    if any(trade.contract == number for trade in state.trades):
+        return right_settlement_price(state, number)
+    return state.contracts[number].last_price
+
+
+def settlement_price_from_one_side(state, number):
+    """One side's best price where the other side is not quoted."""
+    contract = state.contracts[number]
+    quotes = contract.queues["buy"] + contract.queues["sell"]
+    if quotes and not (contract.queues["buy"] and contract.queues["sell"]) and not state.trades:
+        return quotes[0].price
+    return right_settlement_price(state, number)
+
+
+def newest_first(side, queue):
+    return sorted(queue, key=lambda order: (model.place_in_queue(side, order)[0], -order.number))
+
+
+def best_is_market(contract, order, resting):
+    if order.price_condition != "best":
+        return right_is_counterpart(contract, order, resting)
+    return True
+
+
+WRONG_ENGINES = {
+    "one price for the whole sweep": replaced(trade_price=one_price_for_the_sweep),
+    "market trades at the middle": replaced(trade_price=middle_for_market_too),
+    "limit trades at the resting price": replaced(trade_price=lambda contract, order, resting: resting.price),
+    "best goes on to the next price": replaced(is_counterpart=best_is_market),
+    "the newest of a price is first": replaced(sort_queue=newest_first),
+    "book full before matching": insert_code_changed(book_full_before_matching),
+    "the ends of the band refused": insert_code_changed(limit_price_at_the_ends_refused),
+    "fill or kill is immediate or cancel": insert_code_changed(lambda contract, order, code: 0 if code == 11 else code),
+    "no bound on trades": insert_code_changed(lambda contract, order, code: 0 if code == 12 else code),
+    "no tick": insert_code_changed(
+        lambda contract, order, code: (
+            0
+            if code == 7
+            and order.price_condition == "limit"
+            and model.low(contract) <= order.price <= model.high(contract)
+            else code
+        )
+    ),
+    "withdrawal must leave something": code_changed(
+        "withdraw",
+        lambda state, command, code: (
+            9 if code == 0 and command.amount == model.available(state, command.account) else code
+        ),
+    ),
+    "operator may cancel for others": code_changed(
+        "cancel", lambda state, command, code: 0 if code == 15 and command.flags == 1 else code
+    ),
+    "operator may pull when closed": code_changed(
+        "pull", lambda state, command, code: 0 if code == 4 and command.flags == 1 else code
+    ),
+    "same state again": code_changed(
+        "state",
+        lambda state, command, code: (
+            0 if code == 17 and dayfile.STATES[command.flags] == state.contracts[command.contract].state else code
+        ),
+    ),
+    "19 before 18": code_changed("settle", lambda state, command, code: 19 if state.settlements == 250 else code),
+    "long and short count together": replaced(most_lots_by_holding=long_and_short_together),
+    "resting closes do not count": replaced(most_lots_by_holding=resting_closes_not_counted),
+    "resting opens without margin": replaced(charged_margin=margin_without_resting_opens),
+    "margin of the larger side": replaced(charged_margin=margin_of_the_larger_side),
+    "charge rounded down": replaced(rounded_up=lambda number, divisor: number // divisor),
+    "low below one tick": replaced(low=lambda contract: max(0, contract.reference - contract.band)),
+    "high without the top": replaced(high=lambda contract: contract.reference + contract.band),
+    "settlement price to the nearest": replaced(settlement_price=settlement_price_rounded_once),
+    "settlement price without weights": replaced(settlement_price=settlement_price_of_trades_unweighted),
+    "settlement price from the last price": replaced(settlement_price=settlement_price_from_the_last_price),
+    "settlement price from one side": replaced(settlement_price=settlement_price_from_one_side),
+    "last price is the settlement price": replaced(start_next_day=last_price_becomes_the_settlement_price),
+    "order numbers run on": replaced(start_next_day=order_numbers_run_on),
+    "close against yesterday's price": replaced(profit=close_against_yesterday),
+    "closes the newest lots first": replaced(profit=closes_last_opened_first),
+    "values of the file not checked": mock.patch.object(dayfile, "check_ranges", lambda day: None),
+}
+
+
+class Generated(unittest.TestCase):
+    @classmethod
+    def setUpClass(cls):
+        cls.reached = compare.Reached()
+        # Short files first, since most wrong engines are found out by them.
+        files = sorted((generate.day_file(1, index) for index in range(FILES)), key=len)
+        cls.outputs = [(file, cls.reached.run_model(file)) for file in files]
+
+    def test_same_numbers_same_file(self):
+        for index in range(20):
+            self.assertEqual(generate.day_file(5, index), generate.day_file(5, index))
+        self.assertNotEqual(generate.day_file(5, 0), generate.day_file(6, 0))
+
+    def test_every_code_of_a_file_is_reached(self):
+        self.assertEqual(set(self.reached.codes), set(range(21)) - {10})
+
+    def test_almost_every_branch_is_reached(self):
+        """Few files reach most branches; the comparison of 2,000 reaches all."""
+        self.assertGreater(len(self.reached.branches), 0.9 * len(branches.NAMES))
+
+    def test_no_branch_without_a_name(self):
+        self.assertLessEqual(set(self.reached.branches), set(branches.NAMES))
+
+    def test_wrong_engines_are_found_out(self):
+        for name, wrong_engine in WRONG_ENGINES.items():
+            with self.subTest(name), wrong_engine:
+                self.assertTrue(any(self.differs(file, output) for file, output in self.outputs))
+
+    def test_blank_contract_is_found_out(self):
+        codes = code_changed("pull", blank_contract_is_all_contracts)
+        effect = mock.patch.dict(model.EFFECT_OF_KIND, {"pull": pull_everywhere})
+        with codes, effect:
+            self.assertTrue(any(self.differs(file, output) for file, output in self.outputs))
+
+    def differs(self, file, output):
+        """A wrong engine may also break what the model asserts of itself."""
+        try:
+            return model.run(file) != output
+        except (AssertionError, LookupError, TypeError, ZeroDivisionError):
+            return True
+
+
+class Comparison(unittest.TestCase):
+    RIGHT = [sys.executable, model.__file__]
+
+    def wrong_runner(self, folder, expression):
+        program = Path(folder, "wrong.py")
+        program.write_text(
+            f"import sys\nsys.path.insert(0, {str(Path(model.__file__).parent)!r})\nimport model\n"
+            f"output = model.run(sys.stdin.buffer.read())\nsys.stdout.buffer.write({expression})\n"
+        )
+        return [sys.executable, str(program)]
+
+    def test_no_difference(self):
+        with tempfile.TemporaryDirectory() as folder:
+            reached, difference = compare.compare(self.RIGHT, 12, 3, Path(folder))
+            self.assertIsNone(difference)
+            self.assertEqual(reached.files, 12)
+            self.assertEqual(list(Path(folder).iterdir()), [])
+
+    def test_first_difference_is_named_and_kept(self):
+        with tempfile.TemporaryDirectory() as folder:
+            runner = self.wrong_runner(folder, "output.replace(b'C 2 0', b'C 2 1')")
+            reached, difference = compare.compare(runner, 50, 3, Path(folder))
+            index = reached.files - 1
+            kept = Path(folder, f"difference-3-{index}.day")
+            self.assertEqual(kept.read_bytes(), generate.day_file(3, index))
+            self.assertEqual(kept.with_suffix(".out").read_bytes(), model.run(kept.read_bytes()))
+            self.assertIn(f"difference: seed 3, file {index}, line ", difference)
+            self.assertIn("model:  'C 2 0", difference)
+            self.assertIn("runner: 'C 2 1", difference)
+
+    def test_missing_last_newline_and_silence(self):
+        self.assertEqual(compare.first_difference(b"a\nb\n", b"a\nb"), (2, "'b\\n'", "'b'"))
+        self.assertEqual(compare.first_difference(b"a\n", b""), (1, "'a\\n'", "(no line)"))
+        self.assertEqual(compare.first_difference(b"a\n", b"a\nb\n"), (2, "(no line)", "'b\\n'"))
+        self.assertIsNone(compare.first_difference(b"a\n", b"a\n"))
+
+    def test_status(self):
+        with tempfile.TemporaryDirectory() as folder:
+            tool = [sys.executable, compare.__file__]
+            right = " ".join(self.RIGHT)
+            same = subprocess.run([*tool, right, "--files", "3"], cwd=folder, capture_output=True, text=True)
+            self.assertEqual(same.returncode, 0)
+            self.assertTrue(same.stdout.endswith("no difference\n"))
+            wrong = " ".join(self.wrong_runner(folder, "output + b'?'"))
+            other = subprocess.run([*tool, wrong, "--files", "3"], cwd=folder, capture_output=True, text=True)
+            self.assertEqual(other.returncode, 1)
+            self.assertIn("difference: seed 1, file 0, line ", other.stdout)
+            missing = subprocess.run([*tool, "./none"], cwd=folder, capture_output=True, text=True)
+            self.assertEqual(missing.returncode, 2)
+            self.assertIn("no program ./none", missing.stderr)
+
+
+if __name__ == "__main__":
+    unittest.main()

@@ -1,0 +1,968 @@
+"""The model against document 01's examples, the team's readings of it, and days worked out by hand."""
+
+import copy
+import sys
+import unittest
+from itertools import product
+from pathlib import Path
+
+sys.path.insert(0, str(Path(__file__).resolve().parents[1]))
+
+import bounds
+import broken
+import dayfile
+import daytext
+import model
+
+# The contract of the paper's example: its charge is 100.
+CONTRACT = "contract multiplier 10 tick 1 reference 100 band 10 limit 1000 rate 1000\n"
+TWO_ACCOUNTS = "account 10,000\naccount 10,000\n"
+OPEN_DAY = CONTRACT + TWO_ACCOUNTS + "state 1 continuous\n"
+
+
+def output(text):
+    """The output lines for a day file in text form."""
+    return model.run(daytext.pack(text)).decode().splitlines()
+
+
+def answers(text):
+    """What the C lines say after the command's number: code, order, traded, rested or removed."""
+    return [line.split(" ", 2)[2] for line in output(text) if line.startswith("C ")]
+
+
+def codes(text):
+    return [int(answer.split()[0]) for answer in answers(text)]
+
+
+def last_answer(text):
+    return answers(text)[-1]
+
+
+def last_code(text):
+    return codes(text)[-1]
+
+
+def lines_of(letter, text):
+    return [line for line in output(text) if line.startswith(letter)]
+
+
+def state_after(text):
+    """The state that a text's commands lead to."""
+    day = dayfile.read(daytext.pack(text))
+    state = model.opening_state(day)
+    for command in day.commands:
+        model.carry_out(state, command)
+    return state
+
+
+class PaperExamples(unittest.TestCase):
+    """Document 01, "Examples"."""
+
+    def test_day_runner(self):
+        self.assertEqual(
+            output(
+                OPEN_DAY
+                + """
+                insert 1 contract 1 sell open limit 102 lots 5 day
+                insert 2 contract 1 buy open limit 104 lots 3 day
+                cancel 1 contract 1 order 1
+                insert 2 contract 1 sell close limit 103 lots 2 day
+                insert 1 contract 1 buy close limit 106 lots 2 day
+                state 1 closed
+                settle
+                """
+            ),
+            [
+                "C 1 0 0 0 0",
+                "C 2 0 1 0 5",
+                "C 3 0 2 3 0",
+                "T 1 1 102 3 2 1",
+                "C 4 0 1 0 2",
+                "C 5 0 3 0 2",
+                "C 6 0 4 2 0",
+                "T 2 1 103 2 4 3",
+                "C 7 0 0 0 0",
+                "C 8 0 0 0 0",
+                "P 1 102",
+                "B 1 -20 0 9980 102",
+                "B 2 20 0 10020 102",
+            ],
+        )
+
+    def test_middle(self):
+        self.assertEqual(model.middle(104, 102, 100), 102)
+        self.assertEqual(model.middle(106, 103, 102), 103)
+        self.assertEqual(model.middle(112, 111, 110), 111)
+        self.assertEqual(model.middle(110, 110, 109), 110)
+
+    def test_charge(self):
+        def charge(multiplier, reference, rate):
+            return model.charge(model.Contract(multiplier, 1, reference, 1, 1, rate, last_price=reference))
+
+        self.assertEqual(charge(10, 100, 1_000), 100)
+        self.assertEqual(charge(10, 102, 1_000), 102)
+        self.assertEqual(charge(1, 101, 1), 1)
+
+    def test_settlement_price(self):
+        trades = OPEN_DAY + """
+            insert 1 contract 1 sell open limit 102 lots 3 day
+            insert 2 contract 1 buy open limit 102 lots 3 day
+            insert 1 contract 1 sell open limit 103 lots 2 day
+            insert 2 contract 1 buy open limit 103 lots 2 day
+            """
+        self.assertEqual(model.settlement_price(state_after(trades), 1), 102)
+        quotes = OPEN_DAY.replace("reference 100", "reference 105")
+        quotes += "insert 1 contract 1 buy open limit 99 lots 1 day\n"
+        self.assertEqual(model.settlement_price(state_after(quotes), 1), 105)
+        quotes += "insert 1 contract 1 sell open limit 103 lots 1 day\n"
+        self.assertEqual(model.settlement_price(state_after(quotes), 1), 103)
+
+    # "Sells 7 at 110, 5 at 111"
+    SELLS = OPEN_DAY.replace("band 10", "band 20") + """
+        insert 1 contract 1 sell open limit 110 lots 7 day
+        insert 1 contract 1 sell open limit 111 lots 5 day
+        """
+
+    def test_fillable(self):
+        contract = state_after(self.SELLS).contracts[1]
+
+        def fillable(limit):
+            return model.fillable(contract, model.Arriving(2, 1, "buy", "open", "limit", "day", 1, limit))
+
+        self.assertEqual(fillable(111), 12)
+        self.assertEqual(fillable(110), 7)
+
+    def test_fill_or_kill(self):
+        twelve = self.SELLS + "insert 2 contract 1 buy open limit 111 lots 12 kill"
+        self.assertEqual(last_answer(twelve), "0 3 12 0")
+        self.assertEqual(lines_of("T", twelve), ["T 1 1 110 7 3 1", "T 2 1 111 5 3 2"])
+        self.assertEqual(last_answer(self.SELLS + "insert 2 contract 1 buy open limit 111 lots 13 kill"), "11 0 0 0")
+
+    def test_lots(self):
+        rich = OPEN_DAY.replace("account 10,000", "account 100,000")
+        self.assertEqual(last_code(rich + "insert 1 contract 1 buy open limit 100 lots 1000 day"), 0)
+        self.assertEqual(last_code(rich + "insert 1 contract 1 buy open limit 100 lots 1001 day"), 5)
+
+    def test_65th_rester(self):
+        full = OPEN_DAY + "repeat 64\n insert 1 contract 1 buy open limit 100 lots 1 day\n end\n"
+        self.assertEqual(last_answer(full), "0 64 0 1")
+        self.assertEqual(last_answer(full + "insert 2 contract 1 buy open limit 100 lots 1 day"), "13 0 0 0")
+
+
+class Malformed(unittest.TestCase):
+    """Code 1: "kind, flag value or unused field is wrong"."""
+
+    def code(self, command):
+        day = dayfile.read(daytext.pack(OPEN_DAY))
+        return model.carry_out(model.opening_state(day), command).code
+
+    def test_unknown_kinds_whatever_the_rest(self):
+        for kind in (0, 8, 255):
+            self.assertEqual(self.code(dayfile.Command(kind)), 1)
+            self.assertEqual(self.code(dayfile.Command(kind, 1, 1, 0, 1, 100, 0, 0)), 1)
+
+    def test_each_unused_field(self):
+        unused = {
+            dayfile.deposit(1, 5): ("contract", "flags", "lots", "price", "order_number"),
+            dayfile.withdraw(1, 5): ("contract", "flags", "lots", "price", "order_number"),
+            dayfile.insert(1, 1, "buy", "open", "limit", 100, 1, "day"): ("order_number", "amount"),
+            dayfile.cancel(1, 1, 1): ("lots", "price", "amount"),
+            dayfile.pull(1, 1): ("lots", "price", "order_number", "amount"),
+            dayfile.state(1, "continuous"): ("account", "lots", "price", "order_number", "amount"),
+            dayfile.settle(): ("account", "contract", "flags", "lots", "price", "order_number", "amount"),
+        }
+        for command, fields in unused.items():
+            self.assertNotEqual(self.code(command), 1)
+            for field in fields:
+                self.assertEqual(self.code(command._replace(**{field: 1})), 1, (command, field))
+
+    def test_each_flag_value(self):
+        insert = dayfile.insert(1, 1, "buy", "open", "limit", 100, 1, "day")
+        for flags in range(256):
+            is_known = flags >> 2 & 3 != 3 and flags >> 4 & 3 != 3 and flags < 64
+            self.assertEqual(self.code(insert._replace(flags=flags)) != 1, is_known)
+            self.assertEqual(self.code(dayfile.cancel(1, 1, 1)._replace(flags=flags)) != 1, flags <= 1)
+            self.assertEqual(self.code(dayfile.pull(1, 1)._replace(flags=flags)) != 1, flags <= 1)
+            self.assertEqual(self.code(dayfile.state(1, "closed")._replace(flags=flags)) != 1, flags <= 3)
+
+    def test_comes_before_absent_account_and_contract(self):
+        self.assertEqual(self.code(dayfile.state(9, "closed")._replace(flags=4)), 1)
+        self.assertEqual(self.code(dayfile.deposit(9, 5)._replace(lots=1)), 1)
+
+    def test_market_and_best_have_codes_of_their_own(self):
+        for condition in ("market", "best"):
+            order = OPEN_DAY + f"insert 1 contract 1 buy open {condition} 5 lots "
+            self.assertEqual(last_code(order + "0 day"), 5)
+            self.assertEqual(last_code(order + "1 day"), 6)
+            self.assertEqual(last_code(order + "1 immediate"), 7)
+            self.assertEqual(last_code(order + "1 kill"), 7)
+
+
+class AccountsAndContracts(unittest.TestCase):
+    """Codes 2 and 3: 0 or absent."""
+
+    def test_every_kind(self):
+        for absent in (0, 3, 255):
+            commands = f"""
+                deposit {absent} 5
+                withdraw {absent} 5
+                insert {absent} contract 1 buy open limit 100 lots 1 day
+                cancel {absent} contract 1 order 1
+                pull {absent} contract 1
+                """
+            self.assertEqual(codes(OPEN_DAY + commands), [0, 2, 2, 2, 2, 2])
+        for absent in (0, 2, 255):
+            commands = f"""
+                insert 1 contract {absent} buy open limit 100 lots 1 day
+                cancel 1 contract {absent} order 1
+                pull 1 contract {absent}
+                state {absent} closed
+                """
+            self.assertEqual(codes(OPEN_DAY + commands), [0, 3, 3, 3, 3])
+
+    def test_account_comes_first(self):
+        self.assertEqual(last_code(OPEN_DAY + "insert 0 contract 0 buy open limit 100 lots 1 day"), 2)
+
+
+class ContractStates(unittest.TestCase):
+    """Codes 4, 17 and 18."""
+
+    REACH = {
+        "pre-open": "",
+        "continuous": "state 1 continuous\n",
+        "no-trading": "state 1 continuous\n state 1 no-trading\n",
+        "closed": "state 1 closed\n",
+    }
+
+    def in_state(self, state):
+        return CONTRACT + TWO_ACCOUNTS + self.REACH[state]
+
+    def test_insert_needs_continuous(self):
+        for state in dayfile.STATES:
+            code = last_code(self.in_state(state) + "insert 1 contract 1 buy open limit 100 lots 1 day")
+            self.assertEqual(code, 0 if state == "continuous" else 4)
+
+    def test_cancel_and_pull_need_continuous_or_the_operator_in_no_trading(self):
+        allowed = {("continuous", ""), ("continuous", "operator"), ("no-trading", "operator")}
+        for state, operator in product(dayfile.STATES, ("", "operator")):
+            pull = last_code(self.in_state(state) + f"pull 1 contract 1 {operator}")
+            cancel = last_code(self.in_state(state) + f"cancel 1 contract 1 order 1 {operator}")
+            self.assertEqual((pull, cancel), (0, 14) if (state, operator) in allowed else (4, 4))
+
+    def test_changes(self):
+        listed = {(0, 1), (0, 3), (1, 2), (2, 1), (1, 3), (2, 3)}
+        for before, after in product(range(4), range(4)):
+            code = last_code(self.in_state(dayfile.STATES[before]) + f"state 1 {dayfile.STATES[after]}")
+            self.assertEqual(code, 0 if (before, after) in listed else 17)
+
+    def test_settle_needs_every_contract_closed(self):
+        two = CONTRACT + CONTRACT + TWO_ACCOUNTS + "state 1 closed\n"
+        self.assertEqual(last_code(two + "settle"), 18)
+        self.assertEqual(last_code(two + "state 2 closed\n settle"), 0)
+
+    def test_settlements_are_250(self):
+        days = CONTRACT + TWO_ACCOUNTS + "repeat 250\n state 1 closed\n settle\n end\n"
+        self.assertEqual(last_code(days), 0)
+        self.assertEqual(last_code(days + "settle"), 18)
+        self.assertEqual(last_code(days + "state 1 closed\n settle"), 19)
+
+
+class Prices(unittest.TestCase):
+    """Code 7 and the day's low and high."""
+
+    def is_allowed(self, contract, price):
+        text = f"contract multiplier 1 {contract} limit 1000 rate 1\n account 1,000,000\n state 1 continuous\n"
+        code = last_code(text + f"insert 1 contract 1 buy open limit {price} lots 1 day")
+        self.assertIn(code, (0, 7))
+        return code == 0
+
+    def assert_ends(self, contract, low, high, tick):
+        self.assertTrue(self.is_allowed(contract, low))
+        self.assertTrue(self.is_allowed(contract, high))
+        self.assertFalse(self.is_allowed(contract, low - tick))
+        self.assertFalse(self.is_allowed(contract, high + tick))
+
+    def test_both_ends_may_be_traded(self):
+        self.assert_ends("tick 1 reference 100 band 10", 90, 110, tick=1)
+        self.assert_ends("tick 5 reference 100 band 10", 90, 110, tick=5)
+
+    def test_low_is_at_least_one_tick(self):
+        self.assert_ends("tick 5 reference 100 band 100", 5, 200, tick=5)
+        self.assert_ends("tick 5 reference 100 band 1000", 5, 1_100, tick=5)
+
+    def test_high_is_at_most_the_largest_tick_multiple(self):
+        self.assert_ends("tick 1 reference 1000000 band 10", 999_990, 1_000_000, tick=1)
+        # 142,857 ticks of 7 make 999,999.
+        self.assert_ends("tick 7 reference 999999 band 14", 999_985, 999_999, tick=7)
+
+    def test_off_tick(self):
+        self.assertFalse(self.is_allowed("tick 5 reference 100 band 10", 101))
+
+    def test_last_price_is_kept_overnight_outside_the_new_band(self):
+        # 9 at 99 and 1 at 101 settle at 99, so 98 to 100 are allowed; 101 is still the last price.
+        # The sell at 98 meets the buy at 100: the middle of 100, 98 and 101 is 100.
+        text = OPEN_DAY.replace("band 10", "band 1") + """
+            insert 1 contract 1 sell open limit 99 lots 9 day
+            insert 2 contract 1 buy open limit 99 lots 9 day
+            insert 1 contract 1 sell open limit 101 lots 1 day
+            insert 2 contract 1 buy open limit 101 lots 1 day
+            state 1 closed
+            settle
+            state 1 continuous
+            insert 2 contract 1 buy open limit 100 lots 1 day
+            insert 1 contract 1 sell open limit 98 lots 1 day
+            """
+        self.assertEqual(lines_of("P", text), ["P 1 99"])
+        self.assertEqual(lines_of("T", text)[-1], "T 1 1 100 1 1 2")
+
+
+class HoldingsAndMoney(unittest.TestCase):
+    """Codes 8, 9 and 16."""
+
+    TIGHT = OPEN_DAY.replace("limit 1000", "limit 10")
+
+    def test_open_up_to_the_limit(self):
+        self.assertEqual(last_code(self.TIGHT + "insert 1 contract 1 buy open limit 100 lots 10 day"), 0)
+        self.assertEqual(last_code(self.TIGHT + "insert 1 contract 1 buy open limit 100 lots 11 day"), 8)
+
+    def test_open_counts_holding_and_resting_opens_of_its_side_alone(self):
+        # Account 1 holds 4 long and 3 long rest to open: 3 more make 10. Its short side is free.
+        held = self.TIGHT + """
+            insert 2 contract 1 sell open limit 100 lots 4 day
+            insert 1 contract 1 buy open limit 100 lots 7 day
+            """
+        self.assertEqual(last_answer(held), "0 2 4 3")
+        self.assertEqual(last_code(held + "insert 1 contract 1 buy open limit 99 lots 3 day"), 0)
+        self.assertEqual(last_code(held + "insert 1 contract 1 buy open limit 99 lots 4 day"), 8)
+        self.assertEqual(last_code(held + "insert 1 contract 1 sell open limit 101 lots 10 day"), 0)
+        self.assertEqual(last_code(held + "insert 1 contract 1 sell open limit 101 lots 11 day"), 8)
+
+    def test_close_counts_holding_less_own_resting_closes(self):
+        # Account 1 holds 7 long, 4 of them rest to be closed.
+        held = OPEN_DAY + """
+            insert 2 contract 1 sell open limit 100 lots 7 day
+            insert 1 contract 1 buy open limit 100 lots 7 day
+            insert 1 contract 1 sell close limit 105 lots 4 day
+            """
+        conditions = ("limit 104 lots {} day", "limit 104 lots {} immediate", "market lots {} immediate")
+        for condition in conditions:
+            close = held + "insert 1 contract 1 sell close " + condition
+            self.assertEqual(last_code(close.format(3)), 0)
+            self.assertEqual(last_code(close.format(4)), 8)
+        # Without anyone to trade with, fill or kill is 11; one lot more is already 8.
+        self.assertEqual(last_code(held + "insert 1 contract 1 sell close best lots 3 kill"), 11)
+        self.assertEqual(last_code(held + "insert 1 contract 1 sell close best lots 4 kill"), 8)
+        self.assertEqual(last_code(held + "insert 1 contract 1 buy close limit 99 lots 1 day"), 8)
+
+    def test_open_takes_exactly_what_is_available(self):
+        self.assertEqual(last_code(OPEN_DAY + "insert 1 contract 1 buy open limit 100 lots 100 day"), 0)
+        self.assertEqual(last_code(OPEN_DAY + "insert 1 contract 1 buy open limit 100 lots 101 day"), 9)
+
+    def test_available_runs_over_all_contracts(self):
+        # 60 lots at charge 100 leave 4,000 of 10,000: 40 lots at charge 100 in contract 2.
+        text = CONTRACT + CONTRACT + TWO_ACCOUNTS + """
+            state 1 continuous
+            state 2 continuous
+            insert 1 contract 1 buy open limit 100 lots 60 day
+            """
+        self.assertEqual(model.available(state_after(text), 1), 4_000)
+        self.assertEqual(last_code(text + "insert 1 contract 2 sell open limit 100 lots 40 day"), 0)
+        self.assertEqual(last_code(text + "insert 1 contract 2 sell open limit 100 lots 41 day"), 9)
+        self.assertEqual(codes(text + "withdraw 1 4,001\n withdraw 1 4,000\n withdraw 1 1")[-3:], [9, 0, 9])
+
+    def test_close_is_never_refused_for_money_and_carries_no_margin(self):
+        # All 10,000 are charged for 100 lots long; their close rests all the same, and charges nothing.
+        held = OPEN_DAY + """
+            insert 2 contract 1 sell open limit 100 lots 100 day
+            insert 1 contract 1 buy open limit 100 lots 100 day
+            insert 1 contract 1 sell close limit 101 lots 100 day
+            """
+        self.assertEqual(last_answer(held), "0 3 0 100")
+        self.assertEqual(model.charged_margin(state_after(held), 1), 10_000)
+
+    def test_charge_is_rounded_up_for_one_lot(self):
+        # 1 x 101 x 1 / 10,000 is rounded up to 1 for each of 3 lots.
+        text = "contract multiplier 1 tick 1 reference 101 band 10 limit 10 rate 1\n account 3\n state 1 continuous\n"
+        self.assertEqual(last_code(text + "insert 1 contract 1 buy open limit 100 lots 3 day"), 0)
+        self.assertEqual(last_code(text + "insert 1 contract 1 buy open limit 100 lots 4 day"), 9)
+
+    def test_amounts(self):
+        rich = OPEN_DAY.replace("account 10,000", "account 1,000,000,000,000,000")
+        for kind in ("deposit", "withdraw"):
+            for amount, code in ((0, 16), (1, 0), (10**15, 0), (10**15 + 1, 16), (2**63, 16), (2**64 - 1, 16)):
+                self.assertEqual(last_code(rich + f"{kind} 1 {amount}"), code)
+        # For a withdrawal 16 tests the amount alone and comes before 9.
+        self.assertEqual(last_code(OPEN_DAY + f"withdraw 1 {10**15}"), 9)
+        self.assertEqual(last_code(OPEN_DAY + f"withdraw 1 {10**15 + 1}"), 16)
+
+    def test_deposit_lifts_to_at_most_10_to_the_18(self):
+        full = CONTRACT + f"account {10**18 - 5}\n"
+        self.assertEqual(codes(full + "deposit 1 6\n deposit 1 5\n deposit 1 1"), [16, 0, 16])
+
+    def test_deposit_above_10_to_the_18_by_profit(self):
+        # Account 1 buys at 90 what settles at 94 (1 at 90, 1 at 98): 40 above 10^18, so every deposit is refused.
+        text = CONTRACT + f"account {10**18}\n account 10,000\n" + """
+            state 1 continuous
+            insert 2 contract 1 sell open limit 90 lots 1 day
+            insert 1 contract 1 buy open limit 90 lots 1 day
+            insert 2 contract 1 sell open limit 98 lots 1 day
+            insert 2 contract 1 buy open limit 98 lots 1 day
+            state 1 closed
+            settle
+            """
+        self.assertEqual(lines_of("B", text)[0], f"B 1 0 40 {10**18 + 40} 94")
+        self.assertEqual(codes(text + "deposit 1 1\n withdraw 1 41\n deposit 1 1\n deposit 1 1")[-4:], [16, 0, 0, 16])
+
+
+class OrderNumbers(unittest.TestCase):
+    """Code 10, which no file can reach."""
+
+    def test_999999_is_still_given(self):
+        state = state_after(OPEN_DAY)
+        state.next_order_number = 999_999
+        order = dayfile.insert(1, 1, "buy", "open", "limit", 100, 1, "day")
+        self.assertEqual(model.answer(state, order).order_number, 999_999)
+        self.assertEqual(model.answer(state, order).code, 10)
+
+    def test_comes_after_9_and_before_11(self):
+        state = state_after(OPEN_DAY)
+        state.next_order_number = 1_000_000
+        too_dear = dayfile.insert(1, 1, "buy", "open", "limit", 100, 101, "kill")
+        unfillable = dayfile.insert(1, 1, "buy", "open", "limit", 100, 1, "kill")
+        self.assertEqual(model.answer(state, too_dear).code, 9)
+        self.assertEqual(model.answer(state, unfillable).code, 10)
+
+    def test_run_over_all_contracts_and_start_again(self):
+        text = CONTRACT + CONTRACT + TWO_ACCOUNTS + """
+            state 1 continuous
+            state 2 continuous
+            insert 1 contract 1 buy open limit 100 lots 1 day
+            insert 1 contract 2 buy open limit 100 lots 1 day
+            insert 2 contract 2 sell open limit 100 lots 1 day
+            insert 2 contract 1 sell open limit 100 lots 1 day
+            state 1 closed
+            state 2 closed
+            settle
+            state 2 continuous
+            insert 1 contract 2 buy open limit 100 lots 1 day
+            insert 2 contract 2 sell open limit 100 lots 1 day
+            """
+        self.assertEqual(lines_of("T", text), ["T 1 2 100 1 2 3", "T 2 1 100 1 1 4", "T 1 2 100 1 1 2"])
+
+
+class Matching(unittest.TestCase):
+    """Counterparts, prices, remainders; codes 11, 12 and 13."""
+
+    # Sells 2 at 101, 3 at 101, 4 at 103.
+    SELLS = OPEN_DAY + """
+        insert 1 contract 1 sell open limit 101 lots 2 day
+        insert 1 contract 1 sell open limit 103 lots 4 day
+        insert 1 contract 1 sell open limit 101 lots 3 day
+        """
+
+    def test_nothing_to_trade_with(self):
+        text = OPEN_DAY + """
+            insert 1 contract 1 buy open market lots 5 immediate
+            insert 1 contract 1 buy open best lots 5 immediate
+            insert 1 contract 1 buy open limit 100 lots 5 immediate
+            insert 1 contract 1 buy open limit 100 lots 5 kill
+            insert 1 contract 1 buy open limit 100 lots 5 day
+            """
+        self.assertEqual(answers(text)[1:], ["0 1 0 0", "0 2 0 0", "0 3 0 0", "11 0 0 0", "0 4 0 5"])
+
+    def test_by_price_then_number(self):
+        text = self.SELLS + "insert 2 contract 1 buy open market lots 8 immediate"
+        self.assertEqual(lines_of("T", text), ["T 1 1 101 2 4 1", "T 2 1 101 3 4 3", "T 3 1 103 3 4 2"])
+
+    def test_best_stays_at_one_price(self):
+        self.assertEqual(last_answer(self.SELLS + "insert 2 contract 1 buy open best lots 8 immediate"), "0 4 5 0")
+        self.assertEqual(last_answer(self.SELLS + "insert 2 contract 1 buy open best lots 5 kill"), "0 4 5 0")
+        self.assertEqual(last_answer(self.SELLS + "insert 2 contract 1 buy open best lots 6 kill"), "11 0 0 0")
+
+    def test_middle_is_worked_out_again_for_each_trade(self):
+        # Last price 100. First 101: the middle of 104, 101, 100. Then 103: the middle of 104, 103, 101.
+        text = self.SELLS + "insert 2 contract 1 buy open limit 104 lots 9 day"
+        self.assertEqual([line.split()[3] for line in lines_of("T", text)], ["101", "101", "103"])
+
+    def test_middle_by_the_last_price(self):
+        # Account 2 sells at 105 first, so the last price is 105; then 104, the arriving price, is the middle.
+        text = OPEN_DAY + """
+            insert 2 contract 1 buy open limit 105 lots 1 day
+            insert 1 contract 1 sell open limit 105 lots 1 day
+            insert 1 contract 1 sell open limit 101 lots 1 day
+            insert 2 contract 1 buy open limit 104 lots 1 day
+            """
+        self.assertEqual(lines_of("T", text)[-1], "T 2 1 104 1 4 3")
+
+    def test_last_price_on_arrival_gives_the_same_prices(self):
+        # No test of the engine can tell the two apart: a later resting price is no better than an earlier one.
+        for limit, first, second, last in product(range(1, 7), repeat=4):
+            if first <= second <= limit:
+                self.assertEqual(
+                    model.middle(limit, second, model.middle(limit, first, last)), model.middle(limit, second, last)
+                )
+
+    def test_market_and_best_trade_at_the_resting_price(self):
+        for condition in ("market", "best"):
+            text = OPEN_DAY + f"""
+                insert 1 contract 1 sell open limit 109 lots 1 day
+                insert 2 contract 1 buy open {condition} lots 1 immediate
+                """
+            self.assertEqual(lines_of("T", text), ["T 1 1 109 1 2 1"])
+
+    def test_fill_or_kill_leaves_no_trace(self):
+        text = self.SELLS + """
+            insert 2 contract 1 buy open limit 104 lots 10 kill
+            insert 2 contract 1 buy open limit 104 lots 1 day
+            """
+        self.assertEqual(answers(text)[-2:], ["11 0 0 0", "0 4 1 0"])
+        self.assertEqual(lines_of("T", text), ["T 1 1 101 1 4 1"])
+
+    def test_own_order_is_met(self):
+        text = OPEN_DAY + """
+            insert 1 contract 1 sell open limit 100 lots 2 day
+            insert 1 contract 1 buy open limit 100 lots 2 day
+            insert 1 contract 1 buy close limit 100 lots 2 day
+            insert 1 contract 1 sell close limit 100 lots 2 day
+            """
+        self.assertEqual(lines_of("T", text), ["T 1 1 100 2 2 1", "T 2 1 100 2 3 4"])
+        self.assertEqual(set(state_after(text).holdings.values()), {0})
+
+    def test_cancel_and_pull_give_lots(self):
+        text = self.SELLS + """
+            insert 2 contract 1 buy open limit 99 lots 8 day
+            insert 2 contract 1 buy open limit 101 lots 1 day
+            cancel 1 contract 1 order 1
+            cancel 1 contract 1 order 0
+            cancel 1 contract 1 order 4
+            cancel 2 contract 1 order 2 operator
+            pull 1 contract 1
+            pull 1 contract 1
+            """
+        self.assertEqual(answers(text)[-6:], ["0 1 0 1", "14 0 0 0", "15 0 0 0", "15 0 0 0", "0 0 0 7", "0 0 0 0"])
+
+    FULL_SIDE = OPEN_DAY + """
+        repeat 64
+            insert 1 contract 1 buy open limit 100 lots 1 day
+        end
+        insert 2 contract 1 sell open limit 103 lots 5 day
+        """
+
+    def test_13_needs_all_three(self):
+        order = self.FULL_SIDE + "insert 2 contract 1 buy open "
+        self.assertEqual(last_answer(order + "limit 103 lots 5 day"), "0 66 5 0")
+        self.assertEqual(last_answer(order + "limit 103 lots 6 day"), "13 0 0 0")
+        self.assertEqual(last_answer(order + "limit 103 lots 6 immediate"), "0 66 5 0")
+        self.assertEqual(last_answer(order + "limit 103 lots 6 kill"), "11 0 0 0")
+        self.assertEqual(last_answer(order + "market lots 6 immediate"), "0 66 5 0")
+
+    def test_12_counts_the_trades_that_would_be_made(self):
+        # 1,022 trades are made, three sells of 1 lot rest at 102 and the day has room for two trades.
+        wide = OPEN_DAY.replace("account 10,000", "account 1,000,000").replace("limit 1000", "limit 100000")
+        state = state_after(
+            wide
+            + """
+            insert 1 contract 1 sell open limit 101 lots 1000 day
+            insert 1 contract 1 sell open limit 101 lots 22 day
+            repeat 1022
+                insert 2 contract 1 buy open limit 101 lots 1 immediate
+            end
+            repeat 3
+                insert 1 contract 1 sell open limit 102 lots 1 day
+            end
+            """
+        )
+        self.assertEqual(len(state.trades), 1_022)
+
+        def buy(price, lots, time_condition):
+            order = dayfile.insert(2, 1, "buy", "open", "limit", price, lots, time_condition)
+            return model.carry_out(state, order).code
+
+        for time_condition in dayfile.TIME_CONDITIONS:
+            self.assertEqual(buy(102, 3, time_condition), 12)
+        self.assertEqual(buy(102, 2, "immediate"), 0)
+        self.assertEqual(len(state.trades), 1_024)
+        self.assertEqual(buy(102, 1, "day"), 12)
+        # Orders that make no trade pass.
+        self.assertEqual(buy(101, 1, "immediate"), 0)
+        self.assertEqual(buy(101, 1, "day"), 0)
+        self.assertTrue(model.well_formed(state))
+
+
+class SettlementPrices(unittest.TestCase):
+    """ "the day's trades weighted by lots, rounded down, then down to a tick"; without a trade the quotes."""
+
+    END = "state 1 closed\n settle\n"
+
+    def price(self, text):
+        return int(lines_of("P", text + self.END)[-1].split()[2])
+
+    def test_down_to_a_tick(self):
+        # 1 at 95 and 2 at 105, tick 5: 305 / 3 is 101.67, rounded down 101, down to a tick 100.
+        text = OPEN_DAY.replace("tick 1", "tick 5") + """
+            insert 1 contract 1 sell open limit 95 lots 1 day
+            insert 2 contract 1 buy open limit 95 lots 1 day
+            insert 1 contract 1 sell open limit 105 lots 2 day
+            insert 2 contract 1 buy open limit 105 lots 2 day
+            """
+        self.assertEqual(self.price(text), 100)
+
+    def test_quotes(self):
+        def quoted(*orders):
+            return OPEN_DAY + "".join(f"insert 1 contract 1 {order} lots 1 day\n" for order in orders)
+
+        self.assertEqual(self.price(quoted("buy open limit 98", "sell open limit 103")), 100)
+        self.assertEqual(self.price(quoted("buy open limit 102", "sell open limit 103")), 102)
+        self.assertEqual(self.price(quoted("buy open limit 95", "sell open limit 97")), 97)
+        self.assertEqual(self.price(quoted("buy open limit 105")), 100)
+        self.assertEqual(self.price(quoted("sell open limit 95")), 100)
+        self.assertEqual(self.price(OPEN_DAY), 100)
+
+    def test_last_price_plays_no_part(self):
+        # The first day trades 9 at 99 and then 1 at 105: it settles at 99, and 105 is the last price.
+        first_day = OPEN_DAY + """
+            insert 1 contract 1 sell open limit 99 lots 9 day
+            insert 2 contract 1 buy open limit 99 lots 9 day
+            insert 1 contract 1 sell open limit 105 lots 1 day
+            insert 2 contract 1 buy open limit 105 lots 1 day
+            """
+        self.assertEqual(self.price(first_day), 99)
+        self.assertEqual(self.price(first_day + self.END), 99)
+
+    def test_contract_by_contract(self):
+        text = CONTRACT + CONTRACT + TWO_ACCOUNTS + """
+            state 1 continuous
+            state 2 continuous
+            insert 1 contract 1 buy open limit 105 lots 1 day
+            insert 2 contract 1 sell open limit 105 lots 1 day
+            insert 1 contract 2 buy open limit 102 lots 1 day
+            insert 1 contract 2 sell open limit 104 lots 1 day
+            state 1 closed
+            state 2 closed
+            settle
+            """
+        self.assertEqual(lines_of("P", text), ["P 1 105", "P 2 102"])
+
+
+class Article32(unittest.TestCase):
+    """Profit: days worked out by hand. The multiplier is 10."""
+
+    END = "state 1 closed\n settle\n"
+
+    # Account 1 is 5 long and account 2 is 5 short, all opened at 102, which is the settlement price.
+    FIRST_DAY = OPEN_DAY + """
+        insert 2 contract 1 sell open limit 102 lots 5 day
+        insert 1 contract 1 buy open limit 102 lots 5 day
+        """ + END + "state 1 continuous\n"
+
+    def balances(self, text):
+        return lines_of("B", text)[-2:]
+
+    def test_opening_day(self):
+        # Charge 10 x 102 x 1,000 / 10,000 = 102 for each of 5 lots.
+        self.assertEqual(lines_of("B", self.FIRST_DAY), ["B 1 0 0 10000 510", "B 2 0 0 10000 510"])
+
+    def test_start_of_day_lots_are_closed_first(self):
+        # 3 more lots are opened at 104, then 6 are closed at 103.
+        # Price: (3 x 104 + 6 x 103) / 9 = 930 / 9, rounded down 103; charge 103.
+        # Account 1: closes 5 of the start at 103 - 102 = 1 and 1 of today at 103 - 104 = -1: 4 x 10 = 40.
+        #   It holds 2 of today: 2 x (103 - 104) x 10 = -20.
+        # Account 2 is the other way round.
+        text = self.FIRST_DAY + """
+            insert 2 contract 1 sell open limit 104 lots 3 day
+            insert 1 contract 1 buy open limit 104 lots 3 day
+            insert 1 contract 1 sell close limit 103 lots 6 day
+            insert 2 contract 1 buy close limit 103 lots 6 day
+            """ + self.END
+        self.assertEqual(lines_of("P", text)[-1], "P 1 103")
+        self.assertEqual(self.balances(text), ["B 1 40 -20 10020 206", "B 2 -40 20 9980 206"])
+
+    def test_lots_opened_today_count_from_their_own_price(self):
+        # Opened at 104, closed at 103, the reference is 100: -1 x 2 x 10, not +3 x 2 x 10.
+        text = OPEN_DAY + """
+            insert 2 contract 1 sell open limit 104 lots 2 day
+            insert 1 contract 1 buy open limit 104 lots 2 day
+            insert 1 contract 1 sell close limit 103 lots 2 day
+            insert 2 contract 1 buy close limit 103 lots 2 day
+            """ + self.END
+        self.assertEqual(self.balances(text), ["B 1 -20 0 9980 0", "B 2 20 0 10020 0"])
+
+    def test_today_s_lots_are_closed_in_trade_order(self):
+        # Opened 2 at 101, then 2 at 105; 3 closed at 103: 2 x (103 - 101) + 1 x (103 - 105) = 2, times 10.
+        # Price: (2 x 101 + 2 x 105 + 3 x 103) / 7 = 721 / 7 = 103. Held: 1 x (103 - 105) x 10 = -20.
+        text = OPEN_DAY + """
+            insert 2 contract 1 sell open limit 101 lots 2 day
+            insert 1 contract 1 buy open limit 101 lots 2 day
+            insert 2 contract 1 sell open limit 105 lots 2 day
+            insert 1 contract 1 buy open limit 105 lots 2 day
+            insert 1 contract 1 sell close limit 103 lots 3 day
+            insert 2 contract 1 buy close limit 103 lots 3 day
+            """ + self.END
+        self.assertEqual(self.balances(text), ["B 1 20 -20 10000 103", "B 2 -20 20 10000 103"])
+
+    def test_long_and_short_of_one_account_are_not_netted(self):
+        # Account 1 is 5 long from the day before. It sells 5 open at 106 to account 2, who buys to close.
+        # Price 106, charge 106. Account 1: long 5 x (106 - 102) x 10 = 200 held, short 5 x (106 - 106) = 0; margin for
+        # 5 long and 5 short. Account 2: closes 5 short at 106: 5 x (102 - 106) x 10 = -200.
+        text = self.FIRST_DAY + """
+            insert 1 contract 1 sell open limit 106 lots 5 day
+            insert 2 contract 1 buy close limit 106 lots 5 day
+            """ + self.END
+        self.assertEqual(self.balances(text), ["B 1 0 200 10200 1060", "B 2 -200 0 9800 0"])
+
+    def test_held_lots_count_from_the_reference(self):
+        # Quotes at 104 and 106 without a trade move the price from 102 to 104: 5 x 2 x 10 for the long.
+        text = self.FIRST_DAY + """
+            insert 1 contract 1 buy open limit 104 lots 1 day
+            insert 1 contract 1 sell open limit 106 lots 1 day
+            """ + self.END
+        self.assertEqual(self.balances(text), ["B 1 0 100 10100 520", "B 2 0 -100 9900 520"])
+
+    def test_own_order_closes_what_it_opened_before(self):
+        # Account 1 holds 5 long at 102. Its resting close of 5 at 104 meets its own open of 5: the close uses the lots
+        # of the start, 5 x 2 x 10 = 100, and 5 opened at 104 are held at the price of 104.
+        text = self.FIRST_DAY + """
+            insert 1 contract 1 sell close limit 104 lots 5 day
+            insert 1 contract 1 buy open limit 104 lots 5 day
+            """ + self.END
+        self.assertEqual(self.balances(text), ["B 1 100 0 10100 520", "B 2 0 -100 9900 520"])
+
+    def test_each_contract_at_its_own_multiplier(self):
+        # Contract 1 (times 10): opened at 101, settles at (101 + 105) / 2 = 103: 1 x 2 x 10 held by account 1.
+        # Contract 2 (times 7): account 1 sells at 104 and settles at 104: 0. Then closes at 108: (104 - 108) x 7 = -28.
+        # Price of contract 2: (104 + 108) / 2 = 106; account 2 holds nothing there.
+        # Account 1 also took both sides of the trade at 105: long 103 - 105 = -2, short 105 - 103 = 2, together 0.
+        # Charges: contract 1: 103; contract 2: 7 x 106 x 1,000 / 10,000 = 74.2, rounded up 75.
+        text = CONTRACT + CONTRACT.replace("multiplier 10", "multiplier 7") + TWO_ACCOUNTS + """
+            state 1 continuous
+            state 2 continuous
+            insert 2 contract 1 sell open limit 101 lots 1 day
+            insert 1 contract 1 buy open limit 101 lots 1 day
+            insert 1 contract 1 sell open limit 105 lots 1 day
+            insert 1 contract 1 buy open limit 105 lots 1 day
+            insert 1 contract 2 sell open limit 104 lots 1 day
+            insert 2 contract 2 buy open limit 104 lots 1 day
+            insert 2 contract 2 sell close limit 108 lots 1 day
+            insert 1 contract 2 buy close limit 108 lots 1 day
+            state 1 closed
+            state 2 closed
+            settle
+            """
+        self.assertEqual(
+            output(text)[-4:], ["P 1 103", "P 2 106", "B 1 -28 20 9992 309", "B 2 28 -20 10008 103"]
+        )
+
+    def test_balance_may_fall_below_zero(self):
+        # 1 lot at rate 1 is charged 1 x 10 x 100 / 10,000, rounded up 1. Bought at 110, it settles at 93 (1 at 110,
+        # 2 at 85): (110 + 170) / 3 = 93.3. The loss of 17 x 10 is more than the balance of 100.
+        text = CONTRACT.replace("rate 1000", "rate 1").replace("band 10", "band 20") + """
+            account 100
+            account 10,000
+            state 1 continuous
+            insert 2 contract 1 sell open limit 110 lots 1 day
+            insert 1 contract 1 buy open limit 110 lots 1 day
+            insert 2 contract 1 sell open limit 85 lots 2 day
+            insert 2 contract 1 buy open limit 85 lots 2 day
+            """ + self.END
+        self.assertEqual(self.balances(text)[0], "B 1 0 -170 -70 1")
+        # 17 x 10 less than nothing is available: no withdrawal, no open, but the close is accepted.
+        after = text + """
+            state 1 continuous
+            withdraw 1 1
+            insert 1 contract 1 buy open limit 93 lots 1 day
+            insert 1 contract 1 sell close limit 93 lots 1 day
+            """
+        self.assertEqual(codes(after)[-3:], [9, 9, 0])
+
+
+class WellFormed(unittest.TestCase):
+    """Each clause, broken on its own, makes every answer 21."""
+
+    def setUp(self):
+        # Account 1 holds 5 long from the start of the day; 2 of them rest to be closed, and 1 buy rests to open.
+        self.state = state_after(
+            Article32.FIRST_DAY
+            + """
+            insert 1 contract 1 sell close limit 104 lots 2 day
+            insert 1 contract 1 buy open limit 100 lots 1 day
+            insert 2 contract 1 buy open limit 99 lots 1 day
+            insert 2 contract 1 sell open limit 103 lots 1 day
+            insert 1 contract 1 buy open limit 103 lots 1 immediate
+            """
+        )
+        self.contract = self.state.contracts[1]
+        self.buys = self.contract.queues["buy"]
+        self.sells = self.contract.queues["sell"]
+
+    def assert_21(self):
+        before = copy.deepcopy(self.state)
+        for command in (dayfile.settle(), dayfile.Command(0), dayfile.deposit(1, 1)):
+            self.assertEqual(model.answer(self.state, command), model.Answer(21))
+        self.assertEqual(self.state, before)
+
+    def replace_trade(self, **fields):
+        self.state.trades[0] = self.state.trades[0]._replace(**fields)
+
+    def test_the_state_itself(self):
+        self.assertTrue(model.well_formed(self.state))
+
+    def test_next_order_number(self):
+        self.state.next_order_number = 1_000_001
+        self.assert_21()
+
+    def test_settlements(self):
+        self.state.settlements = 251
+        self.assert_21()
+
+    def test_parameters(self):
+        self.contract.rate = 0
+        self.assert_21()
+
+    def test_last_price(self):
+        self.contract.last_price = 0
+        self.assert_21()
+
+    def test_last_price_may_be_outside_the_band(self):
+        self.contract.last_price = bounds.TOP_PRICE
+        self.assertTrue(model.well_formed(self.state))
+
+    def test_room(self):
+        self.state.trades = self.state.trades * 1_025
+        self.assert_21()
+
+    def test_queue_order(self):
+        self.buys.reverse()
+        self.assert_21()
+
+    def test_crossed(self):
+        self.buys[0].price = 104
+        self.assert_21()
+
+    def test_resting_lots(self):
+        self.buys[0].lots = 0
+        self.assert_21()
+
+    def test_resting_account(self):
+        self.buys[0].account = 3
+        self.assert_21()
+
+    def test_resting_price(self):
+        self.buys[1].price = 1
+        self.assert_21()
+
+    def test_resting_number_below_the_next(self):
+        self.buys[0].number = self.state.next_order_number
+        self.assert_21()
+
+    def test_resting_number_used_once(self):
+        self.sells[0].number = self.buys[0].number
+        self.assert_21()
+
+    def test_trade_contract(self):
+        self.replace_trade(contract=2)
+        self.assert_21()
+
+    def test_trade_numbers_differ(self):
+        self.replace_trade(buy_order=self.state.trades[0].sell_order)
+        self.assert_21()
+
+    def test_trade_price(self):
+        self.replace_trade(price=1)
+        self.assert_21()
+
+    def test_trade_lots(self):
+        self.replace_trade(lots=0)
+        self.assert_21()
+
+    def test_trade_effect(self):
+        self.replace_trade(buyer=model.Leg(1, "buy", "neither"))
+        self.assert_21()
+
+    def test_replay_below_zero(self):
+        self.replace_trade(seller=model.Leg(2, "sell", "close"))
+        self.state.holdings[2, 1, "short"] -= 1
+        self.state.holdings[2, 1, "long"] -= 1
+        self.assert_21()
+
+    def test_replay_gives_the_holdings(self):
+        self.state.holdings[2, 1, "long"] += 1
+        self.assert_21()
+
+    def test_limit_at_the_start(self):
+        # 5 lots at the start, 2 now.
+        self.state = state_after(
+            Article32.FIRST_DAY
+            + """
+            insert 1 contract 1 sell close limit 102 lots 3 day
+            insert 2 contract 1 buy close limit 102 lots 3 day
+            """
+        )
+        self.state.contracts[1].limit = 5
+        self.assertTrue(model.well_formed(self.state))
+        self.state.contracts[1].limit = 4
+        self.assert_21()
+
+    def test_limit_now(self):
+        # Account 1 holds 6 lots long and 1 rests to open.
+        self.contract.limit = 7
+        self.assertTrue(model.well_formed(self.state))
+        self.contract.limit = 6
+        self.assert_21()
+
+    def test_resting_closes_are_covered(self):
+        self.sells[0].lots = 7
+        self.assert_21()
+
+    def test_balance(self):
+        self.state.balances[1] = -(10**18 + 3 * 10**15)
+        self.assertTrue(model.well_formed(self.state))
+        self.state.balances[1] -= 1
+        self.assert_21()
+
+
+class DayFiles(unittest.TestCase):
+    """Sound and broken files."""
+
+    def test_no_commands_prints_nothing(self):
+        self.assertEqual(output(CONTRACT + TWO_ACCOUNTS), [])
+
+    def test_sound_at_the_ends_of_the_ranges(self):
+        for contract in (
+            "contract multiplier 1000 tick 1000 reference 1000000 band 1000000 limit 100000 rate 10000\n",
+            "contract multiplier 1 tick 1 reference 1 band 1 limit 1 rate 1\n",
+            "contract multiplier 1 tick 3 reference 3 band 999999 limit 1 rate 1\n",
+        ):
+            text = contract * 4 + f"account {10**18}\n" * 32 + "repeat 2000\n settle\n end"
+            self.assertEqual(output(text)[-1], "C 2000 18 0 0 0")
+
+    def test_bad_command_fields_do_not_break_a_file(self):
+        self.assertEqual(codes(CONTRACT + TWO_ACCOUNTS + "raw " + "ff" * 24), [1])
+
+    def test_each_way_to_break_a_file(self):
+        day = dayfile.read(daytext.pack(OPEN_DAY))
+        for name, file in broken.broken_files(day).items():
+            with self.subTest(name):
+                self.assertEqual(model.run(file), b"X 20\n")
+
+    def test_faults_are_told_apart(self):
+        files = broken.broken_files(dayfile.read(daytext.pack(OPEN_DAY)))
+        for name, fault in (
+            ("tick-0", "contract 1: tick not 1 to 1,000"),
+            ("tick-1001", "contract 1: tick not 1 to 1,000"),
+            ("reference-off-tick", "contract 1: reference off tick"),
+            ("band-off-tick", "contract 1: band off tick"),
+            ("reserved-second-byte", "contract 1: reserved bytes not zero"),
+            ("balance-bit-63", "account 1: balance not 0 to 10^18"),
+            ("accounts-33", "accounts not 1 to 32"),
+            ("commands-2001", "commands not 0 to 2,000"),
+            ("one-byte-more", "bytes after the last command"),
+            ("cut-in-the-accounts", "cut in the accounts"),
+            ("count-of-commands-right-in-32-bits", "cut in the commands"),
+        ):
+            with self.assertRaises(dayfile.Broken) as caught:
+                dayfile.read(files[name])
+            self.assertEqual(str(caught.exception), fault)
+
+
+if __name__ == "__main__":
+    unittest.main()

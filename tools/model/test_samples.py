@@ -1,0 +1,53 @@
+"""The samples: that they are current and show what their names say."""
+
+import unittest
+
+import make_samples
+import model
+from bounds import MOST_ACCOUNTS, MOST_COMMANDS, MOST_CONTRACTS
+from dayfile import read
+
+
+class Samples(unittest.TestCase):
+    @classmethod
+    def setUpClass(cls):
+        cls.made = make_samples.made_files()
+
+    def lines(self, name, letter):
+        output = self.made[make_samples.SAMPLES / f"{name}.out"].decode()
+        return [line.split() for line in output.splitlines() if line.startswith(letter)]
+
+    def codes(self, name):
+        return {int(line[2]) for line in self.lines(name, "C")}
+
+    def test_current(self):
+        self.assertEqual(make_samples.files_present(), set(self.made))
+        for path, content in self.made.items():
+            self.assertEqual(path.read_bytes(), content, f"{path.name} is not current: run make_samples.py")
+
+    def test_every_code_of_a_file(self):
+        self.assertEqual(self.codes("every-code"), set(range(20)) - {10})
+
+    def test_full_book(self):
+        self.assertEqual(self.codes("full-book"), {0, 13})
+
+    def test_full_day(self):
+        self.assertIn(12, self.codes("full-day"))
+        self.assertEqual(max(int(line[1]) for line in self.lines("full-day", "T")), 1_024)
+
+    def test_largest_file(self):
+        day = read(self.made[make_samples.SAMPLES / "largest-file.day"])
+        self.assertEqual(
+            (len(day.contracts), len(day.balances), len(day.commands)), (MOST_CONTRACTS, MOST_ACCOUNTS, MOST_COMMANDS)
+        )
+        self.assertEqual(len([line for line in self.lines("largest-file", "P") if line[1] == "1"]), 250)
+        self.assertEqual(self.codes("largest-file"), {0, 19})
+
+    def test_broken_files(self):
+        broken = [content for path, content in self.made.items() if path.parent.name == "broken"]
+        self.assertGreater(len(broken), 40)
+        self.assertEqual({model.run(file) for file in broken}, {b"X 20\n"})
+
+
+if __name__ == "__main__":
+    unittest.main()
