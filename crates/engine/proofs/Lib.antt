@@ -2,6 +2,7 @@ pub mod Accounts
 pub mod Changes
 pub mod Declared
 pub mod Formed
+pub mod Margins
 pub mod Outcomes
 pub mod Paying
 pub mod Puts
