@@ -7,21 +7,20 @@ use Prim.Native.Nat.{ℕ, _+_, _-_, _*_, _<_, _≤_, _^_}
 use native.Mathlib.Omega.{arith}
 use borrow.Author.Tests.{leb-true}
 use lib.Dec.{leb}
-use lib.ListN.{length, getD, set, take, length-map}
-use lib.Seq.{length-take-le}
+use lib.ListN.{length, getD, set}
 use Rattle.laws.specs.Bound.{Within, within-abs, within-le}
 use Rattle.laws.specs.Choice.{all, all-at, both-true}
-use Rattle.laws.specs.Tabulate.{length-tabulate, getD-tabulate}
 use Rattle.rules.specs.Bounds.{within, maxContracts, maxAccounts, maxResting, maxTrades}
-use Rattle.rules.specs.Exchange.{absent, accountAt, holdingAt, listingAt, noListing}
+use Rattle.rules.specs.Exchange.{absent, accountAt, holdingAt, listingAt}
 use Rattle.rules.specs.Memory.{Memory, Declared, exchangeOf, inUse, listingIn, putAccounts, countsInRange, hasRoom, wellFormedMemory}
 use Rattle.rules.specs.WellFormed.{wellFormedContents}
 use Rattle.rules.specs.declared.Account.{Account}
 use Rattle.rules.specs.declared.State.{State}
 use Rattle.invariants.proofs.Clauses.{WellFormed, well-formed}
 use Rattle.accounting.proofs.Facts.{passed}
+use Rattle.settlement.proofs.InUse.{accounts-in-use, contracts-in-use, account-in-use, holding-in-use, listing-in-use}
 use Rattle.engine.specs.Outcome.{isAbsent, memory, WellFormedState}
-use Rattle.engine.proofs.Accounts.{put-account-set, same-room, same-room-put, used-at, used-holding}
+use Rattle.engine.proofs.Accounts.{put-account-set, same-room, same-room-put}
 use Rattle.engine.proofs.Tests.{place-below}
 
 pub record Formed (m : Memory) : Type 0 where
@@ -81,12 +80,10 @@ module _ (m : Memory) (f : Formed m) where
   wide a i = omega (arith, f .declared .holdings a (omega (arith, f .accounts-high)), f .contracts-high)
 
   pub accounts-count : length (exchangeOf m .accounts) ≡ m .state .accountcount
-  unfolding exchangeOf
-  accounts-count = length-map (take (m .state .accountcount) (m .state .accounts)) (inUse (m .state .contractcount)) ∙ length-take-le (m .state .accountcount) (m .state .accounts) few-accounts
+  accounts-count = accounts-in-use m few-accounts
 
   pub contracts-count : length (exchangeOf m .listings) ≡ m .state .contractcount
-  unfolding exchangeOf
-  contracts-count = length-tabulate (m .state .contractcount) _
+  contracts-count = contracts-in-use m
 
   -- the code's tests of a number against a count are the rules' tests against the places in use
   pub no-account : (account : ℕ) → absent account (exchangeOf m .accounts) ≡ isAbsent account (m .state .accountcount)
@@ -98,16 +95,15 @@ module _ (m : Memory) (f : Formed m) where
   no-contract contract = rw contracts-count
 
   pub account-at : (a : ℕ) → a < m .state .accountcount → accountAt (exchangeOf m .accounts) a ≡ inUse (m .state .contractcount) (accountAt (m .state .accounts) a)
-  unfolding exchangeOf
-  account-at a h = used-at (m .state .contractcount) (m .state .accountcount) (m .state .accounts) a h few-accounts
+  unfolding accountAt
+  account-at = account-in-use m
 
   pub holding-at : (a c : ℕ) → a < m .state .accountcount → c < m .state .contractcount → holdingAt (exchangeOf m .accounts) a c ≡ holdingAt (m .state .accounts) a c
-  unfolding exchangeOf
-  holding-at a c h k = used-holding (m .state .contractcount) (m .state .accountcount) (m .state .accounts) a c h few-accounts k
+  unfolding accountAt holdingAt
+  holding-at = holding-in-use m
 
   pub listing-at : (c : ℕ) → c < m .state .contractcount → listingAt (exchangeOf m) c ≡ listingIn m c
-  unfolding listingAt exchangeOf
-  listing-at c h = getD-tabulate (m .state .contractcount) c (listingIn m) noListing h
+  listing-at = listing-in-use m
 
   pub balance-within : (a : ℕ) → a < m .state .accountcount → Within (2 * 10 ^ 18) (accountAt (m .state .accounts) a .balance)
   balance-within a h =

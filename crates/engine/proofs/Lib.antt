@@ -5,6 +5,7 @@ pub mod Declared
 pub mod Entering
 pub mod Formed
 pub mod Inserting
+pub mod Margins
 pub mod Outcomes
 pub mod Paying
 pub mod Puts

@@ -5,7 +5,7 @@ ghost use lib.Signed.{ltZ};
 ghost use Prim.Native.Nat.{_<_, _≤_, _^_, _*_};
 ghost use Rattle.rules.specs.Answers.{amountRefused};
 ghost use Rattle.rules.specs.Memory.{stepIn};
-ghost use Rattle.rules.specs.declared.Command.the-variants.{Deposit};
+ghost use Rattle.rules.specs.declared.Command.the-variants.{Deposit, Withdraw};
 ghost use Rattle.laws.specs.Bound.{Within};
 ghost use Rattle.engine.specs.Outcome.{memory, OutcomeIs, WellFormedState, withBalanceAt};
 use crate::answers;
@@ -65,4 +65,31 @@ pub fn deposit(
         return answers::refused(state, 16);
     }
     answers::accepted(with_balance(state, place, balance + amount as i64), 0, 0, 0)
+}
+
+pub fn withdraw<'a>(
+    state: State,
+    buys: &'a [u32],
+    sells: &'a [u32],
+    trades: &[u32],
+    account: u32,
+    amount: u64,
+) -> Outcome
+    requires { ⌜ WellFormedState state (now buys) (now sells) (now trades) ⌝ }
+    ensures { λ r. ⌜ OutcomeIs (stepIn (memory state (now (buys .entry)) (now (sells .entry)) (now (trades .entry))) (Withdraw account amount)) r (now (buys .entry)) (now (sells .entry)) (now (trades .entry)) ⌝ }
+{
+    if answers::is_absent(account, state.accountcount) {
+        return answers::refused(state, 2);
+    }
+    if amount_refused(amount) {
+        return answers::refused(state, 16);
+    }
+    let place = laws::wide(account) - 1;
+    let who = state.accounts[place];
+    let balance = who.balance;
+    let charged = settlement::margin::charged(state, buys, sells, place);
+    if settlement::margin::too_little(balance, charged, amount) {
+        return answers::refused(state, 9);
+    }
+    answers::accepted(with_balance(state, place, balance - amount as i64), 0, 0, 0)
 }
