@@ -4,12 +4,12 @@ use mathlib.Core.List.{List, _++_}
 use mathlib.Core.Path.{_≡_, refl, sym, ap, _∙_}
 use Prim.Native.Nat.{ℕ, _+_, _-_, _*_, _<_, _≤_}
 use native.Mathlib.Omega.{arith}
-use borrow.Author.Tests.{ne-eqb}
-use lib.Dec.{eqb, ltb}
+use borrow.Author.Tests.{leb-true, ne-eqb, not-false}
+use lib.Dec.{eqb, leb, ltb}
 use lib.ListN.{length, getD}
-use Rattle.laws.specs.Choice.{pick}
+use Rattle.laws.specs.Choice.{both-true, pick}
 use Rattle.rules.specs.Answers.{Refusal, codeOf, firstOf, fillableLots, holdingRefused, insertRefusals, listingOf, mark, moneyRefused, overHolding, overLimit, refusals, takerOf, tradesNeeded}
-use Rattle.rules.specs.Bounds.{termsInRange}
+use Rattle.rules.specs.Bounds.{maxLots, termsInRange, within}
 use Rattle.rules.specs.Exchange.{Exchange, accountAt, holdingAt, noAccount, noContract, noHolding, opposite, own, placeOf, resting}
 use Rattle.rules.specs.Memory.{Memory, exchangeOf, queueIn}
 use Rattle.rules.specs.declared.Command.the-variants.{Insert}
@@ -18,6 +18,7 @@ use Rattle.rules.specs.declared.Order.{Order}
 use Rattle.rules.specs.declared.State.{State}
 use Rattle.rules.specs.declared.Taker.{Taker}
 use Rattle.rules.proofs.Codecs.{length-queue}
+use Rattle.invariants.proofs.Accepted.{failed}
 use Rattle.engine.specs.Insertion.{Facing, Present, QueueRoom, accountRefusals, bookRefusals, lastIn, lotsRefused, sideArea, sideCount, takerFor, termsRefusals}
 use Rattle.engine.specs.Outcome.{isAbsent, memory, WellFormedState}
 use Rattle.engine.proofs.Formed.{Formed, formed, holding-at, no-account, no-contract}
@@ -144,6 +145,13 @@ module _ {s : State} {buys sells trades : List ℕ} (w : WellFormedState s buys 
       module _ {fields : ℕ} (et : fields ≡ firstOf (termsRefusals (getD (s .contracts) (k - 1) noContract) o)) where
         pub code-terms : (fields ≡ 0 → ⊥) → fields ≡ codeOf x (Insert o)
         code-terms some = sym (rw (in-parts, e, g, terms-first, ← terms-is, ← et, ne-eqb fields 0 some))
+
+        -- 5
+        pub lots-few : fields ≡ 0 → o .lots ≤ 1_000
+        unfolding termsRefusals
+        lots-few passed =
+            let tests = failed (termsRefusals (getD (s .contracts) (k - 1) noContract) o) (omega arith) (sym et ∙ passed) in
+            leb-true (o .lots) maxLots (both-true (leb 1 (o .lots)) (leb (o .lots) maxLots) (not-false (within 1 maxLots (o .lots)) (tests .1 .0)) .1)
 
         -- 8 and 9
         module _ (passed : fields ≡ 0) {account : ℕ} (ex : account ≡ firstOf (accountRefusals x o)) where

@@ -290,22 +290,28 @@ fn taker_of(next: u32, area: &[u32], count: usize, o: NewOrder) -> Taker
     }
 }
 
-// 9: "open .. too little available". A close is never refused for money.
+// 9: "open .. too little available": an open needs the charge times its lots. A close is never refused for money.
 fn money_refused<'a>(
     state: State,
     buys: &'a [u32],
     sells: &'a [u32],
     trades: &'a [u32],
-    terms: Contract,
     o: NewOrder,
 ) -> bool
-    requires { ⌜ WellFormedState state (now buys) (now sells) (now trades) × Present state o ⌝ }
+    requires { ⌜ WellFormedState state (now buys) (now sells) (now trades) × Present state o × (o .lots ≤ 1000) ⌝ }
     ensures { λ r. ⌜ r ≡ answer.moneyRefused (exchangeOf (memory state (now (buys .entry)) (now (sells .entry)) (now (trades .entry)))) o ⌝ }
 {
     if o.close {
         return false;
     }
-    false
+    let c = laws::wide(o.contract) - 1;
+    let terms = state.contracts[c];
+    let a = laws::wide(o.account) - 1;
+    let who = state.accounts[a];
+    let balance = who.balance;
+    let charged = settlement::margin::charged(state, buys, sells, a);
+    let needed = settlement::margin::charge(terms) * laws::wide32(o.lots);
+    settlement::margin::too_little(balance, charged, needed)
 }
 
 // Codes 8 and 9, 0 where neither holds.
@@ -316,7 +322,7 @@ fn account_code<'a>(
     trades: &'a [u32],
     o: NewOrder,
 ) -> u32
-    requires { ⌜ WellFormedState state (now buys) (now sells) (now trades) × Present state o ⌝ }
+    requires { ⌜ WellFormedState state (now buys) (now sells) (now trades) × Present state o × (o .lots ≤ 1000) ⌝ }
     ensures { λ r. ⌜ r ≡ answer.firstOf (accountRefusals (exchangeOf (memory state (now (buys .entry)) (now (sells .entry)) (now (trades .entry)))) o) ⌝ }
 {
     let c = laws::wide(o.contract) - 1;
@@ -330,7 +336,7 @@ fn account_code<'a>(
     if lots_refused(terms, h, rested, o) {
         return 8;
     }
-    if money_refused(state, buys, sells, trades, terms, o) {
+    if money_refused(state, buys, sells, trades, o) {
         return 9;
     }
     0

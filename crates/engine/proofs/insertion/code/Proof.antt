@@ -6,7 +6,7 @@ use native.Mathlib.Omega.{arith}
 use borrow.Author.Needs.{needs}
 use Rattle.engine.specs.Insertion.{Present}
 use Rattle.engine.specs.Outcome.{isAbsent}
-use Rattle.engine.proofs.Inserting.{present, place-fits, terms-in-range, code-account, code-contract, code-terms, code-lots-or-money, code-book, opposite-room, facing, recorded-few}
+use Rattle.engine.proofs.Inserting.{present, place-fits, terms-in-range, code-account, code-contract, code-terms, lots-few, code-lots-or-money, code-book, opposite-room, facing, recorded-few}
 use Rattle.engine.proofs.insertion.code.Statement.{statement}
 use Rattle.engine.proofs.insertion.code.Tie as tie
 
@@ -54,7 +54,7 @@ returns-3 : tie.Need-returns-3
 returns-3 c = code-terms (c .before .before .before .before .before .before .before .before .before .before .before .pre) (c .before .before .before .before .before .before .before .before .before .before .before .args .o) (here (c .before .before .before .before)) (c .before .before .before .wide .ensures) (account-there (c .before .before .before .before .before .before)) (contract-there (c .before .before .before .before)) (c .before .terms-code .ensures) (c .if3 .taken)
 
 account-code-requires : tie.Need-account-code-requires
-account-code-requires c κs = (c .before .before .before .before .before .before .before .before .before .before .before .pre, here (c .before .before .before .before))
+account-code-requires c κs = (c .before .before .before .before .before .before .before .before .before .before .before .pre, here (c .before .before .before .before), lots-few (c .before .before .before .before .before .before .before .before .before .before .before .pre) (c .before .before .before .before .before .before .before .before .before .before .before .args .o) (here (c .before .before .before .before)) (c .before .before .before .wide .ensures) (account-there (c .before .before .before .before .before .before)) (contract-there (c .before .before .before .before)) (c .before .terms-code .ensures) (c .if3 .left))
 
 returns-4 : tie.Need-returns-4
 returns-4 c = code-lots-or-money (c .before .before .before .before .before .before .before .before .before .before .before .before .before .pre) (c .before .before .before .before .before .before .before .before .before .before .before .before .before .args .o) (here (c .before .before .before .before .before .before)) (c .before .before .before .before .before .wide .ensures) (account-there (c .before .before .before .before .before .before .before .before)) (contract-there (c .before .before .before .before .before .before)) (c .before .before .before .terms-code .ensures) (c .before .before .if3 .left) (c .before .account-code .ensures) (c .if4 .taken)
