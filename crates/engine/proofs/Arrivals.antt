@@ -3,7 +3,7 @@
 use mathlib.Core.Bool.{Bool, true, false, _&&_}
 use mathlib.Core.List.{List, [], _∷_}
 use mathlib.Core.Path.{_≡_, refl, sym, ap, _∙_}
-use Prim.Native.Nat.{ℕ, suc, _+_, _-_, _*_, _<_, _≤_}
+use Prim.Native.Nat.{ℕ, suc, _+_, _-_, _*_, _≤_}
 use native.Mathlib.Omega.{arith}
 use borrow.Author.Tests.{le-ltb}
 use lib.Dec.{ltb}
@@ -11,12 +11,12 @@ use lib.ListN.{length, getD, drop}
 use Rattle.laws.specs.Choice.{pick}
 use Rattle.rules.specs.EarlyStop.{countTrades, fillableFront}
 use Rattle.rules.specs.Exchange.{bestPrice, noOrder}
-use Rattle.rules.specs.Matching.{counterpart, fillable, sweep}
+use Rattle.rules.specs.Matching.{counterpart, fillable}
 use Rattle.rules.specs.Memory.{orderFrom, queueIn}
 use Rattle.rules.specs.declared.Order.{Order}
 use Rattle.rules.specs.declared.Taker.{Taker}
 use Rattle.rules.proofs.Codecs.{length-queue, order-at}
-use Rattle.rules.proofs.Fillable.{front-fillable, trades-counted}
+use Rattle.rules.proofs.Fillable.{front-fillable}
 use Rattle.engine.specs.Insertion.{Facing, QueueRoom, tradesRefused}
 
 -- ---- the best price
@@ -49,13 +49,12 @@ count-within t left (o ∷ os) = go (ltb 0 left && counterpart t o) (count-withi
     go true h = omega arith
     go false h = omega arith
 
-module _ (t : Taker) (last lots : ℕ) {area : List ℕ} {c count : ℕ} (room : QueueRoom area c count) where
+module _ (t : Taker) (lots : ℕ) {area : List ℕ} {c count : ℕ} (room : QueueRoom area c count) where
   pub few-trades : countTrades t lots (queueIn area c count) ≤ 64
   few-trades = omega (arith, count-within t lots (queueIn area c count), length-queue area c count, room .few)
 
-  pub trades-fit : (recorded : ℕ) → recorded ≤ 960 → tradesRefused recorded t last (queueIn area c count) lots ≡ false
-  trades-fit recorded h =
-      rw (trades-counted t lots last (queueIn area c count)) (le-ltb 1_024 (recorded + countTrades t lots (queueIn area c count)) (omega (arith, few-trades)))
+  pub trades-fit : (recorded : ℕ) → recorded ≤ 960 → tradesRefused recorded t (queueIn area c count) lots ≡ false
+  trades-fit recorded h = le-ltb 1_024 (recorded + countTrades t lots (queueIn area c count)) (omega (arith, few-trades))
 
 -- ---- the lots that can be filled
 

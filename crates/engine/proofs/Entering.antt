@@ -9,9 +9,9 @@ use lib.Seq.{getD-set-same}
 use Rattle.laws.specs.Choice.{allOf, allOf-append, ap-pick, both-true, pick}
 use Rattle.areas.specs.Records.{store}
 use Rattle.rules.specs.Answers.{codeOf, insertRefusals, listingOf, refusals, takerOf, tradesNeeded}
-use Rattle.rules.specs.Exchange.{Exchange, Listing, listingAt, noContract, noListing, opposite, own, placeOf, withQueues}
+use Rattle.rules.specs.Exchange.{Exchange, Listing, listingAt, noListing, opposite, own, placeOf, withQueues}
 use Rattle.rules.specs.Holdings.{bookTrades}
-use Rattle.rules.specs.Matching.{Entered, enter, sweep}
+use Rattle.rules.specs.Matching.{Entered, sweep}
 use Rattle.rules.specs.Memory.{Memory, exchangeOf, put, putAccounts, putQueue, putTrades, queueIn, stepIn, tradeWords}
 use Rattle.rules.specs.Step.{answerOf, carriedOut, enteredOf, exchangeAfter, inserted, listingAfter}
 use Rattle.rules.specs.WellFormed.{tradeInRange}

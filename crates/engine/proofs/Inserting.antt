@@ -1,7 +1,7 @@
 -- An insert's code: the tests as the code makes them, one part after the other, are the rules' list. Assumes nothing.
 use mathlib.Core.Bool.{Bool, true, false, not}
 use mathlib.Core.List.{List, _++_}
-use mathlib.Core.Path.{_≡_, refl, sym, ap, _∙_}
+use mathlib.Core.Path.{_≡_, refl, sym, _∙_}
 use Prim.Native.Nat.{ℕ, _+_, _-_, _*_, _<_, _≤_}
 use native.Mathlib.Omega.{arith}
 use borrow.Author.Tests.{leb-true, ne-eqb, not-false}
@@ -18,8 +18,9 @@ use Rattle.rules.specs.declared.Order.{Order}
 use Rattle.rules.specs.declared.State.{State}
 use Rattle.rules.specs.declared.Taker.{Taker}
 use Rattle.rules.proofs.Codecs.{length-queue}
+use Rattle.rules.proofs.Fillable.{trades-counted}
 use Rattle.invariants.proofs.Accepted.{failed}
-use Rattle.engine.specs.Insertion.{Facing, Present, QueueRoom, accountRefusals, bookRefusals, lastIn, lotsRefused, sideArea, sideCount, takerFor, termsRefusals}
+use Rattle.engine.specs.Insertion.{Facing, Present, QueueRoom, accountRefusals, bookRefusals, lotsRefused, sideArea, sideCount, takerFor, termsRefusals}
 use Rattle.engine.specs.Outcome.{isAbsent, memory, WellFormedState}
 use Rattle.engine.proofs.Formed.{Formed, formed, holding-at, no-account, no-contract}
 use Rattle.engine.proofs.Puts.{trades-count}
@@ -57,11 +58,11 @@ module _ {s : State} {buys sells trades : List ℕ} (w : WellFormedState s buys 
 
   bookPart : List Refusal
   bookPart =
-      bookRefusals (x .next) (length (x .trades)) (length (own (o .sell) (listingOf x o))) (takerOf x o) (listingOf x o .contract .last) (opposite (o .sell) (listingOf x o)) o
+      bookRefusals (x .next) (length (x .trades)) (length (own (o .sell) (listingOf x o))) (takerOf x o) (opposite (o .sell) (listingOf x o)) o
 
   in-parts : codeOf x (Insert o) ≡ pick (isAbsent (o .account) (s .accountcount)) 2 (pick (isAbsent (o .contract) (s .contractcount)) 3 (firstOf (termsPart ++ (accountRefusals x o ++ bookPart))))
   unfolding codeOf refusals insertRefusals firstOf termsRefusals accountRefusals bookRefusals fillableLots tradesNeeded termsPart bookPart
-  in-parts = rw (no-account m f (o .account), no-contract m f (o .contract))
+  in-parts = rw (no-account m f (o .account), no-contract m f (o .contract), trades-counted)
 
   terms-first : firstOf (termsPart ++ (accountRefusals x o ++ bookPart)) ≡ pick (eqb (firstOf termsPart) 0) (firstOf (accountRefusals x o ++ bookPart)) (firstOf termsPart)
   unfolding termsPart termsRefusals
@@ -176,11 +177,11 @@ module _ {s : State} {buys sells trades : List ℕ} (w : WellFormedState s buys 
               pub recorded-few : s .tradecount ≤ 1_024
               recorded-few = f .trades-high
 
-              book-is : firstOf (bookRefusals (s .next) (s .tradecount) own₁ t (getD (s .contracts) (k - 1) noContract .last) (queueIn area (k - 1) count) o) ≡ firstOf bookPart
+              book-is : firstOf (bookRefusals (s .next) (s .tradecount) own₁ t (queueIn area (k - 1) count) o) ≡ firstOf bookPart
               unfolding bookPart listingOf takerOf exchangeOf
               book-is =
-                  rw (er, eo, ec, ea, is, trades-count m f, side-is m f c (p .contract) (o .sell), length-queue, contract-is m f c (p .contract), opposite-is m f c (p .contract) (o .sell))
+                  rw (er, eo, ec, ea, is, trades-count m f, side-is m f c (p .contract) (o .sell), length-queue, opposite-is m f c (p .contract) (o .sell))
 
-              pub code-book : {book : ℕ} → book ≡ firstOf (bookRefusals (s .next) (s .tradecount) own₁ t (getD (s .contracts) (k - 1) noContract .last) (queueIn area (k - 1) count) o)
+              pub code-book : {book : ℕ} → book ≡ firstOf (bookRefusals (s .next) (s .tradecount) own₁ t (queueIn area (k - 1) count) o)
                   → book ≡ codeOf x (Insert o)
               code-book eb = eb ∙ book-is ∙ sym (on-to-account ∙ rw (account-first, ← ex, clear))

@@ -14,7 +14,7 @@ use Rattle.laws.specs.Choice.{pick, allOf, allOf-at}
 use Rattle.laws.specs.Sums.{sumOf-bound}
 use Rattle.areas.specs.Lists.{removeAt}
 use Rattle.areas.proofs.Lists.{length-removeAt}
-use Rattle.rules.specs.Answers.{Refusal, _when_, cancelRefusals, codeOf, firstOf, noSuchOrder, numbered, ofAnother, pullRefusals, refusals, removalRefused, restingOrder}
+use Rattle.rules.specs.Answers.{_when_, cancelRefusals, codeOf, firstOf, noSuchOrder, numbered, ofAnother, pullRefusals, refusals, removalRefused, restingOrder}
 use Rattle.rules.specs.Bounds.{maxLots}
 use Rattle.rules.specs.Exchange.{Listing, listingAt, lotsWhere, noContract, noListing, noOrder, own}
 use Rattle.rules.specs.Memory.{Memory, exchangeOf, listingIn, orderFrom, put, putQueue, queueIn, stepIn}
@@ -30,7 +30,7 @@ use Rattle.rules.proofs.Codecs.{length-queue, order-at, put-queue}
 use Rattle.rules.proofs.Queue.{index-apart, index-notIn, first-within, length-without, lots-none, lots-number, numbered-found, numbered-none, numbered-append-found, numbered-append-none, once-append, without-none, without-number}
 use Rattle.book.specs.Removal.{PulledIs}
 use Rattle.book.specs.declared.removal.Pulled.{Pulled}
-use Rattle.invariants.proofs.Accepted.{Coded, failed}
+use Rattle.invariants.proofs.Accepted.{failed}
 use Rattle.invariants.proofs.Clauses.{ListingOk, OrderOk, order-ok}
 use Rattle.engine.specs.Outcome.{isAbsent, memory, WellFormedState, OutcomeIs, refusedWith, acceptedWith, withCountsIn}
 use Rattle.engine.specs.Removal.{removalCode, cancelCode, RemovedIs, CancelledIs}

@@ -10,7 +10,7 @@ use lib.ListN.{length, getD}
 use Rattle.laws.specs.Choice.{allOf, allOf-at}
 use Rattle.rules.specs.Answers.{mark}
 use Rattle.rules.specs.Bounds.{termsInRange, tickMultiple}
-use Rattle.rules.specs.Exchange.{Exchange, Listing, holdingAt, listingAt, noContract, noOrder, opposite, own, resting, restingCloses, restingOpens}
+use Rattle.rules.specs.Exchange.{Exchange, Listing, holdingAt, listingAt, noContract, noOrder, opposite, own, resting}
 use Rattle.rules.specs.Memory.{Memory, exchangeOf, listingIn, queueIn}
 use Rattle.rules.specs.WellFormed.{contractInRange, orderInRange, sorted}
 use Rattle.rules.specs.declared.Contract.{Contract}

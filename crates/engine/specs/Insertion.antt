@@ -10,8 +10,9 @@ use lib.ListN.{length, getD, set}
 use Rattle.laws.specs.Choice.{pick}
 use Rattle.rules.specs.Answers.{Refusal, _when_, holdingRefused, moneyRefused, isFillOrKill, isGoodForDay, isLimit, mark, priceRefused}
 use Rattle.rules.specs.Bounds.{within, maxLots, maxResting, maxTrades, numbersEnd}
+use Rattle.rules.specs.EarlyStop.{countTrades}
 use Rattle.rules.specs.Exchange.{Exchange, bestPrice, noContract, placeOf}
-use Rattle.rules.specs.Matching.{Entered, enter, fillable, sweep}
+use Rattle.rules.specs.Matching.{Entered, enter, fillable}
 use Rattle.rules.specs.Memory.{queueIn}
 use Rattle.rules.specs.Step.{limitOf, withLast}
 use Rattle.rules.specs.WellFormed.{sorted}
@@ -57,19 +58,19 @@ abbrev pub killRefused : Taker → List Order → ℕ → TimeCondition → Bool
 killRefused t queue lots time = isFillOrKill time && ltb (fillable t queue) lots
 
 -- 12: "it would make more trades than the day has room for"
-abbrev pub tradesRefused : ℕ → Taker → ℕ → List Order → ℕ → Bool
-tradesRefused recorded t last queue lots = ltb maxTrades (recorded + length (sweep t lots last queue .trades))
+abbrev pub tradesRefused : ℕ → Taker → List Order → ℕ → Bool
+tradesRefused recorded t queue lots = ltb maxTrades (recorded + countTrades t lots queue)
 
 -- 13: "good for day, own side has 64, fillable lots below lots"
 abbrev pub fullRefused : ℕ → Taker → List Order → ℕ → TimeCondition → Bool
 fullRefused own t queue lots time = isGoodForDay time && leb maxResting own && ltb (fillable t queue) lots
 
 -- 10 to 13: the next number, the trades recorded, the orders on the own side, the order as it meets the opposite queue
-unfoldable pub bookRefusals : ℕ → ℕ → ℕ → Taker → ℕ → List Order → NewOrder → List Refusal
-bookRefusals next recorded own t last queue o =
+unfoldable pub bookRefusals : ℕ → ℕ → ℕ → Taker → List Order → NewOrder → List Refusal
+bookRefusals next recorded own t queue o =
     (10 when leb numbersEnd next)
     ∷ (11 when killRefused t queue (o .lots) (o .time))
-    ∷ (12 when tradesRefused recorded t last queue (o .lots))
+    ∷ (12 when tradesRefused recorded t queue (o .lots))
     ∷ (13 when fullRefused own t queue (o .lots) (o .time))
     ∷ []
 

@@ -1,3 +1,4 @@
+-- `insertion::enter` meets its contract: the order is the one that the rules enter. Assumes nothing.
 use borrow.Author.Needs.{needs}
 use Rattle.engine.proofs.insertion.enter.Statement.{statement}
 use Rattle.engine.proofs.insertion.enter.Tie as tie
