@@ -22,9 +22,10 @@ use Rattle.rules.specs.declared.Taker.{Taker}
 use Rattle.rules.specs.declared.Trade.{Trade}
 use Rattle.rules.proofs.Codecs.{trade-codec, length-queue, order-at, put-queue}
 use Rattle.rules.proofs.Fillable.{traded-nil, traded-cons, trades-counted, count-met}
-use Rattle.rules.proofs.Holdings.{HeldWithin, held-more, held-trade}
 use Rattle.rules.proofs.Sweep.{trade-lots, trade-price, sweep-end, sweep-used, sweep-unmet, sweep-part, sweep-full}
-use Rattle.book.specs.Sweep.{SweptQueue, FilledIs}
+use Rattle.book.specs.Bounds.{HeldWithin}
+use Rattle.book.specs.Sweep.{Parties, FilledIs}
+use Rattle.book.proofs.Bookings.{held-more, held-trade}
 use Rattle.book.proofs.Queues.{next-order, no-more}
 
 -- ---- what the loop ends with
@@ -56,30 +57,19 @@ finish-trade : (done made last : ℕ) (held : List Account) (area : List ℕ) (t
     ≡ finish (done + tr .lots) (made + 1) (tr .price) (bookTrade held tr) (store tradeWords area (9 * made) (tr ∷ [])) s
 unfolding finish lastPrice bookTrades
 finish-trade done made last held area tr s room =
-    let one : List ℕ = store tradeWords area (9 * made) (tr ∷ []) in
     let t : done + tradedLots (tr ∷ s .trades) ≡ done + tr .lots + tradedLots (s .trades) = omega (arith, traded-cons tr (s .trades)) in
     let m : made + suc (length (s .trades)) ≡ made + 1 + length (s .trades) = omega arith in
     let w : 9 * made + 9 * 1 ≡ 9 * (made + 1) = omega arith in
-    let a : store tradeWords area (9 * made) (tr ∷ s .trades) ≡ store tradeWords one (9 * (made + 1)) (s .trades)
-    = store-append trade-codec area (9 * made) (tr ∷ []) (s .trades) room ∙ ap (λ (k : ℕ). store tradeWords one k (s .trades)) w in
-    λ i.
-    record {
-      traded = t i;
-      made = m i;
-      last = lastPrice (tr .price) (s .trades);
-      accounts = bookTrades (bookTrade held tr) (s .trades);
-      area = a i;
-      rest = s .rest;
-    }
+    let a : store tradeWords area (9 * made) (tr ∷ s .trades) ≡ store tradeWords (store tradeWords area (9 * made) (tr ∷ [])) (9 * (made + 1)) (s .trades)
+    = store-append trade-codec area (9 * made) (tr ∷ []) (s .trades) room ∙ ap (λ (k : ℕ). store tradeWords (store tradeWords area (9 * made) (tr ∷ [])) k (s .trades)) w in
+    λ i. record { traded = t i; made = m i; last = lastPrice (tr .price) (s .trades); accounts = bookTrades (bookTrade held tr) (s .trades); area = a i; rest = s .rest }
 
 -- nothing is to come: what stands is the answer
-finished : (s : Swept) (queues : List ℕ) (c count : ℕ) (area₀ : List ℕ) (before last : ℕ) (held₀ : List Account) (queues′ area : List ℕ)
-    (held : List Account) (price made at done : ℕ) (rest : List Order)
+finished : (s : Swept) (queues : List ℕ) (c count : ℕ) (area₀ : List ℕ) (before last : ℕ) (held₀ : List Account)
+    (queues′ area : List ℕ) (held : List Account) (price made at done : ℕ) (rest : List Order)
     → finish done made price held area (untouched rest) ≡ finish 0 before last held₀ area₀ s
-    → at + length rest ≡ count
-    → queues′ ≡ putQueue queues c count (take at (queueIn queues c count) ++ rest)
-    → FilledIs s queues c count area₀ before last held₀
-    (record { traded = done; filled = at; made = made; last = price; accounts = held }) queues′ area
+    → at + length rest ≡ count → queues′ ≡ putQueue queues c count (take at (queueIn queues c count) ++ rest)
+    → FilledIs s queues c count area₀ before last held₀ (record { traded = done; filled = at; made = made; last = price; accounts = held }) queues′ area
 unfolding finish lastPrice bookTrades
 finished s queues c count area₀ before last held₀ queues′ area held price made at done rest e l q =
     let r : rest ≡ s .rest = ap (λ o. o .rest) e in
@@ -95,10 +85,6 @@ finished s queues c count area₀ before last held₀ queues′ area held price 
 
 -- ---- what the loop keeps
 
--- the queue that is swept
-abbrev pub swept : Taker → List ℕ → ℕ → List Order
-swept t queues count = queueIn queues (t .contract) count
-
 pub record Going
     (t : Taker) (lots last : ℕ) (held₀ : List Account) (queues : List ℕ) (count : ℕ) (area₀ : List ℕ) (before : ℕ)
     (queues′ area : List ℕ) (held : List Account) (price made at done : ℕ) : Type 0 where
@@ -106,18 +92,14 @@ pub record Going
   pub within : at ≤ count
   pub some : done ≤ lots
   pub long : length area ≡ length area₀
-  pub holdings : HeldWithin (1_000_000 + done) (1_000_000 + done) held
-  pub answer : finish done made price held area (sweep t (lots - done) price (drop at (swept t queues count)))
-      ≡ finish 0 before last held₀ area₀ (sweep t lots last (swept t queues count))
+  pub parties : Parties (1_000_000 + done + done) t held queues count
+  pub answer : finish done made price held area (sweep t (lots - done) price (drop at (queueIn queues (t .contract) count)))
+      ≡ finish 0 before last held₀ area₀ (sweep t lots last (queueIn queues (t .contract) count))
 
--- ---- the order at a place
-
-pub order-read : {queues queues′ : List ℕ} {c d : ℕ} (at : ℕ) {o : Order} → o ≡ orderFrom (drop (320 * c + 5 * at) queues′)
-    → c ≡ d → queues′ ≡ queues → o ≡ orderFrom (drop (320 * d + 5 * at) queues)
+-- the order that code reads at a place
+pub order-read : {queues queues′ : List ℕ} {c d : ℕ} (at : ℕ) {o : Order} → o ≡ orderFrom (drop (320 * c + 5 * at) queues′) → c ≡ d → queues′ ≡ queues → o ≡ orderFrom (drop (320 * d + 5 * at) queues)
 order-read {queues} {queues′} {c} {d} at e ec eq =
-    e
-    ∙ ap (λ (k : ℕ). orderFrom (drop (320 * k + 5 * at) queues′)) ec
-    ∙ ap (λ (q : List ℕ). orderFrom (drop (320 * d + 5 * at) q)) eq
+    e ∙ ap (λ (k : ℕ). orderFrom (drop (320 * k + 5 * at) queues′)) ec ∙ ap (λ (q : List ℕ). orderFrom (drop (320 * d + 5 * at) q)) eq
 
 -- a turn that trades: the order met, and the trade
 pub record Meeting (t : Taker) (queues : List ℕ) (count at left price : ℕ) (o : Order) (tr : Trade) : Type 0 where
@@ -127,19 +109,16 @@ pub record Meeting (t : Taker) (queues : List ℕ) (count at left price : ℕ) (
   pub met : counterpart t o ≡ true
   pub trade : tr ≡ tradeWith t o left price
 
-either-party : (sell : Bool) (a b : ℕ) → a < 32 → b < 32 → pick sell a b < 32
-either-party true a b ha hb = ha
-either-party false a b ha hb = hb
+either-party : (used : ℕ) (sell : Bool) (a b : ℕ) → a < used → b < used → pick sell a b < used
+either-party used true a b ha hb = ha
+either-party used false a b ha hb = hb
 
-module _
-    {t : Taker} {queues : List ℕ} {count at left price : ℕ} {o : Order} {tr : Trade}
-    (m : Meeting t queues count at left price o tr) where
-  next : drop at (swept t queues count) ≡ o ∷ drop (at + 1) (swept t queues count)
-  next = next-order queues (t .contract) count at o (m .here) (m .order)
+-- the same accounts, with another bound on what they hold
+pub parties-with : {b b′ : ℕ} {t : Taker} {held held′ : List Account} {queues : List ℕ} {count : ℕ} (p : Parties b t held queues count)
+    → HeldWithin b′ (p .used) (t .contract) held′ → Parties b′ t held′ queues count
+parties-with p w = record { used = p .used; few = p .few; taker = p .taker; resting = p .resting; holdings = w }
 
-  standing : getD (swept t queues count) at noOrder ≡ o
-  standing = order-at queues (t .contract) count at (m .here) ∙ sym (m .order)
-
+module _ {t : Taker} {queues : List ℕ} {count at left price : ℕ} {o : Order} {tr : Trade} (m : Meeting t queues count at left price o tr) where
   pub trade-size : tr .lots ≡ min left (o .lots)
   trade-size = ap (λ (x : Trade). x .lots) (m .trade) ∙ trade-lots t o left price
 
@@ -147,19 +126,22 @@ module _
   unfolding tradeWith
   trade-contract = ap (λ (x : Trade). x .contract) (m .trade)
 
+  standing : getD (queueIn queues (t .contract) count) at noOrder ≡ o
+  standing = order-at queues (t .contract) count at (m .here) ∙ sym (m .order)
+
   -- the two accounts are the taker's and the order's
-  pub trade-parties : t .account < 32 → SweptQueue queues (t .contract) count → (tr .buyer < 32) × (tr .seller < 32)
+  pub trade-parties : {b : ℕ} {held : List Account} (p : Parties b t held queues count) → (tr .buyer < p .used) × (tr .seller < p .used)
   unfolding tradeWith
-  trade-parties taker known =
-      let resting : o .account < 32 = rw standing at (known .accounts at (m .here)) in
+  trade-parties p =
+      let resting : o .account < p .used = rw standing at (p .resting at (m .here)) in
       rw (m .trade)
-      (either-party (t .sell) (o .account) (t .account) resting taker, either-party (t .sell) (t .account) (o .account) taker resting)
+      (either-party (p .used) (t .sell) (o .account) (t .account) resting (p .taker), either-party (p .used) (t .sell) (t .account) (o .account) (p .taker) resting)
 
 -- ---- why a sweep stops
 
 -- no order from this place on is touched
 pub record Stops (t : Taker) (left price : ℕ) (queues : List ℕ) (count at : ℕ) : Type 0 where
-  pub rest : sweep t left price (drop at (swept t queues count)) ≡ untouched (drop at (swept t queues count))
+  pub rest : sweep t left price (drop at (queueIn queues (t .contract) count)) ≡ untouched (drop at (queueIn queues (t .contract) count))
 
 module _ {t : Taker} {left price : ℕ} {queues : List ℕ} {count at : ℕ} where
   pub queue-ended : at ≡ count → Stops t left price queues count at
@@ -168,54 +150,51 @@ module _ {t : Taker} {left price : ℕ} {queues : List ℕ} {count at : ℕ} whe
   pub lots-used : left ≡ 0 → Stops t left price queues count at
   lots-used e = record { rest = rw e (sweep-used t price _) }
 
-  pub no-counterpart : {o : Order} → at < count → o ≡ orderFrom (drop (320 * t .contract + 5 * at) queues) → counterpart t o ≡ false
-      → Stops t left price queues count at
-  no-counterpart {o} h e u =
-      record { rest = rw (next-order queues (t .contract) count at o h e) (sweep-unmet t left price o _ u) }
+  pub no-counterpart : {o : Order} → at < count → o ≡ orderFrom (drop (320 * t .contract + 5 * at) queues) → counterpart t o ≡ false → Stops t left price queues count at
+  no-counterpart {o} h e u = record { rest = rw (next-order queues (t .contract) count at o h e) (sweep-unmet t left price o _ u) }
 
--- ---- the ways out and on
+-- ---- the ways on and out
 
 module _
     {t : Taker} {lots last : ℕ} {held₀ : List Account} {queues : List ℕ} {count : ℕ} {area₀ : List ℕ} {before : ℕ} {queues′ area : List ℕ}
-    {held : List Account} {price made at done : ℕ}
-    (g : Going t lots last held₀ queues count area₀ before queues′ area held price made at done) where
+    {held : List Account} {price made at done : ℕ} (g : Going t lots last held₀ queues count area₀ before queues′ area held price made at done)
+    (room : 320 * t .contract + 5 * count ≤ length queues) where
   -- the loop is left before a trade
-  pub stopped : 320 * t .contract + 5 * count ≤ length queues → Stops t (lots - done) price queues count at
-      → FilledIs (sweep t lots last (swept t queues count)) queues (t .contract) count area₀ before last held₀
+  pub stopped : Stops t (lots - done) price queues count at
+      → FilledIs (sweep t lots last (queueIn queues (t .contract) count)) queues (t .contract) count area₀ before last held₀
       (record { traded = done; filled = at; made = made; last = price; accounts = held }) queues′ area
-  stopped room stops =
-      let q : List Order = swept t queues count in
+  stopped stops =
+      let q : List Order = queueIn queues (t .contract) count in
       let l : at + length (drop at q) ≡ count = rw length-drop (omega (arith, g .within, length-queue queues (t .contract) count)) in
       finished (sweep t lots last q) queues (t .contract) count area₀ before last held₀ queues′ area held price made at done (drop at q)
-      (ap (finish done made price held area) (sym (stops .rest)) ∙ g .answer) l
-      (g .same ∙ sym (rw take-append-drop (put-queue queues (t .contract) count room)))
+      (ap (finish done made price held area) (sym (stops .rest)) ∙ g .answer) l (g .same ∙ sym (rw take-append-drop (put-queue queues (t .contract) count room)))
 
   -- a turn that trades
   module _ {o : Order} {tr : Trade} (m : Meeting t queues count at (lots - done) price o tr) where
+    next : drop at (queueIn queues (t .contract) count) ≡ o ∷ drop (at + 1) (queueIn queues (t .contract) count)
+    next = next-order queues (t .contract) count at o (m .here) (m .order)
+
     -- the area has room for the trade
-    pub trade-room : 9 * (before + length (sweep t lots last (swept t queues count) .trades)) ≤ length area₀ → 9 * made + 9 ≤ length area
+    pub trade-room : 9 * (before + length (sweep t lots last (queueIn queues (t .contract) count) .trades)) ≤ length area₀ → 9 * made + 9 ≤ length area
     unfolding finish
     trade-room h =
-        let q : List Order = swept t queues count in
+        let q : List Order = queueIn queues (t .contract) count in
         let n : length (sweep t (lots - done) price (drop at q) .trades) ≡ 1 + countTrades t (lots - done - o .lots) (drop (at + 1) q)
-        = trades-counted t (lots - done) price (drop at q)
-        ∙ rw (next m) (count-met t (lots - done) o (drop (at + 1) q) (m .some) (m .met)) in
+        = trades-counted t (lots - done) price (drop at q) ∙ rw next (count-met t (lots - done) o (drop (at + 1) q) (m .some) (m .met)) in
         omega (arith, ap (λ x. x .made) (g .answer), g .long)
 
-    module _
-        (fits : 9 * made + 9 ≤ length area) {held′ : List Account} (eh : held′ ≡ bookTrade held tr) {area′ : List ℕ}
-        (ea : area′ ≡ store tradeWords area (9 * made) (tr ∷ [])) where
+    module _ (fits : 9 * made + 9 ≤ length area) {held′ : List Account} (eh : held′ ≡ bookTrade held tr) {area′ : List ℕ} (ea : area′ ≡ store tradeWords area (9 * made) (tr ∷ [])) where
+      long-still : length area′ ≡ length area₀
+      long-still = ap length ea ∙ length-store trade-codec area (9 * made) (tr ∷ []) fits ∙ g .long
+
       -- the trade is done, and this sweep is to come
-      traded-on : (s : Swept)
-          → sweep t (lots - done) price (o ∷ drop (at + 1) (swept t queues count))
-          ≡ record { trades = tradeWith t o (lots - done) price ∷ s .trades; rest = s .rest }
-          → finish (done + tr .lots) (made + 1) (tr .price) held′ area′ s
-          ≡ finish 0 before last held₀ area₀ (sweep t lots last (swept t queues count))
+      traded-on : (s : Swept) → sweep t (lots - done) price (o ∷ drop (at + 1) (queueIn queues (t .contract) count)) ≡ record { trades = tradeWith t o (lots - done) price ∷ s .trades; rest = s .rest }
+          → finish (done + tr .lots) (made + 1) (tr .price) held′ area′ s ≡ finish 0 before last held₀ area₀ (sweep t lots last (queueIn queues (t .contract) count))
       traded-on s e =
           rw (eh, ea)
           (sym (finish-trade done made price held area tr s (omega arith))
           ∙ ap (λ (x : Trade). finish done made price held area (record { trades = x ∷ s .trades; rest = s .rest })) (m .trade)
-          ∙ ap (finish done made price held area) (sym (ap (sweep t (lots - done) price) (next m) ∙ e))
+          ∙ ap (finish done made price held area) (sym (ap (sweep t (lots - done) price) next ∙ e))
           ∙ g .answer)
 
       -- the order is filled: the loop goes on behind it
@@ -224,34 +203,31 @@ module _
       going-on full =
           let size : tr .lots ≡ min (lots - done) (o .lots) = trade-size m in
           let left : lots - done - o .lots ≡ lots - (done + tr .lots) = omega arith in
-          let p : tradePrice (t .condition) (o .price) price ≡ tr .price
-          = sym (ap (λ (x : Trade). x .price) (m .trade) ∙ trade-price t o (lots - done) price) in
+          let p : tradePrice (t .condition) (o .price) price ≡ tr .price = sym (ap (λ (x : Trade). x .price) (m .trade) ∙ trade-price t o (lots - done) price) in
           record {
             same = g .same;
             within = omega (arith, m .here);
             some = omega (arith, g .some);
-            long = ap length ea ∙ length-store trade-codec area (9 * made) (tr ∷ []) fits ∙ g .long;
-            holdings = rw eh (held-more (held-trade held tr (g .holdings)) (omega arith) (omega arith));
+            long = long-still;
+            parties =
+                let both = trade-parties m (g .parties) in
+                rw eh (parties-with (g .parties) (held-more (held-trade held tr (trade-contract m) (both .0) (both .1) (g .parties .holdings)) (omega arith)));
             answer = traded-on _ (rw (← left, ← p) (sweep-full t (lots - done) price o _ (m .some) (m .met) (omega arith)));
           }
 
       -- the order is filled in part: the loop is left, and its remaining lots are written
       pub part-filled : tr .lots < o .lots → {c : ℕ} {queues″ : List ℕ} → c ≡ t .contract
-          → queues″
-          ≡ putQueue queues′ c count
-          (set (queueIn queues′ c count) at (withLots (getD (queueIn queues′ c count) at noOrder) (o .lots - tr .lots)))
-          → FilledIs (sweep t lots last (swept t queues count)) queues (t .contract) count area₀ before last held₀
+          → queues″ ≡ putQueue queues′ c count (set (queueIn queues′ c count) at (withLots (getD (queueIn queues′ c count) at noOrder) (o .lots - tr .lots)))
+          → FilledIs (sweep t lots last (queueIn queues (t .contract) count)) queues (t .contract) count area₀ before last held₀
           (record { traded = done + tr .lots; filled = at; made = made + 1; last = tr .price; accounts = held′ }) queues″ area′
       part-filled short ec eq =
-          let q : List Order = swept t queues count in
-          let kept : ℕ = o .lots - tr .lots in
-          let rest : List Order = withLots o kept ∷ drop (at + 1) q in
+          let q : List Order = queueIn queues (t .contract) count in
           let size : tr .lots ≡ min (lots - done) (o .lots) = trade-size m in
           let left : o .lots - (lots - done) ≡ o .lots - tr .lots = omega arith in
+          let rest : List Order = withLots o (o .lots - tr .lots) ∷ drop (at + 1) q in
           let l : at + length rest ≡ count = rw length-drop (omega (arith, m .here, length-queue queues (t .contract) count)) in
-          let written : set q at (withLots (getD q at noOrder) kept) ≡ take at q ++ rest
-          = ap (λ (x : Order). set q at (withLots x kept)) (standing m)
-          ∙ rw add-one (set-split q at (withLots o kept) (rw length-queue (m .here))) in
+          let written : set q at (withLots (getD q at noOrder) (o .lots - tr .lots)) ≡ take at q ++ rest
+          = ap (λ (x : Order). set q at (withLots x (o .lots - tr .lots))) (standing m) ∙ rw add-one (set-split q at (withLots o (o .lots - tr .lots)) (rw length-queue (m .here))) in
           finished (sweep t lots last q) queues (t .contract) count area₀ before last held₀ _ area′ held′ (tr .price) (made + 1) at (done + tr .lots) rest
           (traded-on (untouched rest) (rw (← left) (sweep-part t (lots - done) price o _ (m .some) (m .met) (omega arith)))) l
           (eq ∙ rw (ec, g .same, written))

@@ -18,9 +18,7 @@ pub record EntryReady
     (t : Taker) (lots price : ℕ) (day : Bool) (last : ℕ) (held : List Account) (owns : List ℕ) (own : ℕ) (opposites : List ℕ)
     (opposite : ℕ) (area : List ℕ) (before : ℕ) : Type 0 where
   pub sweeps : SweepReady t lots last held opposites opposite area before
-  pub rests : 320 * t .contract
-      + 5 * length (enter t lots price day last (queueIn owns (t .contract) own) (queueIn opposites (t .contract) opposite) .own)
-      ≤ length owns
+  pub rests : 320 * t .contract + 5 * length (enter t lots price day last (queueIn owns (t .contract) own) (queueIn opposites (t .contract) opposite) .own) ≤ length owns
 
 -- the answer, and all three areas
 pub record EntryIs

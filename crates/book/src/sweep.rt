@@ -50,7 +50,6 @@ pub fn sweep(
         }
         let trade = prices::trade_with(t, o, left, price);
         let size = trade.lots;
-        let resting = o.lots;
         let buyer = laws::wide(trade.buyer);
         held[buyer] = holdings::book_leg(held[buyer], c, false, trade.buyclose, size);
         let seller = laws::wide(trade.seller);
@@ -59,6 +58,7 @@ pub fn sweep(
         made += 1;
         price = trade.price;
         done += size;
+        let resting = o.lots;
         if size < resting {
             queue::set_lots(opposite, c, count, filled, resting - size);
             break 'sweep done;

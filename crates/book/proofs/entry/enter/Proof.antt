@@ -44,8 +44,7 @@ returns c =
     let rested = c .before .before .before in
     let dropped = rested .before .before .before .before .before in
     let swept = dropped .before .before .before .before .before .before in
-    entered (Begun swept .pre) (swept .sweep .ensures) (rested .before .before .remaining .ensures)
-    (swept .before .before .before .wide .ensures) (dropped .drop-front .ensures) (rested .rest .ensures)
+    entered (Begun swept .pre) (swept .sweep .ensures) (rested .before .before .remaining .ensures) (swept .before .before .before .wide .ensures) (dropped .drop-front .ensures) (rested .rest .ensures)
 
 pub enter-spec : {M : Type 1} → statement M
 enter-spec =
