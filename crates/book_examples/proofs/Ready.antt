@@ -8,7 +8,7 @@ use lib.IntN.{pos}
 use lib.ListN.{length, drop, getD, replicate}
 use Rattle.rules.specs.EarlyStop.{countTrades}
 use Rattle.rules.specs.Exchange.{noOrder, noHolding, noAccount, accountAt, holdingAt}
-use Rattle.rules.specs.Matching.{restedLots, enter, sweep}
+use Rattle.rules.specs.Matching.{restLots, restedLots, enter, sweep}
 use Rattle.rules.specs.Memory.{orderFrom, queueIn}
 use Rattle.rules.specs.declared.Account.{Account}
 use Rattle.rules.specs.declared.Order.{Order}
@@ -16,10 +16,16 @@ use Rattle.rules.specs.declared.Taker.{Taker}
 use Rattle.rules.specs.declared.Trade.{Trade}
 use Rattle.rules.proofs.Codecs.{length-queue, order-at, order-words}
 use Rattle.rules.proofs.Fillable.{trades-counted}
+use Rattle.rules.proofs.Queue.{length-restIn}
 use Rattle.book.specs.Bounds.{HoldingWithin}
 use Rattle.book.specs.Entry.{EntryReady}
-use Rattle.book.proofs.Entries.{rest-most}
 use Rattle.book_examples.specs.Known.{AccountsKnown, noHoldings}
+
+-- at most one order rests
+rest-most : (t : Taker) (price lots : ℕ) (queue : List Order) → length (restLots t price lots queue) ≤ length queue + 1
+unfolding restLots
+rest-most t price zero queue = omega arith
+rest-most t price (suc n) queue = rw length-restIn (omega arith)
 
 -- whatever place of a list of copies is read
 getD-copies : {A : Type 0} (P : A → Type 0) (n : ℕ) (v d : A) → P v → P d → (i : ℕ) → P (getD (replicate n v) i d)
@@ -66,11 +72,17 @@ module _ (t : Taker) (lots : ℕ) (opposite : List ℕ) (count : ℕ) (contract 
         sweeps =
             record {
               contract = omega arith;
-              account = omega arith;
               size = size;
-              queue = record { room = omega arith; accounts = λ i h. omega (arith, account-at i h, known .each i h) };
+              queue = omega arith;
               room = omega arith;
-              holdings = rw none (none-held 1_000_000);
+              parties =
+                  record {
+                    used = 32;
+                    few = omega arith;
+                    taker = omega arith;
+                    resting = λ i h. omega (arith, account-at i h, known .each i h);
+                    holdings = record { each = λ a h. rw none (none-held 1_000_000 a (t .contract)) };
+                  };
             };
         rests =
             omega (

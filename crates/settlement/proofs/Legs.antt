@@ -97,8 +97,12 @@ module _ (a c : ℕ) (t : Trade) where
   pub value-one : (sell close : Bool) → sumOf (valueIf sell close) (legs a c (t ∷ [])) ≡ t .price * sumOf (lotsIf sell close) (legs a c (t ∷ []))
   value-one sell close =
       legs-measure (valueIf sell close)
-      ∙ rw (value-leg sell close false (not (eqb (t .buyclose) 0)) (t .price) (t .lots), value-leg sell close true (not (eqb (t .sellclose) 0)) (t .price) (t .lots),
-        pick-times buys (t .price) (lotsIf sell close (buyLeg t)), pick-times sells (t .price) (lotsIf sell close (sellLeg t)))
+      ∙ rw (
+        value-leg sell close false (not (eqb (t .buyclose) 0)) (t .price) (t .lots),
+        value-leg sell close true (not (eqb (t .sellclose) 0)) (t .price) (t .lots),
+        pick-times buys (t .price) (lotsIf sell close (buyLeg t)),
+        pick-times sells (t .price) (lotsIf sell close (sellLeg t)),
+      )
       (sym (mul-add (t .price) _ _))
       ∙ ap (λ (n : ℕ). t .price * n) (sym (legs-measure (lotsIf sell close)))
 

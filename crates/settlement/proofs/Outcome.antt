@@ -211,11 +211,11 @@ module _ (s : State) (buys sells trades : List ℕ) (g : Settleable s buys sells
       unfolding putState
       state-is =
           let cs : putFirst (tabulate (s .contractcount) (λ c. settledContract (contractIn s c) (getD prices c 0))) (s .contracts) ≡ putFirst (map (λ l. l .contract) (settled x .listings)) (s .contracts) =
-              ap (λ (l : List Contract). putFirst l (s .contracts)) (listed (λ c. settledContract (contractIn s c) (getD prices c 0)) (λ l. l .contract) contract-is) in
+          ap (λ (l : List Contract). putFirst l (s .contracts)) (listed (λ c. settledContract (contractIn s c) (getD prices c 0)) (λ l. l .contract) contract-is) in
           let bs : putFirst (tabulate (s .contractcount) (λ c. 0)) (s .buys) ≡ putFirst (map (λ l. length (l .buys)) (settled x .listings)) (s .buys) =
-              ap (λ (l : List ℕ). putFirst l (s .buys)) (listed (λ c. 0) (λ l. length (l .buys)) no-bids) in
+          ap (λ (l : List ℕ). putFirst l (s .buys)) (listed (λ c. 0) (λ l. length (l .buys)) no-bids) in
           let os : putFirst (tabulate (s .contractcount) (λ c. 0)) (s .sells) ≡ putFirst (map (λ l. length (l .sells)) (settled x .listings)) (s .sells) =
-              ap (λ (l : List ℕ). putFirst l (s .sells)) (listed (λ c. 0) (λ l. length (l .sells)) no-offers) in
+          ap (λ (l : List ℕ). putFirst l (s .sells)) (listed (λ c. 0) (λ l. length (l .sells)) no-offers) in
           let as′ : accounts ≡ putAccounts (settled x .accounts) (s .accounts) = f ∙ accounts-is in
           λ i. record {
             contracts = cs i;
@@ -234,9 +234,9 @@ module _ (s : State) (buys sells trades : List ℕ) (g : Settleable s buys sells
         unfolding put
         memory-is =
             let b : buys′ ≡ putQueues buys (s .buys) (λ c. listingAt (settled x) c .buys) (s .contractcount) =
-                h .buys ∙ put-queues-ext buys (s .buys) (λ c. []) (λ c. listingAt (settled x) c .buys) (s .contractcount) (λ c lc. sym (no-queue c lc .0)) in
+            h .buys ∙ put-queues-ext buys (s .buys) (λ c. []) (λ c. listingAt (settled x) c .buys) (s .contractcount) (λ c lc. sym (no-queue c lc .0)) in
             let o : sells′ ≡ putQueues sells (s .sells) (λ c. listingAt (settled x) c .sells) (s .contractcount) =
-                h .sells ∙ put-queues-ext sells (s .sells) (λ c. []) (λ c. listingAt (settled x) c .sells) (s .contractcount) (λ c lc. sym (no-queue c lc .1)) in
+            h .sells ∙ put-queues-ext sells (s .sells) (λ c. []) (λ c. listingAt (settled x) c .sells) (s .contractcount) (λ c lc. sym (no-queue c lc .1)) in
             let t : trades′ ≡ putTrades trades (s .tradecount) (settled x .trades) = h .trades ∙ cleared in
             let n = state-is in
             λ i. record { state = n i; buys = b i; sells = o i; trades = t i }

@@ -145,7 +145,7 @@ module _ (area : List ℕ) (count c : ℕ) (s : SizedTrades area count) where
   unfolding tradedValue tradedLots
   trading-more value lots i t p h w e q =
       let f : tradesIn c (recordedTrades area (i + 1)) ≡ tradesIn c (recordedTrades area i) ++ tradesIn c (t ∷ []) =
-          ap (tradesIn c) (more-trades area i t e) ∙ trades-in-append c (recordedTrades area i) (t ∷ []) in
+      ap (tradesIn c) (more-trades area i t e) ∙ trades-in-append c (recordedTrades area i) (t ∷ []) in
       record {
         within = omega arith;
         value = rw (f, sumOf-append, w .value, q .value);

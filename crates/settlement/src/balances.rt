@@ -9,7 +9,9 @@ ghost use Rattle.rules.specs.Settlement as settlement;
 ghost use Rattle.settlement.specs.Settling.{Payable, TotalIs, carriedAccount, AllPayable, BooksIs};
 use crate::profit;
 use crate::profit::Profit;
-use rules::{Account, Holding, State};
+use rules::Account;
+use rules::Holding;
+use rules::State;
 
 // The accounts after a settlement, and each one's closing and holding profit.
 pub struct Books {

@@ -7,7 +7,9 @@ ghost use lib.Signed.{ltZ};
 ghost use Rattle.rules.specs.Margin as margin;
 ghost use Rattle.settlement.specs.Charge.{ChargeTerms, ChargeableIn, Chargeable, ChargedIs, listingOf};
 use book::scan;
-use rules::{Contract, Holding, State};
+use rules::Contract;
+use rules::Holding;
+use rules::State;
 
 // "The charge for one lot is multiplier x reference x rate / 10,000, rounded up."
 pub fn charge(c: Contract) -> u64

@@ -10,7 +10,8 @@ ghost use Rattle.settlement.specs.Day.{Sized, SizedTrades, TurnoverIs, Q
 use book::prices;
 use book::queue;
 use book::trades;
-use rules::{Contract, Trade};
+use rules::Contract;
+use rules::Trade;
 
 // What trades of a contract came to, price x lots, and their lots.
 pub struct Turnover {
@@ -28,7 +29,10 @@ fn part(t: Trade, contract: u32) -> Turnover
     }
     let price = t.price as u64;
     let lots = t.lots as u64;
-    Turnover { value: price * lots, lots }
+    Turnover {
+        value: price * lots,
+        lots,
+    }
 }
 
 fn traded(area: &[u32], count: usize, contract: u32) -> Turnover

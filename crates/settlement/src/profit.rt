@@ -14,7 +14,8 @@ ghost use Rattle.rules.specs.Settlement.{legs};
 ghost use Rattle.settlement.specs.Day.{SizedTrades};
 ghost use Rattle.settlement.specs.Sides.{same, lotsIf, ClosedIs, OpenedIs, SideIs, ProfitIs, dayOver, Profitable};
 use book::trades;
-use rules::{Holding, Trade};
+use rules::Holding;
+use rules::Trade;
 
 // Lots closed on a side, and what they came to at the closing prices.
 pub struct Closed {
@@ -125,7 +126,15 @@ fn opening_legs(area: &[u32], count: usize, a: u32, c: u32, short: bool, closed:
 }
 
 // One side of an account's day: start-of-day lots go first, at the reference, then today's at their opening prices.
-fn side_of(area: &[u32], count: usize, a: u32, c: u32, short: bool, reference: u32, start: u32) -> Side
+fn side_of(
+    area: &[u32],
+    count: usize,
+    a: u32,
+    c: u32,
+    short: bool,
+    reference: u32,
+    start: u32,
+) -> Side
     requires { ⌜ SizedTrades (now area) count × (reference ≤ 1000000) × (start ≤ 100000) ⌝ }
     ensures { λ r. ⌜ SideIs reference start short (legs a c (recordedTrades (now (area .entry)) count)) r ⌝ }
 {
@@ -156,7 +165,15 @@ fn difference(gains: u64, losses: u64) -> i64
 
 // "closing and holding parts, start-of-day lots against the reference, today's against their opening price": what the closes of
 // long lots brought less what those lots were opened for, and the other way round for short ones; the open lots at `price`.
-pub fn profit_of(area: &[u32], count: usize, a: u32, c: u32, reference: u32, h: Holding, price: u32) -> Profit
+pub fn profit_of(
+    area: &[u32],
+    count: usize,
+    a: u32,
+    c: u32,
+    reference: u32,
+    h: Holding,
+    price: u32,
+) -> Profit
     requires { ⌜ Profitable reference h a c (now area) count price ⌝ }
     ensures { λ r. ⌜ ProfitIs (dayOver reference h a c (recordedTrades (now (area .entry)) count)) price r ⌝ }
 {

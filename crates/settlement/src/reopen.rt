@@ -9,7 +9,8 @@ ghost use Rattle.rules.specs.Exchange.{noContract};
 ghost use Rattle.rules.specs.Memory.{putFirst, putQueues};
 ghost use Rattle.rules.specs.Settlement as settlement;
 ghost use Rattle.settlement.specs.Settling.{Clearable, AllClearable, ClearedAre};
-use rules::{Contract, State};
+use rules::Contract;
+use rules::State;
 
 // "the settlement price becomes the reference, contracts return to pre-open"
 fn reopened(contract: Contract, price: u32) -> Contract

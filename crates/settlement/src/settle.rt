@@ -13,7 +13,8 @@ use crate::balances;
 use crate::margin;
 use crate::price;
 use crate::reopen;
-use rules::{Account, State};
+use rules::Account;
+use rules::State;
 
 // The state after a settlement; the prices, each account's closing and holding profit, and its charged margin afterwards.
 pub struct Settled {
@@ -37,7 +38,16 @@ fn prices<'a>(state: State, buys: &'a [u32], sells: &'a [u32], trades: &'a [u32]
         let contract = state.contracts[c];
         let buycount = state.buys[c];
         let sellcount = state.sells[c];
-        prices[c] = price::settlement_price(contract, buys, buycount, sells, sellcount, trades, count, c);
+        prices[c] = price::settlement_price(
+            contract,
+            buys,
+            buycount,
+            sells,
+            sellcount,
+            trades,
+            count,
+            c,
+        );
         c += 1;
     }
     prices

@@ -33,13 +33,12 @@ total-requires c κs = c .before .before .before .before .before .pre .each _ (c
 
 -- src/balances.rt:115:23
 paid-requires : tie.Need-paid-requires Inv-loop μ-loop
-paid-requires c κs =
-    (
-      c .before .before .before .before .before .before .before .before .pre .contracts,
-      c .before .before .before .before .before .before .before .before .pre .balance _ (c .before .before .before .before .loop-test .taken),
-      closing-reach _ _ _ (c .before .before .before .before .before .before .before .before .pre) _ _ _ _ (c .before .before .before .before .before .loop .inv) _ (c .before .before .total .ensures),
-      holding-reach _ _ _ (c .before .before .before .before .before .before .before .before .pre) _ _ _ _ (c .before .before .before .before .before .loop .inv) _ (c .before .before .total .ensures),
-    )
+paid-requires c κs = (
+  c .before .before .before .before .before .before .before .before .pre .contracts,
+  c .before .before .before .before .before .before .before .before .pre .balance _ (c .before .before .before .before .loop-test .taken),
+  closing-reach _ _ _ (c .before .before .before .before .before .before .before .before .pre) _ _ _ _ (c .before .before .before .before .before .loop .inv) _ (c .before .before .total .ensures),
+  holding-reach _ _ _ (c .before .before .before .before .before .before .before .before .pre) _ _ _ _ (c .before .before .before .before .before .loop .inv) _ (c .before .before .total .ensures),
+)
 
 -- src/balances.rt:115:9
 mul-accounts : tie.Need-mul-accounts Inv-loop μ-loop

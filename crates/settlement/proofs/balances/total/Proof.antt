@@ -66,11 +66,10 @@ profit-of-requires c κs = c .before .before .before .before .before .before .pr
 
 -- src/balances.rt:47:20
 multiplied-requires : tie.Need-multiplied-requires Inv-loop μ-loop
-multiplied-requires c κs =
-    (
-      closing-bits _ _ _ _ (c .before .before .before .before .before .before .before .before .pre) _ _ _ (c .before .before .before .before .loop-test .taken) (c .before .before .before .before .before .loop .inv) _ (c .before .profit-of .ensures),
-      c .before .before .before .before .before .before .before .before .pre .multiplier _ (c .before .before .before .before .loop-test .taken),
-    )
+multiplied-requires c κs = (
+  closing-bits _ _ _ _ (c .before .before .before .before .before .before .before .before .pre) _ _ _ (c .before .before .before .before .loop-test .taken) (c .before .before .before .before .before .loop .inv) _ (c .before .profit-of .ensures),
+  c .before .before .before .before .before .before .before .before .pre .multiplier _ (c .before .before .before .before .loop-test .taken),
+)
 
 -- src/balances.rt:47:9
 add-closing : tie.Need-add-closing Inv-loop μ-loop
@@ -78,11 +77,10 @@ add-closing c = closing-fits _ _ _ _ (c .before .before .before .before .before 
 
 -- src/balances.rt:48:20
 multiplied-requires-2 : tie.Need-multiplied-requires-2 Inv-loop μ-loop
-multiplied-requires-2 c κs =
-    (
-      holding-bits _ _ _ _ (c .before .before .before .before .before .before .before .before .before .before .pre) _ _ _ (c .before .before .before .before .before .before .loop-test .taken) (c .before .before .before .before .before .before .before .loop .inv) _ (c .before .before .before .profit-of .ensures),
-      c .before .before .before .before .before .before .before .before .before .before .pre .multiplier _ (c .before .before .before .before .before .before .loop-test .taken),
-    )
+multiplied-requires-2 c κs = (
+  holding-bits _ _ _ _ (c .before .before .before .before .before .before .before .before .before .before .pre) _ _ _ (c .before .before .before .before .before .before .loop-test .taken) (c .before .before .before .before .before .before .before .loop .inv) _ (c .before .before .before .profit-of .ensures),
+  c .before .before .before .before .before .before .before .before .before .before .pre .multiplier _ (c .before .before .before .before .before .before .loop-test .taken),
+)
 
 -- src/balances.rt:48:9
 add-holding : tie.Need-add-holding Inv-loop μ-loop

@@ -53,11 +53,10 @@ add-difference-4 c = losses-fit _ _ _ _ (c .before .before .before .before .befo
 
 -- src/profit.rt:170:18
 difference-requires-2 : tie.Need-difference-requires-2
-difference-requires-2 c κs =
-    (
-      gains-small _ _ _ _ (c .before .before .before .before .before .before .before .before .before .before .before .before .pre .covered) _ _ (c .before .before .before .before .before .before .before .before .before .before .side-of .ensures) (c .before .before .before .before .before .before .before .before .before .side-of2 .ensures) _ (c .before .before .before .before .before .before .before .before .before .before .before .before .pre .price),
-      losses-small _ _ _ _ (c .before .before .before .before .before .before .before .before .before .before .before .before .pre .covered) _ _ (c .before .before .before .before .before .before .before .before .before .before .side-of .ensures) (c .before .before .before .before .before .before .before .before .before .side-of2 .ensures) _ (c .before .before .before .before .before .before .before .before .before .before .before .before .pre .price),
-    )
+difference-requires-2 c κs = (
+  gains-small _ _ _ _ (c .before .before .before .before .before .before .before .before .before .before .before .before .pre .covered) _ _ (c .before .before .before .before .before .before .before .before .before .before .side-of .ensures) (c .before .before .before .before .before .before .before .before .before .side-of2 .ensures) _ (c .before .before .before .before .before .before .before .before .before .before .before .before .pre .price),
+  losses-small _ _ _ _ (c .before .before .before .before .before .before .before .before .before .before .before .before .pre .covered) _ _ (c .before .before .before .before .before .before .before .before .before .before .side-of .ensures) (c .before .before .before .before .before .before .before .before .before .side-of2 .ensures) _ (c .before .before .before .before .before .before .before .before .before .before .before .before .pre .price),
+)
 
 -- src/profit.rt:159:1
 returns : tie.Need-returns
