@@ -1,51 +1,82 @@
 // Holdings against limits and resting orders, and balances.
 ghost use mathlib.Core.Bool.{true};
 ghost use mathlib.Core.Path.{_≡_};
-ghost use Prim.Native.Nat.{_*_, _≤_, _<_};
+ghost use Prim.Native.Nat.{_+_, _*_, _≤_, _<_};
+ghost use lib.Dec.{leb};
 ghost use lib.ListN.{length, take};
 ghost use Rattle.laws.specs.Choice.{all, allOf};
-ghost use Rattle.rules.specs.Exchange.{holdingAt};
-ghost use Rattle.rules.specs.Memory.{countsInRange};
+ghost use Rattle.rules.specs.Exchange.{holdingAt, restingOpens, restingCloses};
+ghost use Rattle.rules.specs.Memory.{countsInRange, queueIn};
 ghost use Rattle.rules.specs.WellFormed.{holdingInRange, balanceInRange};
 ghost use Rattle.audit.specs.Parts.{listing};
 use book::scan;
 use rules::Account;
 use rules::State;
 
-// "starting holdings, and holdings now plus resting opens on that side, keep the limit; resting closes are covered by
-// holdings"
-fn holding_in_range(state: State, account: u32, c: usize, buys: &[u32], sells: &[u32]) -> bool
+// "holdings now plus resting opens on that side, keep the limit". Nothing is added, so nothing passes its width.
+fn opens_keep_limit(
+    area: &[u32],
+    c: usize,
+    count: usize,
+    account: u32,
+    held: u32,
+    limit: u32,
+) -> bool
+    requires { ⌜ (count ≤ 64) × (320 * c + 5 * count ≤ length (now area)) ⌝ }
+    ensures { λ r. ⌜ r ≡ leb (held + restingOpens account (queueIn (now (area .entry)) c count)) limit ⌝ }
+{
+    if limit < held {
+        return false;
+    }
+    let left = laws::wide32(limit - held);
+    scan::resting(area, c, count, account, 0) <= left
+}
+
+// "resting closes are covered by holdings"
+fn closes_are_covered(area: &[u32], c: usize, count: usize, account: u32, held: u32) -> bool
+    requires { ⌜ (count ≤ 64) × (320 * c + 5 * count ≤ length (now area)) ⌝ }
+    ensures { λ r. ⌜ r ≡ leb (restingCloses account (queueIn (now (area .entry)) c count)) held ⌝ }
+{
+    let covered = laws::wide32(held);
+    scan::resting(area, c, count, account, 1) <= covered
+}
+
+fn holding_in_range(
+    state: State,
+    account: usize,
+    c: usize,
+    buys: &[u32],
+    sells: &[u32],
+) -> bool
     requires { ⌜ (countsInRange state ≡ true) × (account < 32) × (c < state .contractcount) × (320 * state .contractcount ≤ length (now buys)) × (320 * state .contractcount ≤ length (now sells)) ⌝ }
     ensures { λ r. ⌜ r ≡ holdingInRange (listing state (now (buys .entry)) (now (sells .entry)) c) account (holdingAt (state .accounts) account c) ⌝ }
 {
     let contract = state.contracts[c];
-    let limit = laws::wide32(contract.limit);
+    let limit = contract.limit;
     let bids = state.buys[c];
     let asks = state.sells[c];
-    let place = laws::wide(account);
-    let who = state.accounts[place];
-    let h = who.holdings[c];
-    let long = laws::wide32(h.long);
-    let short = laws::wide32(h.short);
-    if limit < laws::wide32(h.startlong) {
+    let holder = state.accounts[account];
+    let h = holder.holdings[c];
+    let place = account as u32;
+    if limit < h.startlong {
         return false;
     }
-    if limit < laws::wide32(h.startshort) {
+    if limit < h.startshort {
         return false;
     }
-    if limit < long + scan::resting(buys, c, bids, account, 0) {
+    if !opens_keep_limit(buys, c, bids, place, h.long, limit) {
         return false;
     }
-    if limit < short + scan::resting(sells, c, asks, account, 0) {
+    if !opens_keep_limit(sells, c, asks, place, h.short, limit) {
         return false;
     }
-    if long < scan::resting(sells, c, asks, account, 1) {
+    if !closes_are_covered(sells, c, asks, place, h.long) {
         return false;
     }
-    scan::resting(buys, c, bids, account, 1) <= short
+    closes_are_covered(buys, c, bids, place, h.short)
 }
 
-fn account_in_range(state: State, account: u32, buys: &[u32], sells: &[u32]) -> bool
+fn account_in_range(state: State, account: usize, buys: &[u32], sells: &[u32]) -> bool
     requires { ⌜ (countsInRange state ≡ true) × (account < 32) × (320 * state .contractcount ≤ length (now buys)) × (320 * state .contractcount ≤ length (now sells)) ⌝ }
     ensures { λ r. ⌜ r ≡ all (λ c. holdingInRange (listing state (now (buys .entry)) (now (sells .entry)) c) account (holdingAt (state .accounts) account c)) (state .contractcount) ⌝ }
 {
@@ -64,8 +95,8 @@ pub fn holdings_in_range(state: State, buys: &[u32], sells: &[u32]) -> bool
     requires { ⌜ (countsInRange state ≡ true) × (320 * state .contractcount ≤ length (now buys)) × (320 * state .contractcount ≤ length (now sells)) ⌝ }
     ensures { λ r. ⌜ r ≡ all (λ a. all (λ c. holdingInRange (listing state (now (buys .entry)) (now (sells .entry)) c) a (holdingAt (state .accounts) a c)) (state .contractcount)) (state .accountcount) ⌝ }
 {
-    let accounts = state.accountcount as u32;
-    let mut a: u32 = 0;
+    let accounts = state.accountcount;
+    let mut a: usize = 0;
     while a < accounts {
         if !account_in_range(state, a, buys, sells) {
             return false;
@@ -80,11 +111,16 @@ fn balance_in_range(settlements: u32, a: Account) -> bool
     requires { ⌜ settlements ≤ 250 ⌝ }
     ensures { λ r. ⌜ r ≡ balanceInRange settlements a ⌝ }
 {
-    let limit = 1000000000000000000 + settlements as i64 * 3000000000000000;
-    if limit < a.balance {
+    let most = 1000000000000000000 + laws::wide32(settlements) * 3000000000000000;
+    let limit = most as i64;
+    let balance = a.balance;
+    if limit < balance {
         return false;
     }
-    0 - limit <= a.balance
+    if balance < 0 - limit {
+        return false;
+    }
+    true
 }
 
 pub fn balances_in_range(list: [Account; 32], accounts: usize, settlements: u32) -> bool

@@ -10,6 +10,7 @@ ghost use Rattle.laws.specs.Choice.{allOf};
 ghost use Rattle.laws.specs.Tabulate.{tabulate};
 ghost use Rattle.rules.specs.Memory.{queueIn, countsInRange};
 ghost use Rattle.rules.specs.WellFormed as wellformed;
+ghost use Rattle.audit.specs.Listed.{Behind};
 ghost use Rattle.audit.specs.Parts.{listing};
 use book::queue;
 use rules::State;
@@ -23,7 +24,7 @@ struct Listed {
 // The numbers of a queue's orders behind those listed.
 fn with_queue(before: Listed, area: &[u32], c: usize, count: usize) -> Listed
     requires { ⌜ (before .count + count ≤ 512) × (320 * c + 5 * count ≤ length (now area)) ⌝ }
-    ensures { λ r. ⌜ (r .count ≡ before .count + count) × (take (r .count) (r .list) ≡ take (before .count) (before .list) ++ wellformed.numbers (queueIn (now (area .entry)) c count)) ⌝ }
+    ensures { λ r. ⌜ Behind before (wellformed.numbers (queueIn (now (area .entry)) c count)) r ⌝ }
 {
     let mut list = before.list;
     let first = before.count;
@@ -40,7 +41,7 @@ fn with_queue(before: Listed, area: &[u32], c: usize, count: usize) -> Listed
 // The numbers of a contract's orders behind those listed.
 fn with_listing(before: Listed, state: State, c: usize, buys: &[u32], sells: &[u32]) -> Listed
     requires { ⌜ (before .count ≤ 128 * c) × (countsInRange state ≡ true) × (c < state .contractcount) × (320 * state .contractcount ≤ length (now buys)) × (320 * state .contractcount ≤ length (now sells)) ⌝ }
-    ensures { λ r. ⌜ (r .count ≤ 128 * c + 128) × (take (r .count) (r .list) ≡ take (before .count) (before .list) ++ (wellformed.numbers (listing state (now (buys .entry)) (now (sells .entry)) c .buys) ++ wellformed.numbers (listing state (now (buys .entry)) (now (sells .entry)) c .sells))) ⌝ }
+    ensures { λ r. ⌜ Behind before (wellformed.numbers (listing state (now (buys .entry)) (now (sells .entry)) c .buys) ++ wellformed.numbers (listing state (now (buys .entry)) (now (sells .entry)) c .sells)) r ⌝ }
 {
     let bids = state.buys[c];
     let asks = state.sells[c];
@@ -62,8 +63,8 @@ fn all_numbers(state: State, buys: &[u32], sells: &[u32]) -> Listed
 }
 
 // The number at a place is none of those behind it.
-fn is_fresh(list: &[u32; 512], count: usize, at: usize) -> bool
-    requires { ⌜ (at < count) × (count ≤ 512) ⌝ }
+fn is_fresh(list: &[u32], count: usize, at: usize) -> bool
+    requires { ⌜ (at < count) × (count ≤ length (now list)) ⌝ }
     ensures { λ r. ⌜ r ≡ allOf (λ k. not (eqb (getD (now (list .entry)) at 0) k)) (drop (at + 1) (take count (now (list .entry)))) ⌝ }
 {
     let number = list[at];
@@ -77,8 +78,8 @@ fn is_fresh(list: &[u32; 512], count: usize, at: usize) -> bool
     true
 }
 
-fn is_used_once(list: &[u32; 512], count: usize) -> bool
-    requires { ⌜ count ≤ 512 ⌝ }
+fn is_used_once(list: &[u32], count: usize) -> bool
+    requires { ⌜ count ≤ length (now list) ⌝ }
     ensures { λ r. ⌜ r ≡ wellformed.usedOnce (take count (now (list .entry))) ⌝ }
 {
     let mut i: usize = 0;

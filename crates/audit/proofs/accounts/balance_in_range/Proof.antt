@@ -1,33 +1,39 @@
+-- `audit::accounts::balance_in_range` meets its contract: the two ends in turn, with signed numbers taken from their bits. Assumes nothing.
+use native.Mathlib.Omega.{arith}
 use borrow.Author.Needs.{needs}
+use Rattle.audit.proofs.Limits.{balance-high, balance-low, balance-within, low-fits}
 use Rattle.audit.proofs.accounts.balance_in_range.Statement.{statement}
 use Rattle.audit.proofs.accounts.balance_in_range.Tie as tie
-use Rattle.audit.proofs.accounts.balance_in_range.Reads as reads
-use Rattle.audit.proofs.accounts.balance_in_range.Lts as lts
 
--- src/accounts.rt:83:39
+wide32-requires : tie.Need-wide32-requires
+wide32-requires c κs = search needs
+
+mul-most : tie.Need-mul-most
+mul-most c = omega (arith, c .wide32 .ensures)
+
+add-most : tie.Need-add-most
+add-most c = omega (arith, c .wide32 .ensures)
+
 cast-limit : tie.Need-cast-limit
-cast-limit c = search needs
+cast-limit c = omega (arith, c .wide32 .ensures)
 
--- src/accounts.rt:83:39
-mul-limit : tie.Need-mul-limit
-mul-limit c = ?
-
--- src/accounts.rt:83:17
-add-limit : tie.Need-add-limit
-add-limit c = ?
-
--- src/accounts.rt:85:9
 returns : tie.Need-returns
-returns c = ?
+returns c =
+    balance-high (c .before .before .before .args .settlements) (c .before .before .wide32 .ensures) (c .before .before .before .pre) (c .before .before .before .args .a) (record { sfits = c .before .struct-told .given .0 .1 }) (c .if1 .taken)
 
--- src/accounts.rt:87:5
-sub-result : tie.Need-sub-result
-sub-result c = ?
+sub-if2 : tie.Need-sub-if2
+sub-if2 c =
+    low-fits (c .before .before .before .args .settlements) (c .before .before .wide32 .ensures) (c .before .before .before .pre) (c .before .before .before .args .a) (record { sfits = c .before .struct-told .given .0 .1 })
 
--- src/accounts.rt:79:1
 returns-2 : tie.Need-returns-2
-returns-2 c = ?
+returns-2 c =
+    balance-low (c .before .before .before .before .args .settlements) (c .before .before .before .wide32 .ensures) (c .before .before .before .before .pre) (c .before .before .before .before .args .a) (record { sfits = c .before .before .struct-told .given .0 .1 }) (c .if2 .taken)
+
+returns-3 : tie.Need-returns-3
+returns-3 c =
+    balance-within (c .before .before .before .before .args .settlements) (c .before .before .before .wide32 .ensures) (c .before .before .before .before .pre) (c .before .before .before .before .args .a) (record { sfits = c .before .before .struct-told .given .0 .1 }) (c .before .if1 .left) (c .if2 .left)
 
 pub balance-in-range-spec : {M : Type 1} → statement M
 balance-in-range-spec =
-    tie.close (tie.spec cast-limit mul-limit add-limit returns sub-result returns-2)
+    tie.close
+    (tie.spec wide32-requires mul-most add-most cast-limit returns sub-if2 returns-2 returns-3)

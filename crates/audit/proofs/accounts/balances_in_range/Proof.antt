@@ -1,50 +1,59 @@
+-- `audit::accounts::balances_in_range` meets its contract. The invariant: what the accounts from a on answer is the answer. Assumes nothing.
+use mathlib.Core.Path.{_≡_, refl}
+use Prim.Native.Nat.{_-_, _≤_}
+use native.Mathlib.Omega.{arith}
+use borrow.Author.Needs.{needs}
+use lib.ListN.{length, take}
+use Rattle.laws.specs.Choice.{allOf}
+use Rattle.rules.specs.Exchange.{noAccount}
+use Rattle.rules.specs.WellFormed.{balanceInRange}
+use Rattle.audit.proofs.Chains.{passed, refused}
+use Rattle.audit.proofs.Walks.{Each, each-end, each-out, each-turn, next-in, none-in}
 use Rattle.audit.proofs.accounts.balances_in_range.Statement.{statement}
 use Rattle.audit.proofs.accounts.balances_in_range.Tie as tie
-use Rattle.audit.proofs.accounts.balances_in_range.Reads as reads
-use Rattle.audit.proofs.accounts.balances_in_range.Lts as lts
-use Rattle.audit.proofs.accounts.balance_in_range.Reads as balance-in-range-reads
 
 abbrev Inv-loop : tie.InvT-loop
-Inv-loop accounts settlements list a₀ a = ?
+Inv-loop accounts settlements list a₀ a =
+    (a ≤ accounts) × Each (allOf (balanceInRange settlements) (take accounts list)) (balanceInRange settlements) (take accounts list) a
 
 abbrev μ-loop : tie.MeasureT-loop
-μ-loop accounts settlements list a₀ a = ?
+μ-loop accounts settlements list a₀ a = accounts - a
 
--- src/accounts.rt:95:5
+-- the accounts lie within the array
+room : (c : tie.Start Inv-loop μ-loop) → c .args .accounts ≤ length (c .args .t1)
+room c =
+    let e : length (c .args .t1) ≡ 32 = search needs in
+    omega (arith, c .pre .0)
+
 loop-holds : tie.Need-loop-holds Inv-loop μ-loop
-loop-holds c = ?
+loop-holds c = (omega arith, record { rest = refl })
 
--- src/accounts.rt:96:43
 mul-balance-in-range : tie.Need-mul-balance-in-range Inv-loop μ-loop
-mul-balance-in-range c = ?
+mul-balance-in-range c = omega arith
 
--- src/accounts.rt:96:43
 array-copy-out-balance-in-range : tie.Need-array-copy-out-balance-in-range Inv-loop μ-loop
-array-copy-out-balance-in-range c = ?
+array-copy-out-balance-in-range c = omega arith
 
--- src/accounts.rt:96:13
 balance-in-range-requires : tie.Need-balance-in-range-requires Inv-loop μ-loop
-balance-in-range-requires c κs = ?
+balance-in-range-requires c κs = c .before .before .before .pre .1
 
--- src/accounts.rt:97:13
 returns : tie.Need-returns Inv-loop μ-loop
-returns c = ?
+returns c =
+    each-out (c .before .before .before .before .loop .inv .1) (next-in _ (c .before .before .before .before .before .args .t1) _ noAccount (c .before .before .before .loop-test .taken) (room (c .before .before .before .before .before))) (refused (c .before .balance-in-range .ensures) (c .if1 .taken))
 
--- src/accounts.rt:99:9
 add-a : tie.Need-add-a Inv-loop μ-loop
-add-a c = ?
+add-a c = omega arith
 
--- src/accounts.rt:95:5
 loop-less : tie.Need-loop-less Inv-loop μ-loop
-loop-less c = ?
+loop-less c = omega arith
 
--- src/accounts.rt:95:5
 loop-again : tie.Need-loop-again Inv-loop μ-loop
-loop-again c = ?
+loop-again c =
+    (omega arith, each-turn (c .before .before .before .before .loop .inv .1) (next-in _ (c .before .before .before .before .before .args .t1) _ noAccount (c .before .before .before .loop-test .taken) (room (c .before .before .before .before .before))) (passed (c .before .balance-in-range .ensures) (c .if1 .left)))
 
--- src/accounts.rt:90:1
 returns-2 : tie.Need-returns-2 Inv-loop μ-loop
-returns-2 c = ?
+returns-2 c =
+    each-end (c .before .loop .inv .1) (none-in _ (c .before .before .args .t1) _ (c .loop-test .left))
 
 pub balances-in-range-spec : {M : Type 1} → statement M
 balances-in-range-spec =

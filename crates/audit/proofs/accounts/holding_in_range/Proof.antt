@@ -1,123 +1,105 @@
+-- `audit::accounts::holding_in_range` meets its contract: the tests in the definition's order. Assumes nothing.
+use mathlib.Core.Path.{_∙_}
+use native.Mathlib.Omega.{arith}
 use borrow.Author.Needs.{needs}
+use borrow.Author.Tests.{le-leb, lt-leb}
+use Rattle.rules.specs.Exchange.{accountAt, holdingAt}
+use Rattle.rules.specs.Memory.{listingIn}
+use Rattle.audit.proofs.Chains.{fails, last, passed, refused}
+use Rattle.audit.proofs.Clauses.{holding-chain}
+use Rattle.audit.proofs.Rooms.{buys-room, contract-in, few-buys, few-sells, sells-room}
 use Rattle.audit.proofs.accounts.holding_in_range.Statement.{statement}
 use Rattle.audit.proofs.accounts.holding_in_range.Tie as tie
-use Rattle.audit.proofs.accounts.holding_in_range.Reads as reads
-use Rattle.audit.proofs.accounts.holding_in_range.Lts as lts
-use Rattle.book.proofs.scan.resting.Reads as resting-reads
-use Rattle.laws.proofs.wide.Reads as wide-reads
-use Rattle.laws.proofs.wide32.Reads as wide32-reads
 
--- src/accounts.rt:21:20
 mul-contract : tie.Need-mul-contract
 mul-contract c = search needs
 
--- src/accounts.rt:21:20
 element-copy-out-contract : tie.Need-element-copy-out-contract
-element-copy-out-contract c = ?
+element-copy-out-contract c = contract-in _ (c .before .before .pre .0) (c .before .before .pre .2)
 
--- src/accounts.rt:22:9
-wide32-requires : tie.Need-wide32-requires
-wide32-requires c κs = search needs
-
--- src/accounts.rt:23:16
 mul-bids : tie.Need-mul-bids
 mul-bids c = search needs
 
--- src/accounts.rt:23:16
 element-copy-out-bids : tie.Need-element-copy-out-bids
-element-copy-out-bids c = ?
+element-copy-out-bids c = contract-in _ (c .before .before .before .pre .0) (c .before .before .before .pre .2)
 
--- src/accounts.rt:24:16
 mul-asks : tie.Need-mul-asks
 mul-asks c = search needs
 
--- src/accounts.rt:24:16
 element-copy-out-asks : tie.Need-element-copy-out-asks
-element-copy-out-asks c = ?
+element-copy-out-asks c =
+    contract-in _ (c .before .before .before .before .pre .0) (c .before .before .before .before .pre .2)
 
--- src/accounts.rt:25:9
-wide-requires : tie.Need-wide-requires
-wide-requires c κs = search needs
+mul-holder : tie.Need-mul-holder
+mul-holder c = search needs
 
--- src/accounts.rt:26:15
-mul-who : tie.Need-mul-who
-mul-who c = search needs
+element-copy-out-holder : tie.Need-element-copy-out-holder
+element-copy-out-holder c = c .before .before .before .before .before .pre .1
 
--- src/accounts.rt:26:15
-element-copy-out-who : tie.Need-element-copy-out-who
-element-copy-out-who c = search needs
-
--- src/accounts.rt:27:13
 mul-h : tie.Need-mul-h
 mul-h c = search needs
 
--- src/accounts.rt:27:13
 element-copy-out-h : tie.Need-element-copy-out-h
-element-copy-out-h c = ?
+element-copy-out-h c =
+    contract-in _ (c .before .before .before .before .before .before .pre .0) (c .before .before .before .before .before .before .pre .2)
 
--- src/accounts.rt:28:9
-wide32-requires-2 : tie.Need-wide32-requires-2
-wide32-requires-2 c κs = search needs
+cast-place : tie.Need-cast-place
+cast-place c = omega (arith, c .before .before .before .before .before .before .before .pre .1)
 
--- src/accounts.rt:29:9
-wide32-requires-3 : tie.Need-wide32-requires-3
-wide32-requires-3 c κs = search needs
-
--- src/accounts.rt:30:16
-wide32-requires-4 : tie.Need-wide32-requires-4
-wide32-requires-4 c κs = search needs
-
--- src/accounts.rt:31:9
 returns : tie.Need-returns
-returns c = ?
+unfolding listingIn holdingAt accountAt
+returns c = fails (holding-chain _ _ _) 0 (lt-leb _ _ (c .if1 .taken))
 
--- src/accounts.rt:33:16
-wide32-requires-5 : tie.Need-wide32-requires-5
-wide32-requires-5 c κs = search needs
-
--- src/accounts.rt:34:9
 returns-2 : tie.Need-returns-2
-returns-2 c = ?
+unfolding listingIn holdingAt accountAt
+returns-2 c = fails (holding-chain _ _ _) 1 (lt-leb _ _ (c .if2 .taken))
 
--- src/accounts.rt:36:23
-resting-requires : tie.Need-resting-requires
-resting-requires c κs = ?
+opens-keep-limit-requires : tie.Need-opens-keep-limit-requires
+opens-keep-limit-requires c κs =
+    (few-buys _ (c .before .before .before .before .before .before .before .before .before .before .before .pre .0) (c .before .before .before .before .before .before .before .before .before .before .before .pre .2), buys-room _ (c .before .before .before .before .before .before .before .before .before .before .before .pre .0) (c .before .before .before .before .before .before .before .before .before .before .before .pre .2) _ (c .before .before .before .before .before .before .before .before .before .before .before .pre .3))
 
--- src/accounts.rt:36:16
-add-if3 : tie.Need-add-if3
-add-if3 c = ?
-
--- src/accounts.rt:37:9
 returns-3 : tie.Need-returns-3
-returns-3 c = ?
+unfolding listingIn holdingAt accountAt
+returns-3 c =
+    fails (holding-chain _ _ _) 2 (refused (c .before .opens-keep-limit .ensures) (c .if3 .taken))
 
--- src/accounts.rt:39:24
-resting-requires-2 : tie.Need-resting-requires-2
-resting-requires-2 c κs = ?
+opens-keep-limit-requires-2 : tie.Need-opens-keep-limit-requires-2
+opens-keep-limit-requires-2 c κs =
+    (few-sells _ (c .before .before .before .before .before .before .before .before .before .before .before .before .before .pre .0) (c .before .before .before .before .before .before .before .before .before .before .before .before .before .pre .2), sells-room _ (c .before .before .before .before .before .before .before .before .before .before .before .before .before .pre .0) (c .before .before .before .before .before .before .before .before .before .before .before .before .before .pre .2) _ (c .before .before .before .before .before .before .before .before .before .before .before .before .before .pre .4))
 
--- src/accounts.rt:39:16
-add-if4 : tie.Need-add-if4
-add-if4 c = ?
-
--- src/accounts.rt:40:9
 returns-4 : tie.Need-returns-4
-returns-4 c = ?
+unfolding listingIn holdingAt accountAt
+returns-4 c =
+    fails (holding-chain _ _ _) 3 (refused (c .before .opens-keep-limit2 .ensures) (c .if4 .taken))
 
--- src/accounts.rt:42:15
-resting-requires-3 : tie.Need-resting-requires-3
-resting-requires-3 c κs = ?
+closes-are-covered-requires : tie.Need-closes-are-covered-requires
+closes-are-covered-requires c κs =
+    (few-sells _ (c .before .before .before .before .before .before .before .before .before .before .before .before .before .before .before .pre .0) (c .before .before .before .before .before .before .before .before .before .before .before .before .before .before .before .pre .2), sells-room _ (c .before .before .before .before .before .before .before .before .before .before .before .before .before .before .before .pre .0) (c .before .before .before .before .before .before .before .before .before .before .before .before .before .before .before .pre .2) _ (c .before .before .before .before .before .before .before .before .before .before .before .before .before .before .before .pre .4))
 
--- src/accounts.rt:43:9
 returns-5 : tie.Need-returns-5
-returns-5 c = ?
+unfolding listingIn holdingAt accountAt
+returns-5 c =
+    fails (holding-chain _ _ _) 4 (refused (c .before .closes-are-covered .ensures) (c .if5 .taken))
 
--- src/accounts.rt:45:5
-resting-requires-4 : tie.Need-resting-requires-4
-resting-requires-4 c κs = ?
+closes-are-covered-requires-2 : tie.Need-closes-are-covered-requires-2
+closes-are-covered-requires-2 c κs =
+    (few-buys _ (c .before .before .before .before .before .before .before .before .before .before .before .before .before .before .before .before .before .pre .0) (c .before .before .before .before .before .before .before .before .before .before .before .before .before .before .before .before .before .pre .2), buys-room _ (c .before .before .before .before .before .before .before .before .before .before .before .before .before .before .before .before .before .pre .0) (c .before .before .before .before .before .before .before .before .before .before .before .before .before .before .before .before .before .pre .2) _ (c .before .before .before .before .before .before .before .before .before .before .before .before .before .before .before .before .before .pre .3))
 
--- src/accounts.rt:17:1
 returns-6 : tie.Need-returns-6
-returns-6 c = ?
+unfolding listingIn holdingAt accountAt
+returns-6 c =
+    c .closes-are-covered2 .ensures
+    ∙ last (holding-chain _ _ _)
+    (
+      le-leb _ _ (c .before .before .before .before .before .before .before .before .before .if1 .left),
+      (
+        le-leb _ _ (c .before .before .before .before .before .before .before .if2 .left),
+        (
+          passed (c .before .before .before .before .before .before .opens-keep-limit .ensures) (c .before .before .before .before .before .if3 .left),
+          (passed (c .before .before .before .before .opens-keep-limit2 .ensures) (c .before .before .before .if4 .left), (passed (c .before .before .closes-are-covered .ensures) (c .before .if5 .left), tt)),
+        ),
+      ),
+    )
 
 pub holding-in-range-spec : {M : Type 1} → statement M
 holding-in-range-spec =
@@ -125,29 +107,22 @@ holding-in-range-spec =
     (tie.spec
     mul-contract
     element-copy-out-contract
-    wide32-requires
     mul-bids
     element-copy-out-bids
     mul-asks
     element-copy-out-asks
-    wide-requires
-    mul-who
-    element-copy-out-who
+    mul-holder
+    element-copy-out-holder
     mul-h
     element-copy-out-h
-    wide32-requires-2
-    wide32-requires-3
-    wide32-requires-4
+    cast-place
     returns
-    wide32-requires-5
     returns-2
-    resting-requires
-    add-if3
+    opens-keep-limit-requires
     returns-3
-    resting-requires-2
-    add-if4
+    opens-keep-limit-requires-2
     returns-4
-    resting-requires-3
+    closes-are-covered-requires
     returns-5
-    resting-requires-4
+    closes-are-covered-requires-2
     returns-6)

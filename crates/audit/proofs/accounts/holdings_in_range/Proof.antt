@@ -1,46 +1,48 @@
+-- `audit::accounts::holdings_in_range` meets its contract. The invariant: every account before place a passes. Assumes nothing.
+use mathlib.Core.Path.{_≡_, sym}
+use mathlib.Core.Bool.{true}
+use Prim.Native.Nat.{_-_, _≤_}
+use native.Mathlib.Omega.{arith}
+use Rattle.laws.specs.Choice.{all, all-more, all-none, all-stop}
+use Rattle.rules.specs.Exchange.{holdingAt}
+use Rattle.rules.specs.WellFormed.{holdingInRange}
+use Rattle.audit.specs.Parts.{listing}
+use Rattle.invariants.proofs.MemoryRoom.{counts-ok}
+use Rattle.audit.proofs.Chains.{passed, refused}
+use Rattle.audit.proofs.Walks.{all-end}
 use Rattle.audit.proofs.accounts.holdings_in_range.Statement.{statement}
 use Rattle.audit.proofs.accounts.holdings_in_range.Tie as tie
-use Rattle.audit.proofs.accounts.holdings_in_range.Reads as reads
-use Rattle.audit.proofs.accounts.holdings_in_range.Lts as lts
-use Rattle.audit.proofs.accounts.account_in_range.Reads as account-in-range-reads
 
 abbrev Inv-loop : tie.InvT-loop
-Inv-loop state buys sells accounts a₀ a = ?
+Inv-loop state buys sells accounts a₀ a =
+    (a ≤ accounts) × (all (λ a. all (λ c. holdingInRange (listing state buys sells c) a (holdingAt (state .accounts) a c)) (state .contractcount)) a ≡ true)
 
 abbrev μ-loop : tie.MeasureT-loop
-μ-loop state buys sells accounts a₀ a = ?
+μ-loop state buys sells accounts a₀ a = accounts - a
 
--- src/accounts.rt:67:20
-cast-accounts : tie.Need-cast-accounts Inv-loop μ-loop
-cast-accounts c = ?
-
--- src/accounts.rt:69:5
 loop-holds : tie.Need-loop-holds Inv-loop μ-loop
-loop-holds c = ?
+loop-holds c = (omega arith, all-none _)
 
--- src/accounts.rt:70:13
 account-in-range-requires : tie.Need-account-in-range-requires Inv-loop μ-loop
-account-in-range-requires c κs = ?
+account-in-range-requires c κs =
+    (c .before .before .before .before .pre .0, omega (arith, c .loop-test .taken, counts-ok _ (c .before .before .before .before .pre .0) .accounts-high), c .before .before .before .before .pre .1, c .before .before .before .before .pre .2)
 
--- src/accounts.rt:71:13
 returns : tie.Need-returns Inv-loop μ-loop
-returns c = ?
+returns c =
+    sym (all-stop _ _ _ (c .before .before .loop-test .taken) (refused (c .before .account-in-range .ensures) (c .if1 .taken)))
 
--- src/accounts.rt:73:9
 add-a : tie.Need-add-a Inv-loop μ-loop
-add-a c = ?
+add-a c = omega arith
 
--- src/accounts.rt:69:5
 loop-less : tie.Need-loop-less Inv-loop μ-loop
-loop-less c = ?
+loop-less c = omega arith
 
--- src/accounts.rt:69:5
 loop-again : tie.Need-loop-again Inv-loop μ-loop
-loop-again c = ?
+loop-again c =
+    (omega arith, all-more _ _ (c .before .before .before .loop .inv .1) (passed (c .before .account-in-range .ensures) (c .if1 .left)))
 
--- src/accounts.rt:63:1
 returns-2 : tie.Need-returns-2 Inv-loop μ-loop
-returns-2 c = ?
+returns-2 c = all-end _ (c .before .loop .inv .1) (c .before .loop .inv .0) (c .loop-test .left)
 
 pub holdings-in-range-spec : {M : Type 1} → statement M
 holdings-in-range-spec =
@@ -48,7 +50,6 @@ holdings-in-range-spec =
     (tie.spec
     Inv-loop
     μ-loop
-    cast-accounts
     loop-holds
     account-in-range-requires
     returns

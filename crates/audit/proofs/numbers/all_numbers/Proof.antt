@@ -1,38 +1,50 @@
+-- `audit::numbers::all_numbers` meets its contract. The invariant: the numbers of the contracts before place c are listed. Assumes nothing.
+use mathlib.Core.Path.{_≡_}
+use Prim.Native.Nat.{_*_, _+_, _-_, _≤_}
+use native.Mathlib.Omega.{arith}
+use lib.ListN.{take}
+use Rattle.laws.specs.Tabulate.{tabulate}
+use Rattle.rules.specs.Memory.{listingIn}
+use Rattle.rules.specs.WellFormed.{allNumbers, numbers}
+use Rattle.audit.specs.Parts.{listing}
+use Rattle.invariants.proofs.MemoryRoom.{counts-ok}
+use Rattle.audit.proofs.Rooms.{few-buys, few-sells}
+use Rattle.audit.proofs.NumberLists.{few-more, numbers-end, numbers-more, numbers-none}
 use Rattle.audit.proofs.numbers.all_numbers.Statement.{statement}
 use Rattle.audit.proofs.numbers.all_numbers.Tie as tie
-use Rattle.audit.proofs.numbers.all_numbers.Reads as reads
-use Rattle.audit.proofs.numbers.all_numbers.Lts as lts
-use Rattle.audit.proofs.numbers.with_listing.Reads as with-listing-reads
 
 abbrev Inv-loop : tie.InvT-loop
-Inv-loop state buys sells contracts listed₀ c₀ listed c = ?
+Inv-loop state buys sells contracts listed₀ c₀ listed c =
+    (c ≤ contracts) × (listed .count ≤ 128 * c) × (take (listed .count) (listed .list) ≡ allNumbers (tabulate c (listing state buys sells)))
 
 abbrev μ-loop : tie.MeasureT-loop
-μ-loop state buys sells contracts listed₀ c₀ listed c = ?
+μ-loop state buys sells contracts listed₀ c₀ listed c = contracts - c
 
--- src/numbers.rt:57:5
 loop-holds : tie.Need-loop-holds Inv-loop μ-loop
-loop-holds c = ?
+loop-holds c = (omega arith, omega arith, numbers-none _)
 
--- src/numbers.rt:58:9
 with-listing-requires : tie.Need-with-listing-requires Inv-loop μ-loop
-with-listing-requires c κs = ?
+with-listing-requires c κs =
+    (c .before .loop .inv .1, c .before .before .before .before .pre .0, c .loop-test .taken, c .before .before .before .before .pre .1, c .before .before .before .before .pre .2)
 
--- src/numbers.rt:59:9
+-- a contract adds 128 numbers at most
+more : (c : tie.After-with-listing Inv-loop μ-loop) → c .with-listing .result .count ≤ c .before .before .loop .listed .count + 128
+unfolding listingIn
+more c = few-more _ _ _ _ _ (c .with-listing .ensures) (few-buys _ (c .before .before .before .before .before .pre .0) (c .before .loop-test .taken)) (few-sells _ (c .before .before .before .before .before .pre .0) (c .before .loop-test .taken))
+
 add-c : tie.Need-add-c Inv-loop μ-loop
-add-c c = ?
+add-c c = omega arith
 
--- src/numbers.rt:57:5
 loop-less : tie.Need-loop-less Inv-loop μ-loop
-loop-less c = ?
+loop-less c = omega arith
 
--- src/numbers.rt:57:5
 loop-again : tie.Need-loop-again Inv-loop μ-loop
-loop-again c = ?
+loop-again c =
+    (omega arith, omega (arith, more c), numbers-more _ _ (c .with-listing .ensures) (c .before .before .loop .inv .2))
 
--- src/numbers.rt:50:1
 returns : tie.Need-returns Inv-loop μ-loop
-returns c = ?
+returns c =
+    (omega (arith, c .before .loop .inv .1, c .before .loop .inv .0, counts-ok _ (c .before .before .before .before .pre .0) .contracts-high), numbers-end _ _ _ (c .before .loop .inv .2) (c .before .loop .inv .0) (c .loop-test .left))
 
 pub all-numbers-spec : {M : Type 1} → statement M
 all-numbers-spec =

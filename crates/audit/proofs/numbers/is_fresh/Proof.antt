@@ -1,57 +1,58 @@
+-- `audit::numbers::is_fresh` meets its contract. The invariant: what the numbers from i on answer is the answer. Assumes nothing.
+use mathlib.Core.Path.{refl}
+use mathlib.Core.Bool.{not}
+use Prim.Native.Nat.{_+_, _-_, _≤_}
+use native.Mathlib.Omega.{arith}
+use lib.ListN.{drop, getD, take}
+use lib.Dec.{eqb}
+use Rattle.laws.specs.Choice.{allOf}
+use Rattle.audit.proofs.Walks.{Each, each-end, each-out, each-turn, next-in, none-in}
+use Rattle.audit.proofs.NumberLists.{other-number, same-number}
 use Rattle.audit.proofs.numbers.is_fresh.Statement.{statement}
 use Rattle.audit.proofs.numbers.is_fresh.Tie as tie
-use Rattle.audit.proofs.numbers.is_fresh.Reads as reads
-use Rattle.audit.proofs.numbers.is_fresh.Lts as lts
 
 abbrev Inv-loop : tie.InvT-loop
-Inv-loop list count at number i₀ i = ?
+Inv-loop list count at number i₀ i =
+    (i ≤ count) × Each (allOf (λ k. not (eqb (getD list at 0) k)) (drop (at + 1) (take count list))) (λ k. not (eqb (getD list at 0) k)) (take count list) i
 
 abbrev μ-loop : tie.MeasureT-loop
-μ-loop list count at number i₀ i = ?
+μ-loop list count at number i₀ i = count - i
 
--- src/numbers.rt:69:18
 mul-number : tie.Need-mul-number Inv-loop μ-loop
-mul-number c = ?
+mul-number c = omega arith
 
--- src/numbers.rt:69:18
-element-copy-out-number : tie.Need-element-copy-out-number Inv-loop μ-loop
-element-copy-out-number c = ?
+shared-slice-read-number : tie.Need-shared-slice-read-number Inv-loop μ-loop
+shared-slice-read-number c = omega arith
 
--- src/numbers.rt:70:17
 add-i : tie.Need-add-i Inv-loop μ-loop
-add-i c = ?
+add-i c = omega arith
 
--- src/numbers.rt:71:5
 loop-holds : tie.Need-loop-holds Inv-loop μ-loop
-loop-holds c = ?
+loop-holds c = (omega arith, record { rest = refl })
 
--- src/numbers.rt:72:12
 mul-if1 : tie.Need-mul-if1 Inv-loop μ-loop
-mul-if1 c = ?
+mul-if1 c = omega arith
 
--- src/numbers.rt:72:12
-element-copy-out-if1 : tie.Need-element-copy-out-if1 Inv-loop μ-loop
-element-copy-out-if1 c = ?
+shared-slice-read-if1 : tie.Need-shared-slice-read-if1 Inv-loop μ-loop
+shared-slice-read-if1 c = omega arith
 
--- src/numbers.rt:73:13
 returns : tie.Need-returns Inv-loop μ-loop
-returns c = ?
+returns c =
+    each-out (c .before .before .before .loop .inv .1) (next-in _ (c .before .before .before .before .before .args .list .now) _ 0 (c .before .before .loop-test .taken) (c .before .before .before .before .before .pre .1)) (same-number (c .if1 .taken))
 
--- src/numbers.rt:75:9
 add-i-2 : tie.Need-add-i-2 Inv-loop μ-loop
-add-i-2 c = ?
+add-i-2 c = omega arith
 
--- src/numbers.rt:71:5
 loop-less : tie.Need-loop-less Inv-loop μ-loop
-loop-less c = ?
+loop-less c = omega arith
 
--- src/numbers.rt:71:5
 loop-again : tie.Need-loop-again Inv-loop μ-loop
-loop-again c = ?
+loop-again c =
+    (omega arith, each-turn (c .before .before .before .loop .inv .1) (next-in _ (c .before .before .before .before .before .args .list .now) _ 0 (c .before .before .loop-test .taken) (c .before .before .before .before .before .pre .1)) (other-number (c .if1 .left)))
 
--- src/numbers.rt:65:1
 returns-2 : tie.Need-returns-2 Inv-loop μ-loop
-returns-2 c = ?
+returns-2 c =
+    each-end (c .before .loop .inv .1) (none-in _ (c .before .before .before .args .list .now) _ (c .loop-test .left))
 
 pub is-fresh-spec : {M : Type 1} → statement M
 is-fresh-spec =
@@ -60,11 +61,11 @@ is-fresh-spec =
     Inv-loop
     μ-loop
     mul-number
-    element-copy-out-number
+    shared-slice-read-number
     add-i
     loop-holds
     mul-if1
-    element-copy-out-if1
+    shared-slice-read-if1
     returns
     add-i-2
     loop-less

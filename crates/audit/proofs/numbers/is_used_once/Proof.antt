@@ -1,42 +1,44 @@
+-- `audit::numbers::is_used_once` meets its contract. The invariant: what the numbers from i on answer is the answer. Assumes nothing.
+use mathlib.Core.Path.{_≡_, refl}
+use Prim.Native.Nat.{_-_, _≤_}
+use native.Mathlib.Omega.{arith}
+use lib.ListN.{drop, take}
+use Rattle.rules.specs.WellFormed.{usedOnce}
+use Rattle.audit.proofs.Chains.{passed, refused}
+use Rattle.audit.proofs.NumberLists.{once-end, once-out, once-turn}
 use Rattle.audit.proofs.numbers.is_used_once.Statement.{statement}
 use Rattle.audit.proofs.numbers.is_used_once.Tie as tie
-use Rattle.audit.proofs.numbers.is_used_once.Reads as reads
-use Rattle.audit.proofs.numbers.is_used_once.Lts as lts
-use Rattle.audit.proofs.numbers.is_fresh.Reads as is-fresh-reads
 
 abbrev Inv-loop : tie.InvT-loop
-Inv-loop list count i₀ i = ?
+Inv-loop list count i₀ i =
+    (i ≤ count) × (usedOnce (take count list) ≡ usedOnce (drop i (take count list)))
 
 abbrev μ-loop : tie.MeasureT-loop
-μ-loop list count i₀ i = ?
+μ-loop list count i₀ i = count - i
 
--- src/numbers.rt:85:5
 loop-holds : tie.Need-loop-holds Inv-loop μ-loop
-loop-holds c = ?
+loop-holds c = (omega arith, refl)
 
--- src/numbers.rt:86:13
 is-fresh-requires : tie.Need-is-fresh-requires Inv-loop μ-loop
-is-fresh-requires c κs = ?
+is-fresh-requires c κs = (c .loop-test .taken, c .before .before .before .pre)
 
--- src/numbers.rt:87:13
 returns : tie.Need-returns Inv-loop μ-loop
-returns c = ?
+returns c =
+    once-out (c .before .before .before .before .before .args .list .now) _ _ (c .before .before .before .loop .inv .1) (c .before .before .loop-test .taken) (c .before .before .before .before .before .pre) (refused (c .before .is-fresh .ensures) (c .if1 .taken))
 
--- src/numbers.rt:89:9
 add-i : tie.Need-add-i Inv-loop μ-loop
-add-i c = ?
+add-i c = omega arith
 
--- src/numbers.rt:85:5
 loop-less : tie.Need-loop-less Inv-loop μ-loop
-loop-less c = ?
+loop-less c = omega arith
 
--- src/numbers.rt:85:5
 loop-again : tie.Need-loop-again Inv-loop μ-loop
-loop-again c = ?
+loop-again c =
+    (omega arith, once-turn (c .before .before .before .before .before .args .list .now) _ _ (c .before .before .before .loop .inv .1) (c .before .before .loop-test .taken) (c .before .before .before .before .before .pre) (passed (c .before .is-fresh .ensures) (c .if1 .left)))
 
--- src/numbers.rt:80:1
 returns-2 : tie.Need-returns-2 Inv-loop μ-loop
-returns-2 c = ?
+returns-2 c =
+    once-end (c .before .before .before .args .list .now) _ _ (c .before .loop .inv .1) (c .loop-test .left)
 
 pub is-used-once-spec : {M : Type 1} → statement M
 is-used-once-spec =

@@ -1,22 +1,28 @@
+-- `audit::numbers::numbers_used_once` meets its contract: the numbers listed are those of the queues. Assumes nothing.
+use mathlib.Core.Path.{_∙_, _≡_, ap}
+use native.Mathlib.Omega.{arith}
 use borrow.Author.Needs.{needs}
+use lib.ListN.{length}
+use Rattle.rules.specs.WellFormed.{usedOnce}
 use Rattle.audit.proofs.numbers.numbers_used_once.Statement.{statement}
 use Rattle.audit.proofs.numbers.numbers_used_once.Tie as tie
-use Rattle.audit.proofs.numbers.numbers_used_once.Reads as reads
-use Rattle.audit.proofs.numbers.numbers_used_once.Lts as lts
-use Rattle.audit.proofs.numbers.all_numbers.Reads as all-numbers-reads
-use Rattle.audit.proofs.numbers.is_used_once.Reads as is-used-once-reads
 
--- src/numbers.rt:98:9
 all-numbers-requires : tie.Need-all-numbers-requires
 all-numbers-requires c κs = search needs
 
--- src/numbers.rt:100:5
-is-used-once-requires : tie.Need-is-used-once-requires
-is-used-once-requires c κs = search needs
+slice-aggregate-is-used-once : tie.Need-slice-aggregate-is-used-once
+slice-aggregate-is-used-once c = search needs
 
--- src/numbers.rt:94:1
+is-used-once-requires : tie.Need-is-used-once-requires
+is-used-once-requires c κs =
+    let e : length (c .before .before .all-numbers .result .list) ≡ 512 = search needs in
+    omega (arith, c .before .before .all-numbers .ensures .0)
+
 returns : tie.Need-returns
-returns c = ?
+returns c =
+    c .is-used-once .ensures ∙ ap usedOnce (c .before .before .before .all-numbers .ensures .1)
 
 pub numbers-used-once-spec : {M : Type 1} → statement M
-numbers-used-once-spec = tie.close (tie.spec all-numbers-requires is-used-once-requires returns)
+numbers-used-once-spec =
+    tie.close
+    (tie.spec all-numbers-requires slice-aggregate-is-used-once is-used-once-requires returns)

@@ -1,37 +1,37 @@
+-- `audit::numbers::with_listing` meets its contract: the buys' numbers, then the sells'. Assumes nothing.
+use native.Mathlib.Omega.{arith}
 use borrow.Author.Needs.{needs}
+use Rattle.rules.specs.Memory.{listingIn}
+use Rattle.audit.proofs.Rooms.{buys-room, contract-in, few-buys, few-sells, sells-room}
+use Rattle.audit.proofs.NumberLists.{behind-both, queue-listed}
 use Rattle.audit.proofs.numbers.with_listing.Statement.{statement}
 use Rattle.audit.proofs.numbers.with_listing.Tie as tie
-use Rattle.audit.proofs.numbers.with_listing.Reads as reads
-use Rattle.audit.proofs.numbers.with_listing.Lts as lts
-use Rattle.audit.proofs.numbers.with_queue.Reads as with-queue-reads
 
--- src/numbers.rt:45:16
 mul-bids : tie.Need-mul-bids
 mul-bids c = search needs
 
--- src/numbers.rt:45:16
 element-copy-out-bids : tie.Need-element-copy-out-bids
-element-copy-out-bids c = ?
+element-copy-out-bids c = contract-in _ (c .before .before .pre .1) (c .before .before .pre .2)
 
--- src/numbers.rt:46:16
 mul-asks : tie.Need-mul-asks
 mul-asks c = search needs
 
--- src/numbers.rt:46:16
 element-copy-out-asks : tie.Need-element-copy-out-asks
-element-copy-out-asks c = ?
+element-copy-out-asks c = contract-in _ (c .before .before .before .pre .1) (c .before .before .before .pre .2)
 
--- src/numbers.rt:47:16
 with-queue-requires : tie.Need-with-queue-requires
-with-queue-requires c κs = ?
+with-queue-requires c κs =
+    let p = c .before .before .before .before .pre in
+    (omega (arith, p .0, few-buys _ (p .1) (p .2), contract-in _ (p .1) (p .2)), buys-room _ (p .1) (p .2) _ (p .3))
 
--- src/numbers.rt:47:5
 with-queue-requires-2 : tie.Need-with-queue-requires-2
-with-queue-requires-2 c κs = ?
+with-queue-requires-2 c κs =
+    let p = c .before .before .before .before .before .pre in
+    (omega (arith, p .0, queue-listed _ _ _ (c .with-queue .ensures), few-buys _ (p .1) (p .2), few-sells _ (p .1) (p .2), contract-in _ (p .1) (p .2)), sells-room _ (p .1) (p .2) _ (p .4))
 
--- src/numbers.rt:41:1
 returns : tie.Need-returns
-returns c = ?
+unfolding listingIn
+returns c = behind-both (c .before .with-queue .ensures) (c .with-queue2 .ensures)
 
 pub with-listing-spec : {M : Type 1} → statement M
 with-listing-spec =

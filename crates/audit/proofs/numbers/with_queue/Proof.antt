@@ -1,54 +1,48 @@
+-- `audit::numbers::with_queue` meets its contract. The invariant: behind the numbers listed before stand those of the first i orders. Assumes nothing.
+use Prim.Native.Nat.{_-_, _≤_}
+use native.Mathlib.Omega.{arith}
+use borrow.Author.Needs.{needs}
+use Rattle.audit.proofs.NumberLists.{Written, written-all, written-more, written-none}
 use Rattle.audit.proofs.numbers.with_queue.Statement.{statement}
 use Rattle.audit.proofs.numbers.with_queue.Tie as tie
-use Rattle.audit.proofs.numbers.with_queue.Reads as reads
-use Rattle.audit.proofs.numbers.with_queue.Lts as lts
-use Rattle.book.proofs.queue.order_at.Reads as order-at-reads
 
 abbrev Inv-loop : tie.InvT-loop
-Inv-loop area c count list₀ first i₀ list i = ?
+Inv-loop area c count list₀ first i₀ list i =
+    (i ≤ count) × Written list₀ first area c count list i
 
 abbrev μ-loop : tie.MeasureT-loop
-μ-loop area c count list₀ first i₀ list i = ?
+μ-loop area c count list₀ first i₀ list i = count - i
 
--- src/numbers.rt:31:5
 loop-holds : tie.Need-loop-holds Inv-loop μ-loop
-loop-holds c = ?
+loop-holds c = (omega arith, written-none (search needs))
 
--- src/numbers.rt:32:13
 order-at-requires : tie.Need-order-at-requires Inv-loop μ-loop
-order-at-requires c κs = ?
+order-at-requires c κs = omega arith
 
--- src/numbers.rt:33:18
 add-at : tie.Need-add-at Inv-loop μ-loop
-add-at c = ?
+add-at c = omega arith
 
--- src/numbers.rt:34:9
 mul-list : tie.Need-mul-list Inv-loop μ-loop
-mul-list c = ?
+mul-list c = omega arith
 
--- src/numbers.rt:34:9
 array-write-list : tie.Need-array-write-list Inv-loop μ-loop
-array-write-list c = ?
+array-write-list c = omega arith
 
--- src/numbers.rt:35:9
 add-i : tie.Need-add-i Inv-loop μ-loop
-add-i c = ?
+add-i c = omega arith
 
--- src/numbers.rt:31:5
 loop-less : tie.Need-loop-less Inv-loop μ-loop
-loop-less c = ?
+loop-less c = omega arith
 
--- src/numbers.rt:31:5
 loop-again : tie.Need-loop-again Inv-loop μ-loop
-loop-again c = ?
+loop-again c =
+    (omega arith, written-more (c .before .before .loop .inv .1) (omega arith) (c .before .loop-test .taken) (c .order-at .ensures))
 
--- src/numbers.rt:37:27
 add-t15 : tie.Need-add-t15 Inv-loop μ-loop
-add-t15 c = ?
+add-t15 c = omega arith
 
--- src/numbers.rt:24:1
 returns : tie.Need-returns Inv-loop μ-loop
-returns c = ?
+returns c = written-all (c .before .loop .inv .1) (c .before .loop .inv .0) (c .loop-test .left)
 
 pub with-queue-spec : {M : Type 1} → statement M
 with-queue-spec =

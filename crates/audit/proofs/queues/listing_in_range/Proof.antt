@@ -1,11 +1,9 @@
 -- `audit::queues::listing_in_range` meets its contract: the tests in the definition's order. Assumes nothing.
 use mathlib.Core.Path.{_∙_}
-use native.Mathlib.Omega.{arith}
 use borrow.Author.Needs.{needs}
 use Rattle.rules.specs.Memory.{listingIn}
 use Rattle.audit.proofs.Chains.{fails, last, passed, refused}
 use Rattle.audit.proofs.Clauses.{listing-chain, terms-passed}
-use Rattle.audit.proofs.Declared.{declared}
 use Rattle.audit.proofs.Rooms.{buys-room, contract-in, sells-room}
 use Rattle.audit.proofs.queues.listing_in_range.Statement.{statement}
 use Rattle.audit.proofs.queues.listing_in_range.Tie as tie
@@ -14,22 +12,20 @@ mul-contract : tie.Need-mul-contract
 mul-contract c = search needs
 
 element-copy-out-contract : tie.Need-element-copy-out-contract
-element-copy-out-contract c =
-    omega (arith, declared {s = c .before .before .args .t1} (c .before .before .good .0) .contracts, contract-in _ (c .before .before .pre .0) (c .before .before .pre .1))
+element-copy-out-contract c = contract-in _ (c .before .before .pre .0) (c .before .before .pre .1)
 
 mul-bids : tie.Need-mul-bids
 mul-bids c = search needs
 
 element-copy-out-bids : tie.Need-element-copy-out-bids
-element-copy-out-bids c =
-    omega (arith, declared {s = c .before .before .before .args .t1} (c .before .before .before .good .0) .buys, contract-in _ (c .before .before .before .pre .0) (c .before .before .before .pre .1))
+element-copy-out-bids c = contract-in _ (c .before .before .before .pre .0) (c .before .before .before .pre .1)
 
 mul-asks : tie.Need-mul-asks
 mul-asks c = search needs
 
 element-copy-out-asks : tie.Need-element-copy-out-asks
 element-copy-out-asks c =
-    omega (arith, declared {s = c .before .before .before .before .args .t1} (c .before .before .before .before .good .0) .sells, contract-in _ (c .before .before .before .before .pre .0) (c .before .before .before .before .pre .1))
+    contract-in _ (c .before .before .before .before .pre .0) (c .before .before .before .before .pre .1)
 
 contract-in-range-requires : tie.Need-contract-in-range-requires
 contract-in-range-requires c κs = search needs

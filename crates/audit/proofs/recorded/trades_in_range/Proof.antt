@@ -1,47 +1,49 @@
+-- `audit::recorded::trades_in_range` meets its contract. The invariant: what the trades from i on answer is the answer. Assumes nothing.
+use mathlib.Core.Path.{refl}
+use Prim.Native.Nat.{_-_, _≤_}
+use native.Mathlib.Omega.{arith}
+use Rattle.laws.specs.Choice.{allOf}
+use Rattle.rules.specs.Memory.{recordedTrades}
+use Rattle.rules.specs.WellFormed.{tradeInRange}
+use Rattle.audit.specs.Parts.{tested}
+use Rattle.audit.proofs.Chains.{passed, refused}
+use Rattle.audit.proofs.Walks.{Each, each-end, each-out, each-turn}
+use Rattle.audit.proofs.TestedTrades.{next-trade, no-trades}
 use Rattle.audit.proofs.recorded.trades_in_range.Statement.{statement}
 use Rattle.audit.proofs.recorded.trades_in_range.Tie as tie
-use Rattle.audit.proofs.recorded.trades_in_range.Reads as reads
-use Rattle.audit.proofs.recorded.trades_in_range.Lts as lts
-use Rattle.audit.proofs.recorded.trade_in_range.Reads as trade-in-range-reads
-use Rattle.book.proofs.trades.trade_at.Reads as trade-at-reads
 
 abbrev Inv-loop : tie.InvT-loop
-Inv-loop list contracts accounts next area count i₀ i = ?
+Inv-loop list contracts accounts next area count i₀ i =
+    (i ≤ count) × Each (allOf (tradeInRange (tested list contracts accounts next)) (recordedTrades area count)) (tradeInRange (tested list contracts accounts next)) (recordedTrades area count) i
 
 abbrev μ-loop : tie.MeasureT-loop
-μ-loop list contracts accounts next area count i₀ i = ?
+μ-loop list contracts accounts next area count i₀ i = count - i
 
--- src/recorded.rt:81:5
 loop-holds : tie.Need-loop-holds Inv-loop μ-loop
-loop-holds c = ?
+loop-holds c = (omega arith, record { rest = refl })
 
--- src/recorded.rt:82:13
 trade-at-requires : tie.Need-trade-at-requires Inv-loop μ-loop
-trade-at-requires c κs = ?
+trade-at-requires c κs = omega arith
 
--- src/recorded.rt:83:13
 trade-in-range-requires : tie.Need-trade-in-range-requires Inv-loop μ-loop
-trade-in-range-requires c κs = ?
+trade-in-range-requires c κs = c .before .before .before .before .pre .0
 
--- src/recorded.rt:84:13
 returns : tie.Need-returns Inv-loop μ-loop
-returns c = ?
+returns c =
+    each-out (c .before .before .before .before .loop .inv .1) (next-trade _ _ _ (c .before .before .before .loop-test .taken) (c .before .before .trade-at .ensures)) (refused (c .before .trade-in-range .ensures) (c .if1 .taken))
 
--- src/recorded.rt:86:9
 add-i : tie.Need-add-i Inv-loop μ-loop
-add-i c = ?
+add-i c = omega arith
 
--- src/recorded.rt:81:5
 loop-less : tie.Need-loop-less Inv-loop μ-loop
-loop-less c = ?
+loop-less c = omega arith
 
--- src/recorded.rt:81:5
 loop-again : tie.Need-loop-again Inv-loop μ-loop
-loop-again c = ?
+loop-again c =
+    (omega arith, each-turn (c .before .before .before .before .loop .inv .1) (next-trade _ _ _ (c .before .before .before .loop-test .taken) (c .before .before .trade-at .ensures)) (passed (c .before .trade-in-range .ensures) (c .if1 .left)))
 
--- src/recorded.rt:68:1
 returns-2 : tie.Need-returns-2 Inv-loop μ-loop
-returns-2 c = ?
+returns-2 c = each-end (c .before .loop .inv .1) (no-trades _ _ _ (c .loop-test .left))
 
 pub trades-in-range-spec : {M : Type 1} → statement M
 trades-in-range-spec =
