@@ -2,7 +2,7 @@
 -- Assumes nothing.
 use mathlib.Core.Bool.{Bool, true, false, _&&_}
 use mathlib.Core.List.{List, [], _∷_}
-use mathlib.Core.Path.{_≡_, refl, sym, ap, ap₂, _∙_}
+use mathlib.Core.Path.{_≡_, refl, sym, subst, ap, ap₂, _∙_}
 use Prim.Native.Nat.{ℕ, zero, suc, _+_, _-_, _*_, _<_, _≤_}
 use native.Mathlib.Omega.{arith}
 use lib.Dec.{eqb}
@@ -241,3 +241,7 @@ module _ {list : List Account} {k n : ℕ} {area : List ℕ} {count : ℕ} where
       e
       ∙ ap (λ (l : List Account). sameHoldings l (used k n list)) (sym (g .booked ∙ ap (bookTrades (used k n held)) none))
       ∙ never-below list k n area count (g .covered ∙ ap (neverBelowZero (used k n held)) none)
+
+-- a trade read from its place is the one that was tested there
+pub trade-read : {k n : ℕ} {t : Trade} (area : List ℕ) (count i : ℕ) → i < count → t ≡ tradeFrom (drop (9 * i) area) → Booked k n (getD (recordedTrades area count) i noTrade) → Booked k n t
+trade-read {k} {n} {t} area count i h e b = subst (Booked k n) (trade-at area count i h ∙ sym e) b

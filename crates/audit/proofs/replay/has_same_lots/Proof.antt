@@ -1,57 +1,68 @@
+-- `audit::replay::has_same_lots` meets its contract. The invariant: what the holdings from contract c on answer is the answer. Assumes nothing.
+use mathlib.Core.Path.{_≡_, refl}
+use Prim.Native.Nat.{_-_, _≤_}
+use native.Mathlib.Omega.{arith}
+use borrow.Author.Needs.{needs}
+use lib.ListN.{drop, length, take}
+use Rattle.rules.specs.Holdings.{sameLots}
+use Rattle.audit.proofs.UsedAccounts.{long-differs, same-end, same-turn, short-differs, unmapped}
 use Rattle.audit.proofs.replay.has_same_lots.Statement.{statement}
 use Rattle.audit.proofs.replay.has_same_lots.Tie as tie
-use Rattle.audit.proofs.replay.has_same_lots.Reads as reads
-use Rattle.audit.proofs.replay.has_same_lots.Lts as lts
 
 abbrev Inv-loop : tie.InvT-loop
-Inv-loop contracts a b c₀ c = ?
+Inv-loop contracts a b c₀ c =
+    (c ≤ contracts) × (sameLots (take contracts (a .holdings)) (take contracts (b .holdings)) ≡ sameLots (drop c (take contracts (a .holdings))) (drop c (take contracts (b .holdings))))
 
 abbrev μ-loop : tie.MeasureT-loop
-μ-loop contracts a b c₀ c = ?
+μ-loop contracts a b c₀ c = contracts - c
 
--- src/replay.rt:71:5
+-- the contracts in use are among the four
+first : (c : tie.Start Inv-loop μ-loop) → c .args .contracts ≤ length (c .args .t1 .holdings)
+first c =
+    let e : length (c .args .t1 .holdings) ≡ 4 = search (needs, unmapped) in
+    omega (arith, c .pre)
+
+second : (c : tie.Start Inv-loop μ-loop) → c .args .contracts ≤ length (c .args .t2 .holdings)
+second c =
+    let e : length (c .args .t2 .holdings) ≡ 4 = search (needs, unmapped) in
+    omega (arith, c .pre)
+
 loop-holds : tie.Need-loop-holds Inv-loop μ-loop
-loop-holds c = ?
+loop-holds c = (omega arith, refl)
 
--- src/replay.rt:72:17
 mul-h : tie.Need-mul-h Inv-loop μ-loop
-mul-h c = ?
+mul-h c = omega arith
 
--- src/replay.rt:72:17
 element-copy-out-h : tie.Need-element-copy-out-h Inv-loop μ-loop
-element-copy-out-h c = ?
+element-copy-out-h c = omega arith
 
--- src/replay.rt:73:17
 mul-k : tie.Need-mul-k Inv-loop μ-loop
-mul-k c = ?
+mul-k c = omega arith
 
--- src/replay.rt:73:17
 element-copy-out-k : tie.Need-element-copy-out-k Inv-loop μ-loop
-element-copy-out-k c = ?
+element-copy-out-k c = omega arith
 
--- src/replay.rt:75:13
 returns : tie.Need-returns Inv-loop μ-loop
-returns c = ?
+returns c =
+    long-differs (c .before .before .before .before .before .before .before .args .t1 .holdings) (c .before .before .before .before .before .before .before .args .t2 .holdings) _ _ (c .before .before .before .before .before .before .loop .inv .1) (c .before .before .before .before .before .loop-test .taken) (first (c .before .before .before .before .before .before .before)) (second (c .before .before .before .before .before .before .before)) (c .if1 .taken)
 
--- src/replay.rt:78:13
 returns-2 : tie.Need-returns-2 Inv-loop μ-loop
-returns-2 c = ?
+returns-2 c =
+    short-differs (c .before .before .before .before .before .before .before .before .before .before .args .t1 .holdings) (c .before .before .before .before .before .before .before .before .before .before .args .t2 .holdings) _ _ (c .before .before .before .before .before .before .before .before .before .loop .inv .1) (c .before .before .before .before .before .before .before .before .loop-test .taken) (first (c .before .before .before .before .before .before .before .before .before .before)) (second (c .before .before .before .before .before .before .before .before .before .before)) (c .before .before .before .if1 .left) (c .if2 .taken)
 
--- src/replay.rt:80:9
 add-c : tie.Need-add-c Inv-loop μ-loop
-add-c c = ?
+add-c c = omega arith
 
--- src/replay.rt:71:5
 loop-less : tie.Need-loop-less Inv-loop μ-loop
-loop-less c = ?
+loop-less c = omega arith
 
--- src/replay.rt:71:5
 loop-again : tie.Need-loop-again Inv-loop μ-loop
-loop-again c = ?
+loop-again c =
+    (omega arith, same-turn (c .before .before .before .before .before .before .before .before .before .before .args .t1 .holdings) (c .before .before .before .before .before .before .before .before .before .before .args .t2 .holdings) _ _ (c .before .before .before .before .before .before .before .before .before .loop .inv .1) (c .before .before .before .before .before .before .before .before .loop-test .taken) (first (c .before .before .before .before .before .before .before .before .before .before)) (second (c .before .before .before .before .before .before .before .before .before .before)) (c .before .before .before .if1 .left) (c .if2 .left))
 
--- src/replay.rt:66:1
 returns-3 : tie.Need-returns-3 Inv-loop μ-loop
-returns-3 c = ?
+returns-3 c =
+    same-end (c .before .before .args .t1 .holdings) (c .before .before .args .t2 .holdings) _ _ (c .before .loop .inv .1) (c .loop-test .left)
 
 pub has-same-lots-spec : {M : Type 1} → statement M
 has-same-lots-spec =

@@ -1,58 +1,69 @@
+-- `audit::replay::have_same_holdings` meets its contract. The invariant: what the accounts from a on answer is the answer. Assumes nothing.
+use mathlib.Core.Path.{_≡_, refl}
+use Prim.Native.Nat.{_-_, _≤_}
+use native.Mathlib.Omega.{arith}
+use borrow.Author.Needs.{needs}
+use lib.ListN.{drop, length}
+use Rattle.rules.specs.Holdings.{sameHoldings}
+use Rattle.audit.specs.Parts.{used}
+use Rattle.audit.proofs.Chains.{passed, refused}
+use Rattle.audit.proofs.UsedAccounts.{account-differs, account-turn, accounts-end, unmapped}
 use Rattle.audit.proofs.replay.have_same_holdings.Statement.{statement}
 use Rattle.audit.proofs.replay.have_same_holdings.Tie as tie
-use Rattle.audit.proofs.replay.have_same_holdings.Reads as reads
-use Rattle.audit.proofs.replay.have_same_holdings.Lts as lts
-use Rattle.audit.proofs.replay.has_same_lots.Reads as has-same-lots-reads
 
 abbrev Inv-loop : tie.InvT-loop
-Inv-loop contracts accounts list others a₀ a = ?
+Inv-loop contracts accounts list others a₀ a =
+    (a ≤ accounts) × (sameHoldings (used contracts accounts list) (used contracts accounts others) ≡ sameHoldings (drop a (used contracts accounts list)) (drop a (used contracts accounts others)))
 
 abbrev μ-loop : tie.MeasureT-loop
-μ-loop contracts accounts list others a₀ a = ?
+μ-loop contracts accounts list others a₀ a = accounts - a
 
--- src/replay.rt:95:5
+-- the accounts in use are among the 32
+first : (c : tie.Start Inv-loop μ-loop) → c .args .accounts ≤ length (c .args .t1)
+first c =
+    let e : length (c .args .t1) ≡ 32 = search (needs, unmapped) in
+    omega (arith, c .pre .1)
+
+second : (c : tie.Start Inv-loop μ-loop) → c .args .accounts ≤ length (c .args .t2)
+second c =
+    let e : length (c .args .t2) ≡ 32 = search (needs, unmapped) in
+    omega (arith, c .pre .1)
+
 loop-holds : tie.Need-loop-holds Inv-loop μ-loop
-loop-holds c = ?
+loop-holds c = (omega arith, refl)
 
--- src/replay.rt:96:27
 mul-has-same-lots : tie.Need-mul-has-same-lots Inv-loop μ-loop
-mul-has-same-lots c = ?
+mul-has-same-lots c = omega arith
 
--- src/replay.rt:96:27
 array-copy-out-has-same-lots : tie.Need-array-copy-out-has-same-lots Inv-loop μ-loop
-array-copy-out-has-same-lots c = ?
+array-copy-out-has-same-lots c = omega arith
 
--- src/replay.rt:96:36
 mul-has-same-lots-2 : tie.Need-mul-has-same-lots-2 Inv-loop μ-loop
-mul-has-same-lots-2 c = ?
+mul-has-same-lots-2 c = omega arith
 
--- src/replay.rt:96:36
 array-copy-out-has-same-lots-2 : tie.Need-array-copy-out-has-same-lots-2 Inv-loop μ-loop
-array-copy-out-has-same-lots-2 c = ?
+array-copy-out-has-same-lots-2 c = omega arith
 
--- src/replay.rt:96:13
 has-same-lots-requires : tie.Need-has-same-lots-requires Inv-loop μ-loop
-has-same-lots-requires c κs = ?
+has-same-lots-requires c κs = c .before .before .before .before .pre .0
 
--- src/replay.rt:97:13
 returns : tie.Need-returns Inv-loop μ-loop
-returns c = ?
+returns c =
+    account-differs (c .before .before .before .before .before .before .args .contracts) (c .before .before .before .before .before .before .args .accounts) (c .before .before .before .before .before .before .args .t1) (c .before .before .before .before .before .before .args .t2) _ (c .before .before .before .before .before .loop .inv .1) (c .before .before .before .before .loop-test .taken) (first (c .before .before .before .before .before .before)) (second (c .before .before .before .before .before .before)) (refused (c .before .has-same-lots .ensures) (c .if1 .taken))
 
--- src/replay.rt:99:9
 add-a : tie.Need-add-a Inv-loop μ-loop
-add-a c = ?
+add-a c = omega arith
 
--- src/replay.rt:95:5
 loop-less : tie.Need-loop-less Inv-loop μ-loop
-loop-less c = ?
+loop-less c = omega arith
 
--- src/replay.rt:95:5
 loop-again : tie.Need-loop-again Inv-loop μ-loop
-loop-again c = ?
+loop-again c =
+    (omega arith, account-turn (c .before .before .before .before .before .before .args .contracts) (c .before .before .before .before .before .before .args .accounts) (c .before .before .before .before .before .before .args .t1) (c .before .before .before .before .before .before .args .t2) _ (c .before .before .before .before .before .loop .inv .1) (c .before .before .before .before .loop-test .taken) (first (c .before .before .before .before .before .before)) (second (c .before .before .before .before .before .before)) (passed (c .before .has-same-lots .ensures) (c .if1 .left)))
 
--- src/replay.rt:85:1
 returns-2 : tie.Need-returns-2 Inv-loop μ-loop
-returns-2 c = ?
+returns-2 c =
+    accounts-end (c .before .before .args .contracts) (c .before .before .args .accounts) (c .before .before .args .t1) (c .before .before .args .t2) _ (c .before .loop .inv .1) (c .loop-test .left)
 
 pub have-same-holdings-spec : {M : Type 1} → statement M
 have-same-holdings-spec =

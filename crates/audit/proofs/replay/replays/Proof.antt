@@ -1,135 +1,140 @@
+-- `audit::replay::replays` meets its contract. What the loop keeps is `Going`: what the trades from i on make of the holdings
+-- decides the answer. The measure is the number of trades not yet replayed. Assumes nothing.
+use Prim.Native.Nat.{_-_, _<_}
+use native.Mathlib.Omega.{arith}
+use borrow.Author.Needs.{needs}
+use lib.ListN.{set}
+use Rattle.audit.specs.Parts.{Booked}
+use Rattle.audit.proofs.Chains.{between, passed, refused}
+use Rattle.audit.proofs.UsedAccounts.{unmapped}
+use Rattle.audit.proofs.Replaying.{Bought, Going, buyer-booked, buyer-fits, buyer-short, going-first, replayed-all, seller-booked, seller-fits, seller-short, trade-read}
 use Rattle.audit.proofs.replay.replays.Statement.{statement}
 use Rattle.audit.proofs.replay.replays.Tie as tie
-use Rattle.audit.proofs.replay.replays.Reads as reads
-use Rattle.audit.proofs.replay.replays.Lts as lts
-use Rattle.audit.proofs.replay.have_same_holdings.Reads as have-same-holdings-reads
-use Rattle.audit.proofs.replay.is_covered.Reads as is-covered-reads
-use Rattle.audit.proofs.replay.start_of_day.Reads as start-of-day-reads
-use Rattle.book.proofs.holdings.book_leg.Reads as book-leg-reads
-use Rattle.book.proofs.trades.trade_at.Reads as trade-at-reads
-use Rattle.laws.proofs.wide.Reads as wide-reads
 
 abbrev Inv-loop : tie.InvT-loop
-Inv-loop list contracts accounts area count held₀ i₀ held i = ?
+Inv-loop list contracts accounts area count held₀ i₀ held i =
+    Going list contracts accounts area count held i
 
 abbrev μ-loop : tie.MeasureT-loop
-μ-loop list contracts accounts area count held₀ i₀ held i = ?
+μ-loop list contracts accounts area count held₀ i₀ held i = count - i
 
--- src/replay.rt:116:20
 start-of-day-requires : tie.Need-start-of-day-requires Inv-loop μ-loop
-start-of-day-requires c κs = ?
+start-of-day-requires c κs = search needs
 
--- src/replay.rt:118:5
 loop-holds : tie.Need-loop-holds Inv-loop μ-loop
-loop-holds c = ?
+loop-holds c =
+    going-first (c .before .before .pre .0 .1) (c .before .before .pre .0 .2) (search (needs, unmapped)) (c .start-of-day .ensures) (c .before .before .pre .1 .1)
 
--- src/replay.rt:119:13
 trade-at-requires : tie.Need-trade-at-requires Inv-loop μ-loop
-trade-at-requires c κs = ?
+trade-at-requires c κs = omega (arith, c .before .before .before .before .pre .0 .3, c .loop-test .taken)
 
--- src/replay.rt:120:13
+-- the trade read is of contracts and accounts in use
+trade : (c : tie.After-trade-at Inv-loop μ-loop) → Booked (c .before .before .before .before .before .args .contracts) (c .before .before .before .before .before .args .accounts) (c .trade-at .result)
+trade c = trade-read _ _ _ (c .before .loop-test .taken) (c .trade-at .ensures) (c .before .before .before .before .before .pre .1 .0 _ (c .before .loop-test .taken))
+
 wide-requires : tie.Need-wide-requires Inv-loop μ-loop
-wide-requires c κs = ?
+wide-requires c κs = search needs
 
--- src/replay.rt:121:13
 wide-requires-2 : tie.Need-wide-requires-2 Inv-loop μ-loop
-wide-requires-2 c κs = ?
+wide-requires-2 c κs = search needs
 
--- src/replay.rt:122:24
+contract : (c : tie.After-wide Inv-loop μ-loop) → c .wide .result < 4
+contract c = omega (arith, c .wide .ensures, trade (c .before) .contract, c .before .before .before .before .before .before .pre .0 .0)
+
+buyer : (c : tie.After-wide2 Inv-loop μ-loop) → c .wide2 .result < 32
+buyer c = omega (arith, c .wide2 .ensures, trade (c .before .before) .buyer, c .before .before .before .before .before .before .before .pre .0 .1)
+
 mul-is-covered : tie.Need-mul-is-covered Inv-loop μ-loop
-mul-is-covered c = ?
+mul-is-covered c = omega (arith, buyer c)
 
--- src/replay.rt:122:24
 array-copy-out-is-covered : tie.Need-array-copy-out-is-covered Inv-loop μ-loop
-array-copy-out-is-covered c = ?
+array-copy-out-is-covered c = buyer c
 
--- src/replay.rt:122:13
 is-covered-requires : tie.Need-is-covered-requires Inv-loop μ-loop
-is-covered-requires c κs = ?
+is-covered-requires c κs = contract (c .before .before)
 
--- src/replay.rt:123:13
 returns : tie.Need-returns Inv-loop μ-loop
-returns c = ?
+returns c =
+    buyer-short (c .before .before .before .before .before .before .before .loop .inv) (c .before .before .before .before .before .before .loop-test .taken) (c .before .before .before .before .before .trade-at .ensures) (trade (c .before .before .before .before .before)) (c .before .before .before .wide2 .ensures) (c .before .before .before .before .wide .ensures) (refused (c .before .is-covered .ensures) (c .if1 .taken))
 
--- src/replay.rt:125:42
 mul-book-leg : tie.Need-mul-book-leg Inv-loop μ-loop
-mul-book-leg c = ?
+mul-book-leg c = omega (arith, buyer (c .before .before .before))
 
--- src/replay.rt:125:42
 array-copy-out-book-leg : tie.Need-array-copy-out-book-leg Inv-loop μ-loop
-array-copy-out-book-leg c = ?
+array-copy-out-book-leg c = buyer (c .before .before .before)
 
--- src/replay.rt:125:23
 book-leg-requires : tie.Need-book-leg-requires Inv-loop μ-loop
-book-leg-requires c κs = ?
+book-leg-requires c κs =
+    (contract (c .before .before .before .before .before), trade (c .before .before .before .before .before .before) .lots, buyer-fits (c .before .before .before .before .before .before .before .before .loop .inv) (c .before .before .before .before .before .before .before .loop-test .taken) (c .before .before .before .before .before .before .trade-at .ensures) (trade (c .before .before .before .before .before .before)) (c .before .before .before .before .wide2 .ensures) (c .before .before .before .before .before .wide .ensures))
 
--- src/replay.rt:125:9
 mul-held : tie.Need-mul-held Inv-loop μ-loop
-mul-held c = ?
+mul-held c = omega (arith, buyer (c .before .before .before .before .before))
 
--- src/replay.rt:125:9
 array-set-from-held : tie.Need-array-set-from-held Inv-loop μ-loop
-array-set-from-held c = ?
+array-set-from-held c = buyer (c .before .before .before .before .before)
 
--- src/replay.rt:126:13
 wide-requires-3 : tie.Need-wide-requires-3 Inv-loop μ-loop
-wide-requires-3 c κs = ?
+wide-requires-3 c κs = search needs
 
--- src/replay.rt:127:24
+seller : (c : tie.After-wide3 Inv-loop μ-loop) → c .wide3 .result < 32
+seller c = omega (arith, c .wide3 .ensures, trade (c .before .before .before .before .before .before .before .before) .seller, c .before .before .before .before .before .before .before .before .before .before .before .before .before .pre .0 .1)
+
+-- between the two legs
+bought : (c : tie.After-book-leg Inv-loop μ-loop)
+    → let a = c .before .before .before .before .before .before .before .before .before .before .before .before .args in
+    Bought (a .list) (a .contracts) (a .accounts) (a .area .now) (a .count) (set (c .before .before .before .before .before .before .before .before .before .loop .held) (c .before .before .before .before .before .wide2 .result) (c .book-leg .result)) (c .before .before .before .before .before .before .before .before .before .loop .i) (c .before .before .before .before .before .before .before .trade-at .result)
+bought c =
+    buyer-booked (c .before .before .before .before .before .before .before .before .before .loop .inv) (c .before .before .before .before .before .before .before .before .loop-test .taken) (c .before .before .before .before .before .before .before .trade-at .ensures) (trade (c .before .before .before .before .before .before .before)) (c .before .before .before .before .before .wide2 .ensures) (c .before .before .before .before .before .before .wide .ensures)
+    (passed (c .before .before .before .is-covered .ensures) (c .before .before .if1 .left)) (c .book-leg .ensures)
+
 mul-is-covered-2 : tie.Need-mul-is-covered-2 Inv-loop μ-loop
-mul-is-covered-2 c = ?
+mul-is-covered-2 c = omega (arith, seller c)
 
--- src/replay.rt:127:24
 array-copy-out-is-covered-2 : tie.Need-array-copy-out-is-covered-2 Inv-loop μ-loop
-array-copy-out-is-covered-2 c = ?
+array-copy-out-is-covered-2 c = seller c
 
--- src/replay.rt:127:13
 is-covered-requires-2 : tie.Need-is-covered-requires-2 Inv-loop μ-loop
-is-covered-requires-2 c κs = ?
+is-covered-requires-2 c κs = contract (c .before .before .before .before .before .before .before .before)
 
--- src/replay.rt:128:13
 returns-2 : tie.Need-returns-2 Inv-loop μ-loop
-returns-2 c = ?
+returns-2 c =
+    seller-short (bought (c .before .before .before .before)) (c .before .before .before .wide3 .ensures) (c .before .before .before .before .before .before .before .before .before .before .wide .ensures) (refused (c .before .is-covered2 .ensures) (c .if2 .taken))
 
--- src/replay.rt:130:43
 mul-book-leg-2 : tie.Need-mul-book-leg-2 Inv-loop μ-loop
-mul-book-leg-2 c = ?
+mul-book-leg-2 c = omega (arith, seller (c .before .before .before))
 
--- src/replay.rt:130:43
 array-copy-out-book-leg-2 : tie.Need-array-copy-out-book-leg-2 Inv-loop μ-loop
-array-copy-out-book-leg-2 c = ?
+array-copy-out-book-leg-2 c = seller (c .before .before .before)
 
--- src/replay.rt:130:24
 book-leg-requires-2 : tie.Need-book-leg-requires-2 Inv-loop μ-loop
-book-leg-requires-2 c κs = ?
+book-leg-requires-2 c κs =
+    (contract (c .before .before .before .before .before .before .before .before .before .before .before), trade (c .before .before .before .before .before .before .before .before .before .before .before .before) .lots, seller-fits (bought (c .before .before .before .before .before)) (c .before .before .before .before .wide3 .ensures) (c .before .before .before .before .before .before .before .before .before .before .before .wide .ensures))
 
--- src/replay.rt:130:9
 mul-held-2 : tie.Need-mul-held-2 Inv-loop μ-loop
-mul-held-2 c = ?
+mul-held-2 c = omega (arith, seller (c .before .before .before .before .before))
 
--- src/replay.rt:130:9
 array-set-from-held-2 : tie.Need-array-set-from-held-2 Inv-loop μ-loop
-array-set-from-held-2 c = ?
+array-set-from-held-2 c = seller (c .before .before .before .before .before)
 
--- src/replay.rt:131:9
 add-i : tie.Need-add-i Inv-loop μ-loop
-add-i c = ?
+add-i c =
+    omega (arith, c .before .before .before .before .before .before .before .before .before .before .before .before .before .before .loop-test .taken, c .before .before .before .before .before .before .before .before .before .before .before .before .before .before .before .before .before .before .pre .0 .2)
 
--- src/replay.rt:118:5
 loop-less : tie.Need-loop-less Inv-loop μ-loop
-loop-less c = ?
+loop-less c =
+    omega (arith, c .before .before .before .before .before .before .before .before .before .before .before .before .before .before .loop-test .taken)
 
--- src/replay.rt:118:5
 loop-again : tie.Need-loop-again Inv-loop μ-loop
-loop-again c = ?
+loop-again c =
+    seller-booked (bought (c .before .before .before .before .before .before)) (c .before .before .before .before .before .wide3 .ensures) (c .before .before .before .before .before .before .before .before .before .before .before .before .wide .ensures) (passed (c .before .before .before .is-covered2 .ensures) (c .before .before .if2 .left)) (c .book-leg2 .ensures)
 
--- src/replay.rt:133:5
 have-same-holdings-requires : tie.Need-have-same-holdings-requires Inv-loop μ-loop
-have-same-holdings-requires c κs = ?
+have-same-holdings-requires c κs =
+    (c .before .before .before .before .pre .0 .0, c .before .before .before .before .pre .0 .1)
 
--- src/replay.rt:104:1
 returns-3 : tie.Need-returns-3 Inv-loop μ-loop
-returns-3 c = ?
+returns-3 c =
+    replayed-all (c .before .before .loop .inv) (c .before .loop-test .left) (c .have-same-holdings .ensures)
 
 pub replays-spec : {M : Type 1} → statement M
 replays-spec =
