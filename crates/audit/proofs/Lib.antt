@@ -8,3 +8,4 @@ pub mod SortedQueues
 pub mod TestedTrades
 pub mod UsedAccounts
 pub mod Walks
+pub mod Whole

@@ -41,13 +41,7 @@ fn closes_are_covered(area: &[u32], c: usize, count: usize, account: u32, held: 
     scan::resting(area, c, count, account, 1) <= covered
 }
 
-fn holding_in_range(
-    state: State,
-    account: usize,
-    c: usize,
-    buys: &[u32],
-    sells: &[u32],
-) -> bool
+fn holding_in_range(state: State, account: usize, c: usize, buys: &[u32], sells: &[u32]) -> bool
     requires { ⌜ (countsInRange state ≡ true) × (account < 32) × (c < state .contractcount) × (320 * state .contractcount ≤ length (now buys)) × (320 * state .contractcount ≤ length (now sells)) ⌝ }
     ensures { λ r. ⌜ r ≡ holdingInRange (listing state (now (buys .entry)) (now (sells .entry)) c) account (holdingAt (state .accounts) account c) ⌝ }
 {

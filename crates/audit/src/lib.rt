@@ -1,25 +1,25 @@
 // Whether a state and the areas lent with it are well formed: the test of code 21, for anything at all.
+ghost use mathlib.Core.Bool.{true};
 ghost use mathlib.Core.Path.{_≡_};
-ghost use Rattle.rules.specs.Memory.{wellFormedMemory};
+ghost use Rattle.rules.specs.Memory.{countsInRange, exchangeOf, hasRoom, wellFormedMemory};
+ghost use Rattle.rules.specs.WellFormed.{wellFormedContents};
+ghost use Rattle.audit.specs.Parts.{memory};
+
 mod accounts;
 mod counts;
 mod numbers;
 mod queues;
 mod recorded;
 mod replay;
+
 use rules::State;
 
-pub fn well_formed(state: State, buys: &[u32], sells: &[u32], trades: &[u32]) -> bool
-    ensures { λ r. ⌜ r ≡ wellFormedMemory (record { state = state; buys = now (buys .entry); sells = now (sells .entry); trades = now (trades .entry) }) ⌝ }
+// The clauses on what the state holds. The terms of the contracts come before the prices that are tested against them, trades
+// and starting holdings before their replay. Requires counts within their ranges and room for them.
+fn contents_are_well_formed(state: State, buys: &[u32], sells: &[u32], trades: &[u32]) -> bool
+    requires { ⌜ (countsInRange state ≡ true) × (hasRoom (memory state (now buys) (now sells) (now trades)) ≡ true) ⌝ }
+    ensures { λ r. ⌜ r ≡ wellFormedContents (exchangeOf (memory state (now (buys .entry)) (now (sells .entry)) (now (trades .entry)))) ⌝ }
 {
-    if !counts::counts_in_range(state) {
-        return false;
-    }
-    if !counts::has_room(state, buys, sells, trades) {
-        return false;
-    }
-    let contracts = state.contractcount;
-    let held = state.accountcount;
     let next = state.next;
     let settlements = state.settlements;
     if !counts::counters_in_range(next, settlements) {
@@ -31,17 +31,32 @@ pub fn well_formed(state: State, buys: &[u32], sells: &[u32], trades: &[u32]) ->
     if !numbers::numbers_used_once(state, buys, sells) {
         return false;
     }
-    let list = state.contracts;
+    let contracts = state.contractcount;
+    let holders = state.accountcount;
     let count = state.tradecount;
-    if !recorded::trades_in_range(list, contracts, held, next, trades, count) {
+    let list = state.contracts;
+    if !recorded::trades_in_range(list, contracts, holders, next, trades, count) {
         return false;
     }
     if !accounts::holdings_in_range(state, buys, sells) {
         return false;
     }
-    let owners = state.accounts;
-    if !replay::replays(owners, contracts, held, trades, count) {
+    let held = state.accounts;
+    if !replay::replays(held, contracts, holders, trades, count) {
         return false;
     }
-    accounts::balances_in_range(owners, held, settlements)
+    accounts::balances_in_range(held, holders, settlements)
+}
+
+// "A state is well formed when": every clause of the paper, on any state and any areas.
+pub fn well_formed(state: State, buys: &[u32], sells: &[u32], trades: &[u32]) -> bool
+    ensures { λ r. ⌜ r ≡ wellFormedMemory (record { state = state; buys = now (buys .entry); sells = now (sells .entry); trades = now (trades .entry) }) ⌝ }
+{
+    if !counts::counts_in_range(state) {
+        return false;
+    }
+    if !counts::has_room(state, buys, sells, trades) {
+        return false;
+    }
+    contents_are_well_formed(state, buys, sells, trades)
 }

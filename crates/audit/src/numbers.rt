@@ -35,7 +35,10 @@ fn with_queue(before: Listed, area: &[u32], c: usize, count: usize) -> Listed
         list[at] = o.number;
         i += 1;
     }
-    Listed { list, count: first + count }
+    Listed {
+        list,
+        count: first + count,
+    }
 }
 
 // The numbers of a contract's orders behind those listed.
@@ -53,7 +56,10 @@ fn all_numbers(state: State, buys: &[u32], sells: &[u32]) -> Listed
     ensures { λ r. ⌜ (r .count ≤ 512) × (take (r .count) (r .list) ≡ wellformed.allNumbers (tabulate (state .contractcount) (listing state (now (buys .entry)) (now (sells .entry))))) ⌝ }
 {
     let contracts = state.contractcount;
-    let mut listed = Listed { list: [0; 512], count: 0 };
+    let mut listed = Listed {
+        list: [0; 512],
+        count: 0,
+    };
     let mut c: usize = 0;
     while c < contracts {
         listed = with_listing(listed, state, c, buys, sells);

@@ -34,7 +34,13 @@ fn order_numbers_in_range(t: Trade, next: u32) -> bool
 }
 
 // "existing contract and accounts, .. a price allowed today, 1 to 1,000 lots, and for each leg open or close"
-fn trade_in_range(list: [Contract; 4], contracts: usize, accounts: usize, next: u32, t: Trade) -> bool
+fn trade_in_range(
+    list: [Contract; 4],
+    contracts: usize,
+    accounts: usize,
+    next: u32,
+    t: Trade,
+) -> bool
     requires { ⌜ (contracts ≤ 4) × ((c : ℕ) → c < contracts → termsInRange (getD list c noContract) ≡ true) ⌝ }
     ensures { λ r. ⌜ r ≡ tradeInRange (tested list contracts accounts next) t ⌝ }
 {

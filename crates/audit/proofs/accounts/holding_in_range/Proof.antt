@@ -89,8 +89,7 @@ returns-6 : tie.Need-returns-6
 unfolding listingIn holdingAt accountAt
 returns-6 c =
     c .closes-are-covered2 .ensures
-    ∙ last (holding-chain _ _ _)
-    (
+    ∙ last (holding-chain _ _ _) (
       le-leb _ _ (c .before .before .before .before .before .before .before .before .before .if1 .left),
       (
         le-leb _ _ (c .before .before .before .before .before .before .before .if2 .left),

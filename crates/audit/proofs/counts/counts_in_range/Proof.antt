@@ -34,8 +34,7 @@ few-orders-requires-2 c κs = search needs
 returns-7 : tie.Need-returns-7
 returns-7 c =
     c .few-orders2 .ensures
-    ∙ last (counts-chain _)
-    (
+    ∙ last (counts-chain _) (
       between 1 4 (c .before .before .before .before .before .before .before .before .before .before .before .before .if1 .left) (c .before .before .before .before .before .before .before .before .before .before .before .if2 .left),
       (between 1 32 (c .before .before .before .before .before .before .before .before .before .if3 .left) (c .before .before .before .before .before .before .before .if4 .left), (le-leb _ _ (c .before .before .before .before .before .if5 .left), (passed (c .before .before .before .few-orders .ensures) (c .before .before .if6 .left), tt))),
     )

@@ -76,8 +76,7 @@ returns-6 : tie.Need-returns-6
 unfolding listingIn
 returns-6 c =
     c .orders-in-range2 .ensures
-    ∙ last (listing-chain _ _ _)
-    (
+    ∙ last (listing-chain _ _ _) (
       passed (c .before .before .before .before .before .before .before .before .before .before .contract-in-range .ensures) (c .before .before .before .before .before .before .before .before .before .if1 .left),
       (
         passed (c .before .before .before .before .before .before .before .before .is-sorted .ensures) (c .before .before .before .before .before .before .before .if2 .left),

@@ -33,8 +33,7 @@ returns-5 c = fails (order-chain _ _ _ _) 4 (le-ltb _ _ (c .if5 .taken))
 
 returns-6 : tie.Need-returns-6
 returns-6 c =
-    last (order-chain _ _ _ _)
-    (
+    last (order-chain _ _ _ _) (
       passed (c .before .before .before .before .before .before .before .before .before .before .within .ensures) (c .before .before .before .before .before .before .before .before .before .if1 .left),
       (
         place-in (c .before .before .before .before .before .before .before .before .wide .ensures) (c .before .before .before .before .before .before .before .if2 .left),

@@ -56,8 +56,7 @@ returns-7 c = fails (trade-chain _ _ _ _ _) 6 (lt-leb _ _ (c .if7 .taken))
 
 returns-8 : tie.Need-returns-8
 returns-8 c =
-    last (trade-chain _ _ _ _ _)
-    (
+    last (trade-chain _ _ _ _ _) (
       place-in (c .before .before .before .before .before .before .before .before .before .before .before .before .before .before .before .wide .ensures) (c .before .before .before .before .before .before .before .before .before .before .before .before .before .before .if1 .left),
       (
         place-in (c .before .before .before .before .before .before .before .before .before .before .before .before .before .wide2 .ensures) (c .before .before .before .before .before .before .before .before .before .before .before .before .if2 .left),
