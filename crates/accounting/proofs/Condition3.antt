@@ -2,29 +2,29 @@
 -- state whose arrays have the places of their types, well formed or not. It rests on two facts about one command, `kept` and
 -- `read-back`, which are parameters of the last section. Assumes nothing else.
 use mathlib.Core.Bool.{Bool, true, false, _&&_, false≢true}
-use mathlib.Core.List.{List, [], _∷_, _++_, append-nil}
-use mathlib.Core.Path.{_≡_, refl, sym, ap, ap₂, subst, _∙_}
-use Prim.Native.Nat.{ℕ, zero, suc, _+_, _*_, _<_}
+use mathlib.Core.List.{List, [], _∷_, _++_}
+use mathlib.Core.Path.{_≡_, refl, sym, ap, ap₂, _∙_}
+use Prim.Native.Nat.{ℕ, _+_, _<_}
 use native.Mathlib.Omega.{arith}
 use lib.Dec.{eqb}
 use lib.IntN.{ℤ, pos, negℤ, _+ℤ_, _-ℤ_, _*ℤ_, +ℤ-assoc, +ℤ-idl, +ℤ-idr}
 use lib.ListN.{length}
-use Rattle.laws.specs.Choice.{pick, pick-true, pick-false, both-true}
+use Rattle.laws.specs.Choice.{pick, both-true}
 use Rattle.laws.specs.Ring.{split, d-eq, ring, *ℤ-add}
 use Rattle.laws.specs.Sums.{sumTo, sumTo-ext, sumTo-add, sumTo-zero}
-use Rattle.rules.specs.Answers.{_when_, firstOf, refusals, codeOf}
+use Rattle.rules.specs.Answers.{firstOf, refusals, codeOf}
 use Rattle.rules.specs.Command.{commandOf, isSettle}
-use Rattle.rules.specs.Condition3.{run, isAccepted, depositTo, withdrawalFrom, paidIn, paidOut, tradesOf, tradesMade, sales, costs, netHolding, worth, balanceIn, accountsOf, contractsOf, Opening, EndsSettled, Condition3}
-use Rattle.rules.specs.Exchange.{Exchange, listingAt, accountAt, holdingAt, placeOf}
+use Rattle.rules.specs.Condition3.{run, isAccepted, depositTo, withdrawalFrom, paidIn, paidOut, tradesOf, tradesMade, netHolding, worth, balanceIn, accountsOf, contractsOf, Opening, EndsSettled, Condition3}
+use Rattle.rules.specs.Exchange.{Exchange, holdingAt, placeOf}
 use Rattle.rules.specs.Memory.{Memory, exchangeOf, Declared, countsInRange, hasRoom, wellFormedMemory, refusedIn, inMemory, stepIn, respond}
 use Rattle.rules.specs.Settlement.{settlementPrice}
-use Rattle.rules.specs.Step.{deposited, withdrawn, inserted, removed, cancelled, pulled, phaseChanged, refused, carriedOut, step}
+use Rattle.rules.specs.Step.{deposited, withdrawn, inserted, removed, cancelled, pulled, phaseChanged, carriedOut, step}
 use Rattle.rules.specs.WellFormed.{wellFormedContents}
 use Rattle.rules.specs.declared.Record.{Record}
 use Rattle.rules.specs.declared.Trade.{Trade}
 use Rattle.rules.specs.declared.Command.{Command}
 use Rattle.rules.specs.declared.Command.the-variants.{Malformed, Deposit, Withdraw, Insert, Cancel, Pull, Phase, Settle}
-use Rattle.accounting.specs.Books.{Books, Move, pays, makes, settles, after, Same, Reached, stay, move, paidBy, madeBy, paid, made, cash, position, brought, Level}
+use Rattle.accounting.specs.Books.{Books, makes, settles, after, Same, Reached, stay, move, paidBy, madeBy, paid, made, cash, position, brought, Level}
 use Rattle.accounting.specs.Money.{proceeds, netAtStart, netNow, AllKnown}
 use Rattle.accounting.specs.Moves.{booksOf, moveBy, moveOf, movesOf}
 use Rattle.accounting.specs.Shape.{Shaped}

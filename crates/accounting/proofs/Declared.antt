@@ -1,22 +1,21 @@
 -- The by-value arrays of a state have the places of their types, before and after every command; so each account in use has a
 -- holding in each contract in use. Assumes nothing.
-use mathlib.Core.Bool.{Bool, true, false, _&&_}
-use mathlib.Core.List.{List, [], _∷_, _++_, map}
+use mathlib.Core.Bool.{Bool, true, false}
+use mathlib.Core.List.{List, [], _∷_, map}
 use mathlib.Core.Path.{_≡_, refl, sym, ap, _∙_}
-use Prim.Native.Nat.{ℕ, zero, suc, _+_, _-_, _<_, _≤_, min}
+use Prim.Native.Nat.{ℕ, zero, suc, _<_, _≤_, min}
 use native.Mathlib.Nat.{le-of-suc-le-suc, not-suc-le-zero}
 use native.Mathlib.Omega.{arith}
 use borrow.Author.Tests.{leb-true}
 use lib.Dec.{leb, eqb}
-use lib.ListN.{length, getD, take, drop, length-append, length-take, length-drop, length-map, List·getD-map}
-use lib.Seq.{getD-take}
+use lib.ListN.{length, getD, take, drop, length-append, length-take, length-drop, length-map}
 use Rattle.laws.specs.Choice.{pick, all, both-true}
 use Rattle.laws.specs.Tabulate.{length-tabulate}
 use Rattle.rules.specs.Answers.{codeOf}
 use Rattle.rules.specs.Bounds.{within, maxContracts, maxAccounts, maxTrades, maxResting}
 use Rattle.rules.specs.Command.{commandOf}
 use Rattle.rules.specs.Exchange.{Exchange, Listing, noAccount, accountAt}
-use Rattle.rules.specs.Memory.{Memory, Declared, listingIn, inUse, exchangeOf, putFirst, putAccount, putAccounts, putState, put, countsInRange, hasRoom, wellFormedMemory, refusedIn, inMemory, stepIn, respond}
+use Rattle.rules.specs.Memory.{Memory, Declared, listingIn, inUse, exchangeOf, putFirst, putAccounts, putState, put, countsInRange, hasRoom, wellFormedMemory, refusedIn, inMemory, stepIn, respond}
 use Rattle.rules.specs.Step.{carriedOut}
 use Rattle.rules.specs.WellFormed.{wellFormedContents}
 use Rattle.rules.specs.declared.Account.{Account}

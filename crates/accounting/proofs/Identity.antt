@@ -7,8 +7,8 @@ use lib.IntN.{ℤ, pos, _+ℤ_, _-ℤ_, _*ℤ_}
 use lib.ListN.{length}
 use mathlib.Core.Bool.{true}
 use Rattle.rules.specs.Condition3.{sales, costs, netHolding}
-use Rattle.rules.specs.Exchange.{Exchange, listingAt, accountAt, holdingAt}
-use Rattle.rules.specs.Settlement.{dayStart, legs, dayOf, holdingGain, settlementPrice}
+use Rattle.rules.specs.Exchange.{Exchange, listingAt, holdingAt}
+use Rattle.rules.specs.Settlement.{legs, dayOf, holdingGain, settlementPrice}
 use Rattle.rules.specs.WellFormed.{replays, wellFormedContents}
 use Rattle.accounting.specs.Article32.{net, netOpen}
 use Rattle.accounting.specs.Money.{proceeds, netNow, netAtStart}

@@ -1,15 +1,15 @@
 -- The settlement price of a well-formed state is at most the largest price. Assumes nothing.
-use mathlib.Core.Bool.{Bool, true, false, _&&_}
+use mathlib.Core.Bool.{Bool, true, false}
 use mathlib.Core.List.{List, [], _∷_}
-use mathlib.Core.Path.{_≡_, refl}
-use Prim.Native.Nat.{ℕ, zero, suc, _+_, _*_, _/_, _<_, _≤_, min, max}
+use mathlib.Core.Path.{_≡_}
+use Prim.Native.Nat.{ℕ, _*_, _/_, _<_, _≤_}
 use native.Mathlib.Nat.{mul-le-mul-right, div-mul-le-self, div-le-of-le-mul}
 use native.Mathlib.Omega.{arith}
-use lib.Dec.{leb, ltb, eqb}
+use lib.Dec.{eqb}
 use lib.ListN.{length}
 use Rattle.laws.specs.Choice.{pick, allOf, both-true}
 use Rattle.laws.specs.Sums.{sumOf}
-use Rattle.rules.specs.Bounds.{within, allowedToday, maxPrice, maxLots}
+use Rattle.rules.specs.Bounds.{maxPrice}
 use Rattle.rules.specs.Exchange.{Exchange, listingAt}
 use Rattle.rules.specs.Matching.{middle, tradedLots}
 use Rattle.rules.specs.Settlement.{tradesIn, tradedValue, weightedPrice, quotedPrice, priceFrom, settlementPrice}
@@ -17,7 +17,7 @@ use Rattle.rules.specs.WellFormed.{orderInRange, tradeInRange, wellFormedConten
 use Rattle.rules.specs.declared.Contract.{Contract}
 use Rattle.rules.specs.declared.Order.{Order}
 use Rattle.rules.specs.declared.Trade.{Trade}
-use Rattle.accounting.proofs.Facts.{Facts, facts, trade-facts, order-price}
+use Rattle.accounting.proofs.Facts.{facts, trade-facts, order-price}
 
 unfoldable TradesTo : ℕ → List Trade → Type 0
 TradesTo M [] = Unit {0}

@@ -4,7 +4,7 @@
 use mathlib.Core.Bool.{Bool, true, false, not, _&&_}
 use mathlib.Core.List.{List, [], _∷_, _++_}
 use mathlib.Core.Path.{_≡_, refl, sym, ap, subst, _∙_}
-use Prim.Native.Nat.{ℕ, zero, suc, _+_, _*_, _^_, _<_, _≤_}
+use Prim.Native.Nat.{ℕ, zero, suc, _+_, _*_, _<_, _≤_}
 use native.Mathlib.Nat.{le-refl, mul-le-mul-left, mul-suc}
 use native.Mathlib.Omega.{arith}
 use borrow.Author.Tests.{eqb-true, ne-eqb}
@@ -12,22 +12,24 @@ use lib.Dec.{eqb}
 use lib.IntN.{ℤ, pos, natAbs, _+ℤ_, _*ℤ_, *ℤ-comm}
 use lib.ListN.{length, take, drop, take-append-drop, length-take}
 use lib.Seq.{take-length}
-use Rattle.laws.specs.Bound.{Within, within-le, within-zero, within-add, within-times, within-abs, abs-within}
+use mir.Syntax.{w64}
+use mir.Val.{SFits}
+use Rattle.laws.specs.Bound.{Within, within-le, within-zero, within-add, within-times, within-abs, abs-within, within-fits}
 use Rattle.laws.specs.Choice.{pick, allOf, allOf-take, both-true}
 use Rattle.laws.specs.Ring.{*ℤ-add}
 use Rattle.laws.specs.Sums.{sumTo, sumOf, sumTo-add, sumTo-ext}
-use Rattle.rules.specs.Bounds.{maxContracts, maxTrades, maxLots, maxPrice, maxBalance, maxDayProfit}
+use Rattle.rules.specs.Bounds.{maxContracts, maxTrades, maxLots, maxPrice, maxSettlements, maxBalance, maxDayProfit}
 use Rattle.rules.specs.Exchange.{Exchange, listingAt, accountAt, holdingAt}
 use Rattle.rules.specs.Matching.{tradedLots}
-use Rattle.rules.specs.Settlement.{Leg, leg, Day, dayStart, buyLeg, sellLeg, only, legs, afterLegs, dayOf, holdingGain, settlementPrice, closingProfit, holdingProfit, settledAccount}
-use Rattle.rules.specs.WellFormed.{tradeInRange, replays, wellFormedContents}
+use Rattle.rules.specs.Settlement.{Leg, leg, Day, dayStart, gain, only, legs, dayOf, holdingGain, settlementPrice, closingProfit, holdingProfit, settledAccount}
+use Rattle.rules.specs.WellFormed.{tradeInRange, wellFormedContents}
 use Rattle.rules.specs.declared.Trade.{Trade}
 use Rattle.accounting.specs.Article32.{AllCovered}
 use Rattle.accounting.specs.Money.{dayAfter, maxContractProfit}
 use Rattle.accounting.proofs.DayProfit.{covered-first}
-use Rattle.accounting.proofs.Facts.{Facts, facts, trade-facts}
+use Rattle.accounting.proofs.Facts.{facts, trade-facts}
 use Rattle.accounting.proofs.PriceBound.{settlement-price-bound}
-use Rattle.accounting.proofs.Reach.{LegsTo, openedLots, closing-within, holding-within, profit-within}
+use Rattle.accounting.proofs.Reach.{LegsTo, openedLots, closing-within, long-within, short-within, holding-within, profit-within}
 use Rattle.accounting.proofs.Replay.{day-covered}
 use Rattle.accounting.proofs.Trades.{legs-append, boughtBy, soldBy}
 
@@ -207,12 +209,35 @@ module _ (x : Exchange) (w : wellFormedContents x ≡ true) (few : length (x .tr
     unfolding lotsEver dayAfter start
     profit-reach k s h = profit-within maxPrice _ _ _ _ reference-in-range (legs-in-range k) (part-covered k) s h
 
+    side-few : (k : ℕ) →
+        maxPrice * (openedLots (legs a c (take k (x .trades))) + (holdingAt (x .accounts) a c .startlong + holdingAt (x .accounts) a c .startshort))
+        ≤ maxContractProfit
+    unfolding lotsEver
+    side-few k = omega (arith, few-lots k)
+
+    start-covered : (k : ℕ) → AllCovered
+        (dayStart (listingAt x c .contract .reference) (holdingAt (x .accounts) a c .startlong) (holdingAt (x .accounts) a c .startshort))
+        (legs a c (take k (x .trades)))
+    unfolding start
+    start-covered k = part-covered k
+
     -- BEFORE THE MULTIPLIER, after any number of trades
     pub closing-bound-after : (k : ℕ) → Within maxContractProfit (dayAfter x a c k .closing)
     closing-bound-after k = within-le (omega (arith, few-lots k)) (closing-reach k)
 
     pub holding-bound-after : (k s : ℕ) → s ≤ maxPrice → Within maxContractProfit (holdingGain s (dayAfter x a c k))
     holding-bound-after k s h = within-le (omega (arith, few-lots k)) (holding-reach k s h)
+
+    -- the two sides of the holding part
+    pub long-bound-after : (k s : ℕ) → s ≤ maxPrice → Within maxContractProfit (gain s (dayAfter x a c k .long))
+    unfolding dayAfter
+    long-bound-after k s h =
+        within-le (side-few k) (long-within maxPrice _ _ _ _ reference-in-range (legs-in-range k) (start-covered k) s h)
+
+    pub short-bound-after : (k s : ℕ) → s ≤ maxPrice → Within maxContractProfit (gain s (dayAfter x a c k .short))
+    unfolding dayAfter
+    short-bound-after k s h =
+        within-le (side-few k) (short-within maxPrice _ _ _ _ reference-in-range (legs-in-range k) (start-covered k) s h)
 
     pub profit-bound-after : (k s : ℕ) → s ≤ maxPrice → Within maxContractProfit (dayAfter x a c k .closing +ℤ holdingGain s (dayAfter x a c k))
     profit-bound-after k s h = within-le (omega (arith, few-lots k)) (profit-reach k s h)
@@ -318,3 +343,8 @@ module _ (x : Exchange) (w : wellFormedContents x ≡ true) (four : length (x .l
   settled-balance-bound h =
       abs-within (settledAccount x a .balance)
       (within-le (omega arith) (within-add (within-abs (accountAt (x .accounts) a .balance) (maxBalance + x .settlements * maxDayProfit) h) day-profit-within))
+
+-- a balance within the bound fits an i64
+pub balance-fits : (settlements : ℕ) (balance : ℤ) → settlements ≤ maxSettlements → natAbs balance ≤ maxBalance + settlements * maxDayProfit → SFits w64 balance
+balance-fits settlements balance h k =
+    within-fits (maxBalance + settlements * maxDayProfit) (omega arith) (within-abs balance (maxBalance + settlements * maxDayProfit) k)

@@ -1,13 +1,13 @@
 -- How far a day's profit reaches: with prices to M, at most M for each lot that was held at the start or opened during the day,
 -- in closing profit, in holding profit, and in both together. Assumes nothing.
 use mathlib.Core.Bool.{Bool, true, false}
-use mathlib.Core.List.{List, [], _∷_, _++_}
+use mathlib.Core.List.{List, [], _∷_}
 use mathlib.Core.Path.{_≡_, subst, _∙_}
-use Prim.Native.Nat.{ℕ, zero, suc, _+_, _*_, _-_, _≤_, min}
+use Prim.Native.Nat.{ℕ, _+_, _*_, _-_, _≤_}
 use native.Mathlib.Nat.{mul-le-mul-left}
 use native.Mathlib.Omega.{arith}
-use lib.IntN.{ℤ, pos, _+ℤ_, _-ℤ_, _*ℤ_}
-use Rattle.laws.specs.Bound.{Within, within-le, within-zero, within-neg, within-add, within-sub, within-diff, within-times}
+use lib.IntN.{_+ℤ_}
+use Rattle.laws.specs.Bound.{Within, within-le, within-zero, within-add, within-sub, within-diff, within-times}
 use Rattle.laws.specs.Sums.{sumOf}
 use Rattle.rules.specs.Settlement.{Leg, leg, Batch, Day, dayStart, gain, firstLots, otherLots, opened, afterDayLeg, afterLegs, holdingGain}
 use Rattle.accounting.specs.Article32.{lotsOf, Covered, AllCovered}
@@ -129,6 +129,12 @@ module _ (M reference long short : ℕ) (ls : List Leg) (r : reference ≤ M) (q
 
   pub closing-within : Within (M * (openedLots ls + (long + short))) (afterLegs (dayStart reference long short) ls .closing)
   closing-within = within-le (mul-le-mul-left M (omega (arith, reach .counted))) (reach .closing)
+
+  pub long-within : (s : ℕ) → s ≤ M → Within (M * (openedLots ls + (long + short))) (gain s (afterLegs (dayStart reference long short) ls .long))
+  long-within s h = within-le (mul-le-mul-left M (omega (arith, reach .counted))) (gain-within M s _ h (reach .long))
+
+  pub short-within : (s : ℕ) → s ≤ M → Within (M * (openedLots ls + (long + short))) (gain s (afterLegs (dayStart reference long short) ls .short))
+  short-within s h = within-le (mul-le-mul-left M (omega (arith, reach .counted))) (gain-within M s _ h (reach .short))
 
   pub holding-within : (s : ℕ) → s ≤ M → Within (M * (openedLots ls + (long + short))) (holdingGain s (afterLegs (dayStart reference long short) ls))
   unfolding holdingGain

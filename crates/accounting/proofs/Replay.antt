@@ -3,16 +3,16 @@
 -- leave the same lots open. Assumes nothing.
 use mathlib.Core.Bool.{Bool, true, false, not, _&&_, false≢true}
 use mathlib.Core.List.{List, [], _∷_, _++_}
-use mathlib.Core.Path.{_≡_, refl, sym, ap, subst, _∙_}
-use Prim.Native.Nat.{ℕ, zero, suc, _+_, _-_, _<_, _≤_}
+use mathlib.Core.Path.{_≡_, refl, sym, _∙_}
+use Prim.Native.Nat.{ℕ, zero, suc, _+_, _-_, _≤_}
 use native.Mathlib.Omega.{arith}
 use borrow.Author.Tests.{eqb-true, eqb-false, leb-true}
 use lib.Dec.{leb, eqb}
-use lib.ListN.{length, getD}
+use lib.ListN.{getD}
 use Rattle.laws.specs.Choice.{pick, both-true}
-use Rattle.rules.specs.Exchange.{Exchange, noAccount, noHolding, listingAt, accountAt, holdingAt}
-use Rattle.rules.specs.Holdings.{afterLeg, bookLeg, bookBuyer, bookSeller, bookTrade, bookTrades, legCovered, neverBelowZero, startOfDay, sameLots, sameHoldings}
-use Rattle.rules.specs.Settlement.{Leg, leg, Day, dayStart, only, legs, afterDayLeg, afterLegs, dayOf}
+use Rattle.rules.specs.Exchange.{Exchange, noHolding, listingAt, accountAt, holdingAt}
+use Rattle.rules.specs.Holdings.{afterLeg, bookLeg, bookBuyer, bookTrade, bookTrades, legCovered, neverBelowZero, startOfDay, sameLots, sameHoldings}
+use Rattle.rules.specs.Settlement.{leg, Day, dayStart, only, legs, afterDayLeg, afterLegs, dayOf}
 use Rattle.rules.specs.WellFormed.{replays}
 use Rattle.rules.specs.declared.Account.{Account}
 use Rattle.rules.specs.declared.Holding.{Holding}

@@ -1,38 +1,34 @@
 -- Each command makes the move of money that the rules give it: the books after a step are the books before it after that move.
 -- Assumes nothing.
 use mathlib.Core.Bool.{Bool, true, false}
-use mathlib.Core.List.{List, [], _∷_, _++_, map, append-nil}
-use mathlib.Core.Path.{_≡_, refl, sym, ap, ap₂, subst, _∙_}
-use Prim.Native.Nat.{ℕ, zero, suc, _+_, _<_}
-use native.Mathlib.Omega.{arith}
-use borrow.Author.Tests.{eqb-true, eqb-false, eq-eqb}
+use mathlib.Core.List.{List, [], append-nil}
+use mathlib.Core.Path.{_≡_, refl, sym, ap, subst, _∙_}
+use Prim.Native.Nat.{ℕ, _<_}
+use borrow.Author.Tests.{eqb-true, eqb-false}
 use lib.Dec.{eqb}
 use lib.IntN.{ℤ, pos, negℤ, _+ℤ_, _-ℤ_, _*ℤ_, +ℤ-idr}
-use lib.ListN.{length, getD, set, List·getD-map, length-set, length-map}
+use lib.ListN.{length, getD, set, List·getD-map}
 use lib.Seq.{getD-set-same, getD-set-other}
 use Rattle.laws.specs.Choice.{pick}
 use Rattle.laws.specs.Ring.{*ℤ-add}
 use Rattle.laws.specs.Sums.{sumTo, sumTo-ext, sumTo-add}
-use Rattle.laws.specs.Tabulate.{tabulate, length-tabulate, getD-tabulate}
+use Rattle.laws.specs.Tabulate.{getD-tabulate}
 use Rattle.rules.specs.Answers.{codeOf, listingOf}
-use Rattle.rules.specs.Condition3.{netHolding}
 use Rattle.rules.specs.Exchange.{Exchange, Listing, noAccount, noHolding, noListing, listingAt, accountAt, holdingAt, placeOf}
-use Rattle.rules.specs.Holdings.{bookTrades}
 use Rattle.rules.specs.Settlement.{dayOf, holdingGain, settlementPrice, closingProfit, holdingProfit, carriedHolding, settledAccount, settledContract, settledListing, settled}
 use Rattle.rules.specs.Step.{withListing, withBalance, paid, deposited, withdrawn, enteredOf, listingAfter, exchangeAfter, inserted, removed, cancelled, pulled, phaseChanged, refused, carriedOut, step}
-use Rattle.rules.specs.WellFormed.{replays, wellFormedContents}
+use Rattle.rules.specs.WellFormed.{replays}
 use Rattle.rules.specs.declared.Account.{Account}
-use Rattle.rules.specs.declared.Contract.{Contract}
 use Rattle.rules.specs.declared.Holding.{Holding}
 use Rattle.rules.specs.declared.NewOrder.{NewOrder}
 use Rattle.rules.specs.declared.Command.{Command}
 use Rattle.rules.specs.declared.Command.the-variants.{Malformed, Deposit, Withdraw, Insert, Cancel, Pull, Phase, Settle}
-use Rattle.accounting.specs.Books.{Books, Move, pays, makes, settles, marked, after, Same}
-use Rattle.accounting.specs.Money.{proceeds, netAtStart, netNow}
+use Rattle.accounting.specs.Books.{Move, pays, makes, settles, marked, after, Same, Level}
+use Rattle.accounting.specs.Money.{netAtStart, netNow, AllKnown}
 use Rattle.accounting.specs.Moves.{booksOf, moveBy}
-use Rattle.accounting.specs.Shape.{Placed, Shaped}
-use Rattle.accounting.proofs.Booking.{set-keeps, all-booked-length, all-booked-wide, all-booked-balance, all-booked-start}
-use Rattle.accounting.proofs.Facts.{facts}
+use Rattle.accounting.specs.Shape.{Shaped}
+use Rattle.accounting.proofs.Booking.{set-keeps, all-booked-balance, all-booked-start}
+use Rattle.accounting.proofs.BooksLaws.{marked-nothing}
 use Rattle.accounting.proofs.Identity.{day-money, net-moves, placed}
 
 -- x′ has the books of x after a move
@@ -133,6 +129,14 @@ module _ (x : Exchange) (r : replays x ≡ true) (shaped : Shaped x) where
       ∙ sumTo-ext (length (x .listings)) _ _
       (λ c l. sym (*ℤ-add (pos (listingAt x c .contract .multiplier)) (dayOf x a c .closing) (holdingGain (settlementPrice x c) (dayOf x a c)))
       ∙ ap (λ (z : ℤ). pos (listingAt x c .contract .multiplier) *ℤ z) (day-money x r a c (settlementPrice x c)))
+
+  -- A SETTLEMENT MAKES AND LOSES NOTHING: what it pays all accounts together is zero, where as many lots are long as short
+  pub settlement-nothing : AllKnown (length (x .accounts)) (x .trades) → Level (length (x .accounts)) (length (x .listings)) (booksOf x) →
+      sumTo (length (x .accounts)) (λ a. closingProfit x a +ℤ holdingProfit x a) ≡ pos 0
+  unfolding booksOf
+  settlement-nothing known level =
+      sumTo-ext (length (x .accounts)) (λ a. closingProfit x a +ℤ holdingProfit x a) _ (λ a l. profit-marked a)
+      ∙ marked-nothing (length (x .accounts)) (length (x .listings)) (booksOf x) known level (settlementPrice x)
 
   settled-balance : (a : ℕ) → a < length (x .accounts) →
       accountAt (x .accounts) a .balance

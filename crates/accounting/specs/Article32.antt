@@ -1,8 +1,8 @@
 -- Article 32 of document 002, for one account's day in one contract: what the day's legs sold for and bought, which lots are
 -- open, and when each close finds the lots that it closes. Assumes nothing.
-use mathlib.Core.Bool.{Bool, true, false}
+use mathlib.Core.Bool.{true, false}
 use mathlib.Core.List.{List, [], _∷_}
-use Prim.Native.Nat.{ℕ, _+_, _*_, _≤_}
+use Prim.Native.Nat.{ℕ, _*_, _≤_}
 use lib.IntN.{ℤ, pos, negℤ, _+ℤ_, _-ℤ_}
 use Rattle.laws.specs.Sums.{sumOf}
 use Rattle.rules.specs.Settlement.{Leg, leg, Batch, Day, afterDayLeg}

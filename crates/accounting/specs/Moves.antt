@@ -1,7 +1,6 @@
 -- The exchange's books, and the move of money that the rules give each command: payments by accepted deposits and withdrawals,
 -- trades by matching, settlement at the settlement prices. Assumes nothing.
 use mathlib.Core.List.{List, [], _∷_}
-use Prim.Native.Nat.{ℕ}
 use lib.IntN.{pos, negℤ}
 use Rattle.laws.specs.Choice.{pick}
 use Rattle.rules.specs.Command.{commandOf}

@@ -18,7 +18,7 @@ use Rattle.rules.specs.declared.Account.{Account}
 use Rattle.rules.specs.declared.State.{State}
 use Rattle.rules.specs.declared.Trade.{Trade}
 use Rattle.rules.proofs.Codecs.{length-trades}
-use Rattle.terms.proofs.Ranges.{terms, within-high}
+use Rattle.terms.proofs.Ranges.{sizes}
 use Rattle.invariants.proofs.Clauses.{holding-ok, listing-ok, trade-ok}
 use Rattle.invariants.proofs.MemoryRoom.{counts-ok, room-ok}
 use Rattle.audit.specs.Parts.{Booked, listing, memory, replayed, tested, used}
@@ -173,7 +173,7 @@ module _ (s : State) (buys sells trades : List ℕ) (counts : countsInRange s �
         let h = holding-ok (listing s buys sells c) a (holdingAt (s .accounts) a c)
         (all-at (λ c. holdingInRange (listing s buys sells c) a (holdingAt (s .accounts) a c)) c (s .contractcount)
         (all-at (λ a. all (λ c. holdingInRange (listing s buys sells c) a (holdingAt (s .accounts) a c)) (s .contractcount)) a (s .accountcount) held ha) hc) in
-        let t = terms (getD (s .contracts) c noContract) (terms-tested c hc) in
+        let t = sizes (getD (s .contracts) c noContract) (terms-tested c hc) in
         (omega (arith, h .startlong, t .limit), omega (arith, h .startshort, t .limit))
 
   pub trades-tested : tradesTest s buys sells trades ≡ true

@@ -1,4 +1,5 @@
 pub mod Bookings
+pub mod Entries
 pub mod Pulls
 pub mod Queues
 pub mod Recorded

@@ -8,7 +8,7 @@ use borrow.Rule.Slice.PartMut.{putMid}
 use Prim.Native.Nat.{ℕ, _+_, _-_, _*_, _<_, _≤_}
 use native.Mathlib.Numerals.{add-one}
 use native.Mathlib.Omega.{arith}
-use lib.ListN.{length, take, drop, getD, replicate, length-append, length-take}
+use lib.ListN.{length, take, drop, getD, replicate, length-append}
 use lib.Seq.{take-all, take-suc}
 use Rattle.areas.specs.Lists.{over, padded}
 use Rattle.areas.specs.Records.{encode, store}
@@ -20,19 +20,23 @@ use Rattle.rules.specs.Memory.{orderWords, orderFrom, queueIn, putQueue}
 use Rattle.rules.specs.Step.{without, isOf}
 use Rattle.rules.specs.declared.Order.{Order}
 use Rattle.rules.proofs.Codecs.{order-codec, length-queue, order-at}
-use Rattle.rules.proofs.Queue.{lots-nil, lots-met, lots-unmet, lots-append, without-nil, without-met, without-unmet, without-append, length-without}
+use Rattle.rules.proofs.Queue.{lots-nil, lots-met, lots-unmet, lots-append, without-nil, without-met, without-unmet, without-append}
 use Rattle.book.specs.Removal.{PulledIs}
-use Rattle.book.specs.declared.removal.Pulled.{Pulled}
 use Rattle.book.proofs.Queues.{put-over}
 
+-- the orders kept of the first i
+abbrev pub keptOf : ℕ → List ℕ → ℕ → ℕ → ℕ → List Order
+keptOf account start c n i = without (isOf account) (take i (queueIn start c n))
+
+-- `start` is the area at the start, `lots` what was taken out; no order adds more to it than its word holds
 pub record Pulling (account : ℕ) (start : List ℕ) (c n : ℕ) (area : List ℕ) (kept lots i : ℕ) : Type 0 where
   pub within : i ≤ n
   pub fewer : kept ≤ i
   pub long : length area ≡ length start
   pub small : lots ≤ 4294967296 * i
-  pub count : kept ≡ length (without (isOf account) (take i (queueIn start c n)))
+  pub count : kept ≡ length (keptOf account start c n i)
   pub pulled : lots ≡ lotsWhere (isOf account) (take i (queueIn start c n))
-  pub queue : area ≡ store orderWords start (320 * c) (without (isOf account) (take i (queueIn start c n)))
+  pub queue : area ≡ store orderWords start (320 * c) (keptOf account start c n i)
 
 pub pull-start : (account : ℕ) (area : List ℕ) (c n : ℕ) → Pulling account area c n area 0 0 0
 pull-start account area c n =
@@ -50,16 +54,16 @@ module _ (account : ℕ) (start : List ℕ) (c n : ℕ) (room : 320 * c + 5 * n 
   -- from order i on nothing is written yet
   unread : drop (320 * c + 5 * i) area ≡ drop (320 * c + 5 * i) start
   unread =
-      let stay : List Order = without (isOf account) (take i (queueIn start c n)) in
+      let stay : List Order = keptOf account start c n i in
       let written : length (encode orderWords stay) ≡ 5 * kept = length-encode order-codec stay ∙ ap (λ (k : ℕ). 5 * k) (sym (p .count)) in
       ap (drop (320 * c + 5 * i)) (p .queue ∙ store-over order-codec start (320 * c) stay)
       ∙ drop-over start (320 * c) (encode orderWords stay) (omega arith) (320 * c + 5 * i) (omega (arith, p .fewer))
 
   -- orders written behind those kept
   behind : (s : ℕ) (more : List Order) → s ≡ 320 * c + 5 * kept
-      → over area s (encode orderWords more) ≡ store orderWords start (320 * c) (without (isOf account) (take i (queueIn start c n)) ++ more)
+      → over area s (encode orderWords more) ≡ store orderWords start (320 * c) (keptOf account start c n i ++ more)
   behind s more es =
-      let stay : List Order = without (isOf account) (take i (queueIn start c n)) in
+      let stay : List Order = keptOf account start c n i in
       let next : s ≡ 320 * c + 5 * length stay = es ∙ ap (λ (k : ℕ). 320 * c + 5 * k) (p .count) in
       sym (store-over order-codec area s more) ∙ ap (λ (a : List ℕ). store orderWords a s more) (p .queue)
       ∙ ap (λ (k : ℕ). store orderWords (store orderWords start (320 * c) stay) k more) next
@@ -77,7 +81,7 @@ module _ (account : ℕ) (start : List ℕ) (c n : ℕ) (room : 320 * c + 5 * n 
     pull-out a ea fits own =
         let met : isOf account o ≡ true = eq-eqb (o .account) account own in
         let first : List Order = take i (queueIn start c n) in
-        let stay : without (isOf account) (take (i + 1) (queueIn start c n)) ≡ without (isOf account) first =
+        let stay : keptOf account start c n (i + 1) ≡ without (isOf account) first =
         rw (one-more, without-append (isOf account) first (o ∷ []), without-met (isOf account) o [] met, without-nil (isOf account), append-nil) in
         let out : lotsWhere (isOf account) (take (i + 1) (queueIn start c n)) ≡ lots + a =
         rw one-more (omega (arith, p .pulled, lots-append (isOf account) first (o ∷ []), lots-met (isOf account) o [] met, lots-nil (isOf account))) in
@@ -99,38 +103,36 @@ module _ (account : ℕ) (start : List ℕ) (c n : ℕ) (room : 320 * c + 5 * n 
         let first : List Order = take i (queueIn start c n) in
         let few : kept ≤ i = p .fewer in
         let long : length area ≡ length start = p .long in
-        let stay : without (isOf account) (take (i + 1) (queueIn start c n)) ≡ without (isOf account) first ++ (o ∷ []) =
+        let stay : keptOf account start c n (i + 1) ≡ without (isOf account) first ++ (o ∷ []) =
         rw (one-more, without-append (isOf account) first (o ∷ []), without-unmet (isOf account) o [] unmet, without-nil (isOf account)) in
         let out : lotsWhere (isOf account) (take (i + 1) (queueIn start c n)) ≡ lots =
         rw one-more (omega (arith, p .pulled, lots-append (isOf account) first (o ∷ []), lots-unmet (isOf account) o [] unmet, lots-nil (isOf account))) in
-        let size : length (without (isOf account) (take (i + 1) (queueIn start c n))) ≡ kept + 1 = rw (stay, length-append) (omega (arith, p .count)) in
-        let written : putMid s (length area - s) area part ≡ store orderWords start (320 * c) (without (isOf account) (take (i + 1) (queueIn start c n))) =
+        let size : length (keptOf account start c n (i + 1)) ≡ kept + 1 = rw (stay, length-append) (omega (arith, p .count)) in
+        let written : putMid s (length area - s) area part ≡ store orderWords start (320 * c) (keptOf account start c n (i + 1)) =
         put-over area s o part (omega arith) ep ∙ ap (over area s) (sym (encode-one order-codec o)) ∙ behind s (o ∷ []) es ∙ ap (store orderWords start (320 * c)) (sym stay) in
         record {
           within = omega arith;
           fewer = omega arith;
-          long = ap length written ∙ length-store order-codec start (320 * c) (without (isOf account) (take (i + 1) (queueIn start c n))) (omega arith);
+          long = ap length written ∙ length-store order-codec start (320 * c) (keptOf account start c n (i + 1)) (omega arith);
           small = omega (arith, p .small);
           count = sym size;
           pulled = sym out;
           queue = written;
         }
 
-  -- all are read, and the places behind those kept are cleared
+  -- the places behind those kept are cleared
+  cleared : (s e : ℕ) (part : List ℕ) → s ≡ 320 * c + 5 * kept → e ≡ 320 * c + 5 * n → part ≡ replicate (length (take (e - s) (drop s area))) 0
+      → putMid s (e - s) area part ≡ putQueue start c n (keptOf account start c n i)
+  unfolding putQueue padded
+  cleared s e part es ee ep =
+      let few : kept ≤ n = omega (arith, p .fewer, p .within) in
+      let free : e - s ≡ 5 * (n - kept) = omega arith in
+      let zeros : replicate (e - s) 0 ≡ encode orderWords (replicate (n - kept) noOrder) = rw (free, encode-zeros order-codec (n - kept) noOrder refl) in
+      rw (lent-zeros area part s e (omega arith) (omega (arith, p .long)) ep, zeros, behind s (replicate (n - kept) noOrder) es, p .count)
+
+  -- all are read
   pub pull-end : (s e : ℕ) (part : List ℕ) → n ≤ i → s ≡ 320 * c + 5 * kept → e ≡ 320 * c + 5 * n → part ≡ replicate (length (take (e - s) (drop s area))) 0
       → PulledIs account start c n (record { count = kept; lots = lots }) (putMid s (e - s) area part)
-  unfolding putQueue padded
   pull-end s e part all es ee ep =
-      let few : kept ≤ i = p .fewer in
-      let size : kept ≡ length (without (isOf account) (take i (queueIn start c n))) = p .count in
       let read : take i (queueIn start c n) ≡ queueIn start c n = take-all i (queueIn start c n) (rw (length-queue start c n) all) in
-      let free : e - s ≡ 5 * (n - kept) = omega (arith, p .within) in
-      let cleared : putMid s (e - s) area part ≡ store orderWords start (320 * c) (without (isOf account) (take i (queueIn start c n)) ++ replicate (n - kept) noOrder) =
-      lent-zeros area part s e (omega (arith, p .within)) (omega (arith, p .long)) ep
-      ∙ ap (over area s) (ap (λ (k : ℕ). replicate k 0) free ∙ sym (encode-zeros order-codec (n - kept) noOrder refl))
-      ∙ behind s (replicate (n - kept) noOrder) es in
-      record {
-        queue = cleared ∙ ap (λ (k : ℕ). store orderWords start (320 * c) (without (isOf account) (take i (queueIn start c n)) ++ replicate (n - k) noOrder)) size ∙ rw read;
-        count = size ∙ rw read;
-        lots = p .pulled ∙ rw read;
-      }
+      record { queue = cleared s e part es ee ep ∙ rw read; count = p .count ∙ rw read; lots = p .pulled ∙ rw read }

@@ -1,11 +1,11 @@
 -- What one order adds to the numbers that are read of a queue, in the terms of the code that reads it: fillable lots, the number
 -- of trades, an account's resting lots. Assumes nothing.
-use mathlib.Core.Bool.{Bool, true, false, _&&_}
+use mathlib.Core.Bool.{Bool, true, false, not, _&&_}
 use mathlib.Core.List.{List, [], _∷_}
-use mathlib.Core.Path.{_≡_, refl, sym, ap, _∙_}
-use Prim.Native.Nat.{ℕ, _+_, _-_, _<_, _≤_, min}
+use mathlib.Core.Path.{_≡_, sym, ap, _∙_}
+use Prim.Native.Nat.{ℕ, _+_, _-_, _≤_, min}
 use native.Mathlib.Omega.{arith}
-use borrow.Author.Tests.{eq-eqb, ne-eqb}
+use borrow.Author.Tests.{eq-eqb, ne-eqb, not-true, not-false}
 use lib.Dec.{eqb}
 use Rattle.laws.specs.Choice.{pick, true-both, false-both, both-false}
 use Rattle.laws.specs.Sums.{sumOf}
@@ -18,6 +18,13 @@ use Rattle.rules.proofs.Fillable.{front-met, count-used, count-met}
 use Rattle.rules.proofs.Queue.{lots-nil, lots-met, lots-unmet, lots-append}
 
 -- ---- a counterpart: fillable lots, and trades
+
+-- what a negated test decides of the answer t that its value r stands for
+pub test-failed : (r t : Bool) → r ≡ t → not r ≡ true → t ≡ false
+test-failed r t e h = sym e ∙ not-true r h
+
+pub test-passed : (r t : Bool) → r ≡ t → not r ≡ false → t ≡ true
+test-passed r t e h = sym e ∙ not-false r h
 
 -- it adds its lots
 pub fillable-on : (t : Taker) (o : Order) (a : ℕ) → a ≡ o .lots → counterpart t o ≡ true → (os : List Order) → fillableFront t (o ∷ os) ≡ a + fillableFront t os

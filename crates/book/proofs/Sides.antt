@@ -1,18 +1,19 @@
 -- The queue asked for as a part of its area: what each test of the code decides, and that the part holds just that queue.
 -- Assumes nothing.
-use mathlib.Core.Bool.{Bool, false, _||_}
+use mathlib.Core.Bool.{Bool, true, false, _||_}
 use mathlib.Core.List.{List, []}
-use mathlib.Core.Path.{_≡_}
+use mathlib.Core.Path.{_≡_, _∙_}
 use Prim.Native.Nat.{ℕ, _+_, _-_, _*_, _≤_, _<_}
 use native.Mathlib.Nat.{add-sub-cancel-left}
 use native.Mathlib.Omega.{arith}
 use borrow.Author.Tests.{eq-eqb, ne-eqb, lt-ltb, le-ltb, ltb-false}
 use lib.Dec.{eqb, ltb}
-use lib.ListN.{length, take, drop, length-drop}
+use lib.ListN.{length, take, drop, getD, length-drop}
 use lib.Seq.{length-take-le}
 use Rattle.laws.specs.Choice.{pick, either-false}
 use Rattle.areas.proofs.Records.{records-part}
-use Rattle.rules.specs.Memory.{queueIn}
+use Rattle.rules.specs.Exchange.{own}
+use Rattle.rules.specs.Memory.{Memory, listingIn, queueIn}
 use Rattle.rules.proofs.Codecs.{order-codec}
 use Rattle.book.specs.Side.{noQueue, queueWords, sideWords}
 
@@ -71,3 +72,11 @@ unfolding sideWords queueWords
 side-length buys sells sell contract contracts count h =
     let fits = queue-fits (pick sell sells buys) contract contracts count h in
     rw h (length-take-le (5 * count) (drop (320 * (contract - 1)) (pick sell sells buys)) (rw length-drop (omega arith)))
+
+-- in a memory, it is the queue of the contract's listing
+pub side-of-listing : (m : Memory) (sell : Bool) (contract count : ℕ) → count ≡ pick sell (getD (m .state .sells) (contract - 1) 0) (getD (m .state .buys) (contract - 1) 0)
+    → noQueue (pick sell (m .sells) (m .buys)) contract (m .state .contractcount) count ≡ false
+    → queueIn (sideWords (m .buys) (m .sells) sell contract (m .state .contractcount) count) 0 count ≡ own sell (listingIn m (contract - 1))
+unfolding listingIn
+side-of-listing m true contract count e h = side-queue (m .buys) (m .sells) true contract (m .state .contractcount) count h ∙ rw e
+side-of-listing m false contract count e h = side-queue (m .buys) (m .sells) false contract (m .state .contractcount) count h ∙ rw e

@@ -1,5 +1,5 @@
 -- The queue asked for, as words of the area that holds it (document 01, "Matching"). Assumes nothing.
-use mathlib.Core.Bool.{Bool, true, false, _||_}
+use mathlib.Core.Bool.{Bool, _||_}
 use mathlib.Core.List.{List, []}
 use Prim.Native.Nat.{ℕ, _+_, _-_, _*_}
 use lib.Dec.{ltb, eqb}
@@ -8,7 +8,8 @@ use Rattle.laws.specs.Choice.{pick}
 use Rattle.rules.specs.Bounds.{maxContracts, maxResting}
 use Rattle.rules.specs.Memory.{queueStride, orderStride}
 
--- "Absent contract, count above 64 or area too short for it: an empty part."
+-- "Absent contract, count above 64 or area too short for it: an empty part." A contract above the fourth is absent whatever the
+-- count of contracts says: no state has a place for it.
 unfoldable pub noQueue : List ℕ → ℕ → ℕ → ℕ → Bool
 noQueue area contract contracts count =
     eqb contract 0

@@ -30,12 +30,12 @@ pub record SweepReady
 
 -- the answer, and both areas: the trades at the next free places, the rest of the queue behind its filled orders
 pub record FilledIs
-    (s : Swept) (queues : List ℕ) (c count : ℕ) (area : List ℕ) (before price : ℕ) (held : List Account)
+    (s : Swept) (queues : List ℕ) (c count : ℕ) (area : List ℕ) (before last₀ : ℕ) (held : List Account)
     (r : Filled) (queues′ area′ : List ℕ) : Type 0 where
   pub traded : r .traded ≡ tradedLots (s .trades)
   pub filled : r .filled + length (s .rest) ≡ count
   pub made : r .made ≡ before + length (s .trades)
-  pub last : r .last ≡ lastPrice price (s .trades)
+  pub last : r .last ≡ lastPrice last₀ (s .trades)
   pub accounts : r .accounts ≡ bookTrades held (s .trades)
   pub trades : area′ ≡ store tradeWords area (9 * before) (s .trades)
   pub queue : queues′ ≡ putQueue queues c count (take (r .filled) (queueIn queues c count) ++ s .rest)

@@ -1,13 +1,12 @@
 // An order entered into the book: it trades, filled orders leave, a good-for-day remainder rests. For our own crates: it
 // asks for the room of what it writes and for values within their ranges.
 ghost use mathlib.Core.Path.{_≡_};
-ghost use Prim.Native.Nat.{_+_, _*_, _<_, _≤_};
+ghost use Prim.Native.Nat.{_+_, _-_, _*_, _≤_};
 ghost use lib.ListN.{length};
+ghost use Rattle.laws.specs.Choice.{pick};
 ghost use Rattle.rules.specs.Matching as matching;
 ghost use Rattle.rules.specs.Memory.{queueIn, putQueue};
-ghost use Rattle.book.specs.Bounds.{HeldWithin};
-ghost use Rattle.book.specs.Entry.{EntryIs};
-ghost use Rattle.book.specs.Sweep.{SweptQueue};
+ghost use Rattle.book.specs.Entry.{EntryReady, EntryIs};
 use crate::queue;
 use crate::sweep;
 use rules::Account;
@@ -25,9 +24,17 @@ pub struct Entry {
     pub accounts: [Account; 32],
 }
 
+// "A good-for-day remainder rests .. Other remainders vanish."
+fn remaining(day: bool, lots: u32, traded: u32) -> u32
+    requires { ⌜ traded ≤ lots ⌝ }
+    ensures { λ r. ⌜ r ≡ pick day (lots - traded) 0 ⌝ }
+{
+    if day { lots - traded } else { 0 }
+}
+
 // The remainder takes its place in the own queue; the number of orders there.
 fn rest(own: &mut [u32], c: usize, count: usize, t: Taker, price: u32, lots: u32) -> usize
-    requires { ⌜ (lots ≡ 0 → 320 * c + 5 * count ≤ length (now own)) × (0 < lots → 320 * c + 5 * count + 5 ≤ length (now own)) ⌝ }
+    requires { ⌜ 320 * c + 5 * length (matching.restLots t price lots (queueIn (now own) c count)) ≤ length (now own) ⌝ }
     ensures { λ r. ⌜ r ≡ length (matching.restLots t price lots (queueIn (now (own .entry)) c count)) ⌝ }
     ensures { λ _. ⌜ now (own .exit) ≡ putQueue (now (own .entry)) c count (matching.restLots t price lots (queueIn (now (own .entry)) c count)) ⌝ }
 {
@@ -59,16 +66,12 @@ pub fn enter(
     last: u32,
     accounts: [Account; 32],
 ) -> Entry
-    requires { ⌜ SweptQueue (now opposite) (t .contract) oppositecount ⌝ }
-    requires { ⌜ (t .contract < 4) × (t .account < 32) × (lots ≤ 1000) × HeldWithin 1000000 accounts ⌝ }
-    requires { ⌜ 9 * (before + length (matching.sweep t lots last (queueIn (now opposite) (t .contract) oppositecount) .trades)) ≤ length (now area) ⌝ }
-    requires { ⌜ 320 * t .contract + 5 * length (matching.enter t lots price day last (queueIn (now own) (t .contract) owncount) (queueIn (now opposite) (t .contract) oppositecount) .own) ≤ length (now own) ⌝ }
+    requires { ⌜ EntryReady t lots price day last accounts (now own) owncount (now opposite) oppositecount (now area) before ⌝ }
     ensures { λ r. ⌜ EntryIs (matching.enter t lots price day last (queueIn (now (own .entry)) (t .contract) owncount) (queueIn (now (opposite .entry)) (t .contract) oppositecount)) (t .contract) (now (own .entry)) owncount (now (opposite .entry)) oppositecount (now (area .entry)) before last accounts r (now (own .exit)) (now (opposite .exit)) (now (area .exit)) ⌝ }
 {
     let c = laws::wide(t.contract);
     let f = sweep::sweep(
         opposite,
-        c,
         oppositecount,
         area,
         before,
@@ -79,12 +82,11 @@ pub fn enter(
     );
     let filled = f.filled;
     queue::drop_front(opposite, c, oppositecount, filled);
-    let traded = f.traded;
-    let rested = if day { lots - traded } else { 0 };
+    let rested = remaining(day, lots, f.traded);
     let resting = rest(own, c, owncount, t, price, rested);
     let held = f.accounts;
     Entry {
-        traded,
+        traded: f.traded,
         rested,
         own: resting,
         opposite: oppositecount - filled,

@@ -1,9 +1,9 @@
-// One queue of a lent area: 64 places of five words for each contract, best price first. Each function is for our own crates
-// and asks that the area has room for the orders it names; what it does to the area is one equation.
+// One queue of a lent area: 64 places of five words for each contract, best price first; `c` is the contract's place. What a
+// function does to the whole area is one equation. For our own crates: each asks that the area has room for the orders it names.
+ghost use mathlib.Core.List.{_++_};
 ghost use mathlib.Core.Path.{_≡_};
 ghost use Prim.Native.Nat.{_+_, _-_, _*_, _≤_, _<_};
 ghost use lib.ListN.{length, take, drop, getD, set};
-ghost use mathlib.Core.List.{_++_};
 ghost use Rattle.areas.specs.Lists.{removeAt};
 ghost use Rattle.rules.specs.Exchange as exchange;
 ghost use Rattle.rules.specs.Matching as matching;
@@ -11,6 +11,7 @@ ghost use Rattle.rules.specs.Memory.{queueIn, putQueue, orderFrom, orderWords};
 ghost use Rattle.rules.specs.Places.{placeIn};
 use rules::Order;
 
+// The order at a place.
 pub fn order_at(area: &[u32], c: usize, i: usize) -> Order
     requires { ⌜ 320 * c + 5 * i + 5 ≤ length (now area) ⌝ }
     ensures { λ r. ⌜ r ≡ orderFrom (drop (320 * c + 5 * i) (now (area .entry))) ⌝ }

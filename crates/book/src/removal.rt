@@ -2,7 +2,7 @@
 ghost use mathlib.Core.Path.{_≡_};
 ghost use Prim.Native.Nat.{_+_, _*_, _≤_};
 ghost use lib.ListN.{length};
-ghost use Rattle.rules.specs.Memory.{queueIn, putQueue};
+ghost use Rattle.rules.specs.Memory.{queueIn};
 ghost use Rattle.rules.specs.Places.{indexOf};
 ghost use Rattle.book.specs.Removal.{PulledIs};
 use crate::queue;

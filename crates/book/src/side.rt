@@ -3,7 +3,8 @@
 ghost use mathlib.Core.Path.{_≡_};
 ghost use Rattle.book.specs.Side.{sideWords};
 
-// The words of a side's queue. `contracts` and `count` are the state's counts of contracts and of that side's orders.
+// The words of a side's queue, five for each order. `contract` is the contract's number; `contracts` and `count` are the state's
+// counts of contracts and of that side's orders.
 pub fn side<'a>(
     buys: &'a [u32],
     sells: &'a [u32],

@@ -1,12 +1,12 @@
 -- Fields that are to be zero, one after the other, and bits of a flags byte as shifts and masks read them. Assumes nothing.
 use mathlib.Core.Bool.{false, and-true}
 use mathlib.Core.List.{List, [], _∷_}
-use mathlib.Core.Path.{_≡_, refl, sym, ap, _∙_}
+use mathlib.Core.Path.{_≡_, sym, ap, _∙_}
 use Prim.Native.Nat.{ℕ, _/_, _%_, _-_, _^_}
 use native.Mathlib.Nat.{div-one}
-use borrow.Author.Tests.{eq-eqb, ne-eqb}
 use lib.Dec.{eqb}
 use lib.Bits.{bitAnd, and-mask}
+use borrow.Author.Tests.{eq-eqb, ne-eqb}
 use Rattle.laws.specs.Choice.{allOf}
 use Rattle.rules.specs.Command.{zeros, bits}
 

@@ -1,2 +1,4 @@
 pub mod Filled
 pub mod Places
+pub mod Start
+pub mod WellFormed

@@ -9,7 +9,7 @@ use lib.Dec.{leb, eqb}
 use lib.ListN.{length, getD}
 use borrow.Author.Tests.{leb-true, le-leb, lt-leb, eqb-true}
 use Rattle.laws.specs.Choice.{all, both-true, all-at}
-use Rattle.laws.specs.Tabulate.{tabulate, getD-tabulate}
+use Rattle.laws.specs.Tabulate.{getD-tabulate}
 use Rattle.rules.specs.Bounds.{within, maxBalance}
 use Rattle.rules.specs.DayFile.{u32At, u64At, contractsIn, contractPlace, accountsIn, accountPlace, commandsIn, commandPlace, contractSound, accountSound, balanceFrom, recordFrom, recordsOf, sound}
 use Rattle.rules.specs.declared.Record.{Record}

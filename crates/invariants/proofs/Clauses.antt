@@ -60,8 +60,10 @@ module _ (accounts next : ℕ) (c : Contract) (o : Order) where
   pub order-test : OrderOk accounts next c o → orderInRange accounts next c o ≡ true
   unfolding orderInRange
   order-test k =
-      join (leb 1 (o .lots)) orderTests
-      (omega (arith, le-leb), (omega (arith, le-leb), (omega (arith, lt-ltb), (k .price, (omega (arith, le-leb), (omega (arith, lt-ltb), omega (arith, le-leb)))))))
+      join (leb 1 (o .lots)) orderTests (
+        omega (arith, le-leb),
+        (omega (arith, le-leb), (omega (arith, lt-ltb), (k .price, (omega (arith, le-leb), (omega (arith, lt-ltb), omega (arith, le-leb)))))),
+      )
 
 -- ---- a contract with its queues; of a side, `sell` is false for the buys and true for the sells
 
@@ -173,7 +175,10 @@ module _ (x : Exchange) (t : Trade) where
                       omega (arith, lt-ltb),
                       (
                         k .price,
-                        (true-both (leb 1 (t .lots)) (leb (t .lots) maxLots) (omega (arith, le-leb)) (omega (arith, le-leb)), (omega (arith, le-leb), omega (arith, le-leb))),
+                        (
+                          true-both (leb 1 (t .lots)) (leb (t .lots) maxLots) (omega (arith, le-leb)) (omega (arith, le-leb)),
+                          (omega (arith, le-leb), omega (arith, le-leb)),
+                        ),
                       ),
                     ),
                   ),
@@ -219,8 +224,13 @@ module _ (m : Listing) (a : ℕ) (h : Holding) where
   pub holding-test : HoldingOk m a h → holdingInRange m a h ≡ true
   unfolding holdingInRange
   holding-test k =
-      join (leb (h .startlong) (m .contract .limit)) holdingTests
-      (omega (arith, le-leb), (omega (arith, le-leb), (le-leb _ _ (k .opens false), (le-leb _ _ (k .opens true), (le-leb _ _ (k .closes true), le-leb _ _ (k .closes false))))))
+      join (leb (h .startlong) (m .contract .limit)) holdingTests (
+        omega (arith, le-leb),
+        (
+          omega (arith, le-leb),
+          (le-leb _ _ (k .opens false), (le-leb _ _ (k .opens true), (le-leb _ _ (k .closes true), le-leb _ _ (k .closes false)))),
+        ),
+      )
 
 -- ---- the whole state
 
@@ -265,7 +275,10 @@ module _ (x : Exchange) where
         trades = p .1 .1 .1 .0;
         covered = r .0;
         replay = r .1;
-        holding = λ a c la lc. holding-ok _ _ _ (all-at (λ c. holdingInRange (listingAt x c) a (holdingAt (x .accounts) a c)) c (length (x .listings)) (all-at (holdingsInRange x) a (length (x .accounts)) (p .1 .1 .1 .1 .1 .0) la) lc);
+        holding =
+            λ a c la lc. holding-ok _ _ _
+            (all-at (λ c. holdingInRange (listingAt x c) a (holdingAt (x .accounts) a c)) c (length (x .listings))
+            (all-at (holdingsInRange x) a (length (x .accounts)) (p .1 .1 .1 .1 .1 .0) la) lc);
         balance = λ a l. leb-true _ _ (allOf-at (balanceInRange (x .settlements)) (x .accounts) a noAccount (p .1 .1 .1 .1 .1 .1) l);
       }
 
@@ -273,7 +286,8 @@ module _ (x : Exchange) where
   unfolding wellFormedContents countersInRange replays holdingsInRange balanceInRange listingAt accountAt
   well-formed-test k =
       join (countersInRange x) stateTests (
-        join (leb 1 (x .next)) (leb (x .next) numbersEnd ∷ leb (x .settlements) maxSettlements ∷ []) (le-leb _ _ (k .next-low), (le-leb _ _ (k .next-high), le-leb _ _ (k .settlements))),
+        join (leb 1 (x .next)) (leb (x .next) numbersEnd ∷ leb (x .settlements) maxSettlements ∷ [])
+            (le-leb _ _ (k .next-low), (le-leb _ _ (k .next-high), le-leb _ _ (k .settlements))),
         (
           allOf-true (listingInRange (length (x .accounts)) (x .next)) (x .listings) noListing (λ c l. listing-test _ _ _ (k .listing c l)),
           (
@@ -283,7 +297,9 @@ module _ (x : Exchange) where
               (
                 join (neverBelowZero (startOfDay (x .accounts)) (x .trades)) replayTests (k .covered, k .replay),
                 (
-                  all-true (holdingsInRange x) (length (x .accounts)) (λ a la. all-true (λ c. holdingInRange (listingAt x c) a (holdingAt (x .accounts) a c)) (length (x .listings)) (λ c lc. holding-test _ _ _ (k .holding a c la lc))),
+                  all-true (holdingsInRange x) (length (x .accounts))
+                      (λ a la. all-true (λ c. holdingInRange (listingAt x c) a (holdingAt (x .accounts) a c)) (length (x .listings))
+                      (λ c lc. holding-test _ _ _ (k .holding a c la lc))),
                   allOf-true (balanceInRange (x .settlements)) (x .accounts) noAccount (λ a l. le-leb _ _ (k .balance a l)),
                 ),
               ),

@@ -26,14 +26,27 @@ quiet c = record { contract = c; buys = []; sells = [] }
 
 abbrev pub freshDay : ℕ → (ℕ → Contract) → ℕ → (ℕ → Account) → ℕ → Exchange
 freshDay contracts contract accounts account settlements =
-    record { listings = tabulate contracts (λ c. quiet (contract c)); accounts = tabulate accounts account; trades = []; next = 1; settlements = settlements }
+    record {
+      listings = tabulate contracts (λ c. quiet (contract c));
+      accounts = tabulate accounts account;
+      trades =
+          [];
+      next = 1;
+      settlements = settlements;
+    }
 
 -- ---- a contract without orders
 
 listing-quiet : (accounts next : ℕ) (c : Contract) → contractInRange c ≡ true → ListingOk accounts next (quiet c)
 unfolding sorted uncrossed allOf
 listing-quiet accounts next c h =
-    record { contract = h; order = λ sell. elim sell [ false ↦ refl | true ↦ refl ]; apart = refl; orders = λ sell. elim sell [ false ↦ refl | true ↦ refl ] }
+    record {
+      contract = h;
+      order = λ sell. elim sell [ false ↦ refl | true ↦ refl ];
+      apart = refl;
+      orders = λ sell. elim sell
+          [ false ↦ refl | true ↦ refl ];
+    }
 
 holding-quiet : (c : Contract) (a : ℕ) (h : Holding) → startHolding h ≡ h → h .long ≤ c .limit → h .short ≤ c .limit → HoldingOk (quiet c) a h
 unfolding resting lotsWhere sumOf
@@ -111,8 +124,8 @@ module _ (contracts : ℕ) (contract : ℕ → Contract) (accounts : ℕ) (accou
         covered = refl;
         replay = rw (same-start accounts account start) (same-refl (day .accounts));
         holding = λ a c la lc.
-          let p : a < accounts = rw na at la in
-          let q : c < contracts = rw nc at lc in
-          rw (listing-at c q, holding-at a c p) (holding-quiet (contract c) a _ (start-at a c) (longs a c p q) (shorts a c p q));
+            let p : a < accounts = rw na at la in
+            let q : c < contracts = rw nc at lc in
+            rw (listing-at c q, holding-at a c p) (holding-quiet (contract c) a _ (start-at a c) (longs a c p q) (shorts a c p q));
         balance = λ a l. let h : a < accounts = rw na at l in rw (account-at a h) (balances a h);
       }

@@ -39,7 +39,8 @@ use Rattle.invariants.proofs.Tests.{at-set}
 
 -- from the clauses of the state, if the arriving lots keep them for their own account
 kept-by : (sell : Bool) (m : Listing) (c : ℕ) (accounts : List Account) (a : ℕ) (r : Order) → HoldingOk m a (holdingAt accounts a c) →
-    held sell (holdingAt accounts a c) + restingOpens a (r ∷ own sell m) ≤ m .contract .limit → restingCloses a (r ∷ own sell m) ≤ held (not sell) (holdingAt accounts a c) →
+    held sell (holdingAt accounts a c) + restingOpens a (r ∷ own sell m) ≤ m .contract .limit → restingCloses a (r ∷ own sell m) ≤ held
+    (not sell) (holdingAt accounts a c) →
     KeptAt (m .contract .limit) c accounts (pick sell (opposite sell m) (r ∷ own sell m)) (pick sell (r ∷ own sell m) (opposite sell m)) a
 kept-by false m c accounts a r k p q = record { buy-opens = p; sell-opens = k .opens true; buy-closes = q; sell-closes = k .closes true }
 kept-by true m c accounts a r k p q = record { buy-opens = k .opens false; sell-opens = p; buy-closes = k .closes false; sell-closes = q }
@@ -47,7 +48,8 @@ kept-by true m c accounts a r k p q = record { buy-opens = k .opens false; sell-
 -- and back, for the queues after it
 holding-by : (sell : Bool) (c : Contract) (mine others : List Order) (d : ℕ) (accounts : List Account) (a : ℕ) →
     holdingAt accounts a d .startlong ≤ c .limit → holdingAt accounts a d .startshort ≤ c .limit →
-    KeptAt (c .limit) d accounts (pick sell others mine) (pick sell mine others) a → HoldingOk (withQueues sell c mine others) a (holdingAt accounts a d)
+    KeptAt (c .limit) d accounts (pick sell others mine) (pick sell mine others) a → HoldingOk (withQueues sell c mine others) a
+    (holdingAt accounts a d)
 holding-by sell c mine others d accounts a l s k =
     record {
       startlong = l;
@@ -57,7 +59,8 @@ holding-by sell c mine others d accounts a l s k =
     }
 
 -- the arriving lots count for one account, as an open or as a close
-own-opens : (b close : Bool) (lots h r limit : ℕ) → h + r ≤ limit → (b ≡ true → close ≡ false → h + r + lots ≤ limit) → h + (pick (b && eqb (mark close) 0) lots 0 + r) ≤ limit
+own-opens : (b close : Bool) (lots h r limit : ℕ) → h + r ≤ limit → (b ≡ true → close ≡ false → h + r + lots ≤ limit) →
+    h + (pick (b && eqb (mark close) 0) lots 0 + r) ≤ limit
 own-opens false close lots h r limit p q = omega arith
 own-opens true true lots h r limit p q = omega arith
 own-opens true false lots h r limit p q = omega (arith, q refl refl)
@@ -100,25 +103,29 @@ module _ (x : Exchange) (k : WellFormed x) (o : NewOrder) (p : Passes x o) where
   unfolding listingOf
   holding-before a l = k .holding a place l (p .contract)
 
-  opens-start : (a : ℕ) → a < length (x .accounts) → held (o .sell) (holdingAt (x .accounts) a place) + restingOpens a (arrived ∷ mine) ≤ contractOf x k o p .limit
+  opens-start : (a : ℕ) → a < length (x .accounts) →
+      held (o .sell) (holdingAt (x .accounts) a place) + restingOpens a (arrived ∷ mine) ≤ contractOf x k o p .limit
   unfolding takerOf remainder
   opens-start a l =
       rw (resting-cons 0 a arrived mine)
-      (own-opens (eqb account a) (o .close) (o .lots) (held (o .sell) (holdingAt (x .accounts) a place)) (restingOpens a mine) (contractOf x k o p .limit) (holding-before a l .opens (o .sell))
+      (own-opens (eqb account a) (o .close) (o .lots) (held (o .sell) (holdingAt (x .accounts) a place)) (restingOpens a mine)
+      (contractOf x k o p .limit) (holding-before a l .opens (o .sell))
       (λ e q. rw (← eqb-true account a e) (p .opens q)))
 
   closes-start : (a : ℕ) → a < length (x .accounts) → restingCloses a (arrived ∷ mine) ≤ held (not (o .sell)) (holdingAt (x .accounts) a place)
   unfolding takerOf remainder
   closes-start a l =
       rw (resting-cons 1 a arrived mine)
-      (own-closes (eqb account a) (o .close) (o .lots) (held (not (o .sell)) (holdingAt (x .accounts) a place)) (restingCloses a mine) (holding-before a l .closes (o .sell))
+      (own-closes (eqb account a) (o .close) (o .lots) (held (not (o .sell)) (holdingAt (x .accounts) a place)) (restingCloses a mine)
+      (holding-before a l .closes (o .sell))
       (λ e q. rw (← eqb-true account a e) (p .closes q)))
 
   -- so the sweep keeps them, and its trades close nothing that is not held
   swept-holdings : SweptKept (length (x .accounts)) (contractOf x k o p .limit) (limitOf (o .condition)) (takerOf x o) mine (x .accounts) (o .lots) lots-swept
   unfolding takerOf
   swept-holdings =
-      swept-kept (length (x .accounts)) (contractOf x k o p .limit) (limitOf (o .condition)) (x .next) (contractOf x k o p) (takerOf x o) mine (p .account) (mark-low (o .close))
+      swept-kept (length (x .accounts)) (contractOf x k o p .limit) (limitOf (o .condition)) (x .next) (contractOf x k o p) (takerOf x o) mine
+      (p .account) (mark-low (o .close))
       (o .lots) (contractOf x k o p .last) others (x .accounts) (sides x k o p .others-orders)
       (λ a l. kept-by (o .sell) (listingOf x o) place (x .accounts) a arrived (holding-before a l) (opens-start a l) (closes-start a l))
 
@@ -135,11 +142,14 @@ module _ (x : Exchange) (k : WellFormed x) (o : NewOrder) (p : Passes x o) where
   holding-after a l =
       let s = booked-start-holding (x .accounts) (lots-swept .trades) a place in
       let q = holding-before a l in
-      holding-by (o .sell) (contractAfter x k o p) (restLots (takerOf x o) (limitOf (o .condition)) (rested x k o p) mine) (lots-swept .rest) place accountsAfter a
+      holding-by (o .sell) (contractAfter x k o p) (restLots (takerOf x o) (limitOf (o .condition)) (rested x k o p) mine)
+      (lots-swept .rest) place accountsAfter a
       (rw (ap (λ (h : Holding). h .startlong) s) (q .startlong)) (rw (ap (λ (h : Holding). h .startshort) s) (q .startshort))
       (fewer-by (o .sell) (length (x .accounts)) (contractOf x k o p .limit) place accountsAfter
-      (remainder (takerOf x o) (limitOf (o .condition)) (o .lots - tradedLots (lots-swept .trades)) ∷ mine) (restLots (takerOf x o) (limitOf (o .condition)) (rested x k o p) mine) (lots-swept .rest) (lots-swept .rest)
-      (rested-fewer (takerOf x o) (limitOf (o .condition)) (rested x k o p) (o .lots - tradedLots (lots-swept .trades)) mine (rested-left x k o p)) (λ close b. omega arith) (swept-holdings .kept) a l)
+      (remainder (takerOf x o) (limitOf (o .condition)) (o .lots - tradedLots (lots-swept .trades)) ∷ mine)
+      (restLots (takerOf x o) (limitOf (o .condition)) (rested x k o p) mine) (lots-swept .rest) (lots-swept .rest)
+      (rested-fewer (takerOf x o) (limitOf (o .condition)) (rested x k o p) (o .lots - tradedLots (lots-swept .trades)) mine
+      (rested-left x k o p)) (λ close b. omega arith) (swept-holdings .kept) a l)
 
   -- the numbers: one more, the next, if a remainder rests
   uses-by : (n : ℕ) (sell : Bool) (us vs : List Order) → uses n (pick sell vs us) + uses n (pick sell us vs) ≡ uses n us + uses n vs
@@ -161,7 +171,14 @@ module _ (x : Exchange) (k : WellFormed x) (o : NewOrder) (p : Passes x o) where
   uses-after : (n : ℕ) → usesIn n after ≤ usesIn n (listingOf x o) + pick (eqb n (x .next)) 1 0
   unfolding usesIn listingAfter enteredOf enter
   uses-after n =
-      omega (arith, uses-by n (o .sell) (restLots (takerOf x o) (limitOf (o .condition)) (rested x k o p) mine) (lots-swept .rest), own-uses n (o .sell) (listingOf x o), mine-uses n, others-uses n)
+      omega (
+        arith,
+        uses-by n (o .sell) (restLots (takerOf x o) (limitOf (o .condition)) (rested x k o p) mine) (lots-swept .rest),
+        own-uses n
+            (o .sell) (listingOf x o),
+        mine-uses n,
+        others-uses n,
+      )
 
   one-more : (n : ℕ) → occurs n (allNumbers (x .listings)) + pick (eqb n (x .next)) 1 0 ≤ 1
   unfolding listingAt
@@ -169,7 +186,8 @@ module _ (x : Exchange) (k : WellFormed x) (o : NewOrder) (p : Passes x o) where
     where
       go : (b : Bool) → eqb n (x .next) ≡ b → occurs n (allNumbers (x .listings)) + pick (eqb n (x .next)) 1 0 ≤ 1
       go true e =
-          let z : occurs n (allNumbers (x .listings)) ≡ 0 = rw (eqb-true n (x .next) e) (next-unused (length (x .accounts)) (x .next) (x .listings) (k .listing)) in
+          let z : occurs n (allNumbers (x .listings)) ≡ 0 =
+          rw (eqb-true n (x .next) e) (next-unused (length (x .accounts)) (x .next) (x .listings) (k .listing)) in
           rw e (omega arith)
       go false e = rw e (omega (arith, once-count (allNumbers (x .listings)) (k .once) n))
 
@@ -196,7 +214,9 @@ module _ (x : Exchange) (k : WellFormed x) (o : NewOrder) (p : Passes x o) where
 
   allows-after : (c : ℕ) → Allows (listingAt x c .contract) (listingAt afterwards c .contract)
   unfolding exchangeAfter listingAt listingOf
-  allows-after c = at-set (λ (j : ℕ) (m : Listing). Allows (listingAt x j .contract) (m .contract)) (x .listings) place after noListing (p .contract) allows-here c (λ n q h. h)
+  allows-after c =
+      at-set (λ (j : ℕ) (m : Listing). Allows (listingAt x j .contract) (m .contract)) (x .listings) place after noListing
+      (p .contract) allows-here c (λ n q h. h)
 
   old-trades : allOf (tradeInRange afterwards) (x .trades) ≡ true
   unfolding exchangeAfter
@@ -205,7 +225,8 @@ module _ (x : Exchange) (k : WellFormed x) (o : NewOrder) (p : Passes x o) where
   new-trades : allOf (tradeInRange afterwards) (lots-swept .trades) ≡ true
   unfolding exchangeAfter takerOf listingOf
   new-trades =
-      swept-in-range afterwards (takerOf x o) (contractOf x k o p) (omega (arith, same-listings, p .contract)) (omega (arith, same-accounts, p .account)) (k .next-low) (omega arith) (mark-low (o .close)) (p .price)
+      swept-in-range afterwards (takerOf x o) (contractOf x k o p) (omega (arith, same-listings, p .contract))
+      (omega (arith, same-accounts, p .account)) (k .next-low) (omega arith) (mark-low (o .close)) (p .price)
       (allows-after place) (o .lots) (contractOf x k o p .last) others (last-on-tick x k o p)
       (subst (λ (n : ℕ). allOf (orderInRange n (x .next) (contractOf x k o p)) others ≡ true) (sym same-accounts) (sides x k o p .others-orders))
 
@@ -213,17 +234,20 @@ module _ (x : Exchange) (k : WellFormed x) (o : NewOrder) (p : Passes x o) where
   unfolding takerOf
   its-trades = swept-contract (takerOf x o) (o .lots) (contractOf x k o p .last) others
 
-  holdings-after : (a c : ℕ) → a < length (x .accounts) → c < length (x .listings) → HoldingOk (listingAt afterwards c) a (holdingAt accountsAfter a c)
+  holdings-after : (a c : ℕ) → a < length (x .accounts) → c < length (x .listings) →
+      HoldingOk (listingAt afterwards c) a (holdingAt accountsAfter a c)
   unfolding exchangeAfter listingAt
   holdings-after a c la lc =
-      at-set (λ (j : ℕ) (m : Listing). HoldingOk m a (holdingAt accountsAfter a j)) (x .listings) place after noListing (p .contract) (holding-after a la) c
+      at-set (λ (j : ℕ) (m : Listing). HoldingOk m a (holdingAt accountsAfter a j)) (x .listings) place after noListing (p .contract)
+      (holding-after a la) c
       (λ n. rw (other-holding place (x .accounts) (lots-swept .trades) a c its-trades n) (k .holding a c la lc))
 
   listings-after : (c : ℕ) → c < length (x .listings) → ListingOk (length (afterwards .accounts)) (x .next + 1) (listingAt afterwards c)
   unfolding exchangeAfter listingAt
   listings-after c l =
       subst (λ (n : ℕ). ListingOk n (x .next + 1) (listingAt afterwards c)) (sym same-accounts)
-      (at-set (λ (j : ℕ) (m : Listing). ListingOk (length (x .accounts)) (x .next + 1) m) (x .listings) place after noListing (p .contract) (listing-after x k o p) c
+      (at-set (λ (j : ℕ) (m : Listing). ListingOk (length (x .accounts)) (x .next + 1) m) (x .listings) place after noListing (p .contract)
+      (listing-after x k o p) c
       (λ n. listing-later (length (x .accounts)) (x .next) (listingAt x c) (k .listing c l)))
 
   pub inserted-keeps : WellFormed afterwards
@@ -235,7 +259,9 @@ module _ (x : Exchange) (k : WellFormed x) (o : NewOrder) (p : Passes x o) where
         settlements = k .settlements;
         listing = λ c l. listings-after c (omega (arith, same-listings));
         once = once-after;
-        trades = rw (allOf-append (tradeInRange afterwards) (x .trades) (lots-swept .trades)) (true-both (allOf (tradeInRange afterwards) (x .trades)) (allOf (tradeInRange afterwards) (lots-swept .trades)) old-trades new-trades);
+        trades =
+            rw (allOf-append (tradeInRange afterwards) (x .trades) (lots-swept .trades))
+            (true-both (allOf (tradeInRange afterwards) (x .trades)) (allOf (tradeInRange afterwards) (lots-swept .trades)) old-trades new-trades);
         covered = never-more (x .accounts) (x .trades) (lots-swept .trades) (k .replay) (k .covered) (swept-holdings .never);
         replay = replay-more (x .accounts) (x .trades) (lots-swept .trades) (k .replay);
         holding = λ a c la lc. holdings-after a c (omega (arith, same-accounts)) (omega (arith, same-listings));
@@ -270,7 +296,8 @@ module _ (x : Exchange) (k : WellFormed x) (o : NewOrder) (p : Passes x o) where
   unfolding listingAfter enteredOf enter
   queue-after h = by (o .sell) _ _ (mine-length (h (o .sell))) (omega (arith, others-length, either (o .sell)))
     where
-      by : (s : Bool) (us vs : List Order) → length us ≤ maxResting → length vs ≤ maxResting → (sell : Bool) → length (pick sell (pick s us vs) (pick s vs us)) ≤ maxResting
+      by : (s : Bool) (us vs : List Order) → length us ≤ maxResting → length vs ≤ maxResting → (sell : Bool) →
+          length (pick sell (pick s us vs) (pick s vs us)) ≤ maxResting
       by true us vs p q true = p
       by true us vs p q false = q
       by false us vs p q true = q

@@ -35,7 +35,8 @@ pub record Passes (x : Exchange) (o : NewOrder) : Type 0 where
   -- only a limit order rests
   pub limited : isGoodForDay (o .time) ≡ true → isLimit (o .condition) ≡ true
   pub price : (limit : ℕ) → o .condition ≡ Limit limit → allowedToday (listingOf x o .contract) limit ≡ true
-  pub opens : o .close ≡ false → held (o .sell) (itsHolding x o) + restingOpens (placeOf (o .account)) (itsQueue x o) + o .lots ≤ listingOf x o .contract .limit
+  pub opens : o .close ≡ false →
+      held (o .sell) (itsHolding x o) + restingOpens (placeOf (o .account)) (itsQueue x o) + o .lots ≤ listingOf x o .contract .limit
   pub closes : o .close ≡ true → restingCloses (placeOf (o .account)) (itsQueue x o) + o .lots ≤ held (not (o .sell)) (itsHolding x o)
   pub next : x .next < numbersEnd
   pub trades : length (x .trades) + tradesNeeded x o ≤ maxTrades
@@ -45,7 +46,8 @@ both-failed : (a b : Bool) → (a && b) ≡ false → a ≡ true → b ≡ false
 both-failed true b e h = e
 both-failed false b e h = absurd (false≢true h)
 
-limit-allowed : (c : Contract) (condition : PriceCondition) (price limit : ℕ) → priceRefusedBy c condition price ≡ false → condition ≡ Limit limit → allowedToday c limit ≡ true
+limit-allowed : (c : Contract) (condition : PriceCondition) (price limit : ℕ) → priceRefusedBy c condition price ≡ false →
+    condition ≡ Limit limit → allowedToday c limit ≡ true
 unfolding priceRefusedBy
 limit-allowed c condition price limit e q = not-false (allowedToday c limit) (rw q at e)
 
@@ -58,7 +60,8 @@ not-first true b e h = refl
 not-first false b e h = absurd (true≢false (sym h ∙ e))
 
 module _ (x : Exchange) (o : NewOrder) (e : holdingRefused x o ≡ false) where
-  open-lots : o .close ≡ false → held (o .sell) (itsHolding x o) + restingOpens (placeOf (o .account)) (itsQueue x o) + o .lots ≤ listingOf x o .contract .limit
+  open-lots : o .close ≡ false →
+      held (o .sell) (itsHolding x o) + restingOpens (placeOf (o .account)) (itsQueue x o) + o .lots ≤ listingOf x o .contract .limit
   unfolding holdingRefused overLimit
   open-lots q = ltb-false _ _ (sym (pick-false (o .close) _ _ q) ∙ e)
 
@@ -82,5 +85,8 @@ passes x o e =
       closes = close-lots x o (f .1 .1 .1 .1 .1 .1 .0);
       next = leb-false _ _ (f .1 .1 .1 .1 .1 .1 .1 .1 .0);
       trades = ltb-false _ _ (f .1 .1 .1 .1 .1 .1 .1 .1 .1 .1 .0);
-      room = λ g l. ltb-false _ _ (both-failed (isGoodForDay (o .time) && leb maxResting (length (itsQueue x o))) (ltb (fillableLots x o) (o .lots)) (f .1 .1 .1 .1 .1 .1 .1 .1 .1 .1 .1 .0) (true-both (isGoodForDay (o .time)) (leb maxResting (length (itsQueue x o))) g (le-leb _ _ l)));
+      room =
+          λ g l. ltb-false _ _
+          (both-failed (isGoodForDay (o .time) && leb maxResting (length (itsQueue x o))) (ltb (fillableLots x o) (o .lots))
+          (f .1 .1 .1 .1 .1 .1 .1 .1 .1 .1 .1 .0) (true-both (isGoodForDay (o .time)) (leb maxResting (length (itsQueue x o))) g (le-leb _ _ l)));
     }

@@ -35,7 +35,8 @@ pub record SidesOk (accounts next : ℕ) (c : Contract) (sell : Bool) (mine othe
   pub others-orders : allOf (orderInRange accounts next c) others ≡ true
 
 module _ (accounts next : ℕ) where
-  pub listing-sides : (sell : Bool) (m : Listing) → ListingOk accounts next m → SidesOk accounts next (m .contract) sell (own sell m) (opposite sell m)
+  pub listing-sides : (sell : Bool) (m : Listing) → ListingOk accounts next m →
+      SidesOk accounts next (m .contract) sell (own sell m) (opposite sell m)
   listing-sides sell m k =
       record {
         mine-sorted = k .order sell;
@@ -49,7 +50,8 @@ module _ (accounts next : ℕ) where
       by true = k .apart
       by false = k .apart
 
-  pub sides-listing : (sell : Bool) (c : Contract) (mine others : List Order) → contractInRange c ≡ true → SidesOk accounts next c sell mine others → ListingOk accounts next (withQueues sell c mine others)
+  pub sides-listing : (sell : Bool) (c : Contract) (mine others : List Order) → contractInRange c ≡ true →
+      SidesOk accounts next c sell mine others → ListingOk accounts next (withQueues sell c mine others)
   sides-listing true c mine others r k =
       record {
         contract = r;
@@ -68,12 +70,14 @@ module _ (accounts next : ℕ) where
 -- ---- the remainder comes to rest, if there is one
 
 module _ (t : Taker) (price : ℕ) where
-  pub rested-all : (test : Order → Bool) (n : ℕ) (queue : List Order) → (0 < n → test (remainder t price n) ≡ true) → allOf test queue ≡ true → allOf test (restLots t price n queue) ≡ true
+  pub rested-all : (test : Order → Bool) (n : ℕ) (queue : List Order) → (0 < n → test (remainder t price n) ≡ true) → allOf test queue ≡ true →
+      allOf test (restLots t price n queue) ≡ true
   unfolding restLots
   rested-all test zero queue e h = h
   rested-all test (suc n) queue e h = restIn-all test (t .sell) (remainder t price (suc n)) queue (e (omega arith)) h
 
-  pub rested-sorted : (n : ℕ) (queue : List Order) → sorted (t .sell) queue ≡ true → allOf (λ o. ltb (o .number) (t .number)) queue ≡ true → sorted (t .sell) (restLots t price n queue) ≡ true
+  pub rested-sorted : (n : ℕ) (queue : List Order) → sorted (t .sell) queue ≡ true → allOf (λ o. ltb (o .number) (t .number)) queue ≡ true →
+      sorted (t .sell) (restLots t price n queue) ≡ true
   unfolding restLots remainder
   rested-sorted zero queue s h = s
   rested-sorted (suc n) queue s h = restIn-sorted (t .sell) (remainder t price (suc n)) queue s h
@@ -96,7 +100,13 @@ module _ (t : Taker) (price : ℕ) where
   -- no more rests than was counted for it
   pub rested-fewer : (n m : ℕ) (queue : List Order) → n ≤ m → Fewer (restLots t price n queue) (remainder t price m ∷ queue)
   unfolding resting lotsWhere sumOf remainder
-  rested-fewer n m queue h close a = omega (arith, rested-sum (λ o. pick (eqb (o .account) a && eqb (o .close) close) (o .lots) 0) n queue, more (eqb (t .account) a && eqb (t .close) close))
+  rested-fewer n m queue h close a =
+      omega (
+        arith,
+        rested-sum (λ o. pick (eqb (o .account) a && eqb (o .close) close) (o .lots) 0) n queue,
+        more
+            (eqb (t .account) a && eqb (t .close) close),
+      )
     where
       more : (b : Bool) → pick b n 0 ≤ pick b m 0
       more true = h

@@ -23,14 +23,17 @@ pub record Sound (x : Exchange) : Type 0 where
 -- an accepted command
 pub carried-keeps : (x : Exchange) (command : Command) → Sound x → codeOf x command ≡ 0 → Sound (carriedOut x command .exchange)
 carried-keeps x Malformed k e = unfold carriedOut in k
-carried-keeps x (Deposit account amount) k e = record { contents = deposit-keeps x (k .contents) account amount e; counts = deposit-counted x account amount (k .counts) }
-carried-keeps x (Withdraw account amount) k e = record { contents = withdraw-keeps x (k .contents) account amount e; counts = withdraw-counted x account amount (k .counts) }
+carried-keeps x (Deposit account amount) k e =
+    record { contents = deposit-keeps x (k .contents) account amount e; counts = deposit-counted x account amount (k .counts) }
+carried-keeps x (Withdraw account amount) k e =
+    record { contents = withdraw-keeps x (k .contents) account amount e; counts = withdraw-counted x account amount (k .counts) }
 carried-keeps x (Insert o) k e = record { contents = insert-keeps x o e (k .contents); counts = insert-counted x o e (k .contents) (k .counts) }
 carried-keeps x (Cancel account contract operator number) k e =
     record { contents = cancel-keeps x account contract operator number e (k .contents); counts = cancel-counted x account contract operator number e (k .counts) }
 carried-keeps x (Pull account contract operator) k e =
     record { contents = pull-keeps x account contract operator e (k .contents); counts = pull-counted x account contract operator e (k .counts) }
-carried-keeps x (Phase contract phase) k e = record { contents = phase-keeps x contract phase e (k .contents); counts = phase-counted x contract phase e (k .counts) }
+carried-keeps x (Phase contract phase) k e =
+    record { contents = phase-keeps x contract phase e (k .contents); counts = phase-counted x contract phase e (k .counts) }
 carried-keeps x Settle k e = record { contents = settle-keeps x e (k .contents) (k .counts); counts = settle-counted x e (k .contents) (k .counts) }
 
 -- any command: a refusal changes nothing

@@ -22,14 +22,17 @@ use Rattle.invariants.proofs.Clauses.{held}
 -- ---- a holding changed at its place, or none at all past the end
 
 module _ (P : Holding → Holding → Type 0) (none : P noHolding noHolding) (f : Holding → Holding) where
-  one-holding : (hs : List Holding) (c : ℕ) → P (getD hs c noHolding) (f (getD hs c noHolding)) → P (getD hs c noHolding) (getD (set hs c (f (getD hs c noHolding))) c noHolding)
+  one-holding : (hs : List Holding) (c : ℕ) → P (getD hs c noHolding) (f (getD hs c noHolding)) →
+      P (getD hs c noHolding) (getD (set hs c (f (getD hs c noHolding))) c noHolding)
   one-holding [] c here = none
   one-holding (h ∷ hs) zero here = here
   one-holding (h ∷ hs) (suc c) here = one-holding hs c here
 
-  one-account : (l : List Account) (a c : ℕ) → P (getD (getD l a noAccount .holdings) c noHolding) (f (getD (getD l a noAccount .holdings) c noHolding)) →
+  one-account : (l : List Account) (a c : ℕ) →
+      P (getD (getD l a noAccount .holdings) c noHolding) (f (getD (getD l a noAccount .holdings) c noHolding)) →
       P (getD (getD l a noAccount .holdings) c noHolding)
-      (getD (getD (set l a (withHolding (getD l a noAccount) c (f (getD (getD l a noAccount .holdings) c noHolding)))) a noAccount .holdings) c noHolding)
+      (getD (getD (set l a
+      (withHolding (getD l a noAccount) c (f (getD (getD l a noAccount .holdings) c noHolding)))) a noAccount .holdings) c noHolding)
   one-account [] a c here = none
   one-account (x ∷ xs) zero c here = one-holding (x .holdings) c here
   one-account (x ∷ xs) (suc a) c here = one-account xs a c here
@@ -82,7 +85,8 @@ booked-here : (l : List Account) (u c : ℕ) (sell : Bool) (close lots : ℕ) �
     LegBounds sell (pick (eqb close 0) lots 0) (pick (eqb close 1) lots 0) (holdingAt l u c) (holdingAt (bookLeg l u c sell close lots) u c)
 unfolding legCovered holdingAt accountAt bookLeg
 booked-here l u c sell close lots m k =
-    one-account (λ (h h′ : Holding). Covers sell close lots h → LegBounds sell (pick (eqb close 0) lots 0) (pick (eqb close 1) lots 0) h h′) (none-bounds sell close lots m) (λ h. afterLeg h sell close lots) l u c
+    one-account (λ (h h′ : Holding). Covers sell close lots h → LegBounds sell (pick (eqb close 0) lots 0) (pick (eqb close 1) lots 0) h h′)
+    (none-bounds sell close lots m) (λ h. afterLeg h sell close lots) l u c
     (leg-bounds sell close lots m _) k
 
 nothing-booked : (sell : Bool) (h : Holding) → LegBounds sell 0 0 h h
@@ -92,12 +96,14 @@ pub booked-bounds : (l : List Account) (u c : ℕ) (sell : Bool) (close lots : �
     LegBounds sell (opensFor a u close lots) (closesFor a u close lots) (holdingAt l a c) (holdingAt (bookLeg l u c sell close lots) a c)
 booked-bounds l u c sell close lots m k a = go (eqb u a) refl
   where
-    go : (b : Bool) → eqb u a ≡ b → LegBounds sell (opensFor a u close lots) (closesFor a u close lots) (holdingAt l a c) (holdingAt (bookLeg l u c sell close lots) a c)
+    go : (b : Bool) → eqb u a ≡ b →
+        LegBounds sell (opensFor a u close lots) (closesFor a u close lots) (holdingAt l a c) (holdingAt (bookLeg l u c sell close lots) a c)
     go true e = rw (e, ← eqb-true u a e) (booked-here l u c sell close lots m k)
     go false e = rw (e, holding-other-account l u c sell close lots a c (λ q. eqb-false u a e (sym q))) (nothing-booked sell (holdingAt l a c))
 
 -- a leg is covered where the account holds what it closes
-pub covered-by : (l : List Account) (u c : ℕ) (sell : Bool) (close lots : ℕ) → close ≤ 1 → closesFor u u close lots ≤ held (not sell) (holdingAt l u c) → legCovered l u c sell close lots ≡ true
+pub covered-by : (l : List Account) (u c : ℕ) (sell : Bool) (close lots : ℕ) → close ≤ 1 →
+    closesFor u u close lots ≤ held (not sell) (holdingAt l u c) → legCovered l u c sell close lots ≡ true
 covered-by l u c sell zero lots m h = open-covered l u c sell lots
 covered-by l u c false (suc zero) lots m h = close-covered l u c false 1 lots (rw (eq-eqb u u refl) at h)
 covered-by l u c true (suc zero) lots m h = close-covered l u c true 1 lots (rw (eq-eqb u u refl) at h)
@@ -105,7 +111,8 @@ covered-by l u c sell (suc (suc n)) lots m h = absurd (omega arith)
 
 -- ---- a trade of k lots between the first of the buys and the first of the sells
 
-pub resting-cons : (close a : ℕ) (o : Order) (os : List Order) → resting close a (o ∷ os) ≡ pick (eqb (o .account) a && eqb (o .close) close) (o .lots) 0 + resting close a os
+pub resting-cons : (close a : ℕ) (o : Order) (os : List Order) →
+    resting close a (o ∷ os) ≡ pick (eqb (o .account) a && eqb (o .close) close) (o .lots) 0 + resting close a os
 unfolding resting lotsWhere sumOf
 resting-cons close a o os = refl
 
@@ -130,29 +137,51 @@ module _ (accounts limit c : ℕ) (l : List Account) (b s : Order) (buys sells :
   pub buyer-covered : legCovered l (b .account) c false (b .close) k ≡ true
   buyer-covered =
       covered-by l (b .account) c false (b .close) k buy-mark
-      (omega (arith, kept (b .account) buyer .buy-closes, resting-cons 1 (b .account) b buys, taken (eqb (b .account) (b .account) && eqb (b .close) 1) (b .lots) k buy-lots))
+      (omega (
+        arith,
+        kept (b .account) buyer .buy-closes,
+        resting-cons 1 (b .account) b buys,
+        taken
+            (eqb (b .account) (b .account) && eqb (b .close) 1) (b .lots) k buy-lots,
+      ))
 
   abbrev bought : List Account
   bought = bookLeg l (b .account) c false (b .close) k
 
-  buyer-bounds : (a : ℕ) → LegBounds false (opensFor a (b .account) (b .close) k) (closesFor a (b .account) (b .close) k) (holdingAt l a c) (holdingAt bought a c)
+  buyer-bounds : (a : ℕ) →
+      LegBounds false (opensFor a (b .account) (b .close) k) (closesFor a (b .account) (b .close) k) (holdingAt l a c) (holdingAt bought a c)
   buyer-bounds = booked-bounds l (b .account) c false (b .close) k buy-mark buyer-covered
 
   pub seller-covered : legCovered bought (s .account) c true (s .close) k ≡ true
   seller-covered =
       covered-by bought (s .account) c true (s .close) k sell-mark
-      (omega (arith, kept (s .account) seller .sell-closes, resting-cons 1 (s .account) s sells, taken (eqb (s .account) (s .account) && eqb (s .close) 1) (s .lots) k sell-lots, buyer-bounds (s .account) .kept))
+      (omega (
+        arith,
+        kept (s .account) seller .sell-closes,
+        resting-cons 1 (s .account) s sells,
+        taken
+            (eqb (s .account) (s .account) && eqb (s .close) 1) (s .lots) k sell-lots,
+        buyer-bounds (s .account) .kept,
+      ))
 
   abbrev sold : List Account
   sold = bookLeg bought (s .account) c true (s .close) k
 
-  seller-bounds : (a : ℕ) → LegBounds true (opensFor a (s .account) (s .close) k) (closesFor a (s .account) (s .close) k) (holdingAt bought a c) (holdingAt sold a c)
+  seller-bounds : (a : ℕ) →
+      LegBounds true (opensFor a (s .account) (s .close) k) (closesFor a (s .account) (s .close) k) (holdingAt bought a c) (holdingAt sold a c)
   seller-bounds = booked-bounds bought (s .account) c true (s .close) k sell-mark seller-covered
 
   -- what is left of an order counts for what is left of its lots
   rest-of : (close a : ℕ) (o : Order) (os : List Order) → k ≤ o .lots →
       resting close a (withLots o (o .lots - k) ∷ os) + pick (eqb (o .account) a && eqb (o .close) close) k 0 ≡ resting close a (o ∷ os)
-  rest-of close a o os h = omega (arith, resting-cons close a o os, resting-cons close a (withLots o (o .lots - k)) os, taken (eqb (o .account) a && eqb (o .close) close) (o .lots) k h)
+  rest-of close a o os h =
+      omega (
+        arith,
+        resting-cons close a o os,
+        resting-cons close a (withLots o (o .lots - k)) os,
+        taken
+            (eqb (o .account) a && eqb (o .close) close) (o .lots) k h,
+      )
 
   pub trade-kept : Kept accounts limit c sold (withLots b (b .lots - k) ∷ buys) (withLots s (s .lots - k) ∷ sells)
   trade-kept a h =

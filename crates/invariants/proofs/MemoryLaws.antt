@@ -23,8 +23,10 @@ use Rattle.invariants.proofs.MemoryRoom.{CountsOk, RoomOk}
 
 -- ---- values put in the first places of an array
 
-pub put-first-at : {A : Type 0} (f : Listing → A) (ls : List Listing) (room : List A) (c : ℕ) → c < length ls → getD (putFirst (map f ls) room) c (f noListing) ≡ f (getD ls c noListing)
-put-first-at f ls room c l = List·getD-append (map f ls) (drop (length (map f ls)) room) (f noListing) c (rw (length-map ls f) l) ∙ List·getD-map f ls c noListing
+pub put-first-at : {A : Type 0} (f : Listing → A) (ls : List Listing) (room : List A) (c : ℕ) → c < length ls →
+    getD (putFirst (map f ls) room) c (f noListing) ≡ f (getD ls c noListing)
+put-first-at f ls room c l =
+    List·getD-append (map f ls) (drop (length (map f ls)) room) (f noListing) c (rw (length-map ls f) l) ∙ List·getD-map f ls c noListing
 
 -- ---- accounts
 
@@ -75,12 +77,14 @@ module _ (m : Memory) (counts : CountsOk (m .state)) (room : RoomOk m) (x : Exch
   buys-read : (c : ℕ) → c < m .state .contractcount → queueIn (put m x .buys) c (length (listingAt x c .buys)) ≡ listingAt x c .buys
   unfolding put
   buys-read c l =
-      queue-putQueues (m .buys) (m .state .buys) (λ c. listingAt x c .buys) (m .state .contractcount) (counts .buys) (short false) (room .buys) (m .state .contractcount) c (le-refl _) l
+      queue-putQueues (m .buys) (m .state .buys) (λ c. listingAt x c .buys) (m .state .contractcount) (counts .buys) (short false) (room .buys)
+      (m .state .contractcount) c (le-refl _) l
 
   sells-read : (c : ℕ) → c < m .state .contractcount → queueIn (put m x .sells) c (length (listingAt x c .sells)) ≡ listingAt x c .sells
   unfolding put
   sells-read c l =
-      queue-putQueues (m .sells) (m .state .sells) (λ c. listingAt x c .sells) (m .state .contractcount) (counts .sells) (short true) (room .sells) (m .state .contractcount) c (le-refl _) l
+      queue-putQueues (m .sells) (m .state .sells) (λ c. listingAt x c .sells) (m .state .contractcount) (counts .sells) (short true)
+      (room .sells) (m .state .contractcount) c (le-refl _) l
 
   -- the contracts and the counts of the queues
   contract-read : (c : ℕ) → c < m .state .contractcount → getD (put m x .state .contracts) c noContract ≡ listingAt x c .contract
@@ -98,18 +102,23 @@ module _ (m : Memory) (counts : CountsOk (m .state)) (room : RoomOk m) (x : Exch
   listing-read : (c : ℕ) → c < m .state .contractcount → listingIn (put m x) c ≡ listingAt x c
   unfolding listingIn
   listing-read c l =
-      let b : queueIn (put m x .buys) c (getD (put m x .state .buys) c 0) ≡ listingAt x c .buys = ap (λ (n : ℕ). queueIn (put m x .buys) c n) (buy-count c l) ∙ buys-read c l in
-      let s : queueIn (put m x .sells) c (getD (put m x .state .sells) c 0) ≡ listingAt x c .sells = ap (λ (n : ℕ). queueIn (put m x .sells) c n) (sell-count c l) ∙ sells-read c l in
+      let b : queueIn (put m x .buys) c (getD (put m x .state .buys) c 0) ≡ listingAt x c .buys =
+      ap (λ (n : ℕ). queueIn (put m x .buys) c n) (buy-count c l) ∙ buys-read c l in
+      let s : queueIn (put m x .sells) c (getD (put m x .state .sells) c 0) ≡ listingAt x c .sells =
+      ap (λ (n : ℕ). queueIn (put m x .sells) c n) (sell-count c l) ∙ sells-read c l in
       let k = contract-read c l in
       λ i. record { contract = k i; buys = b i; sells = s i }
 
   listings-read : tabulate (m .state .contractcount) (listingIn (put m x)) ≡ x .listings
   unfolding listingAt
-  listings-read = sym (tabulate-eq (m .state .contractcount) (listingIn (put m x)) (x .listings) noListing contracts-same (λ c l. sym (listing-read c l)))
+  listings-read =
+      sym (tabulate-eq (m .state .contractcount) (listingIn (put m x)) (x .listings) noListing contracts-same (λ c l. sym (listing-read c l)))
 
   accounts-put : map (inUse (m .state .contractcount)) (take (m .state .accountcount) (put m x .state .accounts)) ≡ x .accounts
   unfolding put putState exchangeOf accountAt
-  accounts-put = accounts-read (m .state .contractcount) (m .state .accountcount) (x .accounts) (m .state .accounts) (shape .accounts) (λ a l. shape .wide a (rw (shape .accounts) at l))
+  accounts-put =
+      accounts-read (m .state .contractcount) (m .state .accountcount) (x .accounts) (m .state .accounts) (shape .accounts)
+      (λ a l. shape .wide a (rw (shape .accounts) at l))
 
   trades-read : recordedTrades (put m x .trades) (put m x .state .tradecount) ≡ x .trades
   unfolding put putState
@@ -118,18 +127,21 @@ module _ (m : Memory) (counts : CountsOk (m .state)) (room : RoomOk m) (x : Exch
   -- WHAT IS WRITTEN IS WHAT THE RULES SAY
   pub exchange-put : exchangeOf (put m x) ≡ x
   unfolding exchangeOf put putState
-  exchange-put = λ i. record { listings = listings-read i; accounts = accounts-put i; trades = trades-read i; next = x .next; settlements = x .settlements }
+  exchange-put =
+      λ i. record { listings = listings-read i; accounts = accounts-put i; trades = trades-read i; next = x .next; settlements = x .settlements }
 
   -- the areas keep their lengths
   pub length-buys : length (put m x .buys) ≡ length (m .buys)
   unfolding put
   length-buys =
-      length-putQueues (m .buys) (m .state .buys) (λ c. listingAt x c .buys) (m .state .contractcount) (counts .buys) (short false) (room .buys) (m .state .contractcount) (le-refl _)
+      length-putQueues (m .buys) (m .state .buys) (λ c. listingAt x c .buys) (m .state .contractcount) (counts .buys) (short false) (room .buys)
+      (m .state .contractcount) (le-refl _)
 
   pub length-sells : length (put m x .sells) ≡ length (m .sells)
   unfolding put
   length-sells =
-      length-putQueues (m .sells) (m .state .sells) (λ c. listingAt x c .sells) (m .state .contractcount) (counts .sells) (short true) (room .sells) (m .state .contractcount) (le-refl _)
+      length-putQueues (m .sells) (m .state .sells) (λ c. listingAt x c .sells) (m .state .contractcount) (counts .sells) (short true)
+      (room .sells) (m .state .contractcount) (le-refl _)
 
   pub length-tradeArea : length (put m x .trades) ≡ length (m .trades)
   unfolding put
@@ -155,18 +167,21 @@ module _ (m : Memory) (counts : CountsOk (m .state)) (room : RoomOk m) (x : Exch
 -- ---- a state read and written back
 
 -- the first places of an array, with what stands there
-first-same : {A : Type 0} (f : Listing → A) (g : ℕ → Listing) (room : List A) (n : ℕ) → n ≤ length room → ((c : ℕ) → c < n → f (g c) ≡ getD room c (f noListing)) → putFirst (map f (tabulate n g)) room ≡ room
+first-same : {A : Type 0} (f : Listing → A) (g : ℕ → Listing) (room : List A) (n : ℕ) → n ≤ length room →
+    ((c : ℕ) → c < n → f (g c) ≡ getD room c (f noListing)) → putFirst (map f (tabulate n g)) room ≡ room
 unfolding tabulate
 first-same f g room zero h same = refl
 first-same f g [] (suc n) h same = absurd (not-suc-le-zero h)
-first-same f g (r ∷ room) (suc n) h same = ap₂ (λ v l. v ∷ l) (same 0 (omega arith)) (first-same f (λ c. g (suc c)) room n (le-of-suc-le-suc h) (λ c l. same (suc c) (omega arith)))
+first-same f g (r ∷ room) (suc n) h same =
+    ap₂ (λ v l. v ∷ l) (same 0 (omega arith)) (first-same f (λ c. g (suc c)) room n (le-of-suc-le-suc h) (λ c l. same (suc c) (omega arith)))
 
 accounts-same : (n k : ℕ) (rooms : List Account) → putAccounts (map (inUse n) (take k rooms)) rooms ≡ rooms
 unfolding putAccounts
 accounts-same n zero rooms = refl
 accounts-same n (suc k) [] = refl
 accounts-same n (suc k) (r ∷ rooms) =
-    ap₂ (λ (hs : List Holding) (bs : List Account). record { balance = r .balance; holdings = hs } ∷ bs) (taken-same n (r .holdings)) (accounts-same n k rooms)
+    ap₂ (λ (hs : List Holding) (bs : List Account). record { balance = r .balance; holdings = hs } ∷ bs) (taken-same n (r .holdings))
+    (accounts-same n k rooms)
 
 module _ (m : Memory) (counts : CountsOk (m .state)) (room : RoomOk m) (arrays : Declared (m .state)) where
   listing-at : (c : ℕ) → c < m .state .contractcount → listingAt (exchangeOf m) c ≡ listingIn m c
@@ -175,15 +190,21 @@ module _ (m : Memory) (counts : CountsOk (m .state)) (room : RoomOk m) (arrays :
 
   contracts-put : putFirst (map (λ l. l .contract) (exchangeOf m .listings)) (m .state .contracts) ≡ m .state .contracts
   unfolding exchangeOf listingIn
-  contracts-put = first-same (λ l. l .contract) (listingIn m) (m .state .contracts) (m .state .contractcount) (omega (arith, counts .contracts-high, arrays .contracts)) (λ c l. refl)
+  contracts-put =
+      first-same (λ l. l .contract) (listingIn m) (m .state .contracts) (m .state .contractcount)
+      (omega (arith, counts .contracts-high, arrays .contracts)) (λ c l. refl)
 
   buys-put : putFirst (map (λ l. length (l .buys)) (exchangeOf m .listings)) (m .state .buys) ≡ m .state .buys
   unfolding exchangeOf listingIn
-  buys-put = first-same (λ l. length (l .buys)) (listingIn m) (m .state .buys) (m .state .contractcount) (omega (arith, counts .contracts-high, arrays .buys)) (λ c l. length-queue (m .buys) c (getD (m .state .buys) c 0))
+  buys-put =
+      first-same (λ l. length (l .buys)) (listingIn m) (m .state .buys) (m .state .contractcount)
+      (omega (arith, counts .contracts-high, arrays .buys)) (λ c l. length-queue (m .buys) c (getD (m .state .buys) c 0))
 
   sells-put : putFirst (map (λ l. length (l .sells)) (exchangeOf m .listings)) (m .state .sells) ≡ m .state .sells
   unfolding exchangeOf listingIn
-  sells-put = first-same (λ l. length (l .sells)) (listingIn m) (m .state .sells) (m .state .contractcount) (omega (arith, counts .contracts-high, arrays .sells)) (λ c l. length-queue (m .sells) c (getD (m .state .sells) c 0))
+  sells-put =
+      first-same (λ l. length (l .sells)) (listingIn m) (m .state .sells) (m .state .contractcount)
+      (omega (arith, counts .contracts-high, arrays .sells)) (λ c l. length-queue (m .sells) c (getD (m .state .sells) c 0))
 
   state-put : putState (m .state) (exchangeOf m) ≡ m .state
   unfolding putState exchangeOf
@@ -204,11 +225,15 @@ module _ (m : Memory) (counts : CountsOk (m .state)) (room : RoomOk m) (arrays :
 
   buy-area : putQueues (m .buys) (m .state .buys) (λ c. listingAt (exchangeOf m) c .buys) (m .state .contractcount) ≡ m .buys
   unfolding listingIn
-  buy-area = putQueues-same (m .buys) (m .state .buys) (λ c. listingAt (exchangeOf m) c .buys) (m .state .contractcount) (λ c l. ap (λ (n : Listing). n .buys) (listing-at c l)) (counts .buys) (room .buys)
+  buy-area =
+      putQueues-same (m .buys) (m .state .buys) (λ c. listingAt (exchangeOf m) c .buys) (m .state .contractcount)
+      (λ c l. ap (λ (n : Listing). n .buys) (listing-at c l)) (counts .buys) (room .buys)
 
   sell-area : putQueues (m .sells) (m .state .sells) (λ c. listingAt (exchangeOf m) c .sells) (m .state .contractcount) ≡ m .sells
   unfolding listingIn
-  sell-area = putQueues-same (m .sells) (m .state .sells) (λ c. listingAt (exchangeOf m) c .sells) (m .state .contractcount) (λ c l. ap (λ (n : Listing). n .sells) (listing-at c l)) (counts .sells) (room .sells)
+  sell-area =
+      putQueues-same (m .sells) (m .state .sells) (λ c. listingAt (exchangeOf m) c .sells) (m .state .contractcount)
+      (λ c l. ap (λ (n : Listing). n .sells) (listing-at c l)) (counts .sells) (room .sells)
 
   trade-area : putTrades (m .trades) (m .state .tradecount) (exchangeOf m .trades) ≡ m .trades
   unfolding exchangeOf

@@ -31,7 +31,8 @@ module _ (s : State) where
 
   abbrev countTests : List Bool
   countTests =
-      within 1 maxAccounts (s .accountcount) ∷ leb (s .tradecount) maxTrades ∷ all (few (s .buys)) (s .contractcount) ∷ all (few (s .sells)) (s .contractcount) ∷ []
+      within 1 maxAccounts (s .accountcount) ∷ leb (s .tradecount) maxTrades ∷ all (few (s .buys)) (s .contractcount) ∷ all (few (s .sells))
+      (s .contractcount) ∷ []
 
   pub counts-ok : countsInRange s ≡ true → CountsOk s
   unfolding countsInRange
@@ -58,7 +59,11 @@ module _ (s : State) where
           true-both (leb 1 (s .accountcount)) (leb (s .accountcount) maxAccounts) (le-leb _ _ (k .accounts-low)) (le-leb _ _ (k .accounts-high)),
           (
             le-leb _ _ (k .trades),
-            (all-true (few (s .buys)) (s .contractcount) (λ i l. le-leb _ _ (k .buys i l)), all-true (few (s .sells)) (s .contractcount) (λ i l. le-leb _ _ (k .sells i l))),
+            (
+              all-true (few (s .buys)) (s .contractcount) (λ i l. le-leb _ _ (k .buys i l)),
+              all-true (few (s .sells)) (s .contractcount)
+                  (λ i l. le-leb _ _ (k .sells i l)),
+            ),
           ),
         ),
       )
@@ -82,7 +87,8 @@ module _ (m : Memory) where
   pub room-test : RoomOk m → hasRoom m ≡ true
   unfolding hasRoom
   room-test k =
-      join (leb (queueStride * m .state .contractcount) (length (m .buys))) roomTests (le-leb _ _ (k .buys), (le-leb _ _ (k .sells), le-leb _ _ (k .trades)))
+      join (leb (queueStride * m .state .contractcount) (length (m .buys))) roomTests
+      (le-leb _ _ (k .buys), (le-leb _ _ (k .sells), le-leb _ _ (k .trades)))
 
   -- a well-formed state in memory
   pub record MemoryOk : Type 0 where
@@ -98,4 +104,6 @@ module _ (m : Memory) where
 
   pub memory-test : MemoryOk → wellFormedMemory m ≡ true
   unfolding wellFormedMemory
-  memory-test k = join (countsInRange (m .state)) (hasRoom m ∷ wellFormedContents (exchangeOf m) ∷ []) (counts-test (m .state) (k .counts), (room-test (k .room), k .contents))
+  memory-test k =
+      join (countsInRange (m .state)) (hasRoom m ∷ wellFormedContents (exchangeOf m) ∷ [])
+      (counts-test (m .state) (k .counts), (room-test (k .room), k .contents))

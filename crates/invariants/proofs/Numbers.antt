@@ -100,9 +100,15 @@ uses-none accounts next c (o ∷ os) h =
     let l = order-ok accounts next c o (p .0) .number-high in
     rw (ne-eqb next (o .number) (λ e. let z : _≡_ {A = ℕ} next (o .number) = e in omega arith)) (omega (arith, uses-none accounts next c os (p .1)))
 
-pub next-unused : (accounts next : ℕ) (ms : List Listing) → ((c : ℕ) → c < length ms → ListingOk accounts next (getD ms c noListing)) → occurs next (allNumbers ms) ≡ 0
+pub next-unused : (accounts next : ℕ) (ms : List Listing) → ((c : ℕ) → c < length ms → ListingOk accounts next (getD ms c noListing)) →
+    occurs next (allNumbers ms) ≡ 0
 unfolding usesIn
 next-unused accounts next ms ok =
     let none : (c : ℕ) → c < length ms → usesIn next (getD ms c noListing) ≤ 0 =
-    λ c l. omega (arith, uses-none accounts next _ (getD ms c noListing .buys) (ok c l .orders false), uses-none accounts next _ (getD ms c noListing .sells) (ok c l .orders true)) in
+    λ c l. omega (
+      arith,
+      uses-none accounts next _ (getD ms c noListing .buys) (ok c l .orders false),
+      uses-none accounts next _
+          (getD ms c noListing .sells) (ok c l .orders true),
+    ) in
     omega (arith, all-uses next ms, sumOf-bound (usesIn next) 0 ms noListing none)

@@ -30,10 +30,13 @@ module _ (x : Exchange) (k : WellFormed x) (c : ℕ) (there : c < length (x .lis
         next-low = k .next-low;
         next-high = k .next-high;
         settlements = k .settlements;
-        listing = λ d l. at-set (λ (j : ℕ) (n : Listing). ListingOk (length (x .accounts)) (x .next) n) (x .listings) c m noListing there ok d (λ n. k .listing d (rw same-count at l));
+        listing =
+            λ d l. at-set (λ (j : ℕ) (n : Listing). ListingOk (length (x .accounts)) (x .next) n) (x .listings) c m noListing there ok d
+            (λ n. k .listing d (rw same-count at l));
         once = once-changed (x .listings) c m there (k .once) (λ n. omega (arith, fewer n, once-count (allNumbers (x .listings)) (k .once) n));
         trades = trades-carried x (withListing x c m) (sym same-count) refl (le-refl (x .next))
-            (λ d. at-set (λ (j : ℕ) (n : Listing). Allows (listingAt x j .contract) (n .contract)) (x .listings) c m noListing there allows d (λ n p h. h))
+            (λ d. at-set (λ (j : ℕ) (n : Listing). Allows (listingAt x j .contract) (n .contract)) (x .listings) c m noListing there allows d
+            (λ n p h. h))
             (x .trades) (k .trades);
         covered = k .covered;
         replay = k .replay;

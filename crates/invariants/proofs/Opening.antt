@@ -1,11 +1,27 @@
--- The state in which a sound day file opens is well formed, and stays so: no command of the file meets code 21. Assumes nothing.
-use mathlib.Core.List.{map}
-use mathlib.Core.Path.{_≡_, refl}
-use Prim.Native.Nat.{ℕ, zero, suc}
-use lib.ListN.{getD, replicate}
-use Rattle.rules.specs.DayFile
+-- The state in which a sound day file opens is well formed, so that no command of the file can meet code 21. Assumes nothing.
+use mathlib.Core.Bool.{Bool, true}
+use mathlib.Core.List.{List, [], _∷_, map}
+use mathlib.Core.Path.{_≡_, refl, ap}
+use Prim.Native.Nat.{ℕ, zero, suc, _+_, _<_, _≤_}
+use native.Mathlib.Omega.{arith}
+use borrow.Author.Tests.{leb-true, le-leb}
+use lib.Dec.{leb, eqb}
+use lib.IntN.{pos}
+use lib.ListN.{length, getD, replicate}
+use Rattle.laws.specs.Choice.{all, all-at, both-true}
+use Rattle.rules.specs.Bounds.{within, termsInRange, tickMultiple, maxContracts, maxAccounts, maxBalance}
+use Rattle.rules.specs.DayFile.{maxCommands, u16At, contractsIn, contractPlace, accountsIn, commandsIn, commandPlace, contractFrom, contractSound, balanceFrom, accountSound, sound, openingListing, openingAccount, opening}
 use Rattle.rules.specs.Exchange.{noHolding}
-use Rattle.rules.specs.Holdings.{startHolding}
+use Rattle.rules.specs.Holdings.{startHolding, startAccount}
+use Rattle.rules.specs.WellFormed.{contractInRange, wellFormedContents}
+use Rattle.rules.specs.declared.Contract.{Contract}
+use Rattle.rules.specs.declared.Holding.{Holding}
+use Rattle.accounting.proofs.Facts.{passed}
+use Rattle.invariants.proofs.Clauses.{well-formed-test}
+use Rattle.invariants.proofs.FreshDay.{fresh-day, fresh-counted}
+use Rattle.invariants.proofs.Keeps.{Sound}
+use Rattle.invariants.proofs.Tests.{join}
+use Rattle.invariants.proofs.Ticks.{terms}
 
 no-lots : (n c : ℕ) → getD (replicate n noHolding) c noHolding ≡ noHolding
 no-lots zero c = refl
@@ -15,3 +31,60 @@ no-lots (suc n) (suc c) = no-lots n c
 none-start : (n : ℕ) → map startHolding (replicate n noHolding) ≡ replicate n noHolding
 none-start zero = refl
 none-start (suc n) = rw (none-start n)
+
+module _ (file : List ℕ) (h : sound file ≡ true) where
+  abbrev fileTests : List Bool
+  fileTests =
+      within 1 maxAccounts (accountsIn file)
+      ∷ leb (commandsIn file) maxCommands
+      ∷ eqb (length file) (commandPlace file (commandsIn file))
+      ∷ all (contractSound file) (contractsIn file)
+      ∷ all (accountSound file) (accountsIn file)
+      ∷ []
+
+  few-contracts : contractsIn file ≤ maxContracts
+  unfolding sound
+  few-contracts =
+      leb-true _ _ (both-true (leb 1 (contractsIn file)) (leb (contractsIn file) maxContracts)
+      (passed (within 1 maxContracts (contractsIn file)) fileTests h .0) .1)
+
+  -- the last price starts as the reference
+  in-range : (c : ℕ) → c < contractsIn file → contractInRange (contractFrom file (contractPlace c)) ≡ true
+  unfolding sound contractSound contractInRange contractFrom
+  in-range c l =
+      let k = all-at (contractSound file) c (contractsIn file) (passed (within 1 maxContracts (contractsIn file)) fileTests h .1 .1 .1 .1 .0) l in
+      let t = both-true (termsInRange (contractFrom file (contractPlace c))) (eqb (u16At file (contractPlace c + 18)) 0) k .0 in
+      join (termsInRange (contractFrom file (contractPlace c)))
+      (leb 0 3 ∷ tickMultiple (contractFrom file (contractPlace c) .tick) (contractFrom file (contractPlace c) .reference) ∷ [])
+      (t, (le-leb 0 3 (omega arith), terms (contractFrom file (contractPlace c)) t .reference))
+
+  start : (a : ℕ) → startAccount (openingAccount file a) ≡ openingAccount file a
+  unfolding openingAccount
+  start a = ap (λ (hs : List Holding). record { balance = pos (balanceFrom file a); holdings = hs }) (none-start (contractsIn file))
+
+  nothing-held : (a c : ℕ) → getD (openingAccount file a .holdings) c noHolding ≡ noHolding
+  unfolding openingAccount
+  nothing-held a c = no-lots (contractsIn file) c
+
+  balance-low : (a : ℕ) → a < accountsIn file → balanceFrom file a ≤ maxBalance
+  unfolding sound accountSound
+  balance-low a l =
+      leb-true _ _ (all-at (accountSound file) a (accountsIn file) (passed (within 1 maxContracts (contractsIn file)) fileTests h .1 .1 .1 .1 .1) l)
+
+  pub opening-sound : Sound (opening file)
+  unfolding opening openingListing
+  opening-sound =
+      record {
+        contents =
+            fresh-day (contractsIn file) (λ c. contractFrom file (contractPlace c)) (accountsIn file) (openingAccount file) 0 in-range start
+            (omega arith)
+            (λ a c la lc. rw (nothing-held a c) (omega arith))
+            (λ a c la lc. rw (nothing-held a c) (omega arith))
+            (λ a l. unfold openingAccount in omega (arith, balance-low a l));
+        counts =
+            fresh-counted (contractsIn file) (λ c. contractFrom file (contractPlace c)) (accountsIn file)
+            (openingAccount file) 0 in-range start few-contracts;
+      }
+
+  pub opening-well-formed : wellFormedContents (opening file) ≡ true
+  opening-well-formed = well-formed-test (opening file) (opening-sound .contents)

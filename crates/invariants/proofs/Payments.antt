@@ -66,9 +66,13 @@ module _ (x : Exchange) (k : WellFormed x) (a : ℕ) (there : a < length (x .acc
         once = k .once;
         trades = trades-carried x (paid x a balance) refl (sym same-count) (le-refl (x .next)) (λ c p h. h) (x .trades) (k .trades);
         covered = never-same (startOfDay after) (startOfDay (x .accounts)) same-start (x .trades) ∙ k .covered;
-        replay = holdings-same (bookTrades (startOfDay after) (x .trades)) after (book-same (startOfDay after) (startOfDay (x .accounts)) same-start (x .trades) ∙ same-holdings _ _ (k .replay) ∙ sym same-lots);
+        replay =
+            holdings-same (bookTrades (startOfDay after) (x .trades)) after
+            (book-same (startOfDay after) (startOfDay (x .accounts)) same-start (x .trades) ∙ same-holdings _ _ (k .replay) ∙ sym same-lots);
         holding = λ b c lb lc. rw (same-holding b c) (k .holding b c (rw same-count at lb) lc);
-        balance = λ b lb. at-set (λ (j : ℕ) (d : Account). natAbs (d .balance) ≤ maxBalance + x .settlements * maxDayProfit) (x .accounts) a _ noAccount there bound b (λ n. k .balance b (rw same-count at lb));
+        balance =
+            λ b lb. at-set (λ (j : ℕ) (d : Account). natAbs (d .balance) ≤ maxBalance + x .settlements * maxDayProfit)
+            (x .accounts) a _ noAccount there bound b (λ n. k .balance b (rw same-count at lb));
       }
 
 pub paid-counted : (x : Exchange) (a : ℕ) (balance : ℤ) → Counted x → Counted (paid x a balance)
@@ -101,14 +105,16 @@ module _ (x : Exchange) (k : WellFormed x) (account amount : ℕ) where
       let f = failed (depositRefusals x account amount) (omega arith) e in
       let there = present account (x .accounts) (f .0) in
       let low = either-false (amountRefused amount) (liftsTooHigh x account amount) (f .1 .0) .1 in
-      paid-keeps x k (placeOf account) there _ (deposit-bound (accountAt (x .accounts) (placeOf account) .balance) amount maxBalance _ (k .balance _ there) (omega arith) low)
+      paid-keeps x k (placeOf account) there _
+      (deposit-bound (accountAt (x .accounts) (placeOf account) .balance) amount maxBalance _ (k .balance _ there) (omega arith) low)
 
   pub withdraw-keeps : codeOf x (Withdraw account amount) ≡ 0 → WellFormed (carriedOut x (Withdraw account amount) .exchange)
   unfolding codeOf refusals withdrawRefusals carriedOut withdrawn available
   withdraw-keeps e =
       let f = failed (withdrawRefusals x account amount) (omega arith) e in
       let there = present account (x .accounts) (f .0) in
-      paid-keeps x k (placeOf account) there _ (withdraw-bound (accountAt (x .accounts) (placeOf account) .balance) amount (charged x (placeOf account)) _ (k .balance _ there) (f .1 .1 .0))
+      paid-keeps x k (placeOf account) there _
+      (withdraw-bound (accountAt (x .accounts) (placeOf account) .balance) amount (charged x (placeOf account)) _ (k .balance _ there) (f .1 .1 .0))
 
 module _ (x : Exchange) (account amount : ℕ) where
   pub deposit-counted : Counted x → Counted (carriedOut x (Deposit account amount) .exchange)

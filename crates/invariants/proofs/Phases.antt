@@ -36,7 +36,15 @@ known from to h = go (leb to 3) refl
     go true e = leb-true to 3 e
     go false e =
         let l = leb-false to 3 e in
-        absurd (false≢true (rw (other 1 l (omega arith), other 2 l (omega arith), other 3 l (omega arith), both-false (eqb from 0) false refl, both-false (eqb from 1) false refl, both-false (eqb from 2) false refl) at h))
+        absurd (false≢true (rw (
+          other 1 l (omega arith),
+          other 2 l (omega arith),
+          other 3 l (omega arith),
+          both-false (eqb from 0) false refl,
+          both-false
+              (eqb from 1) false refl,
+          both-false (eqb from 2) false refl,
+        ) at h))
 
 -- the prices allowed do not depend on the state
 pub allows-phase : (c : Contract) (phase : ℕ) → Allows c (withPhase c phase)
@@ -56,7 +64,9 @@ module _ (accounts next : ℕ) (m : Listing) (phase : ℕ) (l : phase ≤ 3) whe
         contract = contract-phase (m .contract) phase l (k .contract);
         order = k .order;
         apart = k .apart;
-        orders = λ sell. orders-carried accounts next next (m .contract) (withPhase (m .contract) phase) (le-refl next) (allows-phase (m .contract) phase) (own sell m) (k .orders sell);
+        orders =
+            λ sell. orders-carried accounts next next (m .contract) (withPhase (m .contract) phase) (le-refl next)
+            (allows-phase (m .contract) phase) (own sell m) (k .orders sell);
       }
 
 module _ (x : Exchange) (contract phase : ℕ) (e : codeOf x (Phase contract phase) ≡ 0) where

@@ -77,7 +77,9 @@ module _ (test : Order → Bool) where
         record {
           contract = k .contract;
           order = λ sell. rw (own-without m sell) (without-sorted sell (own sell m) (k .order sell));
-          apart = apart-uncrossed (without test (m .buys)) (without test (m .sells)) (without-apart (m .buys) (m .sells) (uncrossed-apart (m .buys) (m .sells) (k .order false) (k .order true) (k .apart)));
+          apart =
+              apart-uncrossed (without test (m .buys)) (without test (m .sells))
+              (without-apart (m .buys) (m .sells) (uncrossed-apart (m .buys) (m .sells) (k .order false) (k .order true) (k .apart)));
           orders = λ sell. rw (own-without m sell) (without-all (orderInRange accounts next (m .contract)) (own sell m) (k .orders sell));
         }
 
@@ -102,12 +104,14 @@ module _ (test : Order → Bool) where
     removed-keeps : WellFormed x → WellFormed (removed x c test number .exchange)
     unfolding removed
     removed-keeps k =
-        relisted-keeps x k c there (listingWithout test (listingAt x c)) (listing-without _ _ _ (k .listing c there)) (λ p h. h) (λ a h. holding-without (listingAt x c) a h) (fewer (listingAt x c))
+        relisted-keeps x k c there (listingWithout test (listingAt x c)) (listing-without _ _ _ (k .listing c there)) (λ p h. h)
+        (λ a h. holding-without (listingAt x c) a h) (fewer (listingAt x c))
 
     removed-counted : Counted x → Counted (removed x c test number .exchange)
     unfolding removed
     removed-counted n =
-        relisted-counted x c there (listingWithout test (listingAt x c)) n (λ sell. rw (own-without (listingAt x c) sell) (length-without test (own sell (listingAt x c))))
+        relisted-counted x c there (listingWithout test (listingAt x c)) n
+        (λ sell. rw (own-without (listingAt x c) sell) (length-without test (own sell (listingAt x c))))
 
 module _ (x : Exchange) (account contract : ℕ) (operator : Bool) where
   module _ (number : ℕ) (e : codeOf x (Cancel account contract operator number) ≡ 0) where

@@ -44,7 +44,8 @@ same-lots [] (k ∷ ks) e = absurd (false≢true e)
 same-lots (h ∷ hs) [] e = absurd (false≢true e)
 same-lots (h ∷ hs) (k ∷ ks) e =
     let p = passed (eqb (h .long) (k .long)) (eqb (h .short) (k .short) ∷ sameLots hs ks ∷ []) e in
-    ap₂ (λ (j : Holding) (js : List Holding). j ∷ js) (same-now h k (eqb-true (h .long) (k .long) (p .0)) (eqb-true (h .short) (k .short) (p .1 .0))) (same-lots hs ks (p .1 .1))
+    ap₂ (λ (j : Holding) (js : List Holding). j ∷ js)
+    (same-now h k (eqb-true (h .long) (k .long) (p .0)) (eqb-true (h .short) (k .short) (p .1 .0))) (same-lots hs ks (p .1 .1))
 
 lots-same : (hs ks : List Holding) → map nowOnly hs ≡ map nowOnly ks → sameLots hs ks ≡ true
 unfolding sameLots
@@ -52,8 +53,10 @@ lots-same [] [] e = refl
 lots-same [] (k ∷ ks) e = absurd (omega (arith, ap length e))
 lots-same (h ∷ hs) [] e = absurd (omega (arith, ap length e))
 lots-same (h ∷ hs) (k ∷ ks) e =
-    join (eqb (h .long) (k .long)) (eqb (h .short) (k .short) ∷ sameLots hs ks ∷ [])
-    (eq-eqb _ _ (ap (λ (l : List Holding). getD l 0 noHolding .long) e), (eq-eqb _ _ (ap (λ (l : List Holding). getD l 0 noHolding .short) e), lots-same hs ks (ap (λ (l : List Holding). drop 1 l) e)))
+    join (eqb (h .long) (k .long)) (eqb (h .short) (k .short) ∷ sameLots hs ks ∷ []) (
+      eq-eqb _ _ (ap (λ (l : List Holding). getD l 0 noHolding .long) e),
+      (eq-eqb _ _ (ap (λ (l : List Holding). getD l 0 noHolding .short) e), lots-same hs ks (ap (λ (l : List Holding). drop 1 l) e)),
+    )
 
 pub same-holdings : (as′ bs : List Account) → sameHoldings as′ bs ≡ true → lotsOnly as′ ≡ lotsOnly bs
 unfolding sameHoldings lotsOnly
@@ -62,7 +65,8 @@ same-holdings [] (b ∷ bs) e = absurd (false≢true e)
 same-holdings (a ∷ as′) [] e = absurd (false≢true e)
 same-holdings (a ∷ as′) (b ∷ bs) e =
     let p = both-true (sameLots (a .holdings) (b .holdings)) (sameHoldings as′ bs) e in
-    ap₂ (λ (hs : List Holding) (ls : List Account). record { balance = pos 0; holdings = hs } ∷ ls) (same-lots (a .holdings) (b .holdings) (p .0)) (same-holdings as′ bs (p .1))
+    ap₂ (λ (hs : List Holding) (ls : List Account). record { balance = pos 0; holdings = hs } ∷ ls)
+    (same-lots (a .holdings) (b .holdings) (p .0)) (same-holdings as′ bs (p .1))
 
 pub holdings-same : (as′ bs : List Account) → lotsOnly as′ ≡ lotsOnly bs → sameHoldings as′ bs ≡ true
 unfolding sameHoldings lotsOnly
@@ -88,8 +92,11 @@ leg-lots : (h : Holding) (sell : Bool) (close lots : ℕ) → nowOnly (afterLeg 
 unfolding afterLeg
 leg-lots h sell close lots = go sell (eqb close 0)
   where
-    go : (s o : Bool) → nowOnly (pick s (pick o (withShort h (h .short + lots)) (withLong h (h .long - lots))) (pick o (withLong h (h .long + lots)) (withShort h (h .short - lots))))
-        ≡ pick s (pick o (withShort (nowOnly h) (h .short + lots)) (withLong (nowOnly h) (h .long - lots))) (pick o (withLong (nowOnly h) (h .long + lots)) (withShort (nowOnly h) (h .short - lots)))
+    go : (s o : Bool) →
+        nowOnly (pick s (pick o (withShort h (h .short + lots)) (withLong h (h .long - lots)))
+        (pick o (withLong h (h .long + lots)) (withShort h (h .short - lots))))
+        ≡ pick s (pick o (withShort (nowOnly h) (h .short + lots)) (withLong (nowOnly h) (h .long - lots)))
+        (pick o (withLong (nowOnly h) (h .long + lots)) (withShort (nowOnly h) (h .short - lots)))
     go false false = refl
     go false true = refl
     go true false = refl
@@ -101,7 +108,8 @@ module _ (accounts : List Account) (a c : ℕ) (sell : Bool) (close lots : ℕ) 
   book-lots =
       map-set lotsOf accounts a _
       ∙ rw (account-lots accounts a, holding-lots accounts a c, ← leg-lots (holdingAt accounts a c) sell close lots)
-      (ap (λ (hs : List Holding). set (map lotsOf accounts) a (record { balance = pos 0; holdings = hs })) (map-set nowOnly (accountAt accounts a .holdings) c (afterLeg (holdingAt accounts a c) sell close lots)))
+      (ap (λ (hs : List Holding). set (map lotsOf accounts) a (record { balance = pos 0; holdings = hs }))
+      (map-set nowOnly (accountAt accounts a .holdings) c (afterLeg (holdingAt accounts a c) sell close lots)))
 
   covered-lots : legCovered (lotsOnly accounts) a c sell close lots ≡ legCovered accounts a c sell close lots
   unfolding legCovered
@@ -122,7 +130,14 @@ never-lots : (accounts : List Account) (ts : List Trade) → neverBelowZero (lot
 unfolding neverBelowZero
 never-lots accounts [] = refl
 never-lots accounts (t ∷ ts) =
-    rw (covered-lots accounts (t .buyer) (t .contract) false (t .buyclose) (t .lots), ← book-lots accounts (t .buyer) (t .contract) false (t .buyclose) (t .lots), covered-lots (bookBuyer accounts t) (t .seller) (t .contract) true (t .sellclose) (t .lots), ← trade-lots accounts t, never-lots (bookTrade accounts t) ts)
+    rw (
+      covered-lots accounts (t .buyer) (t .contract) false (t .buyclose) (t .lots),
+      ← book-lots accounts (t .buyer) (t .contract) false
+          (t .buyclose) (t .lots),
+      covered-lots (bookBuyer accounts t) (t .seller) (t .contract) true (t .sellclose) (t .lots),
+      ← trade-lots accounts t,
+      never-lots (bookTrade accounts t) ts,
+    )
 
 module _ (as′ bs : List Account) (same : lotsOnly as′ ≡ lotsOnly bs) (ts : List Trade) where
   pub book-same : lotsOnly (bookTrades as′ ts) ≡ lotsOnly (bookTrades bs ts)

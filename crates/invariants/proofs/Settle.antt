@@ -54,7 +54,10 @@ module _ (x : Exchange) (c : ℕ) (k : ListingOk (length (x .accounts)) (x .next
 
   its-terms : Terms (listingAt x c .contract)
   unfolding contractInRange
-  its-terms = terms (listingAt x c .contract) (passed (termsInRange (listingAt x c .contract)) (leb (listingAt x c .contract .phase) 3 ∷ tickMultiple tick (listingAt x c .contract .last) ∷ []) (k .contract) .0)
+  its-terms =
+      terms (listingAt x c .contract)
+      (passed (termsInRange (listingAt x c .contract))
+      (leb (listingAt x c .contract .phase) 3 ∷ tickMultiple tick (listingAt x c .contract .last) ∷ []) (k .contract) .0)
 
   -- its own trades
   abbrev ownTrade : Trade → Bool
@@ -87,12 +90,15 @@ module _ (x : Exchange) (c : ℕ) (k : ListingOk (length (x .accounts)) (x .next
   unfolding priceFrom quotedPrice
   price-from [] [] sells h b s = multiple tick _ (its-terms .reference)
   price-from [] (p ∷ ps) [] h b s = multiple tick _ (its-terms .reference)
-  price-from [] (p ∷ ps) (q ∷ qs) h b s = middle-any (Multiple tick) (p .price) (q .price) _ (first-multiple false p ps b) (first-multiple true q qs s) (multiple tick _ (its-terms .reference))
+  price-from [] (p ∷ ps) (q ∷ qs) h b s =
+      middle-any (Multiple tick) (p .price) (q .price) _ (first-multiple false p ps b) (first-multiple true q qs s)
+      (multiple tick _ (its-terms .reference))
   price-from (t ∷ ts) buys sells h b s = weighted-multiple tick (t ∷ ts) (its-terms .tick-low) (some-lots t ts h) (priced (t ∷ ts) h)
 
   pub price-multiple : allOf (tradeInRange x) (x .trades) ≡ true → Multiple tick (settlementPrice x c)
   unfolding settlementPrice
-  price-multiple h = price-from (tradesIn c (x .trades)) (listingAt x c .buys) (listingAt x c .sells) (trades-in c (tradeInRange x) (x .trades) h) refl refl
+  price-multiple h =
+      price-from (tradesIn c (x .trades)) (listingAt x c .buys) (listingAt x c .sells) (trades-in c (tradeInRange x) (x .trades) h) refl refl
 
 -- ---- what a settlement leaves
 
@@ -127,33 +133,40 @@ module _ (x : Exchange) (k : WellFormed x) (n : Counted x) where
   contractAt c = settledContract (listingAt x c .contract) (settlementPrice x c)
 
   in-range : (c : ℕ) → c < length (x .listings) → contractInRange (contractAt c) ≡ true
-  in-range c l = contract-settled (listingAt x c .contract) (settlementPrice x c) (k .listing c l .contract) (price-multiple x c (k .listing c l) (k .trades))
+  in-range c l =
+      contract-settled (listingAt x c .contract) (settlementPrice x c) (k .listing c l .contract) (price-multiple x c (k .listing c l) (k .trades))
 
   start : (a : ℕ) → startAccount (settledAccount x a) ≡ settledAccount x a
   unfolding settledAccount
-  start a = ap (λ (hs : List Holding). record { balance = settledAccount x a .balance; holdings = hs }) (carried-start (accountAt (x .accounts) a .holdings))
+  start a =
+      ap (λ (hs : List Holding). record { balance = settledAccount x a .balance; holdings = hs })
+      (carried-start (accountAt (x .accounts) a .holdings))
 
   held-at : (a c : ℕ) → getD (settledAccount x a .holdings) c noHolding ≡ carriedHolding (holdingAt (x .accounts) a c)
   unfolding settledAccount holdingAt
   held-at a c = List·getD-map carriedHolding (accountAt (x .accounts) a .holdings) c noHolding
 
-  long-kept : (a c : ℕ) → a < length (x .accounts) → c < length (x .listings) → getD (settledAccount x a .holdings) c noHolding .long ≤ contractAt c .limit
+  long-kept : (a c : ℕ) → a < length (x .accounts) → c < length (x .listings) →
+      getD (settledAccount x a .holdings) c noHolding .long ≤ contractAt c .limit
   unfolding settledContract
   long-kept a c la lc = rw (held-at a c) (omega (arith, k .holding a c la lc .opens false))
 
-  short-kept : (a c : ℕ) → a < length (x .accounts) → c < length (x .listings) → getD (settledAccount x a .holdings) c noHolding .short ≤ contractAt c .limit
+  short-kept : (a c : ℕ) → a < length (x .accounts) → c < length (x .listings) →
+      getD (settledAccount x a .holdings) c noHolding .short ≤ contractAt c .limit
   unfolding settledContract
   short-kept a c la lc = rw (held-at a c) (omega (arith, k .holding a c la lc .opens true))
 
   pub settled-keeps : x .settlements < maxSettlements → WellFormed (settled x)
   unfolding settled settledListing
   settled-keeps few =
-      fresh-day (length (x .listings)) contractAt (length (x .accounts)) (settledAccount x) (x .settlements + 1) in-range start (omega arith) long-kept short-kept
+      fresh-day (length (x .listings)) contractAt (length (x .accounts)) (settledAccount x) (x .settlements + 1) in-range start
+      (omega arith) long-kept short-kept
       (λ a l. settled-balance-bound x (well-formed-test x k) (n .contracts) (n .trades) a l (k .balance a l))
 
   pub settled-counted : Counted (settled x)
   unfolding settled settledListing
-  settled-counted = fresh-counted (length (x .listings)) contractAt (length (x .accounts)) (settledAccount x) (x .settlements + 1) in-range start (n .contracts)
+  settled-counted =
+      fresh-counted (length (x .listings)) contractAt (length (x .accounts)) (settledAccount x) (x .settlements + 1) in-range start (n .contracts)
 
 -- ---- the step
 

@@ -71,7 +71,8 @@ sorted-ahead sell o [] h = refl
 sorted-ahead sell o (p ∷ ps) h =
     let q = both-true (ahead sell o p) (sorted sell (p ∷ ps)) h in
     true-both (ahead sell o p) (allOf (ahead sell o) ps) (q .0)
-    (allOf-imp (ahead sell p) (ahead sell o) ps (λ r e. is-ahead sell o r (ahead-trans sell o p r (ahead-is sell o p (q .0)) (ahead-is sell p r e))) (sorted-ahead sell p ps (q .1)))
+    (allOf-imp (ahead sell p) (ahead sell o) ps
+    (λ r e. is-ahead sell o r (ahead-trans sell o p r (ahead-is sell o p (q .0)) (ahead-is sell p r e))) (sorted-ahead sell p ps (q .1)))
 
 pub ahead-sorted : (sell : Bool) (o : Order) (os : List Order) → allOf (ahead sell o) os ≡ true → sorted sell os ≡ true → sorted sell (o ∷ os) ≡ true
 unfolding sorted aheadOfFirst allOf
@@ -80,7 +81,8 @@ ahead-sorted sell o (p ∷ ps) h s = true-both (ahead sell o p) (sorted sell (p 
 
 -- ---- an order that comes to rest
 
-pub restIn-all : (test : Order → Bool) (sell : Bool) (o : Order) (os : List Order) → test o ≡ true → allOf test os ≡ true → allOf test (restIn sell o os) ≡ true
+pub restIn-all : (test : Order → Bool) (sell : Bool) (o : Order) (os : List Order) → test o ≡ true → allOf test os ≡ true →
+    allOf test (restIn sell o os) ≡ true
 unfolding restIn allOf
 restIn-all test sell o [] e h = true-both (test o) true e refl
 restIn-all test sell o (p ∷ ps) e h = go (worse sell (p .price) (o .price)) (restIn-all test sell o ps e (q .1))
@@ -94,11 +96,15 @@ restIn-all test sell o (p ∷ ps) e h = go (worse sell (p .price) (o .price)) (r
 
 -- an order at a price that is no worse, with a lower number, is ahead
 not-worse : (sell : Bool) (p o : Order) → worse sell (p .price) (o .price) ≡ false → p .number < o .number → Ahead sell p o
-not-worse true p o e l = ⊎-elim (λ (q : p .price ≡ o .price). earlier q l) (λ (h : p .price < o .price). better h) (eq-or-lt-of-le (ltb-false (o .price) (p .price) e))
-not-worse false p o e l = ⊎-elim (λ (q : o .price ≡ p .price). earlier (sym q) l) (λ (h : o .price < p .price). better h) (eq-or-lt-of-le (ltb-false (p .price) (o .price) e))
+not-worse true p o e l =
+    ⊎-elim (λ (q : p .price ≡ o .price). earlier q l) (λ (h : p .price < o .price). better h) (eq-or-lt-of-le (ltb-false (o .price) (p .price) e))
+not-worse false p o e l =
+    ⊎-elim (λ (q : o .price ≡ p .price). earlier (sym q) l) (λ (h : o .price < p .price). better h)
+    (eq-or-lt-of-le (ltb-false (p .price) (o .price) e))
 
 pub restIn-sorted :
-    (sell : Bool) (o : Order) (os : List Order) → sorted sell os ≡ true → allOf (λ p. ltb (p .number) (o .number)) os ≡ true → sorted sell (restIn sell o os) ≡ true
+    (sell : Bool) (o : Order) (os : List Order) → sorted sell os ≡ true → allOf (λ p. ltb (p .number) (o .number)) os ≡ true → sorted sell
+    (restIn sell o os) ≡ true
 unfolding restIn
 restIn-sorted sell o [] s n = unfold sorted aheadOfFirst in refl
 restIn-sorted sell o (p ∷ ps) s n = go (worse sell (p .price) (o .price)) refl (restIn-sorted sell o ps (sorted-tail sell p ps s) (q .1))
@@ -109,11 +115,13 @@ restIn-sorted sell o (p ∷ ps) s n = go (worse sell (p .price) (o .price)) refl
     front : Ahead sell o p → sorted sell (o ∷ p ∷ ps) ≡ true
     front h = unfold sorted aheadOfFirst in true-both (ahead sell o p) (sorted sell (p ∷ ps)) (is-ahead sell o p h) s
 
-    go : (b : Bool) → worse sell (p .price) (o .price) ≡ b → sorted sell (restIn sell o ps) ≡ true → sorted sell (pick b (o ∷ p ∷ ps) (p ∷ restIn sell o ps)) ≡ true
+    go : (b : Bool) → worse sell (p .price) (o .price) ≡ b → sorted sell (restIn sell o ps) ≡ true →
+        sorted sell (pick b (o ∷ p ∷ ps) (p ∷ restIn sell o ps)) ≡ true
     go true w ih = front (better (worse-better sell (o .price) (p .price) w))
     go false w ih =
         ahead-sorted sell p (restIn sell o ps)
-        (restIn-all (ahead sell p) sell o ps (is-ahead sell p o (not-worse sell p o w (ltb-true (p .number) (o .number) (q .0)))) (sorted-ahead sell p ps s)) ih
+        (restIn-all (ahead sell p) sell o ps (is-ahead sell p o (not-worse sell p o w (ltb-true (p .number) (o .number) (q .0))))
+        (sorted-ahead sell p ps s)) ih
 
 pub restIn-sum : (f : Order → ℕ) (sell : Bool) (o : Order) (os : List Order) → sumOf f (restIn sell o os) ≡ f o + sumOf f os
 unfolding restIn sumOf
@@ -139,18 +147,21 @@ ahead-price true o p (earlier e l) = omega arith
 ahead-price false o p (better h) = omega arith
 ahead-price false o p (earlier e l) = omega arith
 
-above-all : (price : ℕ) (s : Order) (ss : List Order) → price < s .price → sorted true (s ∷ ss) ≡ true → allOf (λ r. ltb price (r .price)) (s ∷ ss) ≡ true
+above-all : (price : ℕ) (s : Order) (ss : List Order) → price < s .price → sorted true (s ∷ ss) ≡ true →
+    allOf (λ r. ltb price (r .price)) (s ∷ ss) ≡ true
 unfolding allOf
 above-all price s ss l h =
     true-both (ltb price (s .price)) (allOf (λ r. ltb price (r .price)) ss) (lt-ltb price (s .price) l)
-    (allOf-imp (ahead true s) (λ r. ltb price (r .price)) ss (λ r e. lt-ltb price (r .price) (omega (arith, ahead-price true s r (ahead-is true s r e)))) (sorted-ahead true s ss h))
+    (allOf-imp (ahead true s) (λ r. ltb price (r .price)) ss
+    (λ r e. lt-ltb price (r .price) (omega (arith, ahead-price true s r (ahead-is true s r e)))) (sorted-ahead true s ss h))
 
 none-above : (buys : List Order) → allOf (λ b. allOf (below b) []) buys ≡ true
 unfolding allOf
 none-above [] = refl
 none-above (b ∷ bs) = none-above bs
 
-pub uncrossed-apart : (buys sells : List Order) → sorted false buys ≡ true → sorted true sells ≡ true → uncrossed buys sells ≡ true → apart buys sells ≡ true
+pub uncrossed-apart : (buys sells : List Order) → sorted false buys ≡ true → sorted true sells ≡ true → uncrossed buys sells ≡ true →
+    apart buys sells ≡ true
 unfolding apart uncrossed
 uncrossed-apart [] sells p q h = unfold allOf in refl
 uncrossed-apart (b ∷ bs) [] p q h = none-above (b ∷ bs)
@@ -158,7 +169,8 @@ uncrossed-apart (b ∷ bs) (s ∷ ss) p q h = unfold allOf in
     true-both (allOf (below b) (s ∷ ss)) (allOf (λ r. allOf (below r) (s ∷ ss)) bs)
     (above-all (b .price) s ss (ltb-true (b .price) (s .price) h) q)
     (allOf-imp (ahead false b) (λ r. allOf (below r) (s ∷ ss)) bs
-    (λ r e. above-all (r .price) s ss (omega (arith, ltb-true (b .price) (s .price) h, ahead-price false b r (ahead-is false b r e))) q) (sorted-ahead false b bs p))
+    (λ r e. above-all (r .price) s ss (omega (arith, ltb-true (b .price) (s .price) h, ahead-price false b r (ahead-is false b r e))) q)
+    (sorted-ahead false b bs p))
 
 pub apart-uncrossed : (buys sells : List Order) → apart buys sells ≡ true → uncrossed buys sells ≡ true
 unfolding apart uncrossed allOf

@@ -28,7 +28,8 @@ abbrev pub KeptBy : Bool → ℕ → ℕ → ℕ → List Account → List Order
 KeptBy sell accounts limit c l own opposite = Kept accounts limit c l (pick sell opposite own) (pick sell own opposite)
 
 -- one trade: both legs are covered, and both orders have so many lots fewer
-pub record TradeKept (accounts limit : ℕ) (t : Taker) (price : ℕ) (own : List Order) (l : List Account) (left last : ℕ) (o : Order) (os : List Order) : Type 0 where
+pub record TradeKept (accounts limit : ℕ) (t : Taker) (price : ℕ) (own : List Order) (l : List Account) (left last : ℕ)
+    (o : Order) (os : List Order) : Type 0 where
   pub buy : legCovered l (tradeWith t o left last .buyer) (t .contract) false (tradeWith t o left last .buyclose) (min left (o .lots)) ≡ true
   pub sell : legCovered (bookBuyer l (tradeWith t o left last)) (tradeWith t o left last .seller) (t .contract) true (tradeWith t o left last .sellclose) (min left (o .lots)) ≡ true
   pub kept :
@@ -41,7 +42,8 @@ module _ (accounts limit price : ℕ) (account contract close number best : ℕ)
   taker sell = record { account = account; contract = contract; sell = sell; close = close; number = number; condition = condition; best = best }
 
   turn-by : (sell : Bool) (left last : ℕ) (o : Order) (os : List Order) → o .account < accounts → o .close ≤ 1 →
-      KeptBy sell accounts limit contract l (remainder (taker sell) price left ∷ own) (o ∷ os) → TradeKept accounts limit (taker sell) price own l left last o os
+      KeptBy sell accounts limit contract l (remainder (taker sell) price left ∷ own) (o ∷ os) → TradeKept accounts limit
+      (taker sell) price own l left last o os
   unfolding remainder tradeWith bookTrade
   turn-by false left last o os there its-mark kept =
       let k = min left (o .lots) in
@@ -75,7 +77,8 @@ fewer-kept accounts limit c l buys buys′ sells sells′ f g k a h =
       sell-closes = omega (arith, g 1 a);
     }
 
-pub fewer-by : (sell : Bool) (accounts limit c : ℕ) (l : List Account) (own own′ opposite opposite′ : List Order) → Fewer own′ own → Fewer opposite′ opposite →
+pub fewer-by : (sell : Bool) (accounts limit c : ℕ) (l : List Account) (own own′ opposite opposite′ : List Order) → Fewer own′ own →
+    Fewer opposite′ opposite →
     KeptBy sell accounts limit c l own opposite → KeptBy sell accounts limit c l own′ opposite′
 fewer-by false accounts limit c l own own′ opposite opposite′ f g = fewer-kept accounts limit c l own own′ opposite opposite′ f g
 fewer-by true accounts limit c l own own′ opposite opposite′ f g = fewer-kept accounts limit c l opposite opposite′ own own′ g f
@@ -92,7 +95,8 @@ pub record SweptKept (accounts limit price : ℕ) (t : Taker) (own : List Order)
   pub never : neverBelowZero l (s .trades) ≡ true
   pub kept : KeptBy (t .sell) accounts limit (t .contract) (bookTrades l (s .trades)) (remainder t price (left - tradedLots (s .trades)) ∷ own) (s .rest)
 
-module _ (accounts limit price next : ℕ) (contract : Contract) (t : Taker) (own : List Order) (here : t .account < accounts) (mark : t .close ≤ 1) where
+module _ (accounts limit price next : ℕ) (contract : Contract) (t : Taker) (own : List Order) (here : t .account < accounts)
+    (mark : t .close ≤ 1) where
   abbrev test : Order → Bool
   test = orderInRange accounts next contract
 
@@ -101,15 +105,18 @@ module _ (accounts limit price next : ℕ) (contract : Contract) (t : Taker) (ow
   unfolding allOf
   turn l left last o os h =
       let k = order-ok accounts next contract o (both-true (test o) (allOf test os) h .0) in
-      turn-by accounts limit price (t .account) (t .contract) (t .close) (t .number) (t .best) (t .condition) own l here mark (t .sell) left last o os (k .account) (k .close)
+      turn-by accounts limit price (t .account) (t .contract) (t .close) (t .number) (t .best) (t .condition) own l here mark
+      (t .sell) left last o os (k .account) (k .close)
 
   module _ (l : List Account) (left last : ℕ) (o : Order) (os : List Order) (q : TradeKept accounts limit t price own l left last o os) where
     -- the trade in front of those that are covered behind it
-    never-on : (ts : List Trade) → neverBelowZero (bookTrade l (tradeWith t o left last)) ts ≡ true → neverBelowZero l (tradeWith t o left last ∷ ts) ≡ true
+    never-on : (ts : List Trade) → neverBelowZero (bookTrade l (tradeWith t o left last)) ts ≡ true →
+        neverBelowZero l (tradeWith t o left last ∷ ts) ≡ true
     unfolding neverBelowZero tradeWith
     never-on ts h =
         join (legCovered l (tradeWith t o left last .buyer) (t .contract) false (tradeWith t o left last .buyclose) (min left (o .lots)))
-        (legCovered (bookBuyer l (tradeWith t o left last)) (tradeWith t o left last .seller) (t .contract) true (tradeWith t o left last .sellclose) (min left (o .lots))
+        (legCovered (bookBuyer l (tradeWith t o left last)) (tradeWith t o left last .seller) (t .contract) true
+        (tradeWith t o left last .sellclose) (min left (o .lots))
         ∷ neverBelowZero (bookTrade l (tradeWith t o left last)) ts ∷ [])
         (q .buy, (q .sell, h))
 
@@ -117,31 +124,38 @@ module _ (accounts limit price next : ℕ) (contract : Contract) (t : Taker) (ow
     unfolding bookTrades
     part-kept short =
         let m : min left (o .lots) ≡ left = omega arith in
-        let e : tradedLots (tradeWith t o left last ∷ []) ≡ left = omega (arith, traded-cons (tradeWith t o left last) [], traded-nil, trade-lots t o left last) in
+        let e : tradedLots (tradeWith t o left last ∷ []) ≡ left =
+        omega (arith, traded-cons (tradeWith t o left last) [], traded-nil, trade-lots t o left last) in
         record { never = never-on [] (never-nil (bookTrade l (tradeWith t o left last))); kept = rw e (rw m at (q .kept)) }
 
     full-kept : (s : Swept) → o .lots ≤ left →
-        (KeptBy (t .sell) accounts limit (t .contract) (bookTrade l (tradeWith t o left last)) (remainder t price (left - o .lots) ∷ own) os → SweptKept accounts limit price t own (bookTrade l (tradeWith t o left last)) (left - o .lots) s) →
+        (KeptBy (t .sell) accounts limit (t .contract) (bookTrade l (tradeWith t o left last))
+        (remainder t price (left - o .lots) ∷ own) os → SweptKept accounts limit price t own (bookTrade l (tradeWith t o left last))
+        (left - o .lots) s) →
         SweptKept accounts limit price t own l left (filled t o left last s)
     unfolding bookTrades
     full-kept s enough on =
         let m : min left (o .lots) ≡ o .lots = omega arith in
         let r = on
-        (fewer-by (t .sell) accounts limit (t .contract) (bookTrade l (tradeWith t o left last)) (remainder t price (left - o .lots) ∷ own) (remainder t price (left - o .lots) ∷ own) (withLots o (o .lots - o .lots) ∷ os) os
+        (fewer-by (t .sell) accounts limit (t .contract) (bookTrade l (tradeWith t o left last)) (remainder t price (left - o .lots) ∷ own)
+        (remainder t price (left - o .lots) ∷ own) (withLots o (o .lots - o .lots) ∷ os) os
         (fewer-same (remainder t price (left - o .lots) ∷ own)) (fewer-none (withLots o (o .lots - o .lots)) os) (rw m at (q .kept))) in
         let e : left - tradedLots (tradeWith t o left last ∷ s .trades) ≡ left - o .lots - tradedLots (s .trades) =
         omega (arith, traded-cons (tradeWith t o left last) (s .trades), trade-lots t o left last) in
         record { never = never-on (s .trades) (r .never); kept = rw e (r .kept) }
 
   pub swept-kept : (left last : ℕ) (os : List Order) (l : List Account) → allOf test os ≡ true →
-      KeptBy (t .sell) accounts limit (t .contract) l (remainder t price left ∷ own) os → SweptKept accounts limit price t own l left (sweep t left last os)
+      KeptBy (t .sell) accounts limit (t .contract) l (remainder t price left ∷ own) os → SweptKept accounts limit price t own l left
+      (sweep t left last os)
   unfolding allOf bookTrades
   swept-kept =
       sweep-ind t
-      (λ left last os s. (l : List Account) → allOf test os ≡ true → KeptBy (t .sell) accounts limit (t .contract) l (remainder t price left ∷ own) os → SweptKept accounts limit price t own l left s)
+      (λ left last os s. (l : List Account) → allOf test os ≡ true → KeptBy (t .sell) accounts limit (t .contract) l
+      (remainder t price left ∷ own) os → SweptKept accounts limit price t own l left s)
       (λ left last os w l h k.
       let e : left - tradedLots [] ≡ left = omega (arith, traded-nil) in
       record { never = never-nil l; kept = rw e k })
       (λ left last o os some met short l h k. part-kept l left last o os (turn l left last o os h k) short)
       (λ left last o os s some met enough ih l h k.
-      full-kept l left last o os (turn l left last o os h k) s enough (ih (bookTrade l (tradeWith t o left last)) (both-true (test o) (allOf test os) h .1)))
+      full-kept l left last o os (turn l left last o os h k) s enough
+      (ih (bookTrade l (tradeWith t o left last)) (both-true (test o) (allOf test os) h .1)))

@@ -45,7 +45,8 @@ module _ (y : Exchange) (t : Taker) (c : Contract)
   abbrev test : Order → Bool
   test = orderInRange (length (y .accounts)) (t .number) c
 
-  its-price : (o : Order) (last : ℕ) → test o ≡ true → onTick (c .tick) last ≡ true → allowedToday c (tradePrice (t .condition) (o .price) last) ≡ true
+  its-price : (o : Order) (last : ℕ) → test o ≡ true → onTick (c .tick) last ≡ true →
+      allowedToday c (tradePrice (t .condition) (o .price) last) ≡ true
   its-price o last h tick = price-allowed c (t .condition) (o .price) last limits (order-ok _ _ _ o h .price) tick
 
   one-trade : (o : Order) (left last : ℕ) → 0 < left → test o ≡ true → onTick (c .tick) last ≡ true → tradeInRange y (tradeWith t o left last) ≡ true
@@ -69,10 +70,12 @@ module _ (y : Exchange) (t : Taker) (c : Contract)
         sellclose = one-of (λ n. n ≤ 1) (t .sell) (t .close) (o .close) mark (k .close);
       })
 
-  pub swept-in-range : (left last : ℕ) (os : List Order) → onTick (c .tick) last ≡ true → allOf test os ≡ true → allOf (tradeInRange y) (sweep t left last os .trades) ≡ true
+  pub swept-in-range : (left last : ℕ) (os : List Order) → onTick (c .tick) last ≡ true → allOf test os ≡ true →
+      allOf (tradeInRange y) (sweep t left last os .trades) ≡ true
   swept-in-range =
       swept-each t (tradeInRange y) test (λ last. onTick (c .tick) last ≡ true)
-      (λ o left last some met h tick. (one-trade o left last some h tick, allowed-facts c (tradePrice (t .condition) (o .price) last) (its-price o last h tick) .tick))
+      (λ o left last some met h tick.
+      (one-trade o left last some h tick, allowed-facts c (tradePrice (t .condition) (o .price) last) (its-price o last h tick) .tick))
 
 -- ---- all of one contract
 
@@ -85,9 +88,11 @@ swept-contract t =
     sweep-ind t (λ left last os s. allOf (ofContract (t .contract)) (s .trades) ≡ true)
     (λ left last os w. refl)
     (λ left last o os some met short. true-both (eqb (t .contract) (t .contract)) true (eq-eqb (t .contract) (t .contract) refl) refl)
-    (λ left last o os s some met enough ih. true-both (eqb (t .contract) (t .contract)) (allOf (ofContract (t .contract)) (s .trades)) (eq-eqb (t .contract) (t .contract) refl) ih)
+    (λ left last o os s some met enough ih. true-both (eqb (t .contract) (t .contract)) (allOf (ofContract (t .contract)) (s .trades))
+    (eq-eqb (t .contract) (t .contract) refl) ih)
 
-pub other-holding : (c : ℕ) (l : List Account) (ts : List Trade) (a d : ℕ) → allOf (ofContract c) ts ≡ true → (d ≡ c → ⊥) → holdingAt (bookTrades l ts) a d ≡ holdingAt l a d
+pub other-holding : (c : ℕ) (l : List Account) (ts : List Trade) (a d : ℕ) → allOf (ofContract c) ts ≡ true → (d ≡ c → ⊥) →
+    holdingAt (bookTrades l ts) a d ≡ holdingAt l a d
 unfolding allOf bookTrades
 other-holding c l [] a d h n = refl
 other-holding c l (t ∷ ts) a d h n =

@@ -32,7 +32,9 @@ pub record Terms (c : Contract) : Type 0 where
 
 module _ (c : Contract) where
   abbrev termTests : List Bool
-  termTests = within 1 1_000 (c .tick) ∷ tickMultiple (c .tick) (c .reference) ∷ tickMultiple (c .tick) (c .band) ∷ within 1 100_000 (c .limit) ∷ within 1 10_000 (c .rate) ∷ []
+  termTests =
+      within 1 1_000 (c .tick) ∷ tickMultiple (c .tick) (c .reference) ∷ tickMultiple (c .tick) (c .band) ∷ within 1 100_000
+      (c .limit) ∷ within 1 10_000 (c .rate) ∷ []
 
   pub terms : termsInRange c ≡ true → Terms c
   unfolding termsInRange
@@ -56,7 +58,10 @@ module _ (c : Contract) where
   terms-test k =
       join (within 1 1_000 (c .multiplier)) termTests (
         true-both (leb 1 (c .multiplier)) (leb (c .multiplier) 1_000) (le-leb _ _ (k .multiplier-low)) (le-leb _ _ (k .multiplier-high)),
-        (true-both (leb 1 (c .tick)) (leb (c .tick) 1_000) (le-leb _ _ (k .tick-low)) (le-leb _ _ (k .tick-high)), (k .reference, (k .band, (k .limit, k .rate)))),
+        (
+          true-both (leb 1 (c .tick)) (leb (c .tick) 1_000) (le-leb _ _ (k .tick-low)) (le-leb _ _ (k .tick-high)),
+          (k .reference, (k .band, (k .limit, k .rate))),
+        ),
       )
 
 -- ---- a tick multiple from one tick on
@@ -77,7 +82,8 @@ module _ (tick n : ℕ) where
   pub multiple-test : Multiple tick n → tickMultiple tick n ≡ true
   unfolding tickMultiple
   multiple-test k =
-      true-both (onTick tick n) (within tick maxPrice n) (k .on-tick) (true-both (leb tick n) (leb n maxPrice) (le-leb _ _ (k .low)) (le-leb _ _ (k .high)))
+      true-both (onTick tick n) (within tick maxPrice n) (k .on-tick)
+      (true-both (leb tick n) (leb n maxPrice) (le-leb _ _ (k .low)) (le-leb _ _ (k .high)))
 
 -- the day's range lies within one tick and 1,000,000
 pub allowed-multiple : (c : Contract) (price : ℕ) → allowedToday c price ≡ true → Multiple (c .tick) price
@@ -105,7 +111,8 @@ value-between low high (t ∷ ts) h =
 
 -- "weighted by lots, rounded down, then down to a tick": from one tick to 1,000,000, since each price is
 pub weighted-multiple :
-    (tick : ℕ) (ts : List Trade) → 1 ≤ tick → 1 ≤ tradedLots ts → allOf (λ t. within tick maxPrice (t .price)) ts ≡ true → Multiple tick (weightedPrice tick ts)
+    (tick : ℕ) (ts : List Trade) → 1 ≤ tick → 1 ≤ tradedLots ts → allOf (λ t. within tick maxPrice (t .price)) ts ≡ true → Multiple tick
+    (weightedPrice tick ts)
 unfolding weightedPrice onTick
 weighted-multiple tick ts some lots h =
     let v = value-between tick maxPrice ts h in

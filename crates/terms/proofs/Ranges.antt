@@ -1,9 +1,9 @@
--- What a passed test of a range says, and what a passed test of a contract's terms says. Assumes nothing.
-use mathlib.Core.Bool.{Bool, true, _&&_}
+-- What a passed test of a range, and of a contract's terms, says. Assumes nothing.
+use mathlib.Core.Bool.{true, _&&_}
 use mathlib.Core.Path.{_≡_}
 use Prim.Native.Nat.{ℕ, _≤_}
-use borrow.Author.Tests.{leb-true}
 use lib.Dec.{leb}
+use borrow.Author.Tests.{leb-true}
 use Rattle.laws.specs.Choice.{both-true}
 use Rattle.rules.specs.Bounds.{within, onTick, tickMultiple, termsInRange, maxPrice}
 use Rattle.rules.specs.declared.Contract.{Contract}
@@ -15,8 +15,34 @@ module _ (low high n : ℕ) (passed : within low high n ≡ true) where
   pub within-high : n ≤ high
   within-high = leb-true n high (both-true (leb low n) (leb n high) passed .1)
 
--- the bounds that keep sums and products of terms within their width
+-- ---- what a contract whose terms are in range tells
+
 pub record Terms (c : Contract) : Type 0 where
+  pub multiplier : within 1 1_000 (c .multiplier) ≡ true
+  pub tick : within 1 1_000 (c .tick) ≡ true
+  pub reference : tickMultiple (c .tick) (c .reference) ≡ true
+  pub band : tickMultiple (c .tick) (c .band) ≡ true
+  pub limit : within 1 100_000 (c .limit) ≡ true
+  pub rate : within 1 10_000 (c .rate) ≡ true
+
+pub terms : (c : Contract) → termsInRange c ≡ true → Terms c
+unfolding termsInRange
+terms c h =
+    let m = within 1 1_000 (c .multiplier) in
+    let t = within 1 1_000 (c .tick) in
+    let r = tickMultiple (c .tick) (c .reference) in
+    let b = tickMultiple (c .tick) (c .band) in
+    let l = within 1 100_000 (c .limit) in
+    let p = both-true (m && t && r && b && l) (within 1 10_000 (c .rate)) h in
+    let q = both-true (m && t && r && b) l (p .0) in
+    let s = both-true (m && t && r) b (q .0) in
+    let u = both-true (m && t) r (s .0) in
+    let v = both-true m t (u .0) in
+    record { multiplier = v .0; tick = v .1; reference = u .1; band = s .1; limit = q .1; rate = p .1 }
+
+-- ---- the bounds that keep sums and products of terms within their width
+
+pub record Sizes (c : Contract) : Type 0 where
   pub tick : 1 ≤ c .tick
   pub reference : c .reference ≤ maxPrice
   pub band : c .band ≤ maxPrice
@@ -26,21 +52,12 @@ multiple-high : (tick n : ℕ) → tickMultiple tick n ≡ true → n ≤ maxPri
 unfolding tickMultiple
 multiple-high tick n h = within-high tick maxPrice n (both-true (onTick tick n) (within tick maxPrice n) h .1)
 
-pub terms : (c : Contract) → termsInRange c ≡ true → Terms c
-unfolding termsInRange
-terms c h =
-    let t2 : Bool = within 1 1_000 (c .multiplier) && within 1 1_000 (c .tick) in
-    let t3 : Bool = t2 && tickMultiple (c .tick) (c .reference) in
-    let t4 : Bool = t3 && tickMultiple (c .tick) (c .band) in
-    let t5 : Bool = t4 && within 1 100_000 (c .limit) in
-    let p5 = both-true t5 (within 1 10_000 (c .rate)) h .0 in
-    let p4 = both-true t4 (within 1 100_000 (c .limit)) p5 in
-    let p3 = both-true t3 (tickMultiple (c .tick) (c .band)) (p4 .0) in
-    let p2 = both-true t2 (tickMultiple (c .tick) (c .reference)) (p3 .0) in
-    let p1 = both-true (within 1 1_000 (c .multiplier)) (within 1 1_000 (c .tick)) (p2 .0) in
+pub sizes : (c : Contract) → termsInRange c ≡ true → Sizes c
+sizes c h =
+    let t = terms c h in
     record {
-      tick = within-low 1 1_000 (c .tick) (p1 .1);
-      reference = multiple-high (c .tick) (c .reference) (p2 .1);
-      band = multiple-high (c .tick) (c .band) (p3 .1);
-      limit = within-high 1 100_000 (c .limit) (p4 .1);
+      tick = within-low 1 1_000 (c .tick) (t .tick);
+      reference = multiple-high (c .tick) (c .reference) (t .reference);
+      band = multiple-high (c .tick) (c .band) (t .band);
+      limit = within-high 1 100_000 (c .limit) (t .limit);
     }

@@ -5,17 +5,17 @@ use native.Mathlib.Nat.{div-add-mod'}
 use native.Mathlib.Omega.{arith}
 use borrow.Author.Needs.{needs}
 use Rattle.rules.specs.Bounds.{dayHigh}
-use Rattle.terms.proofs.Ranges.{terms}
+use Rattle.terms.proofs.Ranges.{sizes}
 use Rattle.terms.proofs.day_high.Statement.{statement}
 use Rattle.terms.proofs.day_high.Tie as tie
 
 add-smaller : tie.Need-add-smaller
 add-smaller c =
-    let t = terms (c .before .args .c) (c .before .pre) in
+    let t = sizes (c .before .args .c) (c .before .pre) in
     record { fits = omega (arith, t .reference, t .band) }
 
 div-smaller : tie.Need-div-smaller
-div-smaller c = omega (arith, terms (c .before .args .c) (c .before .pre) .tick)
+div-smaller c = omega (arith, sizes (c .before .args .c) (c .before .pre) .tick)
 
 mul-smaller : tie.Need-mul-smaller
 mul-smaller c = record { fits = omega (arith, div-add-mod' 1_000_000 (c .before .args .c .tick)) }

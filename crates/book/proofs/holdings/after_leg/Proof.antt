@@ -1,7 +1,7 @@
 -- `book::holdings::after_leg` meets its contract: one case of the definition for each kind of leg. Assumes nothing.
+use borrow.Author.Needs.{needs}
 use borrow.Author.Tests.{eq-eqb, ne-eqb}
 use Rattle.rules.specs.Holdings.{afterLeg}
-use borrow.Author.Needs.{needs}
 use Rattle.book.proofs.holdings.after_leg.Statement.{statement}
 use Rattle.book.proofs.holdings.after_leg.Tie as tie
 

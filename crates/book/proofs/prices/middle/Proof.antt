@@ -1,6 +1,6 @@
 -- `book::prices::middle` meets its contract: it is the definition, call by call. Assumes nothing.
-use Rattle.rules.specs.Matching.{middle}
 use borrow.Author.Needs.{needs}
+use Rattle.rules.specs.Matching.{middle}
 use Rattle.book.proofs.prices.middle.Statement.{statement}
 use Rattle.book.proofs.prices.middle.Tie as tie
 

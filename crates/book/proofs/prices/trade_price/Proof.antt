@@ -1,6 +1,6 @@
 -- `book::prices::trade_price` meets its contract: one case of the definition for each price condition. Assumes nothing.
-use Rattle.rules.specs.Matching.{tradePrice}
 use borrow.Author.Needs.{needs}
+use Rattle.rules.specs.Matching.{tradePrice}
 use Rattle.book.proofs.prices.trade_price.Statement.{statement}
 use Rattle.book.proofs.prices.trade_price.Tie as tie
 

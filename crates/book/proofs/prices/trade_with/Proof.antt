@@ -1,6 +1,6 @@
 -- `book::prices::trade_with` meets its contract: on either side the trade is the definition's, field by field. Assumes nothing.
-use Rattle.rules.specs.Matching.{tradeWith}
 use borrow.Author.Needs.{needs}
+use Rattle.rules.specs.Matching.{tradeWith}
 use Rattle.book.proofs.prices.trade_with.Statement.{statement}
 use Rattle.book.proofs.prices.trade_with.Tie as tie
 

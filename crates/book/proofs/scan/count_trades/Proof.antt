@@ -1,17 +1,16 @@
 -- `book::scan::count_trades` meets its contract. The invariant: i trades so far, and those of the lots left from order i on, are
 -- the answer. Assumes nothing.
-use mathlib.Core.Path.{_≡_, sym, _∙_}
-use Prim.Native.Nat.{_+_, _-_, _*_, _≤_}
+use mathlib.Core.Path.{_≡_}
+use Prim.Native.Nat.{_+_, _-_, _≤_}
 use native.Mathlib.Nat.{zero-add}
 use native.Mathlib.Omega.{arith}
 use borrow.Author.Needs.{needs}
-use borrow.Author.Tests.{not-true, not-false}
 use lib.ListN.{drop}
 use Rattle.rules.proofs.Fillable.{count-end, count-unmet}
 use Rattle.rules.specs.EarlyStop.{countTrades}
 use Rattle.rules.specs.Memory.{queueIn}
 use Rattle.book.proofs.Queues.{tally-none, tally-on, tally-stop, tally-end}
-use Rattle.book.proofs.Scans.{trades-used, trades-on}
+use Rattle.book.proofs.Scans.{test-failed, test-passed, trades-used, trades-on}
 use Rattle.book.proofs.scan.count_trades.Statement.{statement}
 use Rattle.book.proofs.scan.count_trades.Tie as tie
 
@@ -38,7 +37,7 @@ returns-2 : tie.Need-returns-2 Inv-loop μ-loop
 returns-2 c =
     let read = c .before .before in
     let at = read .before .before .before in
-    tally-stop (countTrades _ _) _ _ _ _ _ _ (at .loop .inv .1) _ (read .before .before .loop-test .taken) (read .order-at .ensures) (λ os. count-unmet _ _ _ os (sym (c .before .meets .ensures) ∙ not-true _ (c .if2 .taken)))
+    tally-stop (countTrades _ _) _ _ _ _ _ _ (at .loop .inv .1) _ (read .before .before .loop-test .taken) (read .order-at .ensures) (λ os. count-unmet _ _ _ os (test-failed _ _ (c .before .meets .ensures) (c .if2 .taken)))
 
 smaller-requires : tie.Need-smaller-requires Inv-loop μ-loop
 smaller-requires c κs = search needs
@@ -56,7 +55,7 @@ loop-again : tie.Need-loop-again Inv-loop μ-loop
 loop-again c =
     let read = c .before .before .before in
     let at = read .before .before .before in
-    (omega arith, tally-on (countTrades _ _) _ _ _ _ _ _ (at .loop .inv .1) _ (read .before .before .loop-test .taken) (read .order-at .ensures) (countTrades _ _) 1 (trades-on _ _ _ _ (read .before .if1 .left) (c .smaller .ensures) (sym (c .before .before .meets .ensures) ∙ not-false _ (c .before .if2 .left))))
+    (omega arith, tally-on (countTrades _ _) _ _ _ _ _ _ (at .loop .inv .1) _ (read .before .before .loop-test .taken) (read .order-at .ensures) (countTrades _ _) 1 (trades-on _ _ _ _ (read .before .if1 .left) (c .smaller .ensures) (test-passed _ _ (c .before .before .meets .ensures) (c .before .if2 .left))))
 
 returns-3 : tie.Need-returns-3 Inv-loop μ-loop
 returns-3 c = tally-end (countTrades _ _) _ _ _ _ _ _ (c .before .loop .inv .1) (c .loop-test .left) (count-end _ _)

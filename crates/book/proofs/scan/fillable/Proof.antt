@@ -1,17 +1,16 @@
 -- `book::scan::fillable` meets its contract. The invariant: the lots so far, and those from order i on, are the answer; and no
 -- order adds more than its word holds, so the sum of 64 fits. Assumes nothing.
-use mathlib.Core.Path.{_≡_, sym, _∙_}
+use mathlib.Core.Path.{_≡_}
 use Prim.Native.Nat.{_+_, _-_, _*_, _≤_}
 use native.Mathlib.Nat.{zero-add}
 use native.Mathlib.Omega.{arith}
 use borrow.Author.Needs.{needs}
-use borrow.Author.Tests.{not-true, not-false}
 use lib.ListN.{drop}
 use Rattle.rules.proofs.Fillable.{front-end, front-unmet}
 use Rattle.rules.specs.EarlyStop.{fillableFront}
 use Rattle.rules.specs.Memory.{queueIn}
 use Rattle.book.proofs.Queues.{tally-on, tally-stop, tally-end}
-use Rattle.book.proofs.Scans.{fillable-on}
+use Rattle.book.proofs.Scans.{test-failed, test-passed, fillable-on}
 use Rattle.book.proofs.scan.fillable.Statement.{statement}
 use Rattle.book.proofs.scan.fillable.Tie as tie
 
@@ -35,7 +34,7 @@ returns : tie.Need-returns Inv-loop μ-loop
 returns c =
     let read = c .before .before in
     let at = read .before .before in
-    tally-stop (fillableFront _) _ _ _ _ _ _ (at .loop .inv .1 .1) _ (read .before .loop-test .taken) (read .order-at .ensures) (λ os. front-unmet _ _ os (sym (c .before .meets .ensures) ∙ not-true _ (c .if1 .taken)))
+    tally-stop (fillableFront _) _ _ _ _ _ _ (at .loop .inv .1 .1) _ (read .before .loop-test .taken) (read .order-at .ensures) (λ os. front-unmet _ _ os (test-failed _ _ (c .before .meets .ensures) (c .if1 .taken)))
 
 wide32-requires : tie.Need-wide32-requires Inv-loop μ-loop
 wide32-requires c κs = search needs
@@ -53,7 +52,7 @@ loop-again : tie.Need-loop-again Inv-loop μ-loop
 loop-again c =
     let read = c .before .before .before in
     let at = read .before .before in
-    (omega arith, (omega arith, tally-on (fillableFront _) _ _ _ _ _ _ (at .loop .inv .1 .1) _ (read .before .loop-test .taken) (read .order-at .ensures) (fillableFront _) _ (fillable-on _ _ _ (c .wide32 .ensures) (sym (c .before .before .meets .ensures) ∙ not-false _ (c .before .if1 .left)))))
+    (omega arith, (omega arith, tally-on (fillableFront _) _ _ _ _ _ _ (at .loop .inv .1 .1) _ (read .before .loop-test .taken) (read .order-at .ensures) (fillableFront _) _ (fillable-on _ _ _ (c .wide32 .ensures) (test-passed _ _ (c .before .before .meets .ensures) (c .before .if1 .left)))))
 
 returns-2 : tie.Need-returns-2 Inv-loop μ-loop
 returns-2 c = tally-end (fillableFront _) _ _ _ _ _ _ (c .before .loop .inv .1 .1) (c .loop-test .left) (front-end _)

@@ -1,6 +1,6 @@
 -- `book::scan::resting` meets its contract. The invariant: the lots so far, and those from order i on, are the answer; and no
 -- order adds more than its word holds, so the sum of 64 fits. Assumes nothing.
-use mathlib.Core.Path.{_≡_, sym, _∙_}
+use mathlib.Core.Path.{_≡_}
 use Prim.Native.Nat.{_+_, _-_, _*_, _≤_}
 use native.Mathlib.Nat.{zero-add}
 use native.Mathlib.Omega.{arith}

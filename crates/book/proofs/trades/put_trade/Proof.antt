@@ -1,9 +1,9 @@
 -- `book::trades::put_trade` meets its contract: its nine stores are the trade's words. Assumes nothing.
 use native.Mathlib.Numerals.{add-one, add-two, add-three, add-four, add-five, add-six, add-seven, add-eight}
 use native.Mathlib.Omega.{arith}
+use borrow.Author.Needs.{needs}
 use lib.ListN.{length-set}
 use Rattle.book.proofs.Recorded.{stored-trade}
-use borrow.Author.Needs.{needs}
 use Rattle.book.proofs.trades.put_trade.Statement.{statement}
 use Rattle.book.proofs.trades.put_trade.Tie as tie
 

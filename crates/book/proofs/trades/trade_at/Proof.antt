@@ -1,7 +1,7 @@
 -- `book::trades::trade_at` meets its contract: the nine words are read one by one. Assumes nothing.
 use native.Mathlib.Nat.{add-zero}
-use lib.Seq.{getD-drop}
 use borrow.Author.Needs.{needs}
+use lib.Seq.{getD-drop}
 use Rattle.book.proofs.trades.trade_at.Statement.{statement}
 use Rattle.book.proofs.trades.trade_at.Tie as tie
 

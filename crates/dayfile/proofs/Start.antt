@@ -1,0 +1,84 @@
+-- The opening state in memory is the opening exchange, whatever stands in the areas lent with it: none of their places is in
+-- use. Assumes nothing.
+use mathlib.Core.Bool.{true}
+use mathlib.Core.List.{List, [], _∷_, map}
+use mathlib.Core.Path.{_≡_, refl, ap, _∙_}
+use Prim.Native.Nat.{ℕ, zero, suc, _≤_, _<_}
+use native.Mathlib.Nat.{le-of-suc-le-suc, not-suc-le-zero}
+use native.Mathlib.Omega.{arith}
+use lib.ListN.{getD, take, replicate, getD-replicate}
+use Rattle.areas.specs.Lists.{padded}
+use Rattle.areas.specs.Records.{decode, records}
+use Rattle.areas.proofs.Lists.{getD-padded, take-padded}
+use Rattle.laws.specs.Tabulate.{tabulate, length-tabulate, getD-tabulate, tabulate-eq}
+use Rattle.rules.specs.DayFile.{contractsIn, accountsIn, openingListing, openingAccount, opening, sound}
+use Rattle.rules.specs.Exchange.{noContract, noHolding, noListing}
+use Rattle.rules.specs.Memory.{Memory, queueIn, recordedTrades, listingIn, inUse, exchangeOf}
+use Rattle.dayfile.specs.Opening.{accountWith, openingContract, openingHolder, openingContracts, openingAccounts, openingState}
+use Rattle.dayfile.proofs.Places.{sound-layout}
+
+-- ---- tables
+
+module _ {A : Type 0} where
+  pub tabulate-ext : (n : ℕ) (f g : ℕ → A) (d : A) → ((i : ℕ) → i < n → f i ≡ g i) → tabulate n f ≡ tabulate n g
+  tabulate-ext n f g d h =
+      tabulate-eq n g (tabulate n f) d (length-tabulate n f) (λ i k. getD-tabulate n i f d k ∙ h i k)
+
+  pub map-tabulate : {B : Type 0} (h : A → B) (n : ℕ) (f : ℕ → A) → map h (tabulate n f) ≡ tabulate n (λ i. h (f i))
+  unfolding tabulate
+  map-tabulate h zero f = refl
+  map-tabulate {B = B} h (suc n) f = ap (λ (l : List B). h (f 0) ∷ l) (map-tabulate h n (λ i. f (suc i)))
+
+  pub take-replicate : (k n : ℕ) (z : A) → k ≤ n → take k (replicate n z) ≡ replicate k z
+  take-replicate zero n z h = refl
+  take-replicate (suc k) zero z h = absurd (not-suc-le-zero h)
+  take-replicate (suc k) (suc n) z h = ap (λ (l : List A). z ∷ l) (take-replicate k n z (le-of-suc-le-suc h))
+
+-- ---- no order and no trade is in use
+
+no-orders : (area : List ℕ) (c n : ℕ) → n ≡ 0 → queueIn area c n ≡ []
+unfolding queueIn records decode
+no-orders area c n e = rw e
+
+no-trades : (area : List ℕ) → recordedTrades area 0 ≡ []
+unfolding recordedTrades records decode
+no-trades area = refl
+
+-- ---- the opening state
+
+abbrev pub openingMemory : List ℕ → List ℕ → List ℕ → List ℕ → Memory
+openingMemory file buys sells trades = record { state = openingState file; buys = buys; sells = sells; trades = trades }
+
+module _ (file buys sells trades : List ℕ) (h : sound file ≡ true) where
+  abbrev m : Memory
+  m = openingMemory file buys sells trades
+
+  at-contract : (c : ℕ) → c < contractsIn file → getD (openingContracts file) c noContract ≡ openingContract file c
+  unfolding openingContracts
+  at-contract c l =
+      getD-padded 4 c noContract noContract (tabulate (contractsIn file) (openingContract file)) (rw length-tabulate l)
+      ∙ getD-tabulate (contractsIn file) c (openingContract file) noContract l
+
+  at-listing : (c : ℕ) → c < contractsIn file → listingIn m c ≡ openingListing file c
+  unfolding listingIn openingListing openingState
+  at-listing c l =
+      let s = sound-layout file h in
+      let e : _≡_ {A = ℕ} (getD (replicate 4 0) c 0) 0 = getD-replicate 4 c 0 0 (omega arith) in
+      rw (at-contract c l, no-orders buys c (getD (replicate 4 0) c 0) e, no-orders sells c (getD (replicate 4 0) c 0) e)
+
+  at-account : (a : ℕ) → a < accountsIn file → inUse (contractsIn file) (openingHolder file a) ≡ openingAccount file a
+  unfolding openingAccount
+  at-account a l = let s = sound-layout file h in rw (take-replicate (contractsIn file) 4 noHolding (s .contracts))
+
+  accounts-in-use : map (inUse (contractsIn file)) (take (accountsIn file) (openingAccounts file)) ≡ tabulate (accountsIn file) (openingAccount file)
+  unfolding openingAccounts
+  accounts-in-use =
+      let t : take (accountsIn file) (padded 32 (accountWith 0) (tabulate (accountsIn file) (openingHolder file))) ≡ tabulate (accountsIn file) (openingHolder file) =
+      rw (length-tabulate (accountsIn file) (openingHolder file)) at (take-padded 32 (accountWith 0) (tabulate (accountsIn file) (openingHolder file))) in
+      rw (t, map-tabulate (inUse (contractsIn file)) (accountsIn file) (openingHolder file))
+      (tabulate-ext (accountsIn file) (λ a. inUse (contractsIn file) (openingHolder file a)) (openingAccount file) (accountWith 0) at-account)
+
+  pub opening-exchange : exchangeOf m ≡ opening file
+  unfolding exchangeOf opening openingState
+  opening-exchange =
+      rw (tabulate-ext (contractsIn file) (listingIn m) (openingListing file) noListing at-listing, accounts-in-use, no-trades trades)

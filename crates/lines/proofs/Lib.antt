@@ -1,0 +1,4 @@
+pub mod Lengths
+pub mod Signs
+pub mod Text
+pub mod Turns

@@ -1,0 +1,65 @@
+// Numbers as decimal digits, in ASCII.
+ghost use mathlib.Core.List.{[], _∷_};
+ghost use mathlib.Core.Path.{_≡_};
+ghost use Prim.Native.Nat.{_+_, _≤_};
+ghost use lib.IntN.{natAbs};
+ghost use lib.ListN.{length};
+ghost use Rattle.rules.specs.Lines.{digits, decimal, signed};
+ghost use Rattle.lines.specs.Written.{Written};
+
+pub fn put_byte(out: &mut [u8], at: usize, byte: u8) -> usize
+    requires { ⌜ at + 1 ≤ length (now out) ⌝ }
+    ensures { λ r. ⌜ Written 1 (now (out .entry)) at (byte ∷ []) (now (out .exit)) r ⌝ }
+{
+    out[at] = byte;
+    at + 1
+}
+
+// The last `places` digits of n, without zeros in front.
+fn put_digits(out: &mut [u8], at: usize, places: usize, n: u64) -> usize
+    requires { ⌜ at + places ≤ length (now out) ⌝ }
+    ensures { λ r. ⌜ Written places (now (out .entry)) at (digits places n) (now (out .exit)) r ⌝ }
+{
+    if places == 0 {
+        return at;
+    }
+    if n < 10 {
+        return put_byte(out, at, 48 + n as u8);
+    }
+    let next = put_digits(out, at, places - 1, n / 10);
+    let last = n % 10;
+    put_byte(out, next, 48 + last as u8)
+}
+
+// Twenty digits hold every u64.
+pub fn put_decimal(out: &mut [u8], at: usize, n: u64) -> usize
+    requires { ⌜ at + 20 ≤ length (now out) ⌝ }
+    ensures { λ r. ⌜ Written 20 (now (out .entry)) at (decimal n) (now (out .exit)) r ⌝ }
+{
+    put_digits(out, at, 20, n)
+}
+
+// How far x is from 0. The smallest i64 has no opposite, so one is added before the sign is turned, and after.
+pub fn magnitude(x: i64) -> u64
+    ensures { λ r. ⌜ r ≡ natAbs x ⌝ }
+{
+    if x < 0 {
+        let y = x + 1;
+        let z = 0 - y;
+        z as u64 + 1
+    } else {
+        x as u64
+    }
+}
+
+pub fn put_signed(out: &mut [u8], at: usize, x: i64) -> usize
+    requires { ⌜ at + 21 ≤ length (now out) ⌝ }
+    ensures { λ r. ⌜ Written 21 (now (out .entry)) at (signed x) (now (out .exit)) r ⌝ }
+{
+    let n = magnitude(x);
+    if x < 0 {
+        let next = put_byte(out, at, b'-');
+        return put_decimal(out, next, n);
+    }
+    put_decimal(out, at, n)
+}
