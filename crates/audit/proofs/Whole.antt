@@ -21,7 +21,7 @@ use Rattle.rules.proofs.Codecs.{length-trades}
 use Rattle.terms.proofs.Ranges.{sizes}
 use Rattle.invariants.proofs.Clauses.{holding-ok, listing-ok, trade-ok}
 use Rattle.invariants.proofs.MemoryRoom.{counts-ok, room-ok}
-use Rattle.audit.specs.Parts.{Booked, listing, memory, replayed, tested, used}
+use Rattle.audit.specs.Parts.{Booked, Ready, listing, memory, replayed, tested, used}
 use Rattle.audit.proofs.Chains.{Chain, group}
 use Rattle.audit.proofs.Clauses.{terms-passed}
 use Rattle.audit.proofs.UsedAccounts.{length-used, used-holding}
@@ -148,11 +148,10 @@ whole-chain m = record { is = refl }
 -- ---- what a passed test gives the tests behind it
 
 module _ (s : State) (buys sells trades : List ℕ) (counts : countsInRange s ≡ true) (room : hasRoom (memory s buys sells trades) ≡ true) where
-  pub buys-words : 320 * s .contractcount ≤ length buys
-  buys-words = room-ok (memory s buys sells trades) room .buys
-
-  pub sells-words : 320 * s .contractcount ≤ length sells
-  sells-words = room-ok (memory s buys sells trades) room .sells
+  pub ready : Ready s buys sells
+  ready =
+      let r = room-ok (memory s buys sells trades) room in
+      record { counts = counts; buy-room = r .buys; sell-room = r .sells }
 
   pub trades-words : 9 * s .tradecount ≤ length trades
   trades-words = omega (arith, room-ok (memory s buys sells trades) room .trades, counts-ok s counts .trades)

@@ -1,12 +1,13 @@
 -- The parts of a state in memory that a single test of the audit is about, so that its promise can cite the rule it tests.
 -- Assumes nothing.
+use mathlib.Core.Bool.{true}
 use mathlib.Core.List.{List, [], map}
 use mathlib.Core.Path.{_≡_}
-use Prim.Native.Nat.{ℕ, _<_, _≤_}
-use lib.ListN.{getD, replicate, take}
+use Prim.Native.Nat.{ℕ, _*_, _<_, _≤_}
+use lib.ListN.{length, getD, replicate, take}
 use Rattle.laws.specs.Tabulate.{tabulate}
 use Rattle.rules.specs.Exchange.{Exchange, Listing, noAccount, noContract}
-use Rattle.rules.specs.Memory.{Memory, inUse, listingIn}
+use Rattle.rules.specs.Memory.{Memory, countsInRange, inUse, listingIn}
 use Rattle.rules.specs.declared.Account.{Account}
 use Rattle.rules.specs.declared.Contract.{Contract}
 use Rattle.rules.specs.declared.State.{State}
@@ -19,6 +20,12 @@ memory state buys sells trades = record { state = state; buys = buys; sells = se
 -- a contract in use with its queues: the trade area plays no part
 abbrev pub listing : State → List ℕ → List ℕ → ℕ → Listing
 listing state buys sells c = listingIn (memory state buys sells []) c
+
+-- counts within their ranges, and room for the queues of the contracts in use: what reading a queue asks for
+pub record Ready (s : State) (buys sells : List ℕ) : Type 0 where
+  pub counts : countsInRange s ≡ true
+  pub buy-room : 320 * s .contractcount ≤ length buys
+  pub sell-room : 320 * s .contractcount ≤ length sells
 
 -- the accounts in use, each with its holdings in the contracts in use
 abbrev pub used : ℕ → ℕ → List Account → List Account

@@ -6,9 +6,9 @@ ghost use lib.Dec.{leb};
 ghost use lib.ListN.{length, take};
 ghost use Rattle.laws.specs.Choice.{all, allOf};
 ghost use Rattle.rules.specs.Exchange.{holdingAt, restingOpens, restingCloses};
-ghost use Rattle.rules.specs.Memory.{countsInRange, queueIn};
+ghost use Rattle.rules.specs.Memory.{queueIn};
 ghost use Rattle.rules.specs.WellFormed.{holdingInRange, balanceInRange};
-ghost use Rattle.audit.specs.Parts.{listing};
+ghost use Rattle.audit.specs.Parts.{Ready, listing};
 use book::scan;
 use rules::Account;
 use rules::State;
@@ -42,7 +42,7 @@ fn closes_are_covered(area: &[u32], c: usize, count: usize, account: u32, held: 
 }
 
 fn holding_in_range(state: State, account: usize, c: usize, buys: &[u32], sells: &[u32]) -> bool
-    requires { ⌜ (countsInRange state ≡ true) × (account < 32) × (c < state .contractcount) × (320 * state .contractcount ≤ length (now buys)) × (320 * state .contractcount ≤ length (now sells)) ⌝ }
+    requires { ⌜ Ready state (now buys) (now sells) × (account < 32) × (c < state .contractcount) ⌝ }
     ensures { λ r. ⌜ r ≡ holdingInRange (listing state (now (buys .entry)) (now (sells .entry)) c) account (holdingAt (state .accounts) account c) ⌝ }
 {
     let contract = state.contracts[c];
@@ -71,7 +71,7 @@ fn holding_in_range(state: State, account: usize, c: usize, buys: &[u32], sells:
 }
 
 fn account_in_range(state: State, account: usize, buys: &[u32], sells: &[u32]) -> bool
-    requires { ⌜ (countsInRange state ≡ true) × (account < 32) × (320 * state .contractcount ≤ length (now buys)) × (320 * state .contractcount ≤ length (now sells)) ⌝ }
+    requires { ⌜ Ready state (now buys) (now sells) × (account < 32) ⌝ }
     ensures { λ r. ⌜ r ≡ all (λ c. holdingInRange (listing state (now (buys .entry)) (now (sells .entry)) c) account (holdingAt (state .accounts) account c)) (state .contractcount) ⌝ }
 {
     let contracts = state.contractcount;
@@ -86,7 +86,7 @@ fn account_in_range(state: State, account: usize, buys: &[u32], sells: &[u32]) -
 }
 
 pub fn holdings_in_range(state: State, buys: &[u32], sells: &[u32]) -> bool
-    requires { ⌜ (countsInRange state ≡ true) × (320 * state .contractcount ≤ length (now buys)) × (320 * state .contractcount ≤ length (now sells)) ⌝ }
+    requires { ⌜ Ready state (now buys) (now sells) ⌝ }
     ensures { λ r. ⌜ r ≡ all (λ a. all (λ c. holdingInRange (listing state (now (buys .entry)) (now (sells .entry)) c) a (holdingAt (state .accounts) a c)) (state .contractcount)) (state .accountcount) ⌝ }
 {
     let accounts = state.accountcount;

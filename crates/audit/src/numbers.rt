@@ -8,10 +8,10 @@ ghost use lib.Dec.{eqb};
 ghost use lib.ListN.{length, take, drop, getD};
 ghost use Rattle.laws.specs.Choice.{allOf};
 ghost use Rattle.laws.specs.Tabulate.{tabulate};
-ghost use Rattle.rules.specs.Memory.{queueIn, countsInRange};
+ghost use Rattle.rules.specs.Memory.{queueIn};
 ghost use Rattle.rules.specs.WellFormed as wellformed;
 ghost use Rattle.audit.specs.Listed.{Behind};
-ghost use Rattle.audit.specs.Parts.{listing};
+ghost use Rattle.audit.specs.Parts.{Ready, listing};
 use book::queue;
 use rules::State;
 
@@ -43,16 +43,17 @@ fn with_queue(before: Listed, area: &[u32], c: usize, count: usize) -> Listed
 
 // The numbers of a contract's orders behind those listed.
 fn with_listing(before: Listed, state: State, c: usize, buys: &[u32], sells: &[u32]) -> Listed
-    requires { ⌜ (before .count ≤ 128 * c) × (countsInRange state ≡ true) × (c < state .contractcount) × (320 * state .contractcount ≤ length (now buys)) × (320 * state .contractcount ≤ length (now sells)) ⌝ }
+    requires { ⌜ (before .count ≤ 128 * c) × Ready state (now buys) (now sells) × (c < state .contractcount) ⌝ }
     ensures { λ r. ⌜ Behind before (wellformed.numbers (listing state (now (buys .entry)) (now (sells .entry)) c .buys) ++ wellformed.numbers (listing state (now (buys .entry)) (now (sells .entry)) c .sells)) r ⌝ }
 {
     let bids = state.buys[c];
     let asks = state.sells[c];
-    with_queue(with_queue(before, buys, c, bids), sells, c, asks)
+    let listed = with_queue(before, buys, c, bids);
+    with_queue(listed, sells, c, asks)
 }
 
 fn all_numbers(state: State, buys: &[u32], sells: &[u32]) -> Listed
-    requires { ⌜ (countsInRange state ≡ true) × (320 * state .contractcount ≤ length (now buys)) × (320 * state .contractcount ≤ length (now sells)) ⌝ }
+    requires { ⌜ Ready state (now buys) (now sells) ⌝ }
     ensures { λ r. ⌜ (r .count ≤ 512) × (take (r .count) (r .list) ≡ wellformed.allNumbers (tabulate (state .contractcount) (listing state (now (buys .entry)) (now (sells .entry))))) ⌝ }
 {
     let contracts = state.contractcount;
@@ -99,7 +100,7 @@ fn is_used_once(list: &[u32], count: usize) -> bool
 }
 
 pub fn numbers_used_once(state: State, buys: &[u32], sells: &[u32]) -> bool
-    requires { ⌜ (countsInRange state ≡ true) × (320 * state .contractcount ≤ length (now buys)) × (320 * state .contractcount ≤ length (now sells)) ⌝ }
+    requires { ⌜ Ready state (now buys) (now sells) ⌝ }
     ensures { λ r. ⌜ r ≡ wellformed.usedOnce (wellformed.allNumbers (tabulate (state .contractcount) (listing state (now (buys .entry)) (now (sells .entry))))) ⌝ }
 {
     let listed = all_numbers(state, buys, sells);

@@ -6,9 +6,9 @@ ghost use Prim.Native.Nat.{_+_, _*_, _≤_, _<_};
 ghost use lib.ListN.{length};
 ghost use Rattle.laws.specs.Choice.{all, allOf};
 ghost use Rattle.rules.specs.Bounds.{termsInRange};
-ghost use Rattle.rules.specs.Memory.{queueIn, countsInRange};
+ghost use Rattle.rules.specs.Memory.{queueIn};
 ghost use Rattle.rules.specs.WellFormed.{contractInRange, ahead, sorted, uncrossed, orderInRange, listingInRange};
-ghost use Rattle.audit.specs.Parts.{listing};
+ghost use Rattle.audit.specs.Parts.{Ready, listing};
 use book::queue;
 use rules::Contract;
 use rules::Order;
@@ -121,7 +121,7 @@ fn orders_in_range(
 
 // The contract at a place with its queues.
 fn listing_in_range(state: State, c: usize, buys: &[u32], sells: &[u32]) -> bool
-    requires { ⌜ (countsInRange state ≡ true) × (c < state .contractcount) × (320 * state .contractcount ≤ length (now buys)) × (320 * state .contractcount ≤ length (now sells)) ⌝ }
+    requires { ⌜ Ready state (now buys) (now sells) × (c < state .contractcount) ⌝ }
     ensures { λ r. ⌜ r ≡ listingInRange (state .accountcount) (state .next) (listing state (now (buys .entry)) (now (sells .entry)) c) ⌝ }
 {
     let contract = state.contracts[c];
@@ -148,7 +148,7 @@ fn listing_in_range(state: State, c: usize, buys: &[u32], sells: &[u32]) -> bool
 }
 
 pub fn listings_in_range(state: State, buys: &[u32], sells: &[u32]) -> bool
-    requires { ⌜ (countsInRange state ≡ true) × (320 * state .contractcount ≤ length (now buys)) × (320 * state .contractcount ≤ length (now sells)) ⌝ }
+    requires { ⌜ Ready state (now buys) (now sells) ⌝ }
     ensures { λ r. ⌜ r ≡ all (λ c. listingInRange (state .accountcount) (state .next) (listing state (now (buys .entry)) (now (sells .entry)) c)) (state .contractcount) ⌝ }
 {
     let contracts = state.contractcount;

@@ -8,7 +8,7 @@ use lib.ListN.{length}
 use Rattle.invariants.proofs.MemoryRoom.{counts-ok}
 use Rattle.audit.proofs.Chains.{fails, last, passed, refused}
 use Rattle.audit.proofs.UsedAccounts.{unmapped}
-use Rattle.audit.proofs.Whole.{buys-words, contents-chain, few-settlements, sells-words, starts-tested, terms-tested, trades-tested, trades-words}
+use Rattle.audit.proofs.Whole.{contents-chain, few-settlements, ready, starts-tested, terms-tested, trades-tested, trades-words}
 use Rattle.audit.proofs.contents_are_well_formed.Statement.{statement}
 use Rattle.audit.proofs.contents_are_well_formed.Tie as tie
 
@@ -27,7 +27,7 @@ returns c =
 
 listings-in-range-requires : tie.Need-listings-in-range-requires
 listings-in-range-requires c κs =
-    (c .before .before .before .before .before .pre .0, buys-words _ _ _ _ (c .before .before .before .before .before .pre .0) (c .before .before .before .before .before .pre .1), sells-words _ _ _ _ (c .before .before .before .before .before .pre .0) (c .before .before .before .before .before .pre .1))
+    ready _ _ _ _ (c .before .before .before .before .before .pre .0) (c .before .before .before .before .before .pre .1)
 
 returns-2 : tie.Need-returns-2
 returns-2 c =
@@ -35,7 +35,7 @@ returns-2 c =
 
 numbers-used-once-requires : tie.Need-numbers-used-once-requires
 numbers-used-once-requires c κs =
-    (c .before .before .before .before .before .before .before .pre .0, buys-words _ _ _ _ (c .before .before .before .before .before .before .before .pre .0) (c .before .before .before .before .before .before .before .pre .1), sells-words _ _ _ _ (c .before .before .before .before .before .before .before .pre .0) (c .before .before .before .before .before .before .before .pre .1))
+    ready _ _ _ _ (c .before .before .before .before .before .before .before .pre .0) (c .before .before .before .before .before .before .before .pre .1)
 
 returns-3 : tie.Need-returns-3
 returns-3 c =
@@ -52,7 +52,7 @@ returns-4 c =
 
 holdings-in-range-requires : tie.Need-holdings-in-range-requires
 holdings-in-range-requires c κs =
-    (c .before .before .before .before .before .before .before .before .before .before .before .before .pre .0, buys-words _ _ _ _ (c .before .before .before .before .before .before .before .before .before .before .before .before .pre .0) (c .before .before .before .before .before .before .before .before .before .before .before .before .pre .1), sells-words _ _ _ _ (c .before .before .before .before .before .before .before .before .before .before .before .before .pre .0) (c .before .before .before .before .before .before .before .before .before .before .before .before .pre .1))
+    ready _ _ _ _ (c .before .before .before .before .before .before .before .before .before .before .before .before .pre .0) (c .before .before .before .before .before .before .before .before .before .before .before .before .pre .1)
 
 returns-5 : tie.Need-returns-5
 returns-5 c =

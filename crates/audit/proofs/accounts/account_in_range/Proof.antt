@@ -24,7 +24,7 @@ loop-holds c = (omega arith, all-none _)
 
 holding-in-range-requires : tie.Need-holding-in-range-requires Inv-loop μ-loop
 holding-in-range-requires c κs =
-    (c .before .before .before .before .pre .0, c .before .before .before .before .pre .1, c .loop-test .taken, c .before .before .before .before .pre .2, c .before .before .before .before .pre .3)
+    (c .before .before .before .before .pre .0, c .before .before .before .before .pre .1, c .loop-test .taken)
 
 returns : tie.Need-returns Inv-loop μ-loop
 returns c =

@@ -15,20 +15,20 @@ mul-contract : tie.Need-mul-contract
 mul-contract c = search needs
 
 element-copy-out-contract : tie.Need-element-copy-out-contract
-element-copy-out-contract c = contract-in _ (c .before .before .pre .0) (c .before .before .pre .2)
+element-copy-out-contract c = contract-in (c .before .before .pre .0) (c .before .before .pre .2)
 
 mul-bids : tie.Need-mul-bids
 mul-bids c = search needs
 
 element-copy-out-bids : tie.Need-element-copy-out-bids
-element-copy-out-bids c = contract-in _ (c .before .before .before .pre .0) (c .before .before .before .pre .2)
+element-copy-out-bids c = contract-in (c .before .before .before .pre .0) (c .before .before .before .pre .2)
 
 mul-asks : tie.Need-mul-asks
 mul-asks c = search needs
 
 element-copy-out-asks : tie.Need-element-copy-out-asks
 element-copy-out-asks c =
-    contract-in _ (c .before .before .before .before .pre .0) (c .before .before .before .before .pre .2)
+    contract-in (c .before .before .before .before .pre .0) (c .before .before .before .before .pre .2)
 
 mul-holder : tie.Need-mul-holder
 mul-holder c = search needs
@@ -41,7 +41,7 @@ mul-h c = search needs
 
 element-copy-out-h : tie.Need-element-copy-out-h
 element-copy-out-h c =
-    contract-in _ (c .before .before .before .before .before .before .pre .0) (c .before .before .before .before .before .before .pre .2)
+    contract-in (c .before .before .before .before .before .before .pre .0) (c .before .before .before .before .before .before .pre .2)
 
 cast-place : tie.Need-cast-place
 cast-place c = omega (arith, c .before .before .before .before .before .before .before .pre .1)
@@ -56,7 +56,7 @@ returns-2 c = fails (holding-chain _ _ _) 1 (lt-leb _ _ (c .if2 .taken))
 
 opens-keep-limit-requires : tie.Need-opens-keep-limit-requires
 opens-keep-limit-requires c κs =
-    (few-buys _ (c .before .before .before .before .before .before .before .before .before .before .before .pre .0) (c .before .before .before .before .before .before .before .before .before .before .before .pre .2), buys-room _ (c .before .before .before .before .before .before .before .before .before .before .before .pre .0) (c .before .before .before .before .before .before .before .before .before .before .before .pre .2) _ (c .before .before .before .before .before .before .before .before .before .before .before .pre .3))
+    (few-buys (c .before .before .before .before .before .before .before .before .before .before .before .pre .0) (c .before .before .before .before .before .before .before .before .before .before .before .pre .2), buys-room (c .before .before .before .before .before .before .before .before .before .before .before .pre .0) (c .before .before .before .before .before .before .before .before .before .before .before .pre .2))
 
 returns-3 : tie.Need-returns-3
 unfolding listingIn holdingAt accountAt
@@ -65,7 +65,7 @@ returns-3 c =
 
 opens-keep-limit-requires-2 : tie.Need-opens-keep-limit-requires-2
 opens-keep-limit-requires-2 c κs =
-    (few-sells _ (c .before .before .before .before .before .before .before .before .before .before .before .before .before .pre .0) (c .before .before .before .before .before .before .before .before .before .before .before .before .before .pre .2), sells-room _ (c .before .before .before .before .before .before .before .before .before .before .before .before .before .pre .0) (c .before .before .before .before .before .before .before .before .before .before .before .before .before .pre .2) _ (c .before .before .before .before .before .before .before .before .before .before .before .before .before .pre .4))
+    (few-sells (c .before .before .before .before .before .before .before .before .before .before .before .before .before .pre .0) (c .before .before .before .before .before .before .before .before .before .before .before .before .before .pre .2), sells-room (c .before .before .before .before .before .before .before .before .before .before .before .before .before .pre .0) (c .before .before .before .before .before .before .before .before .before .before .before .before .before .pre .2))
 
 returns-4 : tie.Need-returns-4
 unfolding listingIn holdingAt accountAt
@@ -74,7 +74,7 @@ returns-4 c =
 
 closes-are-covered-requires : tie.Need-closes-are-covered-requires
 closes-are-covered-requires c κs =
-    (few-sells _ (c .before .before .before .before .before .before .before .before .before .before .before .before .before .before .before .pre .0) (c .before .before .before .before .before .before .before .before .before .before .before .before .before .before .before .pre .2), sells-room _ (c .before .before .before .before .before .before .before .before .before .before .before .before .before .before .before .pre .0) (c .before .before .before .before .before .before .before .before .before .before .before .before .before .before .before .pre .2) _ (c .before .before .before .before .before .before .before .before .before .before .before .before .before .before .before .pre .4))
+    (few-sells (c .before .before .before .before .before .before .before .before .before .before .before .before .before .before .before .pre .0) (c .before .before .before .before .before .before .before .before .before .before .before .before .before .before .before .pre .2), sells-room (c .before .before .before .before .before .before .before .before .before .before .before .before .before .before .before .pre .0) (c .before .before .before .before .before .before .before .before .before .before .before .before .before .before .before .pre .2))
 
 returns-5 : tie.Need-returns-5
 unfolding listingIn holdingAt accountAt
@@ -83,7 +83,7 @@ returns-5 c =
 
 closes-are-covered-requires-2 : tie.Need-closes-are-covered-requires-2
 closes-are-covered-requires-2 c κs =
-    (few-buys _ (c .before .before .before .before .before .before .before .before .before .before .before .before .before .before .before .before .before .pre .0) (c .before .before .before .before .before .before .before .before .before .before .before .before .before .before .before .before .before .pre .2), buys-room _ (c .before .before .before .before .before .before .before .before .before .before .before .before .before .before .before .before .before .pre .0) (c .before .before .before .before .before .before .before .before .before .before .before .before .before .before .before .before .before .pre .2) _ (c .before .before .before .before .before .before .before .before .before .before .before .before .before .before .before .before .before .pre .3))
+    (few-buys (c .before .before .before .before .before .before .before .before .before .before .before .before .before .before .before .before .before .pre .0) (c .before .before .before .before .before .before .before .before .before .before .before .before .before .before .before .before .before .pre .2), buys-room (c .before .before .before .before .before .before .before .before .before .before .before .before .before .before .before .before .before .pre .0) (c .before .before .before .before .before .before .before .before .before .before .before .before .before .before .before .before .before .pre .2))
 
 returns-6 : tie.Need-returns-6
 unfolding listingIn holdingAt accountAt

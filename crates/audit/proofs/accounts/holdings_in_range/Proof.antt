@@ -25,7 +25,7 @@ loop-holds c = (omega arith, all-none _)
 
 account-in-range-requires : tie.Need-account-in-range-requires Inv-loop μ-loop
 account-in-range-requires c κs =
-    (c .before .before .before .before .pre .0, omega (arith, c .loop-test .taken, counts-ok _ (c .before .before .before .before .pre .0) .accounts-high), c .before .before .before .before .pre .1, c .before .before .before .before .pre .2)
+    (c .before .before .before .before .pre, omega (arith, c .loop-test .taken, counts-ok _ (c .before .before .before .before .pre .counts) .accounts-high))
 
 returns : tie.Need-returns Inv-loop μ-loop
 returns c =

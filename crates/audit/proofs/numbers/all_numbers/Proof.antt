@@ -24,13 +24,12 @@ loop-holds : tie.Need-loop-holds Inv-loop μ-loop
 loop-holds c = (omega arith, omega arith, numbers-none _)
 
 with-listing-requires : tie.Need-with-listing-requires Inv-loop μ-loop
-with-listing-requires c κs =
-    (c .before .loop .inv .1, c .before .before .before .before .pre .0, c .loop-test .taken, c .before .before .before .before .pre .1, c .before .before .before .before .pre .2)
+with-listing-requires c κs = (c .before .loop .inv .1, c .before .before .before .before .pre, c .loop-test .taken)
 
 -- a contract adds 128 numbers at most
 more : (c : tie.After-with-listing Inv-loop μ-loop) → c .with-listing .result .count ≤ c .before .before .loop .listed .count + 128
 unfolding listingIn
-more c = few-more _ _ _ _ _ (c .with-listing .ensures) (few-buys _ (c .before .before .before .before .before .pre .0) (c .before .loop-test .taken)) (few-sells _ (c .before .before .before .before .before .pre .0) (c .before .loop-test .taken))
+more c = few-more _ _ _ _ _ (c .with-listing .ensures) (few-buys (c .before .before .before .before .before .pre) (c .before .loop-test .taken)) (few-sells (c .before .before .before .before .before .pre) (c .before .loop-test .taken))
 
 add-c : tie.Need-add-c Inv-loop μ-loop
 add-c c = omega arith
@@ -44,7 +43,7 @@ loop-again c =
 
 returns : tie.Need-returns Inv-loop μ-loop
 returns c =
-    (omega (arith, c .before .loop .inv .1, c .before .loop .inv .0, counts-ok _ (c .before .before .before .before .pre .0) .contracts-high), numbers-end _ _ _ (c .before .loop .inv .2) (c .before .loop .inv .0) (c .loop-test .left))
+    (omega (arith, c .before .loop .inv .1, c .before .loop .inv .0, counts-ok _ (c .before .before .before .before .pre .counts) .contracts-high), numbers-end _ _ _ (c .before .loop .inv .2) (c .before .loop .inv .0) (c .loop-test .left))
 
 pub all-numbers-spec : {M : Type 1} → statement M
 all-numbers-spec =

@@ -11,23 +11,23 @@ mul-bids : tie.Need-mul-bids
 mul-bids c = search needs
 
 element-copy-out-bids : tie.Need-element-copy-out-bids
-element-copy-out-bids c = contract-in _ (c .before .before .pre .1) (c .before .before .pre .2)
+element-copy-out-bids c = contract-in (c .before .before .pre .1) (c .before .before .pre .2)
 
 mul-asks : tie.Need-mul-asks
 mul-asks c = search needs
 
 element-copy-out-asks : tie.Need-element-copy-out-asks
-element-copy-out-asks c = contract-in _ (c .before .before .before .pre .1) (c .before .before .before .pre .2)
+element-copy-out-asks c = contract-in (c .before .before .before .pre .1) (c .before .before .before .pre .2)
 
 with-queue-requires : tie.Need-with-queue-requires
 with-queue-requires c κs =
     let p = c .before .before .before .before .pre in
-    (omega (arith, p .0, few-buys _ (p .1) (p .2), contract-in _ (p .1) (p .2)), buys-room _ (p .1) (p .2) _ (p .3))
+    (omega (arith, p .0, few-buys (p .1) (p .2), contract-in (p .1) (p .2)), buys-room (p .1) (p .2))
 
 with-queue-requires-2 : tie.Need-with-queue-requires-2
 with-queue-requires-2 c κs =
     let p = c .before .before .before .before .before .pre in
-    (omega (arith, p .0, queue-listed _ _ _ (c .with-queue .ensures), few-buys _ (p .1) (p .2), few-sells _ (p .1) (p .2), contract-in _ (p .1) (p .2)), sells-room _ (p .1) (p .2) _ (p .4))
+    (omega (arith, p .0, queue-listed _ _ _ (c .with-queue .ensures), few-buys (p .1) (p .2), few-sells (p .1) (p .2), contract-in (p .1) (p .2)), sells-room (p .1) (p .2))
 
 returns : tie.Need-returns
 unfolding listingIn

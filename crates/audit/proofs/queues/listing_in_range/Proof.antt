@@ -12,20 +12,20 @@ mul-contract : tie.Need-mul-contract
 mul-contract c = search needs
 
 element-copy-out-contract : tie.Need-element-copy-out-contract
-element-copy-out-contract c = contract-in _ (c .before .before .pre .0) (c .before .before .pre .1)
+element-copy-out-contract c = contract-in (c .before .before .pre .0) (c .before .before .pre .1)
 
 mul-bids : tie.Need-mul-bids
 mul-bids c = search needs
 
 element-copy-out-bids : tie.Need-element-copy-out-bids
-element-copy-out-bids c = contract-in _ (c .before .before .before .pre .0) (c .before .before .before .pre .1)
+element-copy-out-bids c = contract-in (c .before .before .before .pre .0) (c .before .before .before .pre .1)
 
 mul-asks : tie.Need-mul-asks
 mul-asks c = search needs
 
 element-copy-out-asks : tie.Need-element-copy-out-asks
 element-copy-out-asks c =
-    contract-in _ (c .before .before .before .before .pre .0) (c .before .before .before .before .pre .1)
+    contract-in (c .before .before .before .before .pre .0) (c .before .before .before .before .pre .1)
 
 contract-in-range-requires : tie.Need-contract-in-range-requires
 contract-in-range-requires c κs = search needs
@@ -37,7 +37,7 @@ returns c =
 
 is-sorted-requires : tie.Need-is-sorted-requires
 is-sorted-requires c κs =
-    buys-room _ (c .before .before .before .before .before .before .before .pre .0) (c .before .before .before .before .before .before .before .pre .1) _ (c .before .before .before .before .before .before .before .pre .2)
+    buys-room (c .before .before .before .before .before .before .before .pre .0) (c .before .before .before .before .before .before .before .pre .1)
 
 returns-2 : tie.Need-returns-2
 unfolding listingIn
@@ -45,7 +45,7 @@ returns-2 c = fails (listing-chain _ _ _) 1 (refused (c .before .is-sorted .ensu
 
 is-sorted-requires-2 : tie.Need-is-sorted-requires-2
 is-sorted-requires-2 c κs =
-    sells-room _ (c .before .before .before .before .before .before .before .before .before .pre .0) (c .before .before .before .before .before .before .before .before .before .pre .1) _ (c .before .before .before .before .before .before .before .before .before .pre .3)
+    sells-room (c .before .before .before .before .before .before .before .before .before .pre .0) (c .before .before .before .before .before .before .before .before .before .pre .1)
 
 returns-3 : tie.Need-returns-3
 unfolding listingIn
@@ -53,7 +53,7 @@ returns-3 c = fails (listing-chain _ _ _) 2 (refused (c .before .is-sorted2 .ens
 
 is-uncrossed-requires : tie.Need-is-uncrossed-requires
 is-uncrossed-requires c κs =
-    (buys-room _ (c .before .before .before .before .before .before .before .before .before .before .before .pre .0) (c .before .before .before .before .before .before .before .before .before .before .before .pre .1) _ (c .before .before .before .before .before .before .before .before .before .before .before .pre .2), sells-room _ (c .before .before .before .before .before .before .before .before .before .before .before .pre .0) (c .before .before .before .before .before .before .before .before .before .before .before .pre .1) _ (c .before .before .before .before .before .before .before .before .before .before .before .pre .3))
+    (buys-room (c .before .before .before .before .before .before .before .before .before .before .before .pre .0) (c .before .before .before .before .before .before .before .before .before .before .before .pre .1), sells-room (c .before .before .before .before .before .before .before .before .before .before .before .pre .0) (c .before .before .before .before .before .before .before .before .before .before .before .pre .1))
 
 returns-4 : tie.Need-returns-4
 unfolding listingIn
@@ -61,7 +61,7 @@ returns-4 c = fails (listing-chain _ _ _) 3 (refused (c .before .is-uncrossed .e
 
 orders-in-range-requires : tie.Need-orders-in-range-requires
 orders-in-range-requires c κs =
-    (buys-room _ (c .before .before .before .before .before .before .before .before .before .before .before .before .before .pre .0) (c .before .before .before .before .before .before .before .before .before .before .before .before .before .pre .1) _ (c .before .before .before .before .before .before .before .before .before .before .before .before .before .pre .2), terms-passed _ (passed (c .before .before .before .before .before .before .before .contract-in-range .ensures) (c .before .before .before .before .before .before .if1 .left)))
+    (buys-room (c .before .before .before .before .before .before .before .before .before .before .before .before .before .pre .0) (c .before .before .before .before .before .before .before .before .before .before .before .before .before .pre .1), terms-passed _ (passed (c .before .before .before .before .before .before .before .contract-in-range .ensures) (c .before .before .before .before .before .before .if1 .left)))
 
 returns-5 : tie.Need-returns-5
 unfolding listingIn
@@ -70,7 +70,7 @@ returns-5 c =
 
 orders-in-range-requires-2 : tie.Need-orders-in-range-requires-2
 orders-in-range-requires-2 c κs =
-    (sells-room _ (c .before .before .before .before .before .before .before .before .before .before .before .before .before .before .before .pre .0) (c .before .before .before .before .before .before .before .before .before .before .before .before .before .before .before .pre .1) _ (c .before .before .before .before .before .before .before .before .before .before .before .before .before .before .before .pre .3), terms-passed _ (passed (c .before .before .before .before .before .before .before .before .before .contract-in-range .ensures) (c .before .before .before .before .before .before .before .before .if1 .left)))
+    (sells-room (c .before .before .before .before .before .before .before .before .before .before .before .before .before .before .before .pre .0) (c .before .before .before .before .before .before .before .before .before .before .before .before .before .before .before .pre .1), terms-passed _ (passed (c .before .before .before .before .before .before .before .before .before .contract-in-range .ensures) (c .before .before .before .before .before .before .before .before .if1 .left)))
 
 returns-6 : tie.Need-returns-6
 unfolding listingIn

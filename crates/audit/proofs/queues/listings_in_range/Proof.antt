@@ -22,8 +22,7 @@ loop-holds : tie.Need-loop-holds Inv-loop μ-loop
 loop-holds c = (omega arith, all-none _)
 
 listing-in-range-requires : tie.Need-listing-in-range-requires Inv-loop μ-loop
-listing-in-range-requires c κs =
-    (c .before .before .before .before .pre .0, c .loop-test .taken, c .before .before .before .before .pre .1, c .before .before .before .before .pre .2)
+listing-in-range-requires c κs = (c .before .before .before .before .pre, c .loop-test .taken)
 
 returns : tie.Need-returns Inv-loop μ-loop
 returns c =
