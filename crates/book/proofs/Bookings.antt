@@ -1,9 +1,9 @@
--- Holdings while trades are booked: a bound on all of them grows by the lots of each leg, and the two places that code changes
+-- Holdings while trades are booked: a bound on those of the accounts in use grows by the lots of each leg, and the two places that code changes
 -- are the two legs of the trade. Assumes nothing.
 use mathlib.Core.Bool.{Bool, true, false}
 use mathlib.Core.List.{List, [], _∷_}
 use mathlib.Core.Path.{_≡_, ap, _∙_}
-use Prim.Native.Nat.{ℕ, zero, suc, _+_, _-_, _≤_}
+use Prim.Native.Nat.{ℕ, zero, suc, _+_, _-_, _<_, _≤_}
 use native.Mathlib.Omega.{arith}
 use lib.Dec.{eqb}
 use lib.ListN.{getD, set}
@@ -17,24 +17,30 @@ use Rattle.book.specs.Bounds.{HoldingWithin, HeldWithin}
 
 -- ---- bounds
 
--- what holds of every element, and of what is stored, holds after the store
-all-set : {A : Type 0} (P : A → Type 0) (d : A) (l : List A) (i : ℕ) (v : A) → ((k : ℕ) → P (getD l k d)) → P v → (k : ℕ) → P (getD (set l i v) k d)
+-- what holds of each element at its place, and of what is stored at its own, holds after the store
+all-set : {A : Type 0} (P : ℕ → A → Type 0) (d : A) (l : List A) (i : ℕ) (v : A) → ((k : ℕ) → P k (getD l k d)) → P i v → (k : ℕ) → P k (getD (set l i v) k d)
 all-set P d [] i v h hv k = h k
 all-set P d (x ∷ xs) zero v h hv zero = hv
 all-set P d (x ∷ xs) zero v h hv (suc k) = h (suc k)
 all-set P d (x ∷ xs) (suc i) v h hv zero = h zero
-all-set P d (x ∷ xs) (suc i) v h hv (suc k) = all-set P d xs i v (λ j. h (suc j)) hv k
+all-set P d (x ∷ xs) (suc i) v h hv (suc k) = all-set (λ j. P (suc j)) d xs i v (λ j. h (suc j)) hv k
+
+-- what holds of an element and of what is stored over it holds of the place
+set-here : {A : Type 0} (P : A → Type 0) (d : A) (l : List A) (i : ℕ) (v : A) → P (getD l i d) → P v → P (getD (set l i v) i d)
+set-here P d [] i v h hv = h
+set-here P d (x ∷ xs) zero v h hv = hv
+set-here P d (x ∷ xs) (suc i) v h hv = set-here P d xs i v h hv
 
 pub holding-more : {a b : ℕ} {h : Holding} → HoldingWithin a h → a ≤ b → HoldingWithin b h
 holding-more w more = record { long = omega arith; short = omega arith }
 
-pub held-more : {a b : ℕ} {l : List Account} → HeldWithin a l → a ≤ b → HeldWithin b l
-held-more w more = record { each = λ a c. holding-more (w .each a c) more }
+pub held-more : {a b used c : ℕ} {l : List Account} → HeldWithin a used c l → a ≤ b → HeldWithin b used c l
+held-more w more = record { each = λ a h. holding-more (w .each a h) more }
 
 -- one of them, as code reads it
-pub holding-read : {a b : ℕ} {l : List Account} (who c : ℕ) → HeldWithin a l → a ≤ b → HoldingWithin b (getD (getD l who noAccount .holdings) c noHolding)
+pub holding-read : {a b used c k : ℕ} {l : List Account} (who : ℕ) → HeldWithin a used c l → who < used → k ≡ c → a ≤ b → HoldingWithin b (getD (getD l who noAccount .holdings) k noHolding)
 unfolding accountAt holdingAt
-holding-read who c w more = holding-more (w .each who c) more
+holding-read who w h e more = rw e (holding-more (w .each who h) more)
 
 holding-leg : {b : ℕ} (h : Holding) (sell : Bool) (close lots : ℕ) → HoldingWithin b h → HoldingWithin (b + lots) (afterLeg h sell close lots)
 unfolding afterLeg
@@ -50,19 +56,23 @@ holding-leg {b} h sell close lots w = go sell (eqb close 0)
     go false true = record { long = omega arith; short = omega arith }
     go false false = record { long = omega arith; short = omega arith }
 
-held-leg : {b : ℕ} (l : List Account) (a c : ℕ) (sell : Bool) (close lots : ℕ) → HeldWithin b l → HeldWithin (b + lots) (bookLeg l a c sell close lots)
+held-leg : {b used : ℕ} (l : List Account) (a c : ℕ) (sell : Bool) (close lots : ℕ) → a < used → HeldWithin b used c l → HeldWithin (b + lots) used c (bookLeg l a c sell close lots)
 unfolding bookLeg accountAt holdingAt
-held-leg {b} l a c sell close lots w =
-    let more : (k j : ℕ) → HoldingWithin (b + lots) (getD (getD l k noAccount .holdings) j noHolding) = λ k j. holding-more (w .each k j) (omega arith) in
+held-leg {b} {used} l a c sell close lots h w =
     record {
       each =
-          all-set (λ x. (j : ℕ) → HoldingWithin (b + lots) (getD (x .holdings) j noHolding)) noAccount l a _ more
-          (all-set (HoldingWithin (b + lots)) noHolding (getD l a noAccount .holdings) c _ (more a) (holding-leg _ sell close lots (w .each a c)));
+          all-set (λ k x. k < used → HoldingWithin (b + lots) (getD (x .holdings) c noHolding)) noAccount l a _
+          (λ k i. holding-more (w .each k i) (omega arith))
+          (λ i. set-here (HoldingWithin (b + lots)) noHolding (getD l a noAccount .holdings) c _ (holding-more (w .each a i) (omega arith)) (holding-leg _ sell close lots (w .each a i)));
     }
 
-pub held-trade : {b : ℕ} (l : List Account) (t : Trade) → HeldWithin b l → HeldWithin (b + t .lots + t .lots) (bookTrade l t)
+-- both parties in use
+pub held-trade : {b used c : ℕ} (l : List Account) (t : Trade) → t .contract ≡ c → t .buyer < used → t .seller < used
+    → HeldWithin b used c l → HeldWithin (b + t .lots + t .lots) used c (bookTrade l t)
 unfolding bookTrade
-held-trade l t w = held-leg (bookBuyer l t) (t .seller) (t .contract) true (t .sellclose) (t .lots) (held-leg l (t .buyer) (t .contract) false (t .buyclose) (t .lots) w)
+held-trade l t e buyer seller w =
+    rw (← e)
+    (held-leg (bookBuyer l t) (t .seller) (t .contract) true (t .sellclose) (t .lots) seller (held-leg l (t .buyer) (t .contract) false (t .buyclose) (t .lots) buyer (rw e w)))
 
 -- ---- one changed place for each leg
 
@@ -78,8 +88,8 @@ module _ (l : List Account) (t : Trade) {c buyer : ℕ} {x : Account} (ec : c �
   buyer-booked : set l buyer x ≡ bookBuyer l t
   buyer-booked = leg-booked l (t .buyer) (t .contract) buyer c false (t .buyclose) (t .lots) x eb ec ex
 
-  pub buyer-held : {b : ℕ} → HeldWithin b l → HeldWithin (b + t .lots) (set l buyer x)
-  buyer-held w = rw buyer-booked (held-leg l (t .buyer) (t .contract) false (t .buyclose) (t .lots) w)
+  pub buyer-held : {b used d : ℕ} → t .contract ≡ d → t .buyer < used → HeldWithin b used d l → HeldWithin (b + t .lots) used d (set l buyer x)
+  buyer-held e h w = rw (buyer-booked, ← e) (held-leg l (t .buyer) (t .contract) false (t .buyclose) (t .lots) h (rw e w))
 
   -- "the buyer's leg is booked first"
   pub trade-booked : {seller : ℕ} {y : Account} → seller ≡ t .seller

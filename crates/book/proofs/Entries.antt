@@ -105,6 +105,6 @@ module _ {t : Taker} {lots price : ℕ} {day : Bool} {last : ℕ} {held : List A
           last = swept .last;
           accounts = swept .accounts;
           own-queue = eq ∙ ap (λ (k : ℕ). putQueue owns k own (restLots t price rested (queueIn owns c own))) ec ∙ ap (putQueue owns (t .contract) own) own-is;
-          opposite-queue = eo ∙ rw ec (front-dropped opposites opposites₁ (t .contract) opposite (f .filled) (s .rest) (ready .sweeps .queue .room) (swept .filled) (swept .queue));
+          opposite-queue = eo ∙ rw ec (front-dropped opposites opposites₁ (t .contract) opposite (f .filled) (s .rest) (ready .sweeps .queue) (swept .filled) (swept .queue));
           trades = swept .trades;
         }

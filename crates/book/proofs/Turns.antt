@@ -24,7 +24,7 @@ use Rattle.rules.proofs.Codecs.{trade-codec, length-queue, order-at, put-queue}
 use Rattle.rules.proofs.Fillable.{traded-nil, traded-cons, trades-counted, count-met}
 use Rattle.rules.proofs.Sweep.{trade-lots, trade-price, sweep-end, sweep-used, sweep-unmet, sweep-part, sweep-full}
 use Rattle.book.specs.Bounds.{HeldWithin}
-use Rattle.book.specs.Sweep.{SweptQueue, FilledIs}
+use Rattle.book.specs.Sweep.{Parties, FilledIs}
 use Rattle.book.proofs.Bookings.{held-more, held-trade}
 use Rattle.book.proofs.Queues.{next-order, no-more}
 
@@ -92,7 +92,7 @@ pub record Going
   pub within : at ≤ count
   pub some : done ≤ lots
   pub long : length area ≡ length area₀
-  pub holdings : HeldWithin (1_000_000 + done + done) held
+  pub parties : Parties (1_000_000 + done + done) t held queues count
   pub answer : finish done made price held area (sweep t (lots - done) price (drop at (queueIn queues (t .contract) count)))
       ≡ finish 0 before last held₀ area₀ (sweep t lots last (queueIn queues (t .contract) count))
 
@@ -109,9 +109,14 @@ pub record Meeting (t : Taker) (queues : List ℕ) (count at left price : ℕ) (
   pub met : counterpart t o ≡ true
   pub trade : tr ≡ tradeWith t o left price
 
-either-party : (sell : Bool) (a b : ℕ) → a < 32 → b < 32 → pick sell a b < 32
-either-party true a b ha hb = ha
-either-party false a b ha hb = hb
+either-party : (used : ℕ) (sell : Bool) (a b : ℕ) → a < used → b < used → pick sell a b < used
+either-party used true a b ha hb = ha
+either-party used false a b ha hb = hb
+
+-- the same accounts, with another bound on what they hold
+pub parties-with : {b b′ : ℕ} {t : Taker} {held held′ : List Account} {queues : List ℕ} {count : ℕ} (p : Parties b t held queues count)
+    → HeldWithin b′ (p .used) (t .contract) held′ → Parties b′ t held′ queues count
+parties-with p w = record { used = p .used; few = p .few; taker = p .taker; resting = p .resting; holdings = w }
 
 module _ {t : Taker} {queues : List ℕ} {count at left price : ℕ} {o : Order} {tr : Trade} (m : Meeting t queues count at left price o tr) where
   pub trade-size : tr .lots ≡ min left (o .lots)
@@ -125,11 +130,12 @@ module _ {t : Taker} {queues : List ℕ} {count at left price : ℕ} {o : Order}
   standing = order-at queues (t .contract) count at (m .here) ∙ sym (m .order)
 
   -- the two accounts are the taker's and the order's
-  pub trade-parties : t .account < 32 → SweptQueue queues (t .contract) count → (tr .buyer < 32) × (tr .seller < 32)
+  pub trade-parties : {b : ℕ} {held : List Account} (p : Parties b t held queues count) → (tr .buyer < p .used) × (tr .seller < p .used)
   unfolding tradeWith
-  trade-parties taker swept =
-      let resting : o .account < 32 = rw standing at (swept .accounts at (m .here)) in
-      rw (m .trade) (either-party (t .sell) (o .account) (t .account) resting taker, either-party (t .sell) (t .account) (o .account) taker resting)
+  trade-parties p =
+      let resting : o .account < p .used = rw standing at (p .resting at (m .here)) in
+      rw (m .trade)
+      (either-party (p .used) (t .sell) (o .account) (t .account) resting (p .taker), either-party (p .used) (t .sell) (t .account) (o .account) (p .taker) resting)
 
 -- ---- why a sweep stops
 
@@ -203,7 +209,9 @@ module _
             within = omega (arith, m .here);
             some = omega (arith, g .some);
             long = long-still;
-            holdings = rw eh (held-more (held-trade held tr (g .holdings)) (omega arith));
+            parties =
+                let both = trade-parties m (g .parties) in
+                rw eh (parties-with (g .parties) (held-more (held-trade held tr (trade-contract m) (both .0) (both .1) (g .parties .holdings)) (omega arith)));
             answer = traded-on _ (rw (← left, ← p) (sweep-full t (lots - done) price o _ (m .some) (m .met) (omega arith)));
           }
 

@@ -13,20 +13,23 @@ use Rattle.rules.specs.declared.Taker.{Taker}
 use Rattle.book.specs.Bounds.{HeldWithin}
 use Rattle.book.specs.declared.sweep.Filled.{Filled}
 
--- room for a queue's orders, each of an account that exists
-pub record SweptQueue (queues : List ℕ) (c count : ℕ) : Type 0 where
-  pub room : 320 * c + 5 * count ≤ length queues
-  pub accounts : (i : ℕ) → i < count → getD (queueIn queues c count) i noOrder .account < 32
+-- the arriving order's account and those of the queue's orders are in use, and no account in use holds more than b lots of the
+-- contract on either side
+pub record Parties (b : ℕ) (t : Taker) (held : List Account) (queues : List ℕ) (count : ℕ) : Type 0 where
+  pub used : ℕ
+  pub few : used ≤ 32
+  pub taker : t .account < used
+  pub resting : (i : ℕ) → i < count → getD (queueIn queues (t .contract) count) i noOrder .account < used
+  pub holdings : HeldWithin b used (t .contract) held
 
--- an order whose account and contract exist, a queue to trade with, room for the trades, and no holding near its width
+-- a contract that exists, room for the queue and for the trades, and accounts whose holdings are not near their width
 pub record SweepReady
     (t : Taker) (lots last : ℕ) (held : List Account) (queues : List ℕ) (count : ℕ) (area : List ℕ) (before : ℕ) : Type 0 where
   pub contract : t .contract < 4
-  pub account : t .account < 32
   pub size : lots ≤ 1_000
-  pub queue : SweptQueue queues (t .contract) count
+  pub queue : 320 * t .contract + 5 * count ≤ length queues
   pub room : 9 * (before + length (sweep t lots last (queueIn queues (t .contract) count) .trades)) ≤ length area
-  pub holdings : HeldWithin 1_000_000 held
+  pub parties : Parties 1_000_000 t held queues count
 
 -- the answer, and both areas: the trades at the next free places, the rest of the queue behind its filled orders
 pub record FilledIs

@@ -36,7 +36,13 @@ module _ {A : Type 0} where
         let l : length (tabulate k f) ≡ k = length-tabulate k f in
         let m : length (tabulate (k + 1) f) ≡ k + 1 = length-tabulate (k + 1) f in
         let e : n - k ≡ suc (n - (k + 1)) = omega arith in
-        rw (l, m, e, set-at (tabulate k f) z (replicate (n - (k + 1)) z) (f k) k l, tabulate-more k f) (sym (append-assoc (tabulate k f) (f k ∷ []) (replicate (n - (k + 1)) z)))
+        rw (
+          l,
+          m,
+          e,
+          set-at (tabulate k f) z (replicate (n - (k + 1)) z) (f k) k l,
+          tabulate-more k f,
+        ) (sym (append-assoc (tabulate k f) (f k ∷ []) (replicate (n - (k + 1)) z)))
 
     -- one store of a loop that fills
     pub fill : {l : List A} {v : A} (k : ℕ) → k < n → l ≡ filled k → v ≡ f k → set l k v ≡ filled (k + 1)

@@ -31,6 +31,13 @@ module _ (file : List ℕ) where
   unfolding commandPlace accountPlace contractPlace
   command-place k = omega arith
 
+  -- a command's record follows the one before it
+  pub command-next : (k : ℕ) → commandPlace file (k + 1) ≡ commandPlace file k + 24
+  command-next k = omega (arith, command-place (k + 1), command-place k)
+
+  pub command-from : (first k : ℕ) → first ≡ commandPlace file 0 → first + 24 * k ≡ commandPlace file k
+  command-from first k e = omega (arith, command-place 0, command-place k)
+
   -- the three counts, each read where the ones before it say
   pub contracts-read : contractsIn file ≡ u32At file 0
   unfolding contractsIn
@@ -71,9 +78,12 @@ module _ (file : List ℕ) where
   pub layout : shaped file ≡ true → Layout file
   unfolding shaped
   layout h =
-      let p = both-true (within 1 4 (contractsIn file) && within 1 32 (accountsIn file) && leb (commandsIn file) 2_000) (eqb (length file) (commandPlace file (commandsIn file))) h in
-      let q = both-true (within 1 4 (contractsIn file) && within 1 32 (accountsIn file)) (leb (commandsIn file) 2_000) (p .0) in
-      let r = both-true (within 1 4 (contractsIn file)) (within 1 32 (accountsIn file)) (q .0) in
+      let c = within 1 4 (contractsIn file) in
+      let a = within 1 32 (accountsIn file) in
+      let n = leb (commandsIn file) 2_000 in
+      let p = both-true (c && a && n) (eqb (length file) (commandPlace file (commandsIn file))) h in
+      let q = both-true (c && a) n (p .0) in
+      let r = both-true c a (q .0) in
       record {
         some-contract = within-low 1 4 (contractsIn file) (r .0);
         contracts = within-high 1 4 (contractsIn file) (r .0);
@@ -92,10 +102,19 @@ module _ (file : List ℕ) where
       go false e = e
 
   -- counts in range leave it to the length
-  pub length-decides : 1 ≤ contractsIn file → contractsIn file ≤ 4 → 1 ≤ accountsIn file → accountsIn file ≤ 32 → commandsIn file ≤ 2_000 → shaped file ≡ eqb (length file) (12 + 20 * contractsIn file + 8 * accountsIn file + 24 * commandsIn file)
+  pub length-decides : 1 ≤ contractsIn file → contractsIn file ≤ 4 → 1 ≤ accountsIn file → accountsIn file ≤ 32
+      → commandsIn file ≤ 2_000
+      → shaped file ≡ eqb (length file) (12 + 20 * contractsIn file + 8 * accountsIn file + 24 * commandsIn file)
   unfolding shaped
   length-decides h i j k l =
-      rw (le-leb 1 (contractsIn file) h, le-leb (contractsIn file) 4 i, le-leb 1 (accountsIn file) j, le-leb (accountsIn file) 32 k, le-leb (commandsIn file) 2_000 l, command-place file (commandsIn file))
+      rw (
+        le-leb 1 (contractsIn file) h,
+        le-leb (contractsIn file) 4 i,
+        le-leb 1 (accountsIn file) j,
+        le-leb (accountsIn file) 32 k,
+        le-leb (commandsIn file) 2_000 l,
+        command-place file (commandsIn file),
+      )
 
 -- ---- a sound file
 
@@ -119,7 +138,8 @@ module _ (file : List ℕ) where
     sound-layout = layout file (both-true (shaped file) contracts-sound (parts .0) .0)
 
     pub contract-is-sound : (c : ℕ) → c < contractsIn file → contractSound file c ≡ true
-    contract-is-sound c l = all-at (contractSound file) c (contractsIn file) (both-true (shaped file) contracts-sound (parts .0) .1) l
+    contract-is-sound c l =
+        all-at (contractSound file) c (contractsIn file) (both-true (shaped file) contracts-sound (parts .0) .1) l
 
     pub balance-most : (a : ℕ) → a < accountsIn file → balanceFrom file a ≤ 10 ^ 18
     unfolding accountSound
@@ -130,6 +150,7 @@ module _ (file : List ℕ) where
     command-within k l = let s = sound-layout in omega (arith, command-place file k)
 
 -- the k-th of the file's records
-pub record-of : (file : List ℕ) (k : ℕ) (d : Record) → k < commandsIn file → getD (recordsOf file) k d ≡ recordFrom file (commandPlace file k)
+pub record-of : (file : List ℕ) (k : ℕ) (d : Record) → k < commandsIn file
+    → getD (recordsOf file) k d ≡ recordFrom file (commandPlace file k)
 unfolding recordsOf
 record-of file k d h = getD-tabulate (commandsIn file) k (λ k. recordFrom file (commandPlace file k)) d h

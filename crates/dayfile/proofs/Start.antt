@@ -64,21 +64,32 @@ module _ (file buys sells trades : List ℕ) (h : sound file ≡ true) where
   at-listing c l =
       let s = sound-layout file h in
       let e : _≡_ {A = ℕ} (getD (replicate 4 0) c 0) 0 = getD-replicate 4 c 0 0 (omega arith) in
-      rw (at-contract c l, no-orders buys c (getD (replicate 4 0) c 0) e, no-orders sells c (getD (replicate 4 0) c 0) e)
+      rw (
+        at-contract c l,
+        no-orders buys c (getD (replicate 4 0) c 0) e,
+        no-orders sells c (getD (replicate 4 0) c 0) e,
+      )
 
   at-account : (a : ℕ) → a < accountsIn file → inUse (contractsIn file) (openingHolder file a) ≡ openingAccount file a
   unfolding openingAccount
   at-account a l = let s = sound-layout file h in rw (take-replicate (contractsIn file) 4 noHolding (s .contracts))
 
-  accounts-in-use : map (inUse (contractsIn file)) (take (accountsIn file) (openingAccounts file)) ≡ tabulate (accountsIn file) (openingAccount file)
+  accounts-in-use : map (inUse (contractsIn file)) (take (accountsIn file) (openingAccounts file))
+      ≡ tabulate (accountsIn file) (openingAccount file)
   unfolding openingAccounts
   accounts-in-use =
-      let t : take (accountsIn file) (padded 32 (accountWith 0) (tabulate (accountsIn file) (openingHolder file))) ≡ tabulate (accountsIn file) (openingHolder file) =
-      rw (length-tabulate (accountsIn file) (openingHolder file)) at (take-padded 32 (accountWith 0) (tabulate (accountsIn file) (openingHolder file))) in
-      rw (t, map-tabulate (inUse (contractsIn file)) (accountsIn file) (openingHolder file))
-      (tabulate-ext (accountsIn file) (λ a. inUse (contractsIn file) (openingHolder file a)) (openingAccount file) (accountWith 0) at-account)
+      let n = accountsIn file in
+      let holders = tabulate n (openingHolder file) in
+      let t : take n (padded 32 (accountWith 0) holders) ≡ holders =
+      rw (length-tabulate n (openingHolder file)) at (take-padded 32 (accountWith 0) holders) in
+      rw (t, map-tabulate (inUse (contractsIn file)) n (openingHolder file))
+      (tabulate-ext n (λ a. inUse (contractsIn file) (openingHolder file a)) (openingAccount file) (accountWith 0) at-account)
 
   pub opening-exchange : exchangeOf m ≡ opening file
   unfolding exchangeOf opening openingState
   opening-exchange =
-      rw (tabulate-ext (contractsIn file) (listingIn m) (openingListing file) noListing at-listing, accounts-in-use, no-trades trades)
+      rw (
+        tabulate-ext (contractsIn file) (listingIn m) (openingListing file) noListing at-listing,
+        accounts-in-use,
+        no-trades trades,
+      )

@@ -2,16 +2,18 @@
 // the file is read once the file is known to reach so far.
 ghost use mathlib.Core.Bool.{true};
 ghost use mathlib.Core.Path.{_≡_};
-ghost use Prim.Native.Nat.{_+_, _*_, _≤_};
+ghost use Prim.Native.Nat.{_+_, _*_, _≤_, _<_};
 ghost use lib.ListN.{length};
 ghost use Rattle.laws.specs.Choice.{all};
-ghost use Rattle.rules.specs.DayFile.{contractsIn, accountsIn, commandsIn, contractPlace, accountPlace, commandPlace, contractSound, accountSound};
+ghost use Rattle.rules.specs.DayFile.{contractsIn, accountsIn, commandsIn, contractPlace, accountPlace, commandPlace, contractSound, accountSound, recordFrom};
 ghost use Rattle.rules.specs.DayFile.{sound as DayFile·sound};
 ghost use Rattle.dayfile.specs.Opening.{shaped};
 use super::bytes::contract_at;
+use super::bytes::record_at;
 use super::bytes::u16_at;
 use super::bytes::u32_at;
 use super::bytes::u64_at;
+use rules::Record;
 
 // Each count stands behind the section before it. For the crates of this repository: each requires the counts before it, and
 // a file that reaches so far.
@@ -30,7 +32,9 @@ pub fn account_count(file: &[u8], contracts: usize) -> usize
 }
 
 pub fn command_count(file: &[u8], contracts: usize, accounts: usize) -> usize
-    requires { ⌜ (contracts ≡ contractsIn (now file)) × (contracts ≤ 4) × (accounts ≡ accountsIn (now file)) × (accounts ≤ 32) × (12 + 20 * contracts + 8 * accounts ≤ length (now file)) ⌝ }
+    requires { ⌜ (contracts ≡ contractsIn (now file)) × (contracts ≤ 4) ⌝ }
+    requires { ⌜ (accounts ≡ accountsIn (now file)) × (accounts ≤ 32) ⌝ }
+    requires { ⌜ 12 + 20 * contracts + 8 * accounts ≤ length (now file) ⌝ }
     ensures { λ r. ⌜ r ≡ commandsIn (now (file .entry)) ⌝ }
 {
     u32_at(file, 8 + 20 * contracts + 8 * accounts) as usize
@@ -146,4 +150,13 @@ pub fn commands_in(file: &[u8]) -> usize
     let contracts = contract_count(file);
     let accounts = account_count(file, contracts);
     command_count(file, contracts, accounts)
+}
+
+// The k-th command's record, counted from 0, of a file whose first command begins at `first`. For the crates of this
+// repository: requires a sound file and one of its commands.
+pub fn record_of(file: &[u8], first: usize, k: usize) -> Record
+    requires { ⌜ (DayFile·sound (now file) ≡ true) × (first ≡ commandPlace (now file) 0) × (k < commandsIn (now file)) ⌝ }
+    ensures { λ r. ⌜ r ≡ recordFrom (now (file .entry)) (commandPlace (now (file .entry)) k) ⌝ }
+{
+    record_at(file, first + 24 * k)
 }

@@ -12,6 +12,7 @@ use lib.ListN.{length, getD, set, length-set, List·getD-map}
 use lib.Seq.{map-set-same}
 use Rattle.laws.specs.Bound.{within-abs, within-d, abs-within}
 use Rattle.laws.specs.Choice.{either-false}
+use Rattle.laws.specs.Lists.{map-set}
 use Rattle.laws.specs.Ring.{d, d-ind, posPart, negPart, split, ring, ltZ-d}
 use Rattle.rules.specs.Answers.{depositRefusals, withdrawRefusals, codeOf, refusals, liftsTooHigh, amountRefused}
 use Rattle.rules.specs.Bounds.{maxBalance, maxDayProfit}
@@ -25,7 +26,7 @@ use Rattle.rules.specs.declared.Command.the-variants.{Deposit, Withdraw}
 use Rattle.invariants.proofs.Accepted.{failed, present}
 use Rattle.invariants.proofs.Carry.{trades-carried}
 use Rattle.invariants.proofs.Clauses.{WellFormed, Counted}
-use Rattle.invariants.proofs.Replay.{map-set, lotsOf, lotsOnly, same-holdings, holdings-same, book-same, never-same}
+use Rattle.invariants.proofs.Replay.{lotsOf, lotsOnly, same-holdings, holdings-same, book-same, never-same}
 use Rattle.invariants.proofs.Tests.{at-set}
 
 module _ (x : Exchange) (k : WellFormed x) (a : ℕ) (there : a < length (x .accounts)) (balance : ℤ)

@@ -10,6 +10,7 @@ use lib.Dec.{eqb}
 use lib.IntN.{pos}
 use lib.ListN.{length, getD, set, drop, List·getD-map}
 use Rattle.laws.specs.Choice.{pick, both-true, true-both}
+use Rattle.laws.specs.Lists.{map-set}
 use Rattle.rules.specs.Exchange.{accountAt, holdingAt, noAccount, noHolding}
 use Rattle.rules.specs.Holdings.{withLong, withShort, afterLeg, bookLeg, bookBuyer, bookSeller, bookTrade, bookTrades, legCovered, neverBelowZero, sameLots, sameHoldings}
 use Rattle.rules.specs.declared.Account.{Account}
@@ -17,11 +18,6 @@ use Rattle.rules.specs.declared.Holding.{Holding}
 use Rattle.rules.specs.declared.Trade.{Trade}
 use Rattle.accounting.proofs.Facts.{passed}
 use Rattle.invariants.proofs.Tests.{join}
-
-pub map-set : {A B : Type 0} (f : A → B) (l : List A) (i : ℕ) (v : A) → map f (set l i v) ≡ set (map f l) i (f v)
-map-set f [] i v = refl
-map-set f (x ∷ xs) zero v = refl
-map-set f (x ∷ xs) (suc i) v = rw (map-set f xs i v)
 
 -- ---- lots now, and nothing else
 

@@ -1,6 +1,7 @@
 -- The definitions that the crates share, each with its laws. Assumes nothing.
 pub mod Bound
 pub mod Choice
+pub mod Lists
 pub mod Ring
 pub mod Sums
 pub mod Tabulate

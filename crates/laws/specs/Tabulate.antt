@@ -1,10 +1,10 @@
 -- The list of a function's values at 0, 1, .. : for rules that say what stands at each place. Assumes nothing.
-use mathlib.Core.Path.{_≡_, refl, ap}
-use mathlib.Core.List.{List, [], _∷_}
-use Prim.Native.Nat.{ℕ, zero, suc, _<_}
+use mathlib.Core.Path.{_≡_, refl, sym, ap}
+use mathlib.Core.List.{List, [], _∷_, map}
+use Prim.Native.Nat.{ℕ, zero, suc, _<_, _≤_}
 use native.Mathlib.Nat.{le-of-suc-le-suc, not-suc-le-zero}
-use lib.ListN.{length, getD}
-use lib.Seq.{ext-getD}
+use lib.ListN.{length, getD, take}
+use lib.Seq.{ext-getD, getD-take, length-take-le}
 
 -- f 0, f 1, .., up to n values
 unfoldable pub tabulate : {A : Type 0} → ℕ → (ℕ → A) → List A
@@ -26,3 +26,18 @@ module _ {A : Type 0} where
   -- a list that has f's values at its places is the table of f
   pub tabulate-eq : (n : ℕ) (f : ℕ → A) (l : List A) (d : A) → length l ≡ n → ((i : ℕ) → i < n → getD l i d ≡ f i) → l ≡ tabulate n f
   tabulate-eq n f l d e h = ext-getD d l (tabulate n f) (rw length-tabulate e) (λ i k. let k′ : i < n = rw e at k in rw (getD-tabulate n i f d k′) (h i k′))
+
+  pub tabulate-ext : (n : ℕ) (f g : ℕ → A) → ((i : ℕ) → f i ≡ g i) → tabulate n f ≡ tabulate n g
+  unfolding tabulate
+  tabulate-ext zero f g e = refl
+  tabulate-ext (suc n) f g e = rw (e 0, tabulate-ext n (λ i. f (suc i)) (λ i. g (suc i)) (λ i. e (suc i)))
+
+  -- the table of a list's own values is its front
+  pub tabulate-take : (n : ℕ) (l : List A) (d : A) → n ≤ length l → tabulate n (λ i. getD l i d) ≡ take n l
+  tabulate-take n l d h = sym (tabulate-eq n (λ i. getD l i d) (take n l) d (length-take-le n l h) (λ i k. getD-take n l i d k))
+
+-- a function of each value
+pub map-tabulate : {A B : Type 0} (f : A → B) (n : ℕ) (g : ℕ → A) → map f (tabulate n g) ≡ tabulate n (λ i. f (g i))
+unfolding tabulate
+map-tabulate f zero g = refl
+map-tabulate {B = B} f (suc n) g = ap (λ (r : List B). f (g 0) ∷ r) (map-tabulate f n (λ i. g (suc i)))

@@ -37,7 +37,8 @@ signed-length (negsuc n) = omega (arith, decimal-length (suc n))
 
 -- ---- lines
 
-field-length : (f : List ℕ) (fs : List (List ℕ)) (a b : ℕ) → length f ≤ a → length (fieldsOf fs) ≤ b → length (fieldsOf (f ∷ fs)) ≤ 1 + a + b
+field-length : (f : List ℕ) (fs : List (List ℕ)) (a b : ℕ) → length f ≤ a → length (fieldsOf fs) ≤ b
+    → length (fieldsOf (f ∷ fs)) ≤ 1 + a + b
 unfolding fieldsOf
 field-length f fs a b h k = rw length-append (omega arith)
 
@@ -70,16 +71,19 @@ answer-length k a = omega (arith, five k (a .code) (a .number) (a .traded) (a .l
 pub trade-length : (k : ℕ) (t : Trade) → length (tradeLine k t) ≤ 128
 unfolding tradeLine
 trade-length k t =
-    omega
-    (arith, number k (decimal (t .contract + 1) ∷ decimal (t .price) ∷ decimal (t .lots) ∷ decimal (t .buyorder) ∷ decimal (t .sellorder) ∷ []) 106 (five (t .contract + 1) (t .price) (t .lots) (t .buyorder) (t .sellorder)))
+    let rest = decimal (t .price) ∷ decimal (t .lots) ∷ decimal (t .buyorder) ∷ decimal (t .sellorder) ∷ [] in
+    let l = five (t .contract + 1) (t .price) (t .lots) (t .buyorder) (t .sellorder) in
+    omega (arith, number k (decimal (t .contract + 1) ∷ rest) 106 l)
 
 pub price-length : (c price : ℕ) → length (priceLine c price) ≤ 44
 price-length c price = omega (arith, two (c + 1) price)
 
-pub account-length : (a : ℕ) (closing holding balance : ℤ) (charged : ℕ) → length (accountLine a closing holding balance charged) ≤ 110
+pub account-length : (a : ℕ) (closing holding balance : ℤ) (charged : ℕ)
+    → length (accountLine a closing holding balance charged) ≤ 110
 account-length a closing holding balance charged =
-    omega
-    (arith, number (a + 1) (signed closing ∷ signed holding ∷ signed balance ∷ decimal charged ∷ []) 88 (amount closing (signed holding ∷ signed balance ∷ decimal charged ∷ []) 66 (amount holding (signed balance ∷ decimal charged ∷ []) 44 (amount balance (decimal charged ∷ []) 22 (one charged)))))
+    let last = decimal charged ∷ [] in
+    let l = amount closing (signed holding ∷ signed balance ∷ last) 66 (amount holding (signed balance ∷ last) 44 (amount balance last 22 (one charged))) in
+    omega (arith, number (a + 1) (signed closing ∷ signed holding ∷ signed balance ∷ last) 88 l)
 
 -- the lines of the trades of one command
 pub trades-length : (k : ℕ) (ts : List Trade) → length (tradeLines k ts) ≤ 128 * length ts

@@ -18,13 +18,20 @@ pub price-turn : (x : Exchange) (c : ℕ) → priceLines x (c + 1) ≡ priceLine
 unfolding priceLines
 price-turn x c = ap (priceLines x) (add-one c)
 
-pub account-turn : (x after : Exchange) (a : ℕ) → accountLines x after (a + 1) ≡ accountLines x after a ++ accountLine a (closingProfit x a) (holdingProfit x a) (accountAt (after .accounts) a .balance) (charged after a)
+pub account-turn : (x after : Exchange) (a : ℕ)
+    → accountLines x after (a + 1)
+    ≡ accountLines x after a
+    ++ accountLine a (closingProfit x a) (holdingProfit x a) (accountAt (after .accounts) a .balance) (charged after a)
 unfolding accountLines
 account-turn x after a = ap (accountLines x after) (add-one a)
 
-pub trade-turn : (k : ℕ) (ts : List Trade) (t : Trade) → tradeLines k (ts ++ (t ∷ [])) ≡ tradeLines k ts ++ tradeLine (k + length ts) t
+pub trade-turn : (k : ℕ) (ts : List Trade) (t : Trade)
+    → tradeLines k (ts ++ (t ∷ [])) ≡ tradeLines k ts ++ tradeLine (k + length ts) t
 unfolding tradeLines
 trade-turn k [] t = rw (add-zero k) (append-nil (tradeLine k t))
 trade-turn k (s ∷ ts) t =
     let e : k + 1 + length ts ≡ k + suc (length ts) = omega arith in
-    rw (trade-turn (k + 1) ts t, e) (sym (append-assoc (tradeLine k s) (tradeLines (k + 1) ts) (tradeLine (k + suc (length ts)) t)))
+    rw (
+      trade-turn (k + 1) ts t,
+      e,
+    ) (sym (append-assoc (tradeLine k s) (tradeLines (k + 1) ts) (tradeLine (k + suc (length ts)) t)))

@@ -15,7 +15,7 @@ pub fn put_byte(out: &mut [u8], at: usize, byte: u8) -> usize
     at + 1
 }
 
-// The last `places` digits of n, without zeros in front.
+// The last `places` digits of n, or fewer where n has fewer.
 fn put_digits(out: &mut [u8], at: usize, places: usize, n: u64) -> usize
     requires { ⌜ at + places ≤ length (now out) ⌝ }
     ensures { λ r. ⌜ Written places (now (out .entry)) at (digits places n) (now (out .exit)) r ⌝ }

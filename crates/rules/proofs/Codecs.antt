@@ -10,8 +10,8 @@ use native.Mathlib.Omega.{arith}
 use borrow.Author.Tests.{leb-true, leb-false, ltb-true, ltb-false, eqb-true, eqb-false}
 use lib.Dec.{leb, ltb, eqb}
 use lib.ListN.{length, getD, take, drop, replicate, length-append, length-take, length-replicate, take-append-drop, replicate-append-replicate}
-use lib.Seq.{getD-take, getD-drop, length-take-le}
-use Rattle.laws.specs.Tabulate.{tabulate, tabulate-eq}
+use lib.Seq.{getD-drop}
+use Rattle.laws.specs.Tabulate.{tabulate, tabulate-take}
 use Rattle.areas.specs.Lists.{over, padded}
 use Rattle.areas.specs.Records.{Codec, encode, records, store}
 use Rattle.areas.proofs.Lists.{take-over, drop-over, drop-padded, padded-full}
@@ -23,18 +23,13 @@ use Rattle.rules.specs.declared.Trade.{Trade}
 
 -- ---- the codecs
 
--- the first n words of a list, one by one
-first-words : (n : ℕ) (xs : List ℕ) → n ≤ length xs → tabulate n (λ i. getD xs i 0) ≡ take n xs
-first-words n xs h =
-    sym (tabulate-eq n (λ i. getD xs i 0) (take n xs) 0 (length-take-le n xs h) (λ i k. getD-take n xs i 0 k))
-
 pub order-codec : Codec Order 5 orderWords orderFrom
 unfolding tabulate
-order-codec = record { wide = λ o. refl; back = λ o ys. refl; forth = λ xs h. first-words 5 xs h }
+order-codec = record { wide = λ o. refl; back = λ o ys. refl; forth = λ xs h. tabulate-take 5 xs 0 h }
 
 pub trade-codec : Codec Trade 9 tradeWords tradeFrom
 unfolding tabulate
-trade-codec = record { wide = λ t. refl; back = λ t ys. refl; forth = λ xs h. first-words 9 xs h }
+trade-codec = record { wide = λ t. refl; back = λ t ys. refl; forth = λ xs h. tabulate-take 9 xs 0 h }
 
 -- ---- records written over n places: the places that they do not fill get z
 

@@ -5,7 +5,7 @@ use Prim.Native.Nat.{ℕ, _≤_}
 use lib.Dec.{leb}
 use borrow.Author.Tests.{leb-true}
 use Rattle.laws.specs.Choice.{both-true}
-use Rattle.rules.specs.Bounds.{within, tickMultiple, termsInRange}
+use Rattle.rules.specs.Bounds.{within, onTick, tickMultiple, termsInRange, maxPrice}
 use Rattle.rules.specs.declared.Contract.{Contract}
 
 module _ (low high n : ℕ) (passed : within low high n ≡ true) where
@@ -39,3 +39,25 @@ terms c h =
     let u = both-true (m && t) r (s .0) in
     let v = both-true m t (u .0) in
     record { multiplier = v .0; tick = v .1; reference = u .1; band = s .1; limit = q .1; rate = p .1 }
+
+-- ---- the bounds that keep sums and products of terms within their width
+
+pub record TermBounds (c : Contract) : Type 0 where
+  pub tick : 1 ≤ c .tick
+  pub reference : c .reference ≤ maxPrice
+  pub band : c .band ≤ maxPrice
+  pub limit : c .limit ≤ 100_000
+
+multiple-high : (tick n : ℕ) → tickMultiple tick n ≡ true → n ≤ maxPrice
+unfolding tickMultiple
+multiple-high tick n h = within-high tick maxPrice n (both-true (onTick tick n) (within tick maxPrice n) h .1)
+
+pub term-bounds : (c : Contract) → termsInRange c ≡ true → TermBounds c
+term-bounds c h =
+    let t = terms c h in
+    record {
+      tick = within-low 1 1_000 (c .tick) (t .tick);
+      reference = multiple-high (c .tick) (c .reference) (t .reference);
+      band = multiple-high (c .tick) (c .band) (t .band);
+      limit = within-high 1 100_000 (c .limit) (t .limit);
+    }

@@ -1,7 +1,8 @@
 // The tests of a contract's terms, which a day file and a well-formed state share.
+ghost use mathlib.Core.Bool.{true};
 ghost use mathlib.Core.Path.{_≡_};
 ghost use Prim.Native.Nat.{_≤_};
-ghost use Rattle.rules.specs.Bounds.{within as Bounds·within, onTick, tickMultiple, termsInRange};
+ghost use Rattle.rules.specs.Bounds.{within as Bounds·within, onTick, tickMultiple, termsInRange, dayLow, dayHigh, allowedToday};
 use rules::Contract;
 
 pub fn within(low: u32, high: u32, n: u32) -> bool
@@ -52,4 +53,36 @@ pub fn terms_in_range(c: Contract) -> bool
         return false;
     }
     within(1, 10000, c.rate)
+}
+
+// "the larger of one tick and reference minus band"
+fn day_low(c: Contract) -> u32
+    ensures { λ r. ⌜ r ≡ dayLow c ⌝ }
+{
+    let reference = c.reference;
+    let band = c.band;
+    if reference < band {
+        return c.tick;
+    }
+    laws::larger(c.tick, reference - band)
+}
+
+// "the smaller of reference plus band and the largest tick multiple within 1,000,000". Requires terms within their ranges.
+fn day_high(c: Contract) -> u32
+    requires { ⌜ termsInRange c ≡ true ⌝ }
+    ensures { λ r. ⌜ r ≡ dayHigh c ⌝ }
+{
+    let tick = c.tick;
+    laws::smaller(c.reference + c.band, 1000000 / tick * tick)
+}
+
+// "Both ends may be traded". For the crates of this repository: requires terms within their ranges.
+pub fn allowed_today(c: Contract, price: u32) -> bool
+    requires { ⌜ termsInRange c ≡ true ⌝ }
+    ensures { λ r. ⌜ r ≡ allowedToday c price ⌝ }
+{
+    if !on_tick(c.tick, price) {
+        return false;
+    }
+    within(day_low(c), day_high(c), price)
 }

@@ -58,8 +58,15 @@ returns-8 : tie.Need-returns-8
 unfolding commandOf
 returns-8 c =
     let rest = c .match .rest in
-    simp
-    (ne-eqb _ _ (rest .0 .0 .0 .0 .0 .0 .1), ne-eqb _ _ (rest .0 .0 .0 .0 .0 .1), ne-eqb _ _ (rest .0 .0 .0 .0 .1), ne-eqb _ _ (rest .0 .0 .0 .1), ne-eqb _ _ (rest .0 .0 .1), ne-eqb _ _ (rest .0 .1), ne-eqb _ _ (rest .1))
+    simp (
+      ne-eqb _ _ (rest .0 .0 .0 .0 .0 .0 .1),
+      ne-eqb _ _ (rest .0 .0 .0 .0 .0 .1),
+      ne-eqb _ _ (rest .0 .0 .0 .0 .1),
+      ne-eqb _ _ (rest .0 .0 .0 .1),
+      ne-eqb _ _ (rest .0 .0 .1),
+      ne-eqb _ _ (rest .0 .1),
+      ne-eqb _ _ (rest .1),
+    )
 
 pub command-of-spec : {M : Type 1} → statement M
 command-of-spec =

@@ -20,7 +20,12 @@ returns-2 : tie.Need-returns-2
 unfolding zeros allOf insertOf
 returns-2 c =
     let b = c .before .before in
-    rw (← b .before .all-zero .ensures, not-false (b .before .all-zero .result) (b .if1 .left), ← c .before .insert-flags .ensures, not-true (c .before .insert-flags .result) (c .if2 .taken))
+    rw (
+      ← b .before .all-zero .ensures,
+      not-false (b .before .all-zero .result) (b .if1 .left),
+      ← c .before .insert-flags .ensures,
+      not-true (c .before .insert-flags .result) (c .if2 .taken),
+    )
 
 new-order-requires : tie.Need-new-order-requires
 new-order-requires c κs = search needs
@@ -29,7 +34,13 @@ returns-3 : tie.Need-returns-3
 unfolding zeros allOf insertOf
 returns-3 c =
     let b = c .before .before in
-    rw (← b .before .before .all-zero .ensures, not-false (b .before .before .all-zero .result) (b .before .if1 .left), ← b .insert-flags .ensures, not-false (b .insert-flags .result) (c .before .if2 .left), c .new-order .ensures)
+    rw (
+      ← b .before .before .all-zero .ensures,
+      not-false (b .before .before .all-zero .result) (b .before .if1 .left),
+      ← b .insert-flags .ensures,
+      not-false (b .insert-flags .result) (c .before .if2 .left),
+      c .new-order .ensures,
+    )
 
 pub insert-of-spec : {M : Type 1} → statement M
 insert-of-spec =

@@ -22,7 +22,14 @@ unfolding newOrder
 returns c =
     let b = c .before .before in
     let f = b .before .before .args .r .flags in
-    rw (b .before .price-condition .ensures, b .time-condition .ensures, masked f 2 2, masked f 4 2, masked f 1 1, masked-low f 1)
+    rw (
+      b .before .price-condition .ensures,
+      b .time-condition .ensures,
+      masked f 2 2,
+      masked f 4 2,
+      masked f 1 1,
+      masked-low f 1,
+    )
 
 pub new-order-spec : {M : Type 1} → statement M
 new-order-spec =

@@ -10,7 +10,7 @@ use borrow.Author.Tests.{eqb-true, eqb-false, not-true, not-false}
 use lib.ListN.{length, set}
 use Rattle.rules.specs.Holdings.{bookTrade}
 use Rattle.book.proofs.Bookings.{held-more, holding-read, buyer-held, trade-booked}
-use Rattle.book.proofs.Turns.{Going, Meeting, order-read, trade-size, trade-contract, trade-parties, stopped, queue-ended, lots-used, no-counterpart, trade-room, going-on, part-filled}
+use Rattle.book.proofs.Turns.{Going, Meeting, order-read, trade-size, trade-contract, trade-parties, parties-with, stopped, queue-ended, lots-used, no-counterpart, trade-room, going-on, part-filled}
 use Rattle.book.proofs.sweep.sweep.Statement.{statement}
 use Rattle.book.proofs.sweep.sweep.Tie as tie
 
@@ -32,7 +32,9 @@ sweep-holds c =
       within = search needs;
       some = search needs;
       long = refl;
-      holdings = held-more (c .before .before .before .pre .holdings) (omega arith);
+      parties =
+          let p = c .before .before .before .pre .parties in
+          parties-with p (held-more (p .holdings) (omega arith));
       answer = simp sub-zero;
     }
 
@@ -43,7 +45,7 @@ order-at-requires : tie.Need-order-at-requires Inv-sweep μ-sweep
 order-at-requires c κs =
     let s = c .before .before .before in
     let ready = s .before .before .before .before .pre in
-    omega (arith, ready .queue .room, s .before .wide .ensures, ap length (s .sweep .inv .same), s .sweep .inv .within, c .before .before .if1 .left)
+    omega (arith, ready .queue, s .before .wide .ensures, ap length (s .sweep .inv .same), s .sweep .inv .within, c .before .before .if1 .left)
 
 is-counterpart-requires : tie.Need-is-counterpart-requires Inv-sweep μ-sweep
 is-counterpart-requires c κs = search needs
@@ -77,12 +79,17 @@ meeting c =
 wide-requires-2 : tie.Need-wide-requires-2 Inv-sweep μ-sweep
 wide-requires-2 c κs = search needs
 
--- its lots are few, and its accounts exist
+-- its lots are few, and its accounts are in use
 few : (c : tie.After-trade-with Inv-sweep μ-sweep) → Head c .sweep .done + c .trade-with .result .lots ≤ 1000
 few c = omega (arith, trade-size (meeting c), Head c .sweep .inv .some, Begun (Head c) .pre .size)
 
+booking : (c : tie.After-trade-with Inv-sweep μ-sweep)
+    → let p = Head c .sweep .inv .parties in
+    (c .trade-with .result .buyer < p .used) × (c .trade-with .result .seller < p .used)
+booking c = trade-parties (meeting c) (Head c .sweep .inv .parties)
+
 buyer : (c : tie.After-wide2 Inv-sweep μ-sweep) → c .wide2 .result < 32
-buyer c = rw (c .wide2 .ensures) (trade-parties (meeting (c .before)) (Begun (Head (c .before)) .pre .account) (Begun (Head (c .before)) .pre .queue) .0)
+buyer c = rw (c .wide2 .ensures) (omega (arith, booking (c .before) .0, Head (c .before) .sweep .inv .parties .few))
 
 mul-book-leg : tie.Need-mul-book-leg Inv-sweep μ-sweep
 mul-book-leg c = omega (arith, buyer c)
@@ -94,7 +101,7 @@ book-leg-requires : tie.Need-book-leg-requires Inv-sweep μ-sweep
 book-leg-requires c κs =
     let w = c .before .before in
     let s = Head w in
-    (rw (s .before .wide .ensures) (Begun s .pre .contract), omega (arith, few w), holding-read _ _ (s .sweep .inv .holdings) (omega (arith, few w)))
+    (rw (s .before .wide .ensures) (Begun s .pre .contract), omega (arith, few w), holding-read _ (s .sweep .inv .parties .holdings) (rw (c .before .wide2 .ensures) (booking w .0)) (s .before .wide .ensures) (omega (arith, few w)))
 
 mul-held : tie.Need-mul-held Inv-sweep μ-sweep
 mul-held c = omega (arith, buyer (c .before .before))
@@ -110,7 +117,7 @@ abbrev Selling : tie.After-wide3 Inv-sweep μ-sweep → tie.After-trade-with Inv
 Selling c = c .before .before .before .before
 
 seller : (c : tie.After-wide3 Inv-sweep μ-sweep) → c .wide3 .result < 32
-seller c = rw (c .wide3 .ensures) (trade-parties (meeting (Selling c)) (Begun (Head (Selling c)) .pre .account) (Begun (Head (Selling c)) .pre .queue) .1)
+seller c = rw (c .wide3 .ensures) (omega (arith, booking (Selling c) .1, Head (Selling c) .sweep .inv .parties .few))
 
 -- the contract's place is the trade's
 place : (c : tie.After-trade-with Inv-sweep μ-sweep) → Head c .before .wide .result ≡ c .trade-with .result .contract
@@ -126,8 +133,8 @@ book-leg-requires-2 : tie.Need-book-leg-requires-2 Inv-sweep μ-sweep
 book-leg-requires-2 c κs =
     let w = Selling (c .before) in
     let s = Head w in
-    let bought = buyer-held (s .sweep .held) (w .trade-with .result) (place w) (c .before .before .before .before .wide2 .ensures) (c .before .before .book-leg .ensures) (s .sweep .inv .holdings) in
-    (rw (s .before .wide .ensures) (Begun s .pre .contract), omega (arith, few w), holding-read _ _ bought (omega (arith, few w)))
+    let bought = buyer-held (s .sweep .held) (w .trade-with .result) (place w) (c .before .before .before .before .wide2 .ensures) (c .before .before .book-leg .ensures) (trade-contract (meeting w)) (booking w .0) (s .sweep .inv .parties .holdings) in
+    (rw (s .before .wide .ensures) (Begun s .pre .contract), omega (arith, few w), holding-read _ bought (rw (c .before .wide3 .ensures) (booking w .1)) (s .before .wide .ensures) (omega (arith, few w)))
 
 mul-held-2 : tie.Need-mul-held-2 Inv-sweep μ-sweep
 mul-held-2 c = omega (arith, seller (c .before .before))
@@ -146,7 +153,7 @@ legs c =
 
 -- the area has room for the trade
 fits : (c : tie.After-trade-with Inv-sweep μ-sweep) → 9 * Head c .sweep .made + 9 ≤ length (Head c .sweep .area)
-fits c = trade-room (Head c .sweep .inv) (Begun (Head c) .pre .queue .room) (meeting c) (Begun (Head c) .pre .room)
+fits c = trade-room (Head c .sweep .inv) (Begun (Head c) .pre .queue) (meeting c) (Begun (Head c) .pre .room)
 
 put-trade-requires : tie.Need-put-trade-requires Inv-sweep μ-sweep
 put-trade-requires c κs = fits (Selling (c .before .before .before))
@@ -168,7 +175,7 @@ set-lots-requires : tie.Need-set-lots-requires Inv-sweep μ-sweep
 set-lots-requires c κs =
     let w = Trading (c .before .before) in
     let s = Head w in
-    (meeting w .here, omega (arith, Begun s .pre .queue .room, s .before .wide .ensures, ap length (s .sweep .inv .same)))
+    (meeting w .here, omega (arith, Begun s .pre .queue, s .before .wide .ensures, ap length (s .sweep .inv .same)))
 
 add-filled : tie.Need-add-filled Inv-sweep μ-sweep
 add-filled c = omega (arith, meeting (Trading (c .before)) .here, Begun (Head (Trading (c .before))) .fits .count)
@@ -180,7 +187,7 @@ sweep-again : tie.Need-sweep-again Inv-sweep μ-sweep
 sweep-again c =
     let b = c .before in
     let w = Trading b in
-    going-on (Head w .sweep .inv) (Begun (Head w) .pre .queue .room) (meeting w) (fits w) (legs (b .before .before .before .before)) (b .before .before .put-trade .ensures) (c .if4 .left)
+    going-on (Head w .sweep .inv) (Begun (Head w) .pre .queue) (meeting w) (fits w) (legs (b .before .before .before .before)) (b .before .before .put-trade .ensures) (c .if4 .left)
 
 same-length : tie.Need-same-length Inv-sweep μ-sweep
 same-length c = search needs
@@ -191,7 +198,7 @@ same-length-2 c = search needs
 returns : tie.Need-returns Inv-sweep μ-sweep
 returns c =
     let s = c .before in
-    stopped (s .sweep .inv) (Begun s .pre .queue .room)
+    stopped (s .sweep .inv) (Begun s .pre .queue)
     (⊎-elim (λ ended. queue-ended (ended .taken)) (λ used. lots-used (eqb-true _ _ (used .1 .taken))) (c .if1 .came))
 
 same-length-3 : tie.Need-same-length-3 Inv-sweep μ-sweep
@@ -204,7 +211,7 @@ returns-2 : tie.Need-returns-2 Inv-sweep μ-sweep
 returns-2 c =
     let s = c .before .before .before .before .before .before in
     let o = c .before .before .order-at in
-    stopped (s .sweep .inv) (Begun s .pre .queue .room)
+    stopped (s .sweep .inv) (Begun s .pre .queue)
     (no-counterpart (omega (arith, s .sweep .inv .within, c .before .before .before .before .before .if1 .left))
     (order-read (s .sweep .filled) (o .ensures) (s .before .wide .ensures) (s .sweep .inv .same))
     (sym (c .before .is-counterpart .ensures) ∙ not-true _ (c .if3 .taken)))
@@ -221,7 +228,7 @@ returns-3 : tie.Need-returns-3 Inv-sweep μ-sweep
 returns-3 c =
     let b = c .before .before .before .before .before in
     let w = Trading b in
-    part-filled (Head w .sweep .inv) (Begun (Head w) .pre .queue .room) (meeting w) (fits w) (legs (b .before .before .before .before)) (b .before .before .put-trade .ensures) (c .before .before .before .before .if4 .taken) (Head w .before .wide .ensures) (c .before .before .set-lots .ensures)
+    part-filled (Head w .sweep .inv) (Begun (Head w) .pre .queue) (meeting w) (fits w) (legs (b .before .before .before .before)) (b .before .before .put-trade .ensures) (c .before .before .before .before .if4 .taken) (Head w .before .wide .ensures) (c .before .before .set-lots .ensures)
 
 pub sweep-spec : {M : Type 1} → statement M
 sweep-spec =

@@ -50,7 +50,14 @@ returns : tie.Need-returns
 unfolding contractFrom
 returns c =
     let b = c .before .before .before in
-    rw (b .before .before .u16-at .ensures, b .before .u16-at2 .ensures, b .u32-at .ensures, c .before .before .u32-at2 .ensures, c .before .u32-at3 .ensures, c .u16-at3 .ensures)
+    rw (
+      b .before .before .u16-at .ensures,
+      b .before .u16-at2 .ensures,
+      b .u32-at .ensures,
+      c .before .before .u32-at2 .ensures,
+      c .before .u32-at3 .ensures,
+      c .u16-at3 .ensures,
+    )
 
 pub contract-at-spec : {M : Type 1} → statement M
 contract-at-spec =

@@ -54,7 +54,16 @@ unfolding recordFrom
 returns c =
     let b = c .before .before .before in
     let d = b .before .before .before in
-    rw (d .before .u8-at .ensures, d .u8-at2 .ensures, b .before .before .u8-at3 .ensures, b .before .u8-at4 .ensures, b .u32-at .ensures, c .before .before .u32-at2 .ensures, c .before .u32-at3 .ensures, c .u64-at .ensures)
+    rw (
+      d .before .u8-at .ensures,
+      d .u8-at2 .ensures,
+      b .before .before .u8-at3 .ensures,
+      b .before .u8-at4 .ensures,
+      b .u32-at .ensures,
+      c .before .before .u32-at2 .ensures,
+      c .before .u32-at3 .ensures,
+      c .u64-at .ensures,
+    )
 
 pub record-at-spec : {M : Type 1} → statement M
 record-at-spec =

@@ -27,7 +27,12 @@ add-result c = search needs
 
 returns : tie.Need-returns
 unfolding u16At
-returns c = rw (c .before .before .wide .ensures .0, c .wide2 .ensures .0, c .before .before .before .u8-at .ensures, c .before .u8-at2 .ensures)
+returns c = rw (
+  c .before .before .wide .ensures .0,
+  c .wide2 .ensures .0,
+  c .before .before .before .u8-at .ensures,
+  c .before .u8-at2 .ensures,
+)
 
 pub u16-at-spec : {M : Type 1} → statement M
 u16-at-spec =

@@ -31,7 +31,8 @@ u64-at-requires c κs = omega arith
 returns : tie.Need-returns Inv-loop μ-loop
 returns c =
     let b = c .before .before in
-    sym (all-stop _ _ _ (b .loop-test .taken) (account-fails _ _ _ (c .before .u64-at .ensures ∙ sym (balance-at _ _ _ (b .before .before .before .pre .1))) (c .if1 .taken)))
+    let e = c .before .u64-at .ensures ∙ sym (balance-at _ _ _ (b .before .before .before .pre .1)) in
+    sym (all-stop _ _ _ (b .loop-test .taken) (account-fails _ _ _ e (c .if1 .taken)))
 
 add-a : tie.Need-add-a Inv-loop μ-loop
 add-a c = omega arith
@@ -42,10 +43,13 @@ loop-less c = omega arith
 loop-again : tie.Need-loop-again Inv-loop μ-loop
 loop-again c =
     let b = c .before .before .before in
-    (omega arith, all-more _ _ (b .loop .inv .1) (account-passes _ _ _ (c .before .u64-at .ensures ∙ sym (balance-at _ _ _ (b .before .before .pre .1))) (c .if1 .left)))
+    let e = c .before .u64-at .ensures ∙ sym (balance-at _ _ _ (b .before .before .pre .1)) in
+    (omega arith, all-more _ _ (b .loop .inv .1) (account-passes _ _ _ e (c .if1 .left)))
 
 returns-2 : tie.Need-returns-2 Inv-loop μ-loop
-returns-2 c = let e : c .before .loop .a ≡ c .before .before .before .args .accounts = omega arith in rw (← e) (sym (c .before .loop .inv .1))
+returns-2 c =
+    let e : c .before .loop .a ≡ c .before .before .before .args .accounts = omega arith in
+    rw (← e) (sym (c .before .loop .inv .1))
 
 pub accounts-sound-spec : {M : Type 1} → statement M
 accounts-sound-spec =

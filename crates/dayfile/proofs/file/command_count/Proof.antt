@@ -25,7 +25,7 @@ cast-result c = search needs
 returns : tie.Need-returns
 returns c =
     let b = c .before .before in
-    rw (commands-read (b .args .file .now), ← b .pre .0, ← b .pre .2) (c .u32-at .ensures)
+    rw (commands-read (b .args .file .now), ← b .pre .0 .0, ← b .pre .1 .0 .0) (c .u32-at .ensures)
 
 pub command-count-spec : {M : Type 1} → statement M
 command-count-spec =

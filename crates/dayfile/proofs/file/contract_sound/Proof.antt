@@ -36,7 +36,12 @@ returns-2 : tie.Need-returns-2
 unfolding contractPlace contractSound
 returns-2 c =
     let t = c .before .before .terms-in-range in
-    rw (← c .before .before .before .contract-at .ensures, ← t .ensures, not-false (t .result) (c .before .if1 .left), c .u16-at .ensures)
+    rw (
+      ← c .before .before .before .contract-at .ensures,
+      ← t .ensures,
+      not-false (t .result) (c .before .if1 .left),
+      c .u16-at .ensures,
+    )
 
 pub contract-sound-spec : {M : Type 1} → statement M
 contract-sound-spec =

@@ -37,10 +37,13 @@ loop-less c = omega arith
 loop-again : tie.Need-loop-again Inv-loop μ-loop
 loop-again c =
     let t = c .before .contract-sound in
-    (omega arith, all-more _ _ (c .before .before .before .loop .inv .1) (sym (t .ensures) ∙ not-false (t .result) (c .if1 .left)))
+    let passed = sym (t .ensures) ∙ not-false (t .result) (c .if1 .left) in
+    (omega arith, all-more _ _ (c .before .before .before .loop .inv .1) passed)
 
 returns-2 : tie.Need-returns-2 Inv-loop μ-loop
-returns-2 c = let e : c .before .loop .c ≡ c .before .before .before .args .contracts = omega arith in rw (← e) (sym (c .before .loop .inv .1))
+returns-2 c =
+    let e : c .before .loop .c ≡ c .before .before .before .args .contracts = omega arith in
+    rw (← e) (sym (c .before .loop .inv .1))
 
 pub contracts-sound-spec : {M : Type 1} → statement M
 contracts-sound-spec =

@@ -80,7 +80,11 @@ returns-9 c =
     let n = c .before in
     let a = n .before .before .before .before in
     let f = a .before .before .before .before in
-    rw (n .command-count .ensures, a .account-count .ensures, f .contract-count .ensures) (sym (length-decides _ (omega arith) (omega arith) (omega arith) (omega arith) (omega arith)))
+    rw (
+      n .command-count .ensures,
+      a .account-count .ensures,
+      f .contract-count .ensures,
+    ) (sym (length-decides _ (omega arith) (omega arith) (omega arith) (omega arith) (omega arith)))
 
 pub is-shaped-spec : {M : Type 1} → statement M
 is-shaped-spec =

@@ -35,7 +35,13 @@ returns-2 : tie.Need-returns-2
 returns-2 c =
     let b = c .before .before in
     let t = c .before .contracts-sound in
-    rw (sound-is (b .before .before .before .before .args .file .now), is-well-shaped (b .before), ← b .contract-count .ensures, ← t .ensures, not-true (t .result) (c .if2 .taken))
+    rw (
+      sound-is (b .before .before .before .before .args .file .now),
+      is-well-shaped (b .before),
+      ← b .contract-count .ensures,
+      ← t .ensures,
+      not-true (t .result) (c .if2 .taken),
+    )
 
 account-count-requires : tie.Need-account-count-requires
 account-count-requires c κs = let l = lies (c .before .before .before) in search needs
@@ -56,7 +62,15 @@ returns-3 : tie.Need-returns-3
 returns-3 c =
     let b = c .before .before .before in
     let d = b .before .before in
-    rw (sound-is (d .before .before .before .args .file .now), is-well-shaped d, ← b .before .contract-count .ensures, ← b .contracts-sound .ensures, not-false (b .contracts-sound .result) (c .before .before .if2 .left), ← c .before .account-count .ensures, c .accounts-sound .ensures)
+    rw (
+      sound-is (d .before .before .before .args .file .now),
+      is-well-shaped d,
+      ← b .before .contract-count .ensures,
+      ← b .contracts-sound .ensures,
+      not-false (b .contracts-sound .result) (c .before .before .if2 .left),
+      ← c .before .account-count .ensures,
+      c .accounts-sound .ensures,
+    )
 
 pub sound-spec : {M : Type 1} → statement M
 sound-spec =

@@ -19,7 +19,9 @@ account-with-requires : tie.Need-account-with-requires Inv-loop μ-loop
 account-with-requires c κs = omega arith
 
 loop-holds : tie.Need-loop-holds Inv-loop μ-loop
-loop-holds c = (omega arith, rw (c .account-with .ensures) (sym (filled-none 32 (accountWith 0) (openingHolder (c .before .before .args .file .now)))))
+loop-holds c =
+    let f = c .before .before .args .file .now in
+    (omega arith, rw (c .account-with .ensures) (sym (filled-none 32 (accountWith 0) (openingHolder f))))
 
 mul-u64-at : tie.Need-mul-u64-at Inv-loop μ-loop
 mul-u64-at c = let l = sound-layout _ (c .before .before .before .before .pre .0) in omega arith
@@ -62,7 +64,9 @@ loop-again c =
     let l = sound-layout _ (s .pre .0) in
     let f = s .args .file .now in
     let a = b .loop .a in
-    (omega arith, fill 32 (accountWith 0) (openingHolder f) a (omega arith) (b .loop .inv .1) (c .account-with2 .ensures ∙ ap accountWith (c .before .u64-at .ensures ∙ sym (balance-at f (s .args .start) a (s .pre .1)))))
+    let balance = c .before .u64-at .ensures ∙ sym (balance-at f (s .args .start) a (s .pre .1)) in
+    let holder = c .account-with2 .ensures ∙ ap accountWith balance in
+    (omega arith, fill 32 (accountWith 0) (openingHolder f) a (omega arith) (b .loop .inv .1) holder)
 
 returns : tie.Need-returns Inv-loop μ-loop
 unfolding openingAccounts

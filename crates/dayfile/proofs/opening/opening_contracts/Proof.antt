@@ -46,7 +46,8 @@ unfolding contractPlace
 loop-again c =
     let b = c .before .before in
     let l = sound-layout _ (b .before .before .pre .0) in
-    (omega arith, fill 4 noContract (openingContract (b .before .before .args .file .now)) (b .loop .c) (omega arith) (b .loop .inv .1) (c .contract-at .ensures))
+    let f = b .before .before .args .file .now in
+    (omega arith, fill 4 noContract (openingContract f) (b .loop .c) (omega arith) (b .loop .inv .1) (c .contract-at .ensures))
 
 returns : tie.Need-returns Inv-loop μ-loop
 unfolding openingContracts

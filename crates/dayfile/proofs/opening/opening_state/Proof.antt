@@ -30,7 +30,12 @@ returns : tie.Need-returns
 unfolding openingState
 returns c =
     let b = c .before .before in
-    rw (b .before .contract-count .ensures, b .account-count .ensures, c .before .opening-contracts .ensures, c .opening-accounts .ensures)
+    rw (
+      b .before .contract-count .ensures,
+      b .account-count .ensures,
+      c .before .opening-contracts .ensures,
+      c .opening-accounts .ensures,
+    )
 
 pub opening-state-spec : {M : Type 1} → statement M
 opening-state-spec =

@@ -30,8 +30,18 @@ same-length c = search needs
 returns : tie.Need-returns
 unfolding fieldsOf
 returns c =
-    let s = c .before .before .before .before .before .before .before .before .before .before .before .before .before .before .before .before .before .before .before .before .before in
-    rw (toZ-ofZ (s .fits .closing), toZ-ofZ (s .fits .holding), toZ-ofZ (s .fits .balance)) at (then (c .before .before .before .before .before .before .before .before .before .before .before .before .before .before .before .before .before .before .put-first .ensures) (then (c .before .before .before .before .before .before .before .before .before .before .before .before .before .before .put-signed-field .ensures) (then (c .before .before .before .before .before .before .before .before .before .before .put-signed-field2 .ensures) (then (c .before .before .before .before .before .before .put-signed-field3 .ensures) (c .before .before .put-last .ensures)))))
+    let p5 = c .before .before in
+    let p4 = p5 .before .before .before .before in
+    let p3 = p4 .before .before .before .before in
+    let p2 = p3 .before .before .before .before in
+    let p1 = p2 .before .before .before .before in
+    let s = p1 .before .before .before in
+    rw (toZ-ofZ (s .fits .closing), toZ-ofZ (s .fits .holding), toZ-ofZ (s .fits .balance))
+    at (then (p1 .put-first .ensures)
+    (then (p2 .put-signed-field .ensures)
+    (then (p3 .put-signed-field2 .ensures)
+    (then (p4 .put-signed-field3 .ensures)
+    (p5 .put-last .ensures)))))
 
 pub put-account-spec : {M : Type 1} → statement M
 put-account-spec =

@@ -37,7 +37,17 @@ same-length c = search needs
 
 returns : tie.Need-returns
 unfolding fieldsOf answerLine
-returns c = then (c .before .before .before .before .before .before .before .before .before .before .before .before .before .before .before .before .before .before .before .before .before .before .put-first .ensures) (then (c .before .before .before .before .before .before .before .before .before .before .before .before .before .before .before .before .before .put-field .ensures) (then (c .before .before .before .before .before .before .before .before .before .before .before .before .put-field2 .ensures) (then (c .before .before .before .before .before .before .before .put-field3 .ensures) (c .before .before .put-last .ensures))))
+returns c =
+    let p5 = c .before .before in
+    let p4 = p5 .before .before .before .before .before in
+    let p3 = p4 .before .before .before .before .before in
+    let p2 = p3 .before .before .before .before .before in
+    let p1 = p2 .before .before .before .before .before in
+    then (p1 .put-first .ensures)
+    (then (p2 .put-field .ensures)
+    (then (p3 .put-field2 .ensures)
+    (then (p4 .put-field3 .ensures)
+    (p5 .put-last .ensures))))
 
 pub put-answer-spec : {M : Type 1} → statement M
 put-answer-spec =

@@ -56,7 +56,9 @@ put-digits-put-byte-requires : (t : ℕ) → put-digits-lts.Need-put-byte-requir
   put-digits-below t,
   put-digits.Post,
 ) (put-digits-at t) put-digits.Post
-put-digits-put-byte-requires t c κs = let room = c .before .before .before .before .pre .1 in omega (arith, least _ (c .before .before .if1 .left))
+put-digits-put-byte-requires t c κs =
+    let room = c .before .before .before .before .pre .1 in
+    omega (arith, least _ (c .before .before .if1 .left))
 
 put-digits-same-length : (t : ℕ) → put-digits-lts.Need-same-length (
   put-byte-reads.Asked,
@@ -75,7 +77,8 @@ put-digits-returns-2 : (t : ℕ) → put-digits-lts.Need-returns-2 (
 put-digits-returns-2 t c =
     let b = c .before .before in
     let s = b .before .before .before in
-    digits-one (s .before .before .args .places) (s .before .before .args .n) (s .if1 .left) (b .before .before .if2 .taken) (b .put-byte .ensures)
+    let a = s .before .before .args in
+    digits-one (a .places) (a .n) (s .if1 .left) (b .before .before .if2 .taken) (b .put-byte .ensures)
 
 put-digits-sub-put-digits : (t : ℕ) → put-digits-lts.Need-sub-put-digits (
   put-byte-reads.Asked,
@@ -145,7 +148,8 @@ put-digits-returns-3 t c =
     let d = c .before .before .before .before .before .before in
     let b = d .before .before in
     let s = b .before .before .before in
-    digits-more (s .args .places) (s .args .n) (b .before .if1 .left) (b .if2 .left) (d .put-digits .ensures) (c .before .before .put-byte2 .ensures)
+    let w = d .put-digits .ensures in
+    digits-more (s .args .places) (s .args .n) (b .before .if1 .left) (b .if2 .left) w (c .before .before .put-byte2 .ensures)
 
 pub +put-digits-spec : {M : Type 1} → statement M
 +put-digits-spec = close μ-put-digits λ t. put-digits-lts.spec (

@@ -16,13 +16,24 @@ sub-z : tie.Need-sub-z
 sub-z c = rw (toZ-ofZ (c .before .fits .x), toZ-ofZ (of-x c .up)) (of-x c .down)
 
 cast-result : tie.Need-cast-result
-cast-result c = rw (toZ-ofZ (c .before .fits .x), toZ-ofZ (of-x c .up), toZ-ofZ (of-x c .down)) (of-x c .some, fits-natAbs tt (of-x c .down))
+cast-result c = rw (
+  toZ-ofZ (c .before .fits .x),
+  toZ-ofZ (of-x c .up),
+  toZ-ofZ (of-x c .down),
+) (of-x c .some, fits-natAbs tt (of-x c .down))
 
 add-result : tie.Need-add-result
-add-result c = rw (toZ-ofZ (c .before .fits .x), toZ-ofZ (of-x c .up), toZ-ofZ (of-x c .down), of-x c .less) (fits-natAbs tt (c .before .fits .x))
+add-result c = rw (
+  toZ-ofZ (c .before .fits .x),
+  toZ-ofZ (of-x c .up),
+  toZ-ofZ (of-x c .down),
+  of-x c .less,
+) (fits-natAbs tt (c .before .fits .x))
 
 cast-result-2 : tie.Need-cast-result-2
-cast-result-2 c = rw (toZ-ofZ (c .before .fits .x)) (nonNeg-ltZ (c .before .args .x) (rw (toZ-ofZ (c .before .fits .x)) at (c .if1 .left)), fits-natAbs tt (c .before .fits .x))
+cast-result-2 c =
+    let back = toZ-ofZ (c .before .fits .x) in
+    rw back (nonNeg-ltZ (c .before .args .x) (rw back at (c .if1 .left)), fits-natAbs tt (c .before .fits .x))
 
 returns : tie.Need-returns
 returns c = rw (toZ-ofZ (c .before .fits .x), toZ-ofZ (of-x c .up), toZ-ofZ (of-x c .down)) (of-x c .less)

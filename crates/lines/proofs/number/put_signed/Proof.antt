@@ -24,7 +24,9 @@ returns c =
     let m = q .before .before .before in
     let s = m .before .before in
     let back = toZ-ofZ (s .fits .x) in
-    signed-below (s .args .x) (m .magnitude .result) (rw back at (m .magnitude .ensures)) (rw back at (q .before .before .if1 .taken)) (then (q .put-byte .ensures) (p .put-decimal .ensures))
+    let size = rw back at (m .magnitude .ensures) in
+    let below = rw back at (q .before .before .if1 .taken) in
+    signed-below (s .args .x) (m .magnitude .result) size below (then (q .put-byte .ensures) (p .put-decimal .ensures))
 
 put-decimal-requires-2 : tie.Need-put-decimal-requires-2
 put-decimal-requires-2 c κs = search needs
@@ -38,7 +40,9 @@ returns-2 c =
     let m = p .before .before .before in
     let s = m .before .before in
     let back = toZ-ofZ (s .fits .x) in
-    signed-above (s .args .x) (m .magnitude .result) (rw back at (m .magnitude .ensures)) (rw back at (p .before .before .if1 .left)) (p .put-decimal2 .ensures)
+    let size = rw back at (m .magnitude .ensures) in
+    let above = rw back at (p .before .before .if1 .left) in
+    signed-above (s .args .x) (m .magnitude .result) size above (p .put-decimal2 .ensures)
 
 pub put-signed-spec : {M : Type 1} → statement M
 put-signed-spec =

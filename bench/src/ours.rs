@@ -1,0 +1,51 @@
+//! The calls of `crates/book_exports`, each behind a test of what its contract requires.
+
+use crate::cases::{Sweeps, Swept, ACCOUNTS, ORDER, QUEUE, TRADE};
+use crate::plain::Order;
+
+// A slice passes as a pointer and a length.
+extern "C" {
+    fn zelvorm_insert(
+        area: *mut u32, words: usize, contract: usize, count: usize, sell: bool,
+        price: u32, number: u32, account: u32, lots: u32, close: u32,
+    );
+    fn zelvorm_cancel(area: *mut u32, words: usize, contract: usize, count: usize, number: u32) -> usize;
+    fn zelvorm_sweeps(
+        own: *mut u32, own_words: usize, opposite: *mut u32, opposite_words: usize, trades: *mut u32, trade_words: usize,
+        order: Sweeps, times: usize,
+    ) -> Swept;
+}
+
+pub fn insert(area: &mut [u32], contract: usize, count: usize, sell: bool, o: &Order) {
+    assert!(contract < 4 && count < 64 && QUEUE * contract + ORDER * (count + 1) <= area.len());
+    unsafe {
+        zelvorm_insert(
+            area.as_mut_ptr(), area.len(), contract, count, sell,
+            o.price, o.number, o.account, o.lots, o.close,
+        )
+    }
+}
+
+pub fn cancel(area: &mut [u32], contract: usize, count: usize, number: u32) -> usize {
+    assert!(contract < 4 && count <= 64 && QUEUE * contract + ORDER * count <= area.len());
+    unsafe { zelvorm_cancel(area.as_mut_ptr(), area.len(), contract, count, number) }
+}
+
+/// Room for every order and trade that there may be, accounts that exist, and holdings that stay below 1,000,000.
+pub fn sweeps(own: &mut [u32], opposite: &mut [u32], trades: &mut [u32], s: &Sweeps, times: usize) -> Swept {
+    let queue = QUEUE * s.contract as usize;
+    let own_orders = s.own + if s.day { times } else { 0 };
+    assert!(s.contract < 4 && own_orders <= 64 && s.opposite <= 64 && s.made <= 1024);
+    assert!(queue + ORDER * own_orders <= own.len());
+    assert!(queue + ORDER * s.opposite <= opposite.len());
+    assert!(TRADE * (s.made + s.opposite) <= trades.len());
+    assert!((s.account.max(s.probe) as usize) < ACCOUNTS);
+    let resting = &opposite[queue..][..ORDER * s.opposite];
+    assert!(resting.chunks_exact(ORDER).all(|o| (o[2] as usize) < ACCOUNTS));
+    assert!(s.lots <= 1000 && s.held as usize + 1000 * times <= 1_000_000);
+    unsafe {
+        zelvorm_sweeps(
+            own.as_mut_ptr(), own.len(), opposite.as_mut_ptr(), opposite.len(), trades.as_mut_ptr(), trades.len(), *s, times,
+        )
+    }
+}

@@ -1,0 +1,93 @@
+-- Each clause of "a state is well formed" as the chain of tests that code makes for it. Assumes nothing.
+use mathlib.Core.Bool.{Bool, true, false, not, _&&_}
+use mathlib.Core.List.{List, [], _∷_}
+use mathlib.Core.Path.{_≡_, refl}
+use Prim.Native.Nat.{ℕ, _+_, _*_}
+use lib.Dec.{leb, ltb, eqb}
+use lib.ListN.{length, getD}
+use Rattle.laws.specs.Choice.{all, allOf, both-true}
+use Rattle.rules.specs.Bounds.{within, termsInRange, tickMultiple, allowedToday}
+use Rattle.rules.specs.Exchange.{Listing, restingOpens, restingCloses}
+use Rattle.rules.specs.Memory.{Memory, countsInRange, hasRoom}
+use Rattle.rules.specs.WellFormed.{contractInRange, orderInRange, sorted, uncrossed, listingInRange, holdingInRange}
+use Rattle.rules.specs.declared.Contract.{Contract}
+use Rattle.rules.specs.declared.Holding.{Holding}
+use Rattle.rules.specs.declared.Order.{Order}
+use Rattle.rules.specs.declared.State.{State}
+use Rattle.rules.specs.declared.Trade.{Trade}
+use Rattle.audit.proofs.Chains.{Chain}
+
+-- ---- counts and room
+
+abbrev few : List ℕ → ℕ → Bool
+few counts contracts = all (λ c. leb (getD counts c 0) 64) contracts
+
+pub counts-chain : (s : State)
+    → Chain (countsInRange s)
+    (within 1 4 (s .contractcount) ∷ within 1 32 (s .accountcount) ∷ leb (s .tradecount) 1_024 ∷ few (s .buys) (s .contractcount) ∷ [])
+    (few (s .sells) (s .contractcount))
+unfolding countsInRange
+counts-chain s = record { is = refl }
+
+pub room-chain : (m : Memory)
+    → Chain (hasRoom m)
+    (leb (320 * m .state .contractcount) (length (m .buys)) ∷ leb (320 * m .state .contractcount) (length (m .sells)) ∷ [])
+    (leb 9_216 (length (m .trades)))
+unfolding hasRoom
+room-chain m = record { is = refl }
+
+pub counters-chain : (next settlements : ℕ) → Chain (within 1 1_000_000 next && leb settlements 250) (within 1 1_000_000 next ∷ []) (leb settlements 250)
+counters-chain next settlements = record { is = refl }
+
+-- ---- a contract with its queues
+
+pub contract-chain : (c : Contract) → Chain (contractInRange c) (termsInRange c ∷ leb (c .phase) 3 ∷ []) (tickMultiple (c .tick) (c .last))
+unfolding contractInRange
+contract-chain c = record { is = refl }
+
+pub order-chain : (accounts next : ℕ) (c : Contract) (o : Order)
+    → Chain (orderInRange accounts next c o)
+    (within 1 1_000 (o .lots) ∷ ltb (o .account) accounts ∷ allowedToday c (o .price) ∷ leb 1 (o .number) ∷ ltb (o .number) next ∷ [])
+    (leb (o .close) 1)
+unfolding orderInRange
+order-chain accounts next c o = record { is = refl }
+
+pub listing-chain : (accounts next : ℕ) (l : Listing)
+    → Chain (listingInRange accounts next l)
+    (contractInRange (l .contract)
+    ∷ sorted false (l .buys)
+    ∷ sorted true (l .sells)
+    ∷ uncrossed (l .buys) (l .sells)
+    ∷ allOf (orderInRange accounts next (l .contract)) (l .buys)
+    ∷ [])
+    (allOf (orderInRange accounts next (l .contract)) (l .sells))
+unfolding listingInRange
+listing-chain accounts next l = record { is = refl }
+
+-- ---- a holding
+
+pub holding-chain : (l : Listing) (a : ℕ) (h : Holding)
+    → Chain (holdingInRange l a h)
+    (leb (h .startlong) (l .contract .limit)
+    ∷ leb (h .startshort) (l .contract .limit)
+    ∷ leb (h .long + restingOpens a (l .buys)) (l .contract .limit)
+    ∷ leb (h .short + restingOpens a (l .sells)) (l .contract .limit)
+    ∷ leb (restingCloses a (l .sells)) (h .long)
+    ∷ [])
+    (leb (restingCloses a (l .buys)) (h .short))
+unfolding holdingInRange
+holding-chain l a h = record { is = refl }
+
+-- ---- a trade's order numbers
+
+pub numbers-chain : (t : Trade) (next : ℕ)
+    → Chain (not (eqb (t .buyorder) (t .sellorder)) && leb 1 (t .buyorder) && ltb (t .buyorder) next && leb 1 (t .sellorder) && ltb (t .sellorder) next)
+    (not (eqb (t .buyorder) (t .sellorder)) ∷ leb 1 (t .buyorder) ∷ ltb (t .buyorder) next ∷ leb 1 (t .sellorder) ∷ [])
+    (ltb (t .sellorder) next)
+numbers-chain t next = record { is = refl }
+
+-- ---- what later tests rely on
+
+pub terms-passed : (c : Contract) → contractInRange c ≡ true → termsInRange c ≡ true
+unfolding contractInRange
+terms-passed c h = both-true (termsInRange c) (leb (c .phase) 3) (both-true (termsInRange c && leb (c .phase) 3) (tickMultiple (c .tick) (c .last)) h .0) .0

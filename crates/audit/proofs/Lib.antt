@@ -1,0 +1,11 @@
+pub mod Chains
+pub mod Clauses
+pub mod Limits
+pub mod NumberLists
+pub mod Replaying
+pub mod Rooms
+pub mod SortedQueues
+pub mod TestedTrades
+pub mod UsedAccounts
+pub mod Walks
+pub mod Whole

@@ -1,0 +1,24 @@
+-- The room of a contract's queues. Assumes nothing.
+use mathlib.Core.List.{List}
+use Prim.Native.Nat.{ℕ, _+_, _*_, _<_, _≤_}
+use native.Mathlib.Omega.{arith}
+use lib.ListN.{length, getD}
+use Rattle.rules.specs.declared.State.{State}
+use Rattle.invariants.proofs.MemoryRoom.{counts-ok}
+use Rattle.audit.specs.Parts.{Ready}
+
+module _ {s : State} {buys sells : List ℕ} (r : Ready s buys sells) {c : ℕ} (h : c < s .contractcount) where
+  pub contract-in : c < 4
+  contract-in = omega (arith, counts-ok s (r .counts) .contracts-high)
+
+  pub few-buys : getD (s .buys) c 0 ≤ 64
+  few-buys = counts-ok s (r .counts) .buys c h
+
+  pub few-sells : getD (s .sells) c 0 ≤ 64
+  few-sells = counts-ok s (r .counts) .sells c h
+
+  pub buys-room : 320 * c + 5 * getD (s .buys) c 0 ≤ length buys
+  buys-room = omega (arith, few-buys, r .buy-room)
+
+  pub sells-room : 320 * c + 5 * getD (s .sells) c 0 ≤ length sells
+  sells-room = omega (arith, few-sells, r .sell-room)

@@ -1,0 +1,65 @@
+-- Recorded trades, each tested by itself as it is read from its area. Assumes nothing.
+use mathlib.Core.Bool.{Bool, true, false, not, _&&_}
+use mathlib.Core.List.{List, [], _∷_}
+use mathlib.Core.Path.{_≡_, refl, sym, ap, _∙_}
+use Prim.Native.Nat.{ℕ, _+_, _*_, _<_, _≤_}
+use native.Mathlib.Omega.{arith}
+use lib.Dec.{leb, ltb, eqb}
+use lib.ListN.{length, getD, drop, length-replicate, drop-of-length-le}
+use Rattle.laws.specs.Tabulate.{length-tabulate, getD-tabulate}
+use Rattle.rules.specs.Bounds.{within, allowedToday}
+use Rattle.rules.specs.Exchange.{Listing, listingAt, noContract, noListing, noTrade}
+use Rattle.rules.specs.Memory.{tradeFrom, recordedTrades}
+use Rattle.rules.specs.WellFormed.{tradeInRange}
+use Rattle.rules.specs.declared.Contract.{Contract}
+use Rattle.rules.specs.declared.Trade.{Trade}
+use Rattle.rules.proofs.Codecs.{length-trades, trade-at}
+use Rattle.audit.specs.Parts.{tested}
+use Rattle.audit.proofs.Chains.{Chain, group}
+use Rattle.audit.proofs.Walks.{next-of}
+
+-- ---- the trades read in turn
+
+module _ (area : List ℕ) (n i : ℕ) where
+  pub next-trade : {t : Trade} → i < n → t ≡ tradeFrom (drop (9 * i) area) → drop i (recordedTrades area n) ≡ t ∷ drop (i + 1) (recordedTrades area n)
+  next-trade {t} h e =
+      next-of (recordedTrades area n) i noTrade (rw (length-trades area n) h)
+      ∙ ap (λ (u : Trade). u ∷ drop (i + 1) (recordedTrades area n)) (trade-at area n i h ∙ sym e)
+
+  pub no-trades : n ≤ i → drop i (recordedTrades area n) ≡ []
+  no-trades h = drop-of-length-le (recordedTrades area n) {i = i} (rw (length-trades area n) h)
+
+-- ---- a trade
+
+module _ (contracts : List Contract) (n accounts next : ℕ) (t : Trade) where
+  -- its price is tested against its contract's terms
+  abbrev allowed : Bool
+  allowed = allowedToday (listingAt (tested contracts n accounts next) (t .contract) .contract) (t .price)
+
+  abbrev pub numbersInRange : Bool
+  numbersInRange = not (eqb (t .buyorder) (t .sellorder)) && leb 1 (t .buyorder) && ltb (t .buyorder) next && leb 1 (t .sellorder) && ltb (t .sellorder) next
+
+  pub trade-chain :
+      Chain (tradeInRange (tested contracts n accounts next) t)
+      (ltb (t .contract) n ∷ ltb (t .buyer) accounts ∷ ltb (t .seller) accounts ∷ numbersInRange ∷ allowed ∷ within 1 1_000 (t .lots) ∷ leb (t .buyclose) 1 ∷ [])
+      (leb (t .sellclose) 1)
+  unfolding tradeInRange tested
+  trade-chain =
+      record {
+        is =
+            rw (length-tabulate, length-replicate)
+            (group (ltb (t .contract) n && ltb (t .buyer) accounts && ltb (t .seller) accounts) (not (eqb (t .buyorder) (t .sellorder)))
+            (leb 1 (t .buyorder) ∷ ltb (t .buyorder) next ∷ leb 1 (t .sellorder) ∷ ltb (t .sellorder) next ∷ [])
+            (allowed ∷ within 1 1_000 (t .lots) ∷ leb (t .buyclose) 1 ∷ leb (t .sellclose) 1 ∷ []));
+      }
+
+-- the contract of a place in use is the one that code reads there
+module _ (contracts : List Contract) (n accounts next : ℕ) where
+  contract-tested : (c : ℕ) → c < n → listingAt (tested contracts n accounts next) c .contract ≡ getD contracts c noContract
+  unfolding listingAt tested
+  contract-tested c h =
+      ap (λ (l : Listing). l .contract) (getD-tabulate n c (λ c. record { contract = getD contracts c noContract; buys = []; sells = [] }) noListing h)
+
+  pub price-tested : (price : ℕ) {place c : ℕ} {r : Bool} → place ≡ c → place < n → r ≡ allowedToday (getD contracts place noContract) price
+      → r ≡ allowedToday (listingAt (tested contracts n accounts next) c .contract) price
+  price-tested price {place} {c} {r} e h k = rw (← e, contract-tested place h) k

@@ -1,0 +1,189 @@
+-- The clauses on a state's contents, each as the test that code makes of the state as it lies; and what a passed test gives the
+-- tests behind it. Assumes nothing.
+use mathlib.Core.Bool.{Bool, true, false, _&&_}
+use mathlib.Core.List.{List, [], _∷_, map}
+use mathlib.Core.Path.{_≡_, refl, sym, ap, ap₂, _∙_}
+use Prim.Native.Nat.{ℕ, zero, suc, _*_, _<_, _≤_}
+use native.Mathlib.Omega.{arith}
+use borrow.Author.Tests.{leb-true}
+use lib.Dec.{leb}
+use lib.ListN.{length, getD, take, length-replicate}
+use Rattle.laws.specs.Choice.{all, allOf, all-at, all-ext, allOf-all, allOf-at, both-true}
+use Rattle.laws.specs.Tabulate.{tabulate, length-tabulate, getD-tabulate}
+use Rattle.rules.specs.Bounds.{within, termsInRange}
+use Rattle.rules.specs.Exchange.{Exchange, Listing, listingAt, accountAt, holdingAt, noContract, noListing, noTrade}
+use Rattle.rules.specs.Memory.{Memory, exchangeOf, inUse, listingIn, recordedTrades, countsInRange, hasRoom, wellFormedMemory}
+use Rattle.rules.specs.WellFormed.{countersInRange, listingInRange, allNumbers, usedOnce, tradeInRange, replays, holdingInRange, holdingsInRange, balanceInRange, wellFormedContents}
+use Rattle.rules.specs.declared.Account.{Account}
+use Rattle.rules.specs.declared.State.{State}
+use Rattle.rules.specs.declared.Trade.{Trade}
+use Rattle.rules.proofs.Codecs.{length-trades}
+use Rattle.terms.proofs.Ranges.{term-bounds}
+use Rattle.invariants.proofs.Clauses.{holding-ok, listing-ok, trade-ok}
+use Rattle.invariants.proofs.MemoryRoom.{counts-ok, room-ok}
+use Rattle.audit.specs.Parts.{Booked, Ready, listing, memory, replayed, tested, used}
+use Rattle.audit.proofs.Chains.{Chain, group}
+use Rattle.audit.proofs.Clauses.{terms-passed}
+use Rattle.audit.proofs.UsedAccounts.{length-used, used-holding}
+
+-- ---- tests of every element
+
+all-of-table : {A : Type 0} (p : A → Bool) (n : ℕ) (f : ℕ → A) (d : A) → allOf p (tabulate n f) ≡ all (λ i. p (f i)) n
+all-of-table p n f d =
+    allOf-all p (tabulate n f) d
+    ∙ ap (all (λ i. p (getD (tabulate n f) i d))) (length-tabulate n f)
+    ∙ all-ext (λ i. p (getD (tabulate n f) i d)) (λ i. p (f i)) n (λ i h. ap p (getD-tabulate n i f d h))
+
+all-of-map : {A B : Type 0} (p : B → Bool) (f : A → B) (l : List A) → allOf p (map f l) ≡ allOf (λ a. p (f a)) l
+unfolding allOf
+all-of-map p f [] = refl
+all-of-map p f (a ∷ l) = ap (λ b. p (f a) && b) (all-of-map p f l)
+
+same-tests : {A : Type 0} (p q : A → Bool) (l : List A) → ((a : A) → p a ≡ q a) → allOf p l ≡ allOf q l
+unfolding allOf
+same-tests p q [] e = refl
+same-tests p q (a ∷ l) e = ap₂ (λ x y. x && y) (e a) (same-tests p q l e)
+
+-- two tables of listings with the same contracts
+same-contracts : (n : ℕ) (f g : ℕ → Listing) (c : ℕ) → ((i : ℕ) → f i .contract ≡ g i .contract) → getD (tabulate n f) c noListing .contract ≡ getD (tabulate n g) c noListing .contract
+unfolding tabulate
+same-contracts zero f g c e = refl
+same-contracts (suc n) f g zero e = e 0
+same-contracts (suc n) f g (suc c) e = same-contracts n (λ i. f (suc i)) (λ i. g (suc i)) c (λ i. e (suc i))
+
+-- ---- the tests
+
+module _ (s : State) (buys sells trades : List ℕ) where
+  abbrev m : Memory
+  m = memory s buys sells trades
+
+  abbrev countersTest : Bool
+  countersTest = within 1 1_000_000 (s .next) && leb (s .settlements) 250
+
+  abbrev listingsTest : Bool
+  listingsTest = all (λ c. listingInRange (s .accountcount) (s .next) (listing s buys sells c)) (s .contractcount)
+
+  abbrev numbersTest : Bool
+  numbersTest = usedOnce (allNumbers (tabulate (s .contractcount) (listing s buys sells)))
+
+  abbrev asked : Exchange
+  asked = tested (s .contracts) (s .contractcount) (s .accountcount) (s .next)
+
+  abbrev tradesTest : Bool
+  tradesTest = allOf (tradeInRange asked) (recordedTrades trades (s .tradecount))
+
+  abbrev replayTest : Bool
+  replayTest = replays (replayed (used (s .contractcount) (s .accountcount) (s .accounts)) (recordedTrades trades (s .tradecount)))
+
+  abbrev holdingsTest : Bool
+  holdingsTest = all (λ a. all (λ c. holdingInRange (listing s buys sells c) a (holdingAt (s .accounts) a c)) (s .contractcount)) (s .accountcount)
+
+  abbrev balancesTest : Bool
+  balancesTest = allOf (balanceInRange (s .settlements)) (take (s .accountcount) (s .accounts))
+
+  -- each is the clause of the rules, where the accounts in use are among those that lie there
+  module _ (fit : s .accountcount ≤ length (s .accounts)) where
+    accounts-count : length (exchangeOf m .accounts) ≡ s .accountcount
+    unfolding exchangeOf
+    accounts-count = length-used (s .contractcount) (s .accountcount) (s .accounts) fit
+
+    counters-same : countersInRange (exchangeOf m) ≡ countersTest
+    unfolding countersInRange exchangeOf
+    counters-same = refl
+
+    in-table : allOf (listingInRange (s .accountcount) (exchangeOf m .next)) (exchangeOf m .listings) ≡ listingsTest
+    unfolding exchangeOf listingIn
+    in-table = all-of-table (listingInRange (s .accountcount) (s .next)) (s .contractcount) (listingIn m) noListing
+
+    listings-same : allOf (listingInRange (length (exchangeOf m .accounts)) (exchangeOf m .next)) (exchangeOf m .listings) ≡ listingsTest
+    listings-same = rw accounts-count in-table
+
+    numbers-same : usedOnce (allNumbers (exchangeOf m .listings)) ≡ numbersTest
+    unfolding exchangeOf listingIn
+    numbers-same = refl
+
+    trade-same : (t : Trade) → tradeInRange (exchangeOf m) t ≡ tradeInRange asked t
+    unfolding tradeInRange tested exchangeOf listingAt listingIn
+    trade-same t =
+        rw (
+          length-used (s .contractcount) (s .accountcount) (s .accounts) fit,
+          length-replicate,
+          length-tabulate,
+          length-tabulate,
+          same-contracts (s .contractcount) (listingIn m) (λ c. record { contract = getD (s .contracts) c noContract; buys = []; sells = [] }) (t .contract) (λ c. refl),
+        )
+
+    trades-same : allOf (tradeInRange (exchangeOf m)) (exchangeOf m .trades) ≡ tradesTest
+    unfolding exchangeOf
+    trades-same = same-tests (tradeInRange (exchangeOf m)) (tradeInRange asked) (recordedTrades trades (s .tradecount)) trade-same
+
+    replay-same : replays (exchangeOf m) ≡ replayTest
+    unfolding replays exchangeOf
+    replay-same = refl
+
+    holding-same : (a : ℕ) → a < s .accountcount → holdingsInRange (exchangeOf m) a ≡ all (λ c. holdingInRange (listing s buys sells c) a (holdingAt (s .accounts) a c)) (s .contractcount)
+    unfolding holdingsInRange exchangeOf listingAt listingIn
+    holding-same a h =
+        rw length-tabulate
+        (all-ext _ (λ c. holdingInRange (listing s buys sells c) a (holdingAt (s .accounts) a c)) (s .contractcount)
+        (λ c hc. ap₂ (λ l g. holdingInRange l a g) (getD-tabulate (s .contractcount) c (listingIn m) noListing hc) (used-holding (s .contractcount) (s .accountcount) (s .accounts) a c h fit hc)))
+
+    holdings-same : all (holdingsInRange (exchangeOf m)) (length (exchangeOf m .accounts)) ≡ holdingsTest
+    holdings-same = rw accounts-count (all-ext (holdingsInRange (exchangeOf m)) _ (s .accountcount) holding-same)
+
+    balances-same : allOf (balanceInRange (exchangeOf m .settlements)) (exchangeOf m .accounts) ≡ balancesTest
+    unfolding exchangeOf balanceInRange
+    balances-same = all-of-map (balanceInRange (s .settlements)) (inUse (s .contractcount)) (take (s .accountcount) (s .accounts))
+
+    pub contents-chain :
+        Chain (wellFormedContents (exchangeOf m)) (countersTest ∷ listingsTest ∷ numbersTest ∷ tradesTest ∷ replayTest ∷ holdingsTest ∷ []) balancesTest
+    unfolding wellFormedContents
+    contents-chain = record { is = rw (counters-same, listings-same, numbers-same, trades-same, replay-same, holdings-same, balances-same) refl }
+
+-- the whole: counts and room before the contents
+pub whole-chain : (m : Memory) → Chain (wellFormedMemory m) (countsInRange (m .state) ∷ hasRoom m ∷ []) (wellFormedContents (exchangeOf m))
+unfolding wellFormedMemory
+whole-chain m = record { is = refl }
+
+-- ---- what a passed test gives the tests behind it
+
+module _ (s : State) (buys sells trades : List ℕ) (counts : countsInRange s ≡ true) (room : hasRoom (memory s buys sells trades) ≡ true) where
+  pub ready : Ready s buys sells
+  ready =
+      let r = room-ok (memory s buys sells trades) room in
+      record { counts = counts; buy-room = r .buys; sell-room = r .sells }
+
+  pub trades-words : 9 * s .tradecount ≤ length trades
+  trades-words = omega (arith, room-ok (memory s buys sells trades) room .trades, counts-ok s counts .trades)
+
+  pub few-settlements : countersTest s buys sells trades ≡ true → s .settlements ≤ 250
+  few-settlements h = leb-true (s .settlements) 250 (both-true (within 1 1_000_000 (s .next)) (leb (s .settlements) 250) h .1)
+
+  module _ (listings : listingsTest s buys sells trades ≡ true) where
+    pub terms-tested : (c : ℕ) → c < s .contractcount → termsInRange (getD (s .contracts) c noContract) ≡ true
+    unfolding listingIn
+    terms-tested c h =
+        terms-passed _ (listing-ok (s .accountcount) (s .next) (listing s buys sells c) (all-at (λ c. listingInRange (s .accountcount) (s .next) (listing s buys sells c)) c (s .contractcount) listings h) .contract)
+
+    pub starts-tested : holdingsTest s buys sells trades ≡ true
+        → (a c : ℕ) → a < s .accountcount → c < s .contractcount → (holdingAt (s .accounts) a c .startlong ≤ 100_000) × (holdingAt (s .accounts) a c .startshort ≤ 100_000)
+    unfolding listingIn
+    starts-tested held a c ha hc =
+        let h = holding-ok (listing s buys sells c) a (holdingAt (s .accounts) a c)
+        (all-at (λ c. holdingInRange (listing s buys sells c) a (holdingAt (s .accounts) a c)) c (s .contractcount)
+        (all-at (λ a. all (λ c. holdingInRange (listing s buys sells c) a (holdingAt (s .accounts) a c)) (s .contractcount)) a (s .accountcount) held ha) hc) in
+        let t = term-bounds (getD (s .contracts) c noContract) (terms-tested c hc) in
+        (omega (arith, h .startlong, t .limit), omega (arith, h .startshort, t .limit))
+
+  pub trades-tested : tradesTest s buys sells trades ≡ true
+      → (i : ℕ) → i < s .tradecount → Booked (s .contractcount) (s .accountcount) (getD (recordedTrades trades (s .tradecount)) i noTrade)
+  unfolding tested
+  trades-tested h i l =
+      let day = recordedTrades trades (s .tradecount) in
+      let t = trade-ok (asked s buys sells trades) (getD day i noTrade) (allOf-at (tradeInRange (asked s buys sells trades)) day i noTrade h (rw (length-trades trades (s .tradecount)) l)) in
+      record {
+        contract = rw length-tabulate at (t .contract);
+        buyer = rw length-replicate at (t .buyer);
+        seller = rw length-replicate at (t .seller);
+        lots = t .lots-high;
+      }

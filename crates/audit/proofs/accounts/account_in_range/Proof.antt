@@ -1,0 +1,58 @@
+-- `audit::accounts::account_in_range` meets its contract. The invariant: every holding before place c passes. Assumes nothing.
+use mathlib.Core.Path.{_≡_, sym}
+use mathlib.Core.Bool.{true}
+use Prim.Native.Nat.{_-_, _≤_}
+use native.Mathlib.Omega.{arith}
+use Rattle.laws.specs.Choice.{all, all-more, all-none, all-stop}
+use Rattle.rules.specs.Exchange.{holdingAt}
+use Rattle.rules.specs.WellFormed.{holdingInRange}
+use Rattle.audit.specs.Parts.{listing}
+use Rattle.audit.proofs.Chains.{passed, refused}
+use Rattle.audit.proofs.Walks.{all-end}
+use Rattle.audit.proofs.accounts.account_in_range.Statement.{statement}
+use Rattle.audit.proofs.accounts.account_in_range.Tie as tie
+
+abbrev Inv-loop : tie.InvT-loop
+Inv-loop state account buys sells contracts c₀ c =
+    (c ≤ contracts) × (all (λ c. holdingInRange (listing state buys sells c) account (holdingAt (state .accounts) account c)) c ≡ true)
+
+abbrev μ-loop : tie.MeasureT-loop
+μ-loop state account buys sells contracts c₀ c = contracts - c
+
+loop-holds : tie.Need-loop-holds Inv-loop μ-loop
+loop-holds c = (omega arith, all-none _)
+
+holding-in-range-requires : tie.Need-holding-in-range-requires Inv-loop μ-loop
+holding-in-range-requires c κs =
+    (c .before .before .before .before .pre .0, c .before .before .before .before .pre .1, c .loop-test .taken)
+
+returns : tie.Need-returns Inv-loop μ-loop
+returns c =
+    sym (all-stop _ _ _ (c .before .before .loop-test .taken) (refused (c .before .holding-in-range .ensures) (c .if1 .taken)))
+
+add-c : tie.Need-add-c Inv-loop μ-loop
+add-c c = omega arith
+
+loop-less : tie.Need-loop-less Inv-loop μ-loop
+loop-less c = omega arith
+
+loop-again : tie.Need-loop-again Inv-loop μ-loop
+loop-again c =
+    (omega arith, all-more _ _ (c .before .before .before .loop .inv .1) (passed (c .before .holding-in-range .ensures) (c .if1 .left)))
+
+returns-2 : tie.Need-returns-2 Inv-loop μ-loop
+returns-2 c = all-end _ (c .before .loop .inv .1) (c .before .loop .inv .0) (c .loop-test .left)
+
+pub account-in-range-spec : {M : Type 1} → statement M
+account-in-range-spec =
+    tie.close
+    (tie.spec
+    Inv-loop
+    μ-loop
+    loop-holds
+    holding-in-range-requires
+    returns
+    add-c
+    loop-less
+    loop-again
+    returns-2)

@@ -1,0 +1,114 @@
+-- `audit::contents_are_well_formed` meets its contract: each test is its clause, and each has what it asks for from those before it.
+-- Assumes nothing.
+use mathlib.Core.Path.{_∙_, _≡_}
+use Prim.Native.Nat.{_≤_}
+use native.Mathlib.Omega.{arith}
+use borrow.Author.Needs.{needs}
+use lib.ListN.{length}
+use Rattle.invariants.proofs.MemoryRoom.{counts-ok}
+use Rattle.audit.proofs.Chains.{fails, last, passed, refused}
+use Rattle.audit.proofs.UsedAccounts.{unmapped}
+use Rattle.audit.proofs.Whole.{contents-chain, few-settlements, ready, starts-tested, terms-tested, trades-tested, trades-words}
+use Rattle.audit.proofs.contents_are_well_formed.Statement.{statement}
+use Rattle.audit.proofs.contents_are_well_formed.Tie as tie
+
+-- the accounts in use are among the 32
+fit : (c : tie.Start) → c .args .state .accountcount ≤ length (c .args .state .accounts)
+fit c =
+    let e : length (c .args .state .accounts) ≡ 32 = search (needs, unmapped) in
+    omega (arith, counts-ok _ (c .pre .0) .accounts-high)
+
+counters-in-range-requires : tie.Need-counters-in-range-requires
+counters-in-range-requires c κs = search needs
+
+returns : tie.Need-returns
+returns c =
+    fails (contents-chain _ _ _ _ (fit (c .before .before .before .before .before))) 0 (refused (c .before .counters-in-range .ensures) (c .if1 .taken))
+
+listings-in-range-requires : tie.Need-listings-in-range-requires
+listings-in-range-requires c κs =
+    ready _ _ _ _ (c .before .before .before .before .before .pre .0) (c .before .before .before .before .before .pre .1)
+
+returns-2 : tie.Need-returns-2
+returns-2 c =
+    fails (contents-chain _ _ _ _ (fit (c .before .before .before .before .before .before .before))) 1 (refused (c .before .listings-in-range .ensures) (c .if2 .taken))
+
+numbers-used-once-requires : tie.Need-numbers-used-once-requires
+numbers-used-once-requires c κs =
+    ready _ _ _ _ (c .before .before .before .before .before .before .before .pre .0) (c .before .before .before .before .before .before .before .pre .1)
+
+returns-3 : tie.Need-returns-3
+returns-3 c =
+    fails (contents-chain _ _ _ _ (fit (c .before .before .before .before .before .before .before .before .before))) 2 (refused (c .before .numbers-used-once .ensures) (c .if3 .taken))
+
+trades-in-range-requires : tie.Need-trades-in-range-requires
+trades-in-range-requires c κs =
+    let p = c .before .before .before .before .before .before .before .before .before .before .pre in
+    ((counts-ok _ (p .0) .contracts-high, terms-tested _ _ _ _ (p .0) (p .1) (passed (c .before .before .before .before .listings-in-range .ensures) (c .before .before .before .if2 .left))), trades-words _ _ _ _ (p .0) (p .1))
+
+returns-4 : tie.Need-returns-4
+returns-4 c =
+    fails (contents-chain _ _ _ _ (fit (c .before .before .before .before .before .before .before .before .before .before .before .before))) 3 (refused (c .before .trades-in-range .ensures) (c .if4 .taken))
+
+holdings-in-range-requires : tie.Need-holdings-in-range-requires
+holdings-in-range-requires c κs =
+    ready _ _ _ _ (c .before .before .before .before .before .before .before .before .before .before .before .before .pre .0) (c .before .before .before .before .before .before .before .before .before .before .before .before .pre .1)
+
+returns-5 : tie.Need-returns-5
+returns-5 c =
+    fails (contents-chain _ _ _ _ (fit (c .before .before .before .before .before .before .before .before .before .before .before .before .before .before))) 5 (refused (c .before .holdings-in-range .ensures) (c .if5 .taken))
+
+replays-requires : tie.Need-replays-requires
+replays-requires c κs =
+    let p = c .before .before .before .before .before .before .before .before .before .before .before .before .before .before .before .pre in
+    let k = counts-ok _ (p .0) in (
+      (k .contracts-high, k .accounts-high, k .trades, trades-words _ _ _ _ (p .0) (p .1)),
+      (
+        trades-tested _ _ _ _ (p .0) (p .1) (passed (c .before .before .before .before .trades-in-range .ensures) (c .before .before .before .if4 .left)),
+        starts-tested _ _ _ _ (p .0) (p .1) (passed (c .before .before .before .before .before .before .before .before .before .listings-in-range .ensures) (c .before .before .before .before .before .before .before .before .if2 .left)) (passed (c .before .before .holdings-in-range .ensures) (c .before .if5 .left)),
+      ),
+    )
+
+returns-6 : tie.Need-returns-6
+returns-6 c =
+    fails (contents-chain _ _ _ _ (fit (c .before .before .before .before .before .before .before .before .before .before .before .before .before .before .before .before .before))) 4 (refused (c .before .replays .ensures) (c .if6 .taken))
+
+balances-in-range-requires : tie.Need-balances-in-range-requires
+balances-in-range-requires c κs =
+    (counts-ok _ (c .before .before .before .before .before .before .before .before .before .before .before .before .before .before .before .before .before .pre .0) .accounts-high, few-settlements _ _ _ _ (c .before .before .before .before .before .before .before .before .before .before .before .before .before .before .before .before .before .pre .0) (c .before .before .before .before .before .before .before .before .before .before .before .before .before .before .before .before .before .pre .1) (passed (c .before .before .before .before .before .before .before .before .before .before .before .before .before .counters-in-range .ensures) (c .before .before .before .before .before .before .before .before .before .before .before .before .if1 .left)))
+
+returns-7 : tie.Need-returns-7
+returns-7 c =
+    c .balances-in-range .ensures
+    ∙ last (contents-chain _ _ _ _ (fit (c .before .before .before .before .before .before .before .before .before .before .before .before .before .before .before .before .before .before))) (
+      passed (c .before .before .before .before .before .before .before .before .before .before .before .before .before .before .counters-in-range .ensures) (c .before .before .before .before .before .before .before .before .before .before .before .before .before .if1 .left),
+      (
+        passed (c .before .before .before .before .before .before .before .before .before .before .before .before .listings-in-range .ensures) (c .before .before .before .before .before .before .before .before .before .before .before .if2 .left),
+        (
+          passed (c .before .before .before .before .before .before .before .before .before .before .numbers-used-once .ensures) (c .before .before .before .before .before .before .before .before .before .if3 .left),
+          (
+            passed (c .before .before .before .before .before .before .before .trades-in-range .ensures) (c .before .before .before .before .before .before .if4 .left),
+            (passed (c .before .before .replays .ensures) (c .before .if6 .left), (passed (c .before .before .before .before .before .holdings-in-range .ensures) (c .before .before .before .before .if5 .left), tt)),
+          ),
+        ),
+      ),
+    )
+
+pub contents-are-well-formed-spec : {M : Type 1} → statement M
+contents-are-well-formed-spec =
+    tie.close
+    (tie.spec
+    counters-in-range-requires
+    returns
+    listings-in-range-requires
+    returns-2
+    numbers-used-once-requires
+    returns-3
+    trades-in-range-requires
+    returns-4
+    holdings-in-range-requires
+    returns-5
+    replays-requires
+    returns-6
+    balances-in-range-requires
+    returns-7)

@@ -1,0 +1,20 @@
+-- `audit::counts::counters_in_range` meets its contract: the two tests in turn. Assumes nothing.
+use borrow.Author.Needs.{needs}
+use Rattle.audit.proofs.Chains.{fails, last, passed, refused}
+use Rattle.audit.proofs.Clauses.{counters-chain}
+use Rattle.audit.proofs.counts.counters_in_range.Statement.{statement}
+use Rattle.audit.proofs.counts.counters_in_range.Tie as tie
+
+within-requires : tie.Need-within-requires
+within-requires c κs = search needs
+
+returns : tie.Need-returns
+returns c =
+    fails (counters-chain (c .before .before .args .next) (c .before .before .args .settlements)) 0 (refused (c .before .within .ensures) (c .if1 .taken))
+
+returns-2 : tie.Need-returns-2
+returns-2 c =
+    last (counters-chain (c .before .before .args .next) (c .before .before .args .settlements)) (passed (c .before .within .ensures) (c .if1 .left), tt)
+
+pub counters-in-range-spec : {M : Type 1} → statement M
+counters-in-range-spec = tie.close (tie.spec within-requires returns returns-2)

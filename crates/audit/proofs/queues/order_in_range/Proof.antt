@@ -1,0 +1,56 @@
+-- `audit::queues::order_in_range` meets its contract: the tests in the definition's order. Assumes nothing.
+use borrow.Author.Needs.{needs}
+use borrow.Author.Tests.{le-leb, le-ltb, lt-leb, lt-ltb}
+use Rattle.audit.proofs.Chains.{fails, last, passed, place-in, place-past, refused}
+use Rattle.audit.proofs.Clauses.{order-chain}
+use Rattle.audit.proofs.queues.order_in_range.Statement.{statement}
+use Rattle.audit.proofs.queues.order_in_range.Tie as tie
+
+within-requires : tie.Need-within-requires
+within-requires c κs = search needs
+
+returns : tie.Need-returns
+returns c = fails (order-chain _ _ _ _) 0 (refused (c .before .within .ensures) (c .if1 .taken))
+
+wide-requires : tie.Need-wide-requires
+wide-requires c κs = search needs
+
+returns-2 : tie.Need-returns-2
+returns-2 c = fails (order-chain _ _ _ _) 1 (place-past (c .before .wide .ensures) (c .if2 .taken))
+
+allowed-today-requires : tie.Need-allowed-today-requires
+allowed-today-requires c κs = search needs
+
+returns-3 : tie.Need-returns-3
+returns-3 c =
+    fails (order-chain _ _ _ _) 2 (refused (c .before .allowed-today .ensures) (c .if3 .taken))
+
+returns-4 : tie.Need-returns-4
+returns-4 c = fails (order-chain _ _ _ _) 3 (lt-leb _ _ (c .if4 .taken))
+
+returns-5 : tie.Need-returns-5
+returns-5 c = fails (order-chain _ _ _ _) 4 (le-ltb _ _ (c .if5 .taken))
+
+returns-6 : tie.Need-returns-6
+returns-6 c =
+    last (order-chain _ _ _ _) (
+      passed (c .before .before .before .before .before .before .before .before .before .before .within .ensures) (c .before .before .before .before .before .before .before .before .before .if1 .left),
+      (
+        place-in (c .before .before .before .before .before .before .before .before .wide .ensures) (c .before .before .before .before .before .before .before .if2 .left),
+        (passed (c .before .before .before .before .before .before .allowed-today .ensures) (c .before .before .before .before .before .if3 .left), (le-leb _ _ (c .before .before .before .if4 .left), (lt-ltb _ _ (c .before .if5 .left), tt))),
+      ),
+    )
+
+pub order-in-range-spec : {M : Type 1} → statement M
+order-in-range-spec =
+    tie.close
+    (tie.spec
+    within-requires
+    returns
+    wide-requires
+    returns-2
+    allowed-today-requires
+    returns-3
+    returns-4
+    returns-5
+    returns-6)

@@ -1,0 +1,61 @@
+-- `audit::recorded::trades_in_range` meets its contract. The invariant: what the trades from i on answer is the answer. Assumes nothing.
+use mathlib.Core.Path.{refl}
+use Prim.Native.Nat.{_-_, _≤_}
+use native.Mathlib.Omega.{arith}
+use Rattle.laws.specs.Choice.{allOf}
+use Rattle.rules.specs.Memory.{recordedTrades}
+use Rattle.rules.specs.WellFormed.{tradeInRange}
+use Rattle.audit.specs.Parts.{tested}
+use Rattle.audit.proofs.Chains.{passed, refused}
+use Rattle.audit.proofs.Walks.{Each, each-end, each-out, each-turn}
+use Rattle.audit.proofs.TestedTrades.{next-trade, no-trades}
+use Rattle.audit.proofs.recorded.trades_in_range.Statement.{statement}
+use Rattle.audit.proofs.recorded.trades_in_range.Tie as tie
+
+abbrev Inv-loop : tie.InvT-loop
+Inv-loop list contracts accounts next area count i₀ i =
+    (i ≤ count) × Each (allOf (tradeInRange (tested list contracts accounts next)) (recordedTrades area count)) (tradeInRange (tested list contracts accounts next)) (recordedTrades area count) i
+
+abbrev μ-loop : tie.MeasureT-loop
+μ-loop list contracts accounts next area count i₀ i = count - i
+
+loop-holds : tie.Need-loop-holds Inv-loop μ-loop
+loop-holds c = (omega arith, record { rest = refl })
+
+trade-at-requires : tie.Need-trade-at-requires Inv-loop μ-loop
+trade-at-requires c κs = omega arith
+
+trade-in-range-requires : tie.Need-trade-in-range-requires Inv-loop μ-loop
+trade-in-range-requires c κs = c .before .before .before .before .pre .0
+
+returns : tie.Need-returns Inv-loop μ-loop
+returns c =
+    each-out (c .before .before .before .before .loop .inv .1) (next-trade _ _ _ (c .before .before .before .loop-test .taken) (c .before .before .trade-at .ensures)) (refused (c .before .trade-in-range .ensures) (c .if1 .taken))
+
+add-i : tie.Need-add-i Inv-loop μ-loop
+add-i c = omega arith
+
+loop-less : tie.Need-loop-less Inv-loop μ-loop
+loop-less c = omega arith
+
+loop-again : tie.Need-loop-again Inv-loop μ-loop
+loop-again c =
+    (omega arith, each-turn (c .before .before .before .before .loop .inv .1) (next-trade _ _ _ (c .before .before .before .loop-test .taken) (c .before .before .trade-at .ensures)) (passed (c .before .trade-in-range .ensures) (c .if1 .left)))
+
+returns-2 : tie.Need-returns-2 Inv-loop μ-loop
+returns-2 c = each-end (c .before .loop .inv .1) (no-trades _ _ _ (c .loop-test .left))
+
+pub trades-in-range-spec : {M : Type 1} → statement M
+trades-in-range-spec =
+    tie.close
+    (tie.spec
+    Inv-loop
+    μ-loop
+    loop-holds
+    trade-at-requires
+    trade-in-range-requires
+    returns
+    add-i
+    loop-less
+    loop-again
+    returns-2)

@@ -1,0 +1,83 @@
+-- `audit::replay::has_same_lots` meets its contract. The invariant: what the holdings from contract c on answer is the answer. Assumes nothing.
+use mathlib.Core.Path.{_≡_, refl}
+use Prim.Native.Nat.{_-_, _≤_}
+use native.Mathlib.Omega.{arith}
+use borrow.Author.Needs.{needs}
+use lib.ListN.{drop, length, take}
+use Rattle.rules.specs.Holdings.{sameLots}
+use Rattle.audit.proofs.UsedAccounts.{long-differs, same-end, same-turn, short-differs, unmapped}
+use Rattle.audit.proofs.replay.has_same_lots.Statement.{statement}
+use Rattle.audit.proofs.replay.has_same_lots.Tie as tie
+
+abbrev Inv-loop : tie.InvT-loop
+Inv-loop contracts a b c₀ c =
+    (c ≤ contracts) × (sameLots (take contracts (a .holdings)) (take contracts (b .holdings)) ≡ sameLots (drop c (take contracts (a .holdings))) (drop c (take contracts (b .holdings))))
+
+abbrev μ-loop : tie.MeasureT-loop
+μ-loop contracts a b c₀ c = contracts - c
+
+-- the contracts in use are among the four
+first : (c : tie.Start Inv-loop μ-loop) → c .args .contracts ≤ length (c .args .t1 .holdings)
+first c =
+    let e : length (c .args .t1 .holdings) ≡ 4 = search (needs, unmapped) in
+    omega (arith, c .pre)
+
+second : (c : tie.Start Inv-loop μ-loop) → c .args .contracts ≤ length (c .args .t2 .holdings)
+second c =
+    let e : length (c .args .t2 .holdings) ≡ 4 = search (needs, unmapped) in
+    omega (arith, c .pre)
+
+loop-holds : tie.Need-loop-holds Inv-loop μ-loop
+loop-holds c = (omega arith, refl)
+
+mul-h : tie.Need-mul-h Inv-loop μ-loop
+mul-h c = omega arith
+
+element-copy-out-h : tie.Need-element-copy-out-h Inv-loop μ-loop
+element-copy-out-h c = omega arith
+
+mul-k : tie.Need-mul-k Inv-loop μ-loop
+mul-k c = omega arith
+
+element-copy-out-k : tie.Need-element-copy-out-k Inv-loop μ-loop
+element-copy-out-k c = omega arith
+
+returns : tie.Need-returns Inv-loop μ-loop
+returns c =
+    long-differs (c .before .before .before .before .before .before .before .args .t1 .holdings) (c .before .before .before .before .before .before .before .args .t2 .holdings) _ _ (c .before .before .before .before .before .before .loop .inv .1) (c .before .before .before .before .before .loop-test .taken) (first (c .before .before .before .before .before .before .before)) (second (c .before .before .before .before .before .before .before)) (c .if1 .taken)
+
+returns-2 : tie.Need-returns-2 Inv-loop μ-loop
+returns-2 c =
+    short-differs (c .before .before .before .before .before .before .before .before .before .before .args .t1 .holdings) (c .before .before .before .before .before .before .before .before .before .before .args .t2 .holdings) _ _ (c .before .before .before .before .before .before .before .before .before .loop .inv .1) (c .before .before .before .before .before .before .before .before .loop-test .taken) (first (c .before .before .before .before .before .before .before .before .before .before)) (second (c .before .before .before .before .before .before .before .before .before .before)) (c .before .before .before .if1 .left) (c .if2 .taken)
+
+add-c : tie.Need-add-c Inv-loop μ-loop
+add-c c = omega arith
+
+loop-less : tie.Need-loop-less Inv-loop μ-loop
+loop-less c = omega arith
+
+loop-again : tie.Need-loop-again Inv-loop μ-loop
+loop-again c =
+    (omega arith, same-turn (c .before .before .before .before .before .before .before .before .before .before .args .t1 .holdings) (c .before .before .before .before .before .before .before .before .before .before .args .t2 .holdings) _ _ (c .before .before .before .before .before .before .before .before .before .loop .inv .1) (c .before .before .before .before .before .before .before .before .loop-test .taken) (first (c .before .before .before .before .before .before .before .before .before .before)) (second (c .before .before .before .before .before .before .before .before .before .before)) (c .before .before .before .if1 .left) (c .if2 .left))
+
+returns-3 : tie.Need-returns-3 Inv-loop μ-loop
+returns-3 c =
+    same-end (c .before .before .args .t1 .holdings) (c .before .before .args .t2 .holdings) _ _ (c .before .loop .inv .1) (c .loop-test .left)
+
+pub has-same-lots-spec : {M : Type 1} → statement M
+has-same-lots-spec =
+    tie.close
+    (tie.spec
+    Inv-loop
+    μ-loop
+    loop-holds
+    mul-h
+    element-copy-out-h
+    mul-k
+    element-copy-out-k
+    returns
+    returns-2
+    add-c
+    loop-less
+    loop-again
+    returns-3)

@@ -1,0 +1,54 @@
+-- The parts of a state in memory that a single test of the audit is about, so that its promise can cite the rule it tests.
+-- Assumes nothing.
+use mathlib.Core.Bool.{true}
+use mathlib.Core.List.{List, [], map}
+use mathlib.Core.Path.{_≡_}
+use Prim.Native.Nat.{ℕ, _*_, _<_, _≤_}
+use lib.ListN.{length, getD, replicate, take}
+use Rattle.laws.specs.Tabulate.{tabulate}
+use Rattle.rules.specs.Exchange.{Exchange, Listing, noAccount, noContract}
+use Rattle.rules.specs.Memory.{Memory, countsInRange, inUse, listingIn}
+use Rattle.rules.specs.declared.Account.{Account}
+use Rattle.rules.specs.declared.Contract.{Contract}
+use Rattle.rules.specs.declared.State.{State}
+use Rattle.rules.specs.declared.Trade.{Trade}
+
+-- a state and the areas lent with it
+abbrev pub memory : State → List ℕ → List ℕ → List ℕ → Memory
+memory state buys sells trades = record { state = state; buys = buys; sells = sells; trades = trades }
+
+-- a contract in use with its queues: the trade area plays no part
+abbrev pub listing : State → List ℕ → List ℕ → ℕ → Listing
+listing state buys sells c = listingIn (memory state buys sells []) c
+
+-- counts within their ranges, and room for the queues of the contracts in use: what reading a queue asks for
+pub record Ready (s : State) (buys sells : List ℕ) : Type 0 where
+  pub counts : countsInRange s ≡ true
+  pub buy-room : 320 * s .contractcount ≤ length buys
+  pub sell-room : 320 * s .contractcount ≤ length sells
+
+-- the accounts in use, each with its holdings in the contracts in use
+abbrev pub used : ℕ → ℕ → List Account → List Account
+used contracts accounts l = map (inUse contracts) (take accounts l)
+
+-- what a recorded trade is tested against: the contracts, the numbers of accounts and contracts, the next order number
+unfoldable pub tested : List Contract → ℕ → ℕ → ℕ → Exchange
+tested contracts n accounts next =
+    record {
+      listings = tabulate n (λ c. record { contract = getD contracts c noContract; buys = []; sells = [] });
+      accounts = replicate accounts noAccount;
+      trades = [];
+      next = next;
+      settlements = 0;
+    }
+
+-- accounts and a day's trades alone, for the replay
+abbrev pub replayed : List Account → List Trade → Exchange
+replayed accounts trades = record { listings = []; accounts = accounts; trades = trades; next = 0; settlements = 0 }
+
+-- a trade of contracts and accounts in use, of no more lots than an order has
+pub record Booked (contracts accounts : ℕ) (t : Trade) : Type 0 where
+  pub contract : t .contract < contracts
+  pub buyer : t .buyer < accounts
+  pub seller : t .seller < accounts
+  pub lots : t .lots ≤ 1_000

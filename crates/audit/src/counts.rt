@@ -1,0 +1,79 @@
+// Counts and room: what every later test relies on before it reads a place.
+ghost use mathlib.Core.Bool.{_&&_, true};
+ghost use mathlib.Core.Path.{_≡_};
+ghost use Prim.Native.Nat.{_≤_};
+ghost use lib.Dec.{leb};
+ghost use lib.ListN.{getD};
+ghost use Rattle.laws.specs.Choice.{all};
+ghost use Rattle.rules.specs.Bounds.{within};
+ghost use Rattle.rules.specs.Memory.{countsInRange, hasRoom};
+ghost use Rattle.audit.specs.Parts.{memory};
+use rules::State;
+
+// Of the contracts in use none has more than 64 orders on a side.
+fn few_orders(counts: [usize; 4], contracts: usize) -> bool
+    requires { ⌜ contracts ≤ 4 ⌝ }
+    ensures { λ r. ⌜ r ≡ all (λ c. leb (getD counts c 0) 64) contracts ⌝ }
+{
+    let mut c: usize = 0;
+    while c < contracts {
+        let count = counts[c];
+        if 64 < count {
+            return false;
+        }
+        c += 1;
+    }
+    true
+}
+
+pub fn counts_in_range(s: State) -> bool
+    ensures { λ r. ⌜ r ≡ countsInRange s ⌝ }
+{
+    let contracts = s.contractcount;
+    if contracts < 1 {
+        return false;
+    }
+    if 4 < contracts {
+        return false;
+    }
+    if s.accountcount < 1 {
+        return false;
+    }
+    if 32 < s.accountcount {
+        return false;
+    }
+    if 1024 < s.tradecount {
+        return false;
+    }
+    let buys = s.buys;
+    if !few_orders(buys, contracts) {
+        return false;
+    }
+    let sells = s.sells;
+    few_orders(sells, contracts)
+}
+
+// "each queue area has room for 64 orders and the trade area for 1,024 trades". Requires counts within their ranges.
+pub fn has_room(s: State, buys: &[u32], sells: &[u32], trades: &[u32]) -> bool
+    requires { ⌜ countsInRange s ≡ true ⌝ }
+    ensures { λ r. ⌜ r ≡ hasRoom (memory s (now (buys .entry)) (now (sells .entry)) (now (trades .entry))) ⌝ }
+{
+    let words = 320 * s.contractcount;
+    if buys.len() < words {
+        return false;
+    }
+    if sells.len() < words {
+        return false;
+    }
+    9216 <= trades.len()
+}
+
+// "the next order number 1 to 1,000,000"; "Settlements: 250 a run."
+pub fn counters_in_range(next: u32, settlements: u32) -> bool
+    ensures { λ r. ⌜ r ≡ (within 1 1000000 next && leb settlements 250) ⌝ }
+{
+    if !terms::within(1, 1000000, next) {
+        return false;
+    }
+    settlements <= 250
+}

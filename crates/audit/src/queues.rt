@@ -1,0 +1,163 @@
+// A contract with its two queues. Each function asks for the room of the orders it names, and, where prices are tested, for
+// a contract whose terms are within their ranges.
+ghost use mathlib.Core.Bool.{true};
+ghost use mathlib.Core.Path.{_≡_};
+ghost use Prim.Native.Nat.{_+_, _*_, _≤_, _<_};
+ghost use lib.ListN.{length};
+ghost use Rattle.laws.specs.Choice.{all, allOf};
+ghost use Rattle.rules.specs.Bounds.{termsInRange};
+ghost use Rattle.rules.specs.Memory.{queueIn};
+ghost use Rattle.rules.specs.WellFormed.{contractInRange, ahead, sorted, uncrossed, orderInRange, listingInRange};
+ghost use Rattle.audit.specs.Parts.{Ready, listing};
+use book::queue;
+use rules::Contract;
+use rules::Order;
+use rules::State;
+
+// "references and last prices are tick multiples"
+fn contract_in_range(c: Contract) -> bool
+    ensures { λ r. ⌜ r ≡ contractInRange c ⌝ }
+{
+    if !terms::terms_in_range(c) {
+        return false;
+    }
+    if 3 < c.phase {
+        return false;
+    }
+    terms::tick_multiple(c.tick, c.last)
+}
+
+// "best price first, then lower order number"
+fn is_ahead(sell: bool, o: Order, p: Order) -> bool
+    ensures { λ r. ⌜ r ≡ ahead sell o p ⌝ }
+{
+    if queue::worse(sell, p.price, o.price) {
+        return true;
+    }
+    if o.price != p.price {
+        return false;
+    }
+    o.number < p.number
+}
+
+// Each order is ahead of the next.
+fn is_sorted(area: &[u32], c: usize, count: usize, sell: bool) -> bool
+    requires { ⌜ 320 * c + 5 * count ≤ length (now area) ⌝ }
+    ensures { λ r. ⌜ r ≡ sorted sell (queueIn (now (area .entry)) c count) ⌝ }
+{
+    let mut i: usize = 0;
+    while i + 1 < count {
+        let o = queue::order_at(area, c, i);
+        let p = queue::order_at(area, c, i + 1);
+        if !is_ahead(sell, o, p) {
+            return false;
+        }
+        i += 1;
+    }
+    true
+}
+
+// "the two are uncrossed (best buy below best sell)"
+fn is_uncrossed(buys: &[u32], bids: usize, sells: &[u32], asks: usize, c: usize) -> bool
+    requires { ⌜ (320 * c + 5 * bids ≤ length (now buys)) × (320 * c + 5 * asks ≤ length (now sells)) ⌝ }
+    ensures { λ r. ⌜ r ≡ uncrossed (queueIn (now (buys .entry)) c bids) (queueIn (now (sells .entry)) c asks) ⌝ }
+{
+    if bids == 0 {
+        return true;
+    }
+    if asks == 0 {
+        return true;
+    }
+    let b = queue::order_at(buys, c, 0);
+    let s = queue::order_at(sells, c, 0);
+    b.price < s.price
+}
+
+// "1 to 1,000 lots, an existing account, a price allowed today, and a number below the next"
+fn order_in_range(accounts: usize, next: u32, c: Contract, o: Order) -> bool
+    requires { ⌜ termsInRange c ≡ true ⌝ }
+    ensures { λ r. ⌜ r ≡ orderInRange accounts next c o ⌝ }
+{
+    if !terms::within(1, 1000, o.lots) {
+        return false;
+    }
+    let account = laws::wide(o.account);
+    if accounts <= account {
+        return false;
+    }
+    if !terms::allowed_today(c, o.price) {
+        return false;
+    }
+    if o.number < 1 {
+        return false;
+    }
+    if next <= o.number {
+        return false;
+    }
+    o.close <= 1
+}
+
+fn orders_in_range(
+    area: &[u32],
+    c: usize,
+    count: usize,
+    accounts: usize,
+    next: u32,
+    contract: Contract,
+) -> bool
+    requires { ⌜ (320 * c + 5 * count ≤ length (now area)) × (termsInRange contract ≡ true) ⌝ }
+    ensures { λ r. ⌜ r ≡ allOf (orderInRange accounts next contract) (queueIn (now (area .entry)) c count) ⌝ }
+{
+    let mut i: usize = 0;
+    while i < count {
+        let o = queue::order_at(area, c, i);
+        if !order_in_range(accounts, next, contract, o) {
+            return false;
+        }
+        i += 1;
+    }
+    true
+}
+
+// The contract at a place with its queues.
+fn listing_in_range(state: State, c: usize, buys: &[u32], sells: &[u32]) -> bool
+    requires { ⌜ Ready state (now buys) (now sells) × (c < state .contractcount) ⌝ }
+    ensures { λ r. ⌜ r ≡ listingInRange (state .accountcount) (state .next) (listing state (now (buys .entry)) (now (sells .entry)) c) ⌝ }
+{
+    let contract = state.contracts[c];
+    let bids = state.buys[c];
+    let asks = state.sells[c];
+    let accounts = state.accountcount;
+    let next = state.next;
+    if !contract_in_range(contract) {
+        return false;
+    }
+    if !is_sorted(buys, c, bids, false) {
+        return false;
+    }
+    if !is_sorted(sells, c, asks, true) {
+        return false;
+    }
+    if !is_uncrossed(buys, bids, sells, asks, c) {
+        return false;
+    }
+    if !orders_in_range(buys, c, bids, accounts, next, contract) {
+        return false;
+    }
+    orders_in_range(sells, c, asks, accounts, next, contract)
+}
+
+pub fn listings_in_range(state: State, buys: &[u32], sells: &[u32]) -> bool
+    requires { ⌜ Ready state (now buys) (now sells) ⌝ }
+    ensures { λ r. ⌜ r ≡ all (λ c. listingInRange (state .accountcount) (state .next) (listing state (now (buys .entry)) (now (sells .entry)) c)) (state .contractcount) ⌝ }
+{
+    let contracts = state.contractcount;
+    let mut c: usize = 0;
+    while c < contracts {
+        if !listing_in_range(state, c, buys, sells) {
+            return false;
+        }
+        c += 1;
+    }
+    true
+}

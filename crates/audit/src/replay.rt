@@ -1,0 +1,134 @@
+// "replaying the day's trades over the starting holdings never goes below zero and gives the holdings now". Asks for trades of
+// contracts and accounts in use and for starting holdings that no day's trades lift past their width.
+ghost use mathlib.Core.List.{[], _∷_};
+ghost use mathlib.Core.Path.{_≡_};
+ghost use Prim.Native.Nat.{ℕ, _*_, _≤_, _<_};
+ghost use lib.ListN.{length, getD, take};
+ghost use Rattle.rules.specs.Exchange.{noTrade, holdingAt};
+ghost use Rattle.rules.specs.Holdings as holdings;
+ghost use Rattle.rules.specs.Memory.{recordedTrades};
+ghost use Rattle.rules.specs.WellFormed as wellformed;
+ghost use Rattle.audit.specs.Parts.{used, replayed, Booked};
+use book::holdings;
+use book::trades;
+use rules::Account;
+use rules::Holding;
+
+fn start_holding(h: Holding) -> Holding
+    ensures { λ r. ⌜ r ≡ holdings.startHolding h ⌝ }
+{
+    Holding {
+        long: h.startlong,
+        short: h.startshort,
+        startlong: h.startlong,
+        startshort: h.startshort,
+    }
+}
+
+fn start_account(a: Account) -> Account
+    ensures { λ r. ⌜ r ≡ holdings.startAccount a ⌝ }
+{
+    let mut b = a;
+    b.holdings[0] = start_holding(b.holdings[0]);
+    b.holdings[1] = start_holding(b.holdings[1]);
+    b.holdings[2] = start_holding(b.holdings[2]);
+    b.holdings[3] = start_holding(b.holdings[3]);
+    b
+}
+
+fn start_of_day(accounts: [Account; 32]) -> [Account; 32]
+    ensures { λ r. ⌜ r ≡ holdings.startOfDay accounts ⌝ }
+{
+    let mut held = accounts;
+    let mut i: usize = 0;
+    while i < 32 {
+        held[i] = start_account(held[i]);
+        i += 1;
+    }
+    held
+}
+
+// A close of no more than is held.
+fn is_covered(a: Account, c: usize, sell: bool, close: u32, lots: u32) -> bool
+    requires { ⌜ c < 4 ⌝ }
+    ensures { λ r. ⌜ r ≡ holdings.legCovered (a ∷ []) 0 c sell close lots ⌝ }
+{
+    if close == 0 {
+        return true;
+    }
+    let h = a.holdings[c];
+    if sell {
+        return lots <= h.long;
+    }
+    lots <= h.short
+}
+
+fn has_same_lots(a: Account, b: Account, contracts: usize) -> bool
+    requires { ⌜ contracts ≤ 4 ⌝ }
+    ensures { λ r. ⌜ r ≡ holdings.sameLots (take contracts (a .holdings)) (take contracts (b .holdings)) ⌝ }
+{
+    let mut c: usize = 0;
+    while c < contracts {
+        let h = a.holdings[c];
+        let k = b.holdings[c];
+        if h.long != k.long {
+            return false;
+        }
+        if h.short != k.short {
+            return false;
+        }
+        c += 1;
+    }
+    true
+}
+
+fn have_same_holdings(
+    list: [Account; 32],
+    others: [Account; 32],
+    contracts: usize,
+    accounts: usize,
+) -> bool
+    requires { ⌜ (contracts ≤ 4) × (accounts ≤ 32) ⌝ }
+    ensures { λ r. ⌜ r ≡ holdings.sameHoldings (used contracts accounts list) (used contracts accounts others) ⌝ }
+{
+    let mut a: usize = 0;
+    while a < accounts {
+        if !has_same_lots(list[a], others[a], contracts) {
+            return false;
+        }
+        a += 1;
+    }
+    true
+}
+
+pub fn replays(
+    list: [Account; 32],
+    contracts: usize,
+    accounts: usize,
+    area: &[u32],
+    count: usize,
+) -> bool
+    requires { ⌜ (contracts ≤ 4) × (accounts ≤ 32) × (count ≤ 1024) × (9 * count ≤ length (now area)) ⌝ }
+    requires { ⌜ ((i : ℕ) → i < count → Booked contracts accounts (getD (recordedTrades (now area) count) i noTrade)) ⌝ }
+    requires { ⌜ ((a c : ℕ) → a < accounts → c < contracts → (holdingAt list a c .startlong ≤ 100000) × (holdingAt list a c .startshort ≤ 100000)) ⌝ }
+    ensures { λ r. ⌜ r ≡ wellformed.replays (replayed (used contracts accounts list) (recordedTrades (now (area .entry)) count)) ⌝ }
+{
+    let mut held = start_of_day(list);
+    let mut i: usize = 0;
+    while i < count {
+        let t = trades::trade_at(area, i);
+        let c = laws::wide(t.contract);
+        let buyer = laws::wide(t.buyer);
+        if !is_covered(held[buyer], c, false, t.buyclose, t.lots) {
+            return false;
+        }
+        held[buyer] = holdings::book_leg(held[buyer], c, false, t.buyclose, t.lots);
+        let seller = laws::wide(t.seller);
+        if !is_covered(held[seller], c, true, t.sellclose, t.lots) {
+            return false;
+        }
+        held[seller] = holdings::book_leg(held[seller], c, true, t.sellclose, t.lots);
+        i += 1;
+    }
+    have_same_holdings(held, list, contracts, accounts)
+}

@@ -1,0 +1,2 @@
+mod Cancels
+mod Runs

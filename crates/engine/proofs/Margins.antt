@@ -1,0 +1,79 @@
+-- Margin of an account of a well-formed state: it can be charged, and what is charged is small. Assumes nothing.
+use mathlib.Core.Bool.{Bool, true, false}
+use mathlib.Core.List.{[], _∷_}
+use mathlib.Core.Path.{_≡_, refl}
+use Prim.Native.Nat.{ℕ, zero, suc, _+_, _*_, _<_, _≤_, _^_}
+use native.Mathlib.Numerals.{add-one}
+use native.Mathlib.Omega.{arith}
+use borrow.Author.Tests.{leb-true}
+use lib.Dec.{leb}
+use lib.ListN.{length, getD}
+use Rattle.laws.specs.Choice.{both-true}
+use Rattle.rules.specs.Bounds.{tickMultiple, termsInRange}
+use Rattle.rules.specs.Exchange.{accountAt, holdingAt, noAccount, noContract, noHolding}
+use Rattle.rules.specs.Margin.{charged, chargedTo}
+use Rattle.rules.specs.Memory.{Memory, exchangeOf, listingIn}
+use Rattle.rules.specs.WellFormed.{contractInRange}
+use Rattle.rules.specs.declared.Contract.{Contract}
+use Rattle.accounting.proofs.Facts.{passed}
+use Rattle.invariants.proofs.Clauses.{HoldingOk, ListingOk}
+use Rattle.invariants.proofs.Ticks.{Terms, terms, multiple}
+use Rattle.settlement.specs.Charge.{ChargeTerms, ChargeableIn, Chargeable}
+use Rattle.settlement.proofs.Charging.{chargedAt, charged-more, charged-small}
+use Rattle.engine.proofs.Formed.{Formed, contracts-count, accounts-count, listing-at, holding-at}
+
+-- a contract in range, as margin and limits read it
+terms-of : (c : Contract) → contractInRange c ≡ true → Terms c
+unfolding contractInRange
+terms-of c h = terms c (passed (termsInRange c) (leb (c .phase) 3 ∷ tickMultiple (c .tick) (c .last) ∷ []) h .0)
+
+charge-terms : (c : Contract) → Terms c → ChargeTerms c
+charge-terms c t =
+    record {
+      multiplier = t .multiplier-high;
+      reference = multiple (c .tick) (c .reference) (t .reference) .high;
+      rate = leb-true _ _ (both-true (leb 1 (c .rate)) (leb (c .rate) 10_000) (t .rate) .1);
+    }
+
+limit-high : (c : Contract) → Terms c → c .limit ≤ 100_000
+limit-high c t = leb-true _ _ (both-true (leb 1 (c .limit)) (leb (c .limit) 100_000) (t .limit) .1)
+
+module _ (m : Memory) (f : Formed m) where
+  -- the terms of a contract in use
+  pub contract-terms : (c : ℕ) → c < m .state .contractcount → Terms (getD (m .state .contracts) c noContract)
+  unfolding listingIn
+  contract-terms c l =
+      let k : ListingOk (length (exchangeOf m .accounts)) (exchangeOf m .next) (listingIn m c) = rw (listing-at m f c l) at (f .contents .listing c (rw (contracts-count m f) l)) in
+      terms-of (getD (m .state .contracts) c noContract) (k .contract)
+
+  module _ (a : ℕ) (here : a < m .state .accountcount) where
+    in-contract : (c : ℕ) → c < m .state .contractcount
+        → ChargeableIn (getD (m .state .contracts) c noContract) (m .buys) (getD (m .state .buys) c 0) (m .sells) (getD (m .state .sells) c 0) c a
+        (getD (getD (m .state .accounts) a noAccount .holdings) c noHolding)
+    unfolding listingIn holdingAt accountAt
+    in-contract c l =
+        let t = contract-terms c l in
+        let k : HoldingOk (listingIn m c) a (getD (getD (m .state .accounts) a noAccount .holdings) c noHolding) =
+        rw (listing-at m f c l, holding-at m f a c here l) at (f .contents .holding a c (rw (accounts-count m f) here) (rw (contracts-count m f) l)) in
+        record {
+          terms = charge-terms (getD (m .state .contracts) c noContract) t;
+          bids = f .buys-high c l;
+          offers = f .sells-high c l;
+          buyroom = omega (arith, f .buys-high c l, f .buys-room);
+          sellroom = omega (arith, f .sells-high c l, f .sells-room);
+          long = omega (arith, k .opens false, limit-high (getD (m .state .contracts) c noContract) t);
+          short = omega (arith, k .opens true, limit-high (getD (m .state .contracts) c noContract) t);
+        }
+
+    pub chargeable : Chargeable (m .state) (m .buys) (m .sells) a
+    chargeable = record { account = here; accounts = f .accounts-high; contracts = f .contracts-high; each = in-contract }
+
+    charged-to : (n : ℕ) → n ≤ m .state .contractcount → chargedTo (exchangeOf m) a n ≤ 200_000_000_000_000 * n
+    charged-to zero h = unfold chargedTo in omega arith
+    charged-to (suc c) h =
+        let ih = charged-to c (omega arith) in
+        let e : chargedTo (exchangeOf m) a c + chargedAt m a here c ≡ chargedTo (exchangeOf m) a (suc c) = rw add-one at (charged-more m a here c _ _ h refl refl) in
+        omega (arith, e, charged-small _ _ _ _ _ _ _ _ (in-contract c h))
+
+    pub charged-high : charged (exchangeOf m) a ≤ 10 ^ 15
+    charged-high = omega (arith, charged-to (length (exchangeOf m .listings)) (omega (arith, contracts-count m f)), contracts-count m f, f .contracts-high)

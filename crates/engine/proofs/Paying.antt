@@ -1,0 +1,154 @@
+-- Deposit and withdraw: the code's tests are the rules' refusals, and the balance changed is the rules' state. Assumes nothing.
+use mathlib.Core.Bool.{Bool, true, false, not, _||_}
+use mathlib.Core.List.{List}
+use mathlib.Core.Path.{_≡_, refl, ap, _∙_}
+use Prim.Native.Nat.{ℕ, _-_, _*_, _<_, _≤_, _^_}
+use native.Mathlib.Omega.{arith}
+use borrow.Author.Tests.{leb-true, not-false}
+use lib.Dec.{leb}
+use lib.IntN.{ℤ, pos, _+ℤ_, _-ℤ_}
+use lib.ListN.{getD, set}
+use lib.Signed.{ltZ}
+use Rattle.laws.specs.Bound.{Within}
+use Rattle.laws.specs.Choice.{both-true, pick}
+use Rattle.rules.specs.Answers.{amountRefused, codeOf, depositRefusals, firstOf, liftsTooHigh, refusals, withdrawRefusals}
+use Rattle.rules.specs.Bounds.{within, maxAmount}
+use Rattle.rules.specs.Exchange.{accountAt, noAccount}
+use Rattle.rules.specs.Margin.{available}
+use Rattle.rules.specs.Memory.{Memory, exchangeOf, inUse, put, stepIn}
+use Rattle.rules.specs.Step.{carriedOut, deposited, paid, withBalance, withdrawn}
+use Rattle.rules.specs.declared.Account.{Account}
+use Rattle.rules.specs.declared.Command.the-variants.{Deposit, Withdraw}
+use Rattle.rules.specs.declared.State.{State}
+use Rattle.settlement.specs.Charge.{Chargeable, ChargedIs}
+use Rattle.engine.specs.Outcome.{isAbsent, memory, WellFormedState, OutcomeIs, refusedWith, acceptedWith, withBalanceAt}
+use Rattle.engine.specs.declared.answers.Outcome.{Outcome}
+use Rattle.engine.proofs.Formed.{Formed, formed, no-account, account-at, account-put, balance-within}
+use Rattle.engine.proofs.Margins.{chargeable, charged-high}
+use Rattle.engine.proofs.Outcomes.{refusal, acceptance}
+use Rattle.engine.proofs.Puts.{put-accounts}
+use Rattle.engine.proofs.Tests.{place-below}
+
+-- an amount that is not refused
+pub amount-high : (amount : ℕ) → amountRefused amount ≡ false → amount ≤ 10 ^ 15
+unfolding amountRefused
+amount-high amount e = leb-true amount maxAmount (both-true (leb 1 amount) (leb amount maxAmount) (not-false (within 1 maxAmount amount) e) .1)
+
+module _ {s : State} {buys sells trades : List ℕ} (w : WellFormedState s buys sells trades) (account : ℕ) where
+  abbrev m : Memory
+  m = memory s buys sells trades
+
+  f : Formed m
+  f = formed w
+
+  -- ---- the account's place: `k` is its number as the code widens it
+
+  module _ (present : isAbsent account (s .accountcount) ≡ false) where
+    here : account - 1 < s .accountcount
+    here = place-below account (s .accountcount) present .1
+
+    balance-is : accountAt (exchangeOf m .accounts) (account - 1) .balance ≡ getD (s .accounts) (account - 1) noAccount .balance
+    unfolding accountAt
+    balance-is = ap (λ (v : Account). v .balance) (account-at m f (account - 1) here)
+
+    -- the rules' state with another balance, as it lies
+    paid-lies : (balance : ℤ) → put m (paid (exchangeOf m) (account - 1) balance) ≡ memory (withBalanceAt s (account - 1) balance) buys sells trades
+    unfolding paid accountAt
+    paid-lies balance =
+        let v : Account = withBalance (getD (s .accounts) (account - 1) noAccount) balance in
+        let read : withBalance (accountAt (exchangeOf m .accounts) (account - 1)) balance ≡ inUse (s .contractcount) v =
+        ap (λ (u : Account). withBalance u balance) (account-at m f (account - 1) here) in
+        put-accounts m f (set (exchangeOf m .accounts) (account - 1) (withBalance (accountAt (exchangeOf m .accounts) (account - 1)) balance)) (set (s .accounts) (account - 1) v)
+        (rw read (account-put m f (account - 1) v here refl))
+
+    module _ {k : ℕ} (is : k ≡ account) where
+      pub balance-fits : Within (2 * 10 ^ 18) (getD (s .accounts) (k - 1) noAccount .balance)
+      unfolding accountAt
+      balance-fits = rw is (balance-within m f (account - 1) here)
+
+      -- the account can be charged, and what is charged is small
+      pub account-chargeable : Chargeable s buys sells (k - 1)
+      account-chargeable = rw is (chargeable m f (account - 1) here)
+
+      pub charged-fits : {charged : ℕ} → ChargedIs s buys sells (k - 1) charged → charged ≤ 10 ^ 15
+      charged-fits c = rw (c .charged trades, is) (charged-high m f (account - 1) here)
+
+  -- ---- deposit
+
+  module _ (amount : ℕ) where
+    abbrev DepositIs : Outcome → Type 0
+    DepositIs r = OutcomeIs (stepIn m (Deposit account amount)) r buys sells trades
+
+    deposit-code : codeOf (exchangeOf m) (Deposit account amount) ≡ pick (isAbsent account (s .accountcount)) 2 (pick (amountRefused amount || liftsTooHigh (exchangeOf m) account amount) 16 0)
+    unfolding codeOf refusals depositRefusals firstOf
+    deposit-code = rw (no-account m f account)
+
+    deposit-refused : (code : ℕ) {r : Outcome} → 0 < code → codeOf (exchangeOf m) (Deposit account amount) ≡ code → r ≡ refusedWith s code → DepositIs r
+    deposit-refused code h = refusal s buys sells trades (Deposit account amount) code h
+
+    pub deposit-absent : {r : Outcome} → isAbsent account (s .accountcount) ≡ true → r ≡ refusedWith s 2 → DepositIs r
+    deposit-absent e = deposit-refused 2 (omega arith) (rw (deposit-code, e))
+
+    module _ (present : isAbsent account (s .accountcount) ≡ false) where
+      pub deposit-amount : {r : Outcome} → amountRefused amount ≡ true → r ≡ refusedWith s 16 → DepositIs r
+      deposit-amount a = deposit-refused 16 (omega arith) (rw (deposit-code, present, a))
+
+      module _ (right : amountRefused amount ≡ false) {k : ℕ} (is : k ≡ account) where
+        abbrev lifted : ℤ
+        lifted = getD (s .accounts) (k - 1) noAccount .balance +ℤ pos amount
+
+        lifts-is : liftsTooHigh (exchangeOf m) account amount ≡ ltZ (pos (10 ^ 18)) lifted
+        unfolding liftsTooHigh
+        lifts-is = rw (is, balance-is present)
+
+        pub deposit-high : {r : Outcome} → ltZ (pos (10 ^ 18)) lifted ≡ true → r ≡ refusedWith s 16 → DepositIs r
+        deposit-high h = deposit-refused 16 (omega arith) (rw (deposit-code, present, right, lifts-is, h))
+
+        deposit-lies : put m (carriedOut (exchangeOf m) (Deposit account amount) .exchange) ≡ memory (withBalanceAt s (k - 1) lifted) buys sells trades
+        unfolding carriedOut deposited
+        deposit-lies = rw (is, balance-is present) (paid-lies present (getD (s .accounts) (account - 1) noAccount .balance +ℤ pos amount))
+
+        pub deposit-accepted : {r : Outcome} {next : State} → ltZ (pos (10 ^ 18)) lifted ≡ false → next ≡ withBalanceAt s (k - 1) lifted → r ≡ acceptedWith next 0 0 0 → DepositIs r
+        unfolding carriedOut deposited
+        deposit-accepted h n e = acceptance s buys sells trades (Deposit account amount) (rw (deposit-code, present, right, lifts-is, h)) refl (deposit-lies ∙ rw n) e
+
+    -- ---- withdraw
+
+    abbrev WithdrawIs : Outcome → Type 0
+    WithdrawIs r = OutcomeIs (stepIn m (Withdraw account amount)) r buys sells trades
+
+    withdraw-code : codeOf (exchangeOf m) (Withdraw account amount)
+        ≡ pick (isAbsent account (s .accountcount)) 2 (pick (amountRefused amount) 16 (pick (ltZ (available (exchangeOf m) (account - 1)) (pos amount)) 9 0))
+    unfolding codeOf refusals withdrawRefusals firstOf
+    withdraw-code = rw (no-account m f account)
+
+    withdraw-refused : (code : ℕ) {r : Outcome} → 0 < code → codeOf (exchangeOf m) (Withdraw account amount) ≡ code → r ≡ refusedWith s code → WithdrawIs r
+    withdraw-refused code h = refusal s buys sells trades (Withdraw account amount) code h
+
+    pub withdraw-absent : {r : Outcome} → isAbsent account (s .accountcount) ≡ true → r ≡ refusedWith s 2 → WithdrawIs r
+    withdraw-absent e = withdraw-refused 2 (omega arith) (rw (withdraw-code, e))
+
+    module _ (present : isAbsent account (s .accountcount) ≡ false) where
+      pub withdraw-amount : {r : Outcome} → amountRefused amount ≡ true → r ≡ refusedWith s 16 → WithdrawIs r
+      withdraw-amount a = withdraw-refused 16 (omega arith) (rw (withdraw-code, present, a))
+
+      module _ (right : amountRefused amount ≡ false) {k : ℕ} (is : k ≡ account) where
+        module _ {charged : ℕ} (c : ChargedIs s buys sells (k - 1) charged) where
+          abbrev left : ℤ
+          left = getD (s .accounts) (k - 1) noAccount .balance -ℤ pos charged
+
+          available-is : available (exchangeOf m) (account - 1) ≡ left
+          unfolding available
+          available-is = rw (c .charged trades, is, balance-is present)
+
+          pub withdraw-short : {r : Outcome} → ltZ left (pos amount) ≡ true → r ≡ refusedWith s 9 → WithdrawIs r
+          withdraw-short h = withdraw-refused 9 (omega arith) (rw (withdraw-code, present, right, available-is, h))
+
+          withdraw-lies : put m (carriedOut (exchangeOf m) (Withdraw account amount) .exchange) ≡ memory (withBalanceAt s (k - 1) (getD (s .accounts) (k - 1) noAccount .balance -ℤ pos amount)) buys sells trades
+          unfolding carriedOut withdrawn
+          withdraw-lies = rw (is, balance-is present) (paid-lies present (getD (s .accounts) (account - 1) noAccount .balance -ℤ pos amount))
+
+          pub withdraw-accepted : {r : Outcome} {next : State} → ltZ left (pos amount) ≡ false
+              → next ≡ withBalanceAt s (k - 1) (getD (s .accounts) (k - 1) noAccount .balance -ℤ pos amount) → r ≡ acceptedWith next 0 0 0 → WithdrawIs r
+          unfolding carriedOut withdrawn
+          withdraw-accepted h n e = acceptance s buys sells trades (Withdraw account amount) (rw (withdraw-code, present, right, available-is, h)) refl (withdraw-lies ∙ rw n) e

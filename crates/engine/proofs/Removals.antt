@@ -1,0 +1,368 @@
+-- Cancel and pull: the code's tests are the rules' refusals, and the queues without the orders taken out are the rules' state.
+-- Assumes nothing.
+use mathlib.Core.Bool.{Bool, true, false, not, _||_, true≢false, false≢true}
+use mathlib.Core.List.{List, [], _∷_, _++_, append-assoc}
+use mathlib.Core.Logic.{_⊎_, _≢_, ⊎-elim}
+use mathlib.Core.Path.{_≡_, refl, sym, ap, _∙_}
+use Prim.Native.Nat.{ℕ, zero, suc, _+_, _-_, _*_, _<_, _≤_}
+use native.Mathlib.Nat.{le-of-suc-le-suc, not-suc-le-zero, eq-or-lt-of-le, mul-le-mul-left}
+use native.Mathlib.Omega.{arith}
+use borrow.Author.Tests.{eq-eqb, ne-eqb, eqb-true}
+use lib.Dec.{eqb}
+use lib.ListN.{length, getD, set, drop}
+use Rattle.laws.specs.Choice.{pick, allOf, allOf-at}
+use Rattle.laws.specs.Sums.{sumOf-bound}
+use Rattle.areas.specs.Lists.{removeAt}
+use Rattle.areas.proofs.Lists.{length-removeAt}
+use Rattle.rules.specs.Answers.{_when_, cancelRefusals, codeOf, firstOf, noSuchOrder, numbered, ofAnother, pullRefusals, refusals, removalRefused, restingOrder}
+use Rattle.rules.specs.Bounds.{maxLots}
+use Rattle.rules.specs.Exchange.{Listing, listingAt, lotsWhere, noContract, noListing, noOrder, own}
+use Rattle.rules.specs.Memory.{Memory, exchangeOf, listingIn, orderFrom, put, putQueue, queueIn, stepIn}
+use Rattle.rules.specs.Places.{firstWhere, indexOf}
+use Rattle.rules.specs.Step.{Stepped, answerOf, carriedOut, cancelled, hasNumber, isOf, listingWithout, pulled, removed, withListing, without}
+use Rattle.rules.specs.WellFormed.{allNumbers, numbers, orderInRange, usedOnce}
+use Rattle.rules.specs.declared.Command.{Command}
+use Rattle.rules.specs.declared.Command.the-variants.{Cancel, Pull}
+use Rattle.rules.specs.declared.Contract.{Contract}
+use Rattle.rules.specs.declared.Order.{Order}
+use Rattle.rules.specs.declared.State.{State}
+use Rattle.rules.proofs.Codecs.{length-queue, order-at, put-queue}
+use Rattle.rules.proofs.Queue.{index-apart, index-notIn, first-within, length-without, lots-none, lots-number, numbered-found, numbered-none, numbered-append-found, numbered-append-none, once-append, without-none, without-number}
+use Rattle.book.specs.Removal.{PulledIs}
+use Rattle.book.specs.declared.removal.Pulled.{Pulled}
+use Rattle.invariants.proofs.Accepted.{failed}
+use Rattle.invariants.proofs.Clauses.{ListingOk, OrderOk, order-ok}
+use Rattle.engine.specs.Outcome.{isAbsent, memory, WellFormedState, OutcomeIs, refusedWith, acceptedWith, withCountsIn}
+use Rattle.engine.specs.Removal.{removalCode, cancelCode, RemovedIs, CancelledIs}
+use Rattle.engine.specs.declared.answers.Outcome.{Outcome}
+use Rattle.engine.specs.declared.removal.Cancelled.{Cancelled}
+use Rattle.engine.proofs.Formed.{Formed, formed, contracts-count, listing-at, no-account, no-contract}
+use Rattle.engine.proofs.Outcomes.{refusal, acceptance}
+use Rattle.engine.proofs.Puts.{put-queues}
+use Rattle.engine.proofs.Refusals.{first-append}
+use Rattle.engine.proofs.Tests.{place-below}
+
+-- ---- a cancel in one queue
+
+module _ (account number : ℕ) (area : List ℕ) (c n : ℕ) where
+  abbrev queue : List Order
+  queue = queueIn area c n
+
+  pub cancel-none : indexOf number queue ≡ n → CancelledIs account number area c n (record { code = 14; count = n; lots = 0 }) area
+  unfolding cancelCode firstOf noSuchOrder
+  cancel-none h =
+      record {
+        code = rw (numbered-none number queue (h ∙ sym (length-queue area c n)));
+        done = λ e. absurd (omega arith);
+        kept = λ e. refl;
+      }
+
+  -- i is the place found
+  module _ {i : ℕ} (is : i ≡ indexOf number queue) (apart : i ≢ n) where
+    pub found : i < n
+    found = omega (arith, first-within (hasNumber number) queue, length-queue area c n, is, apart)
+
+    found-in : indexOf number queue < length queue
+    found-in = omega (arith, found, is, length-queue area c n)
+
+    order-found : numbered number queue ≡ orderFrom (drop (320 * c + 5 * i) area) ∷ []
+    order-found = numbered-found number queue found-in ∙ ap (λ (o : Order). o ∷ []) (rw (← is) (order-at area c n i found))
+
+    pub cancel-another : (orderFrom (drop (320 * c + 5 * i) area) .account ≡ account → ⊥) → CancelledIs account number area c n (record { code = 15; count = n; lots = 0 }) area
+    unfolding cancelCode firstOf noSuchOrder ofAnother
+    cancel-another h =
+        record {
+          code = rw (order-found, ne-eqb (orderFrom (drop (320 * c + 5 * i) area) .account) account h);
+          done = λ e. absurd (omega arith);
+          kept = λ e. refl;
+        }
+
+    module _ (once : usedOnce (numbers queue) ≡ true) where
+      taken : without (hasNumber number) queue ≡ removeAt i queue
+      taken = without-number number queue once found-in ∙ rw is
+
+      lots-taken : orderFrom (drop (320 * c + 5 * i) area) .lots ≡ lotsWhere (hasNumber number) queue
+      lots-taken = rw (lots-number number queue once found-in, ← is, order-at area c n i found)
+
+      pub cancel-done : {area′ : List ℕ} → orderFrom (drop (320 * c + 5 * i) area) .account ≡ account → area′ ≡ putQueue area c n (removeAt i queue)
+          → CancelledIs account number area c n (record { code = 0; count = n - 1; lots = orderFrom (drop (320 * c + 5 * i) area) .lots }) area′
+      unfolding cancelCode firstOf noSuchOrder ofAnother
+      cancel-done h e =
+          record {
+            code = rw (order-found, eq-eqb (orderFrom (drop (320 * c + 5 * i) area) .account) account h);
+            done = λ z.
+                record {
+                  queue = rw taken e;
+                  count = rw (taken, length-removeAt i queue (omega (arith, found, length-queue area c n)), length-queue area c n);
+                  lots = lots-taken;
+                };
+            kept = λ z. absurd (z refl);
+          }
+
+-- no order is taken out
+pub removed-none : (test : Order → Bool) (area : List ℕ) (c n : ℕ) → 320 * c + 5 * n ≤ length area → firstWhere test (queueIn area c n) ≡ length (queueIn area c n)
+    → RemovedIs test area c n n 0 area
+removed-none test area c n room h =
+    record {
+      queue = rw (without-none test (queueIn area c n) h) (sym (put-queue area c n room));
+      count = rw (without-none test (queueIn area c n) h) (sym (length-queue area c n));
+      lots = sym (lots-none test (queueIn area c n) h);
+    }
+
+-- ---- what the code of a cancel in one queue says of the queue
+
+index-cases : (n : ℕ) (os : List Order) → (indexOf n os ≡ length os) ⊎ (indexOf n os < length os)
+index-cases n os = eq-or-lt-of-le (first-within (hasNumber n) os)
+
+found-code : (a n : ℕ) (os : List Order) → cancelCode a (numbered n os) ≢ 14 → indexOf n os < length os
+unfolding cancelCode firstOf noSuchOrder
+found-code a n os h = ⊎-elim (λ e. absurd (h (rw (numbered-none n os e)))) (λ l. l) (index-cases n os)
+
+missing-code : (a n : ℕ) (os : List Order) → cancelCode a (numbered n os) ≢ 0 → cancelCode a (numbered n os) ≢ 15 → indexOf n os ≡ length os
+missing-code a n os h k =
+    ⊎-elim (λ e. e) (λ l. absurd (either (getD os (indexOf n os) noOrder) (rw (numbered-found n os l) at h) (rw (numbered-found n os l) at k))) (index-cases n os)
+  where
+    code : (b : Bool) → _≢_ {A = ℕ} (pick b 15 0) 0 → _≢_ {A = ℕ} (pick b 15 0) 15 → ⊥
+    code true h k = k refl
+    code false h k = h refl
+
+    either : (o : Order) → cancelCode a (o ∷ []) ≢ 0 → cancelCode a (o ∷ []) ≢ 15 → ⊥
+    either o h k = unfold cancelCode firstOf noSuchOrder ofAnother in code (not (eqb (o .account) a)) h k
+
+-- "buys first"
+numbered-first : (n : ℕ) (os ps : List Order) → indexOf n os < length os → numbered n (os ++ ps) ≡ numbered n os
+numbered-first n os ps h = numbered-append-found n os ps h ∙ sym (numbered-found n os h)
+
+-- ---- numbers used once over all queues are so in one contract's two
+
+listing-once : (ls : List Listing) (c : ℕ) → c < length ls → usedOnce (allNumbers ls) ≡ true
+    → usedOnce (numbers (getD ls c noListing .buys) ++ numbers (getD ls c noListing .sells)) ≡ true
+unfolding allNumbers
+listing-once [] c h u = absurd (not-suc-le-zero h)
+listing-once (l ∷ ls) zero h u = once-append (numbers (l .buys) ++ numbers (l .sells)) (allNumbers ls) (rw append-assoc u) .0
+listing-once (l ∷ ls) (suc c) h u =
+    listing-once ls c (le-of-suc-le-suc h) (once-append (numbers (l .sells)) (allNumbers ls) (once-append (numbers (l .buys)) _ u .1) .1)
+
+-- ---- lots of orders in range
+
+lots-high : (accounts next : ℕ) (contract : Contract) (test : Order → Bool) (os : List Order) → allOf (orderInRange accounts next contract) os ≡ true
+    → lotsWhere test os ≤ maxLots * length os
+unfolding lotsWhere
+lots-high accounts next contract test os h =
+    sumOf-bound (λ o. pick (test o) (o .lots) 0) maxLots os noOrder
+    (λ i l. go (test (getD os i noOrder)) (getD os i noOrder) (order-ok accounts next contract (getD os i noOrder) (allOf-at (orderInRange accounts next contract) os i noOrder h l)))
+  where
+    go : (b : Bool) (o : Order) → OrderOk accounts next contract o → pick b (o .lots) 0 ≤ maxLots
+    go true o k = k .lots-high
+    go false o k = omega arith
+
+-- ---- the whole state
+
+-- "2, 3, 4"
+abbrev codes : Bool → Bool → Bool → ℕ
+codes two three four = pick two 2 (pick three 3 (pick four 4 0))
+
+module _ {s : State} {buys sells trades : List ℕ} (w : WellFormedState s buys sells trades) (account contract : ℕ) (operator : Bool) where
+  abbrev m : Memory
+  m = memory s buys sells trades
+
+  f : Formed m
+  f = formed w
+
+  pub few-contracts : s .contractcount ≤ 4
+  few-contracts = f .contracts-high
+
+  -- ---- the tests that both kinds make first
+
+  shared-code : firstOf (pullRefusals (exchangeOf m) account contract operator) ≡ removalCode s account contract operator
+  unfolding firstOf pullRefusals removalCode listingIn
+  shared-code = rw (no-account m f account, no-contract m f contract) (go (isAbsent contract (s .contractcount)) refl)
+    where
+      go : (b : Bool) → isAbsent contract (s .contractcount) ≡ b
+          → codes (isAbsent account (s .accountcount)) b (removalRefused (listingAt (exchangeOf m) (contract - 1) .contract) operator)
+          ≡ codes (isAbsent account (s .accountcount)) b (removalRefused (getD (s .contracts) (contract - 1) noContract) operator)
+      go true e = refl
+      go false e = rw (listing-at m f (contract - 1) (place-below contract (s .contractcount) e .1))
+
+  pull-code : codeOf (exchangeOf m) (Pull account contract operator) ≡ removalCode s account contract operator
+  unfolding codeOf refusals
+  pull-code = shared-code
+
+  cancel-code : (number : ℕ) → codeOf (exchangeOf m) (Cancel account contract operator number)
+      ≡ pick (eqb (removalCode s account contract operator) 0) (cancelCode (account - 1) (restingOrder (listingAt (exchangeOf m) (contract - 1)) number)) (removalCode s account contract operator)
+  unfolding codeOf refusals cancelRefusals pullRefusals cancelCode
+  cancel-code number =
+      let l : Listing = listingAt (exchangeOf m) (contract - 1) in
+      first-append (pullRefusals (exchangeOf m) account contract operator)
+      ((14 when noSuchOrder (restingOrder l number)) ∷ (15 when ofAnother (account - 1) (restingOrder l number)) ∷ []) (omega arith)
+      ∙ rw shared-code
+
+  -- ---- the queues of the contract, k being its number as the code widens it
+
+  module _ (none : removalCode s account contract operator ≡ 0) where
+    tests : (isAbsent account (s .accountcount) ≡ false) × (isAbsent contract (s .contractcount) ≡ false)
+    unfolding removalCode
+    tests =
+        let t = failed
+        ((2 when isAbsent account (s .accountcount)) ∷ (3 when isAbsent contract (s .contractcount)) ∷ (4 when removalRefused (getD (s .contracts) (contract - 1) noContract) operator) ∷ [])
+        (omega arith) none in
+        (t .0, t .1 .0)
+
+    pub account-low : 1 ≤ account
+    account-low = place-below account (s .accountcount) (tests .0) .0
+
+    module _ {k : ℕ} (is : k ≡ contract) where
+      pub contract-low : 1 ≤ k
+      contract-low = rw is (place-below contract (s .contractcount) (tests .1) .0)
+
+      here : k - 1 < s .contractcount
+      here = rw is (place-below contract (s .contractcount) (tests .1) .1)
+
+      pub contract-fits : k - 1 < 4
+      contract-fits = omega (arith, here, few-contracts)
+
+      listing-is : listingAt (exchangeOf m) (contract - 1) ≡ listingIn m (k - 1)
+      listing-is = rw (← is) (listing-at m f (k - 1) here)
+
+      -- the orders of the side, their count and their room
+      abbrev area : Bool → List ℕ
+      area sell = pick sell sells buys
+
+      abbrev count : Bool → ℕ
+      count sell = getD (pick sell (s .sells) (s .buys)) (k - 1) 0
+
+      abbrev orders : Bool → List Order
+      orders sell = queueIn (area sell) (k - 1) (count sell)
+
+      pub side-few : (sell : Bool) → count sell ≤ 64
+      side-few false = f .buys-high (k - 1) here
+      side-few true = f .sells-high (k - 1) here
+
+      pub side-room : (sell : Bool) → 320 * (k - 1) + 5 * count sell ≤ length (area sell)
+      side-room false = omega (arith, f .buys-room, side-few false, here)
+      side-room true = omega (arith, f .sells-room, side-few true, here)
+
+      both-once : usedOnce (numbers (orders false) ++ numbers (orders true)) ≡ true
+      unfolding listingAt listingIn
+      both-once =
+          let u : usedOnce (numbers (listingAt (exchangeOf m) (k - 1) .buys) ++ numbers (listingAt (exchangeOf m) (k - 1) .sells)) ≡ true =
+          listing-once (exchangeOf m .listings) (k - 1) (rw (contracts-count m f) here) (f .contents .once) in
+          rw (listing-at m f (k - 1) here) at u
+
+      pub side-once : (sell : Bool) → usedOnce (numbers (orders sell)) ≡ true
+      side-once false = once-append (numbers (orders false)) (numbers (orders true)) both-once .0
+      side-once true = once-append (numbers (orders false)) (numbers (orders true)) both-once .1
+
+      -- a number found among the buys is not among the sells
+      apart : (number : ℕ) → indexOf number (orders false) < length (orders false) → indexOf number (orders true) ≡ length (orders true)
+      apart number h = index-notIn number (orders true) (index-apart number (orders false) (numbers (orders true)) both-once h)
+
+      -- ---- orders taken out of both queues
+
+      module _ {bought sold bid offer : ℕ} {buys′ sells′ : List ℕ} (test : Order → Bool)
+          (b : RemovedIs test buys (k - 1) (count false) bought bid buys′) (o : RemovedIs test sells (k - 1) (count true) sold offer sells′) where
+        short : (sell : Bool) → length (without test (orders sell)) ≤ 64
+        short sell = omega (arith, length-without test (orders sell), length-queue (area sell) (k - 1) (count sell), side-few sell)
+
+        lies : put m (withListing (exchangeOf m) (contract - 1) (listingWithout test (listingAt (exchangeOf m) (contract - 1))))
+            ≡ memory (withCountsIn s (set (s .buys) (k - 1) bought) (set (s .sells) (k - 1) sold)) buys′ sells′ trades
+        unfolding listingIn
+        lies =
+            rw (← is, listing-at m f (k - 1) here)
+            (put-queues m f (k - 1) here (without test (orders false)) (without test (orders true)) (short false) (short true)
+            ∙ rw (b .queue, b .count, o .queue, o .count))
+
+        answer : {number lots : ℕ} → lots ≡ bid + offer → removed (exchangeOf m) (contract - 1) test number .answer ≡ answerOf 0 number 0 lots
+        unfolding removed listingIn
+        answer l = rw (listing-is, l, b .lots, o .lots)
+
+        pub removal-accepted : (command : Command) {r : Outcome} {next : State} {number lots : ℕ} → codeOf (exchangeOf m) command ≡ 0
+            → carriedOut (exchangeOf m) command ≡ removed (exchangeOf m) (contract - 1) test number
+            → next ≡ withCountsIn s (set (s .buys) (k - 1) bought) (set (s .sells) (k - 1) sold) → lots ≡ bid + offer → r ≡ acceptedWith next number 0 lots
+            → OutcomeIs (stepIn m command) r buys′ sells′ trades
+        unfolding removed
+        removal-accepted command e c n l a = acceptance s buys sells trades command e (ap (λ (t : Stepped). t .answer) c ∙ answer l) (rw (c, n) lies) a
+
+      -- ---- cancel
+
+      module _ (number : ℕ) where
+        abbrev CancelIs : Outcome → List ℕ → List ℕ → Type 0
+        CancelIs r buys′ sells′ = OutcomeIs (stepIn m (Cancel account contract operator number)) r buys′ sells′ trades
+
+        -- the first of the two queues that has the order decides
+        cancel-is : codeOf (exchangeOf m) (Cancel account contract operator number) ≡ cancelCode (account - 1) (numbered number (orders false ++ orders true))
+        unfolding restingOrder listingIn
+        cancel-is = cancel-code number ∙ rw (none, listing-is)
+
+        module _ {bid : Cancelled} {buys′ : List ℕ} (b : CancelledIs (account - 1) number buys (k - 1) (count false) bid buys′) where
+          -- bid .code ≢ 14
+          bid-code : bid .code ≢ 14 → codeOf (exchangeOf m) (Cancel account contract operator number) ≡ bid .code
+          bid-code h =
+              cancel-is
+              ∙ ap (cancelCode (account - 1)) (numbered-first number (orders false) (orders true) (found-code (account - 1) number (orders false) (λ e. h (b .code ∙ e))))
+              ∙ sym (b .code)
+
+          pub bid-done : {r : Outcome} {next : State} → bid .code ≡ 0
+              → next ≡ withCountsIn s (set (s .buys) (k - 1) (bid .count)) (set (s .sells) (k - 1) (count true)) → r ≡ acceptedWith next number 0 (bid .lots) → CancelIs r buys′ sells
+          unfolding carriedOut cancelled
+          bid-done e n a =
+              removal-accepted (hasNumber number) (b .done e)
+              (removed-none (hasNumber number) sells (k - 1) (count true) (side-room true) (apart number (found-code (account - 1) number (orders false) (λ z. omega (arith, b .code, e, z)))))
+              (Cancel account contract operator number) (bid-code (λ z. omega arith) ∙ e) refl n (omega arith) a
+
+          pub bid-another : {r : Outcome} → bid .code ≡ 15 → r ≡ refusedWith s 15 → CancelIs r buys′ sells
+          bid-another e a =
+              rw (b .kept (λ z. omega arith)) (refusal s buys sells trades (Cancel account contract operator number) 15 (omega arith) (bid-code (λ z. omega arith) ∙ e) a)
+
+          module _ (p : bid .code ≢ 0) (q : bid .code ≢ 15) {offer : Cancelled} {sells′ : List ℕ} (o : CancelledIs (account - 1) number sells (k - 1) (count true) offer sells′) where
+            missing : indexOf number (orders false) ≡ length (orders false)
+            missing = missing-code (account - 1) number (orders false) (λ e. p (b .code ∙ e)) (λ e. q (b .code ∙ e))
+
+            offer-code : codeOf (exchangeOf m) (Cancel account contract operator number) ≡ offer .code
+            offer-code = cancel-is ∙ ap (cancelCode (account - 1)) (numbered-append-none number (orders false) (orders true) missing) ∙ sym (o .code)
+
+            pub offer-refused : {r : Outcome} → offer .code ≢ 0 → r ≡ refusedWith s (offer .code) → CancelIs r buys′ sells′
+            offer-refused e a = rw (b .kept p, o .kept e) (refusal s buys sells trades (Cancel account contract operator number) (offer .code) (omega arith) offer-code a)
+
+            pub offer-done : {r : Outcome} {next : State} → offer .code ≡ 0
+                → next ≡ withCountsIn s (set (s .buys) (k - 1) (count false)) (set (s .sells) (k - 1) (offer .count)) → r ≡ acceptedWith next number 0 (offer .lots) → CancelIs r buys′ sells′
+            unfolding carriedOut cancelled
+            offer-done e n a =
+                rw (b .kept p)
+                (removal-accepted (hasNumber number) (removed-none (hasNumber number) buys (k - 1) (count false) (side-room false) missing) (o .done e)
+                (Cancel account contract operator number) (offer-code ∙ e) refl n (omega arith) a)
+
+      -- ---- pull
+
+      -- no queue has more lots than 64 orders of 1,000
+      in-range : ListingOk (length (exchangeOf m .accounts)) (s .next) (listingIn m (k - 1))
+      unfolding exchangeOf
+      in-range = rw (listing-at m f (k - 1) here) at (f .contents .listing (k - 1) (rw (contracts-count m f) here))
+
+      side-lots : (sell : Bool) (test : Order → Bool) → lotsWhere test (orders sell) ≤ 64_000
+      unfolding listingIn
+      side-lots false test = omega (arith, lots-high _ _ _ test (orders false) (in-range .orders false), length-queue buys (k - 1) (count false), side-few false)
+      side-lots true test = omega (arith, lots-high _ _ _ test (orders true) (in-range .orders true), length-queue sells (k - 1) (count true), side-few true)
+
+      pub pulled-high : (sell : Bool) {p : Pulled} {area′ : List ℕ} → PulledIs (account - 1) (area sell) (k - 1) (count sell) p area′ → p .lots ≤ 64_000
+      pulled-high sell b = rw (b .lots) (side-lots sell (isOf (account - 1)))
+
+      pub pull-accepted : {r : Outcome} {next : State} {lots : ℕ} {bid offer : Pulled} {buys′ sells′ : List ℕ}
+          → PulledIs (account - 1) buys (k - 1) (count false) bid buys′ → PulledIs (account - 1) sells (k - 1) (count true) offer sells′
+          → next ≡ withCountsIn s (set (s .buys) (k - 1) (bid .count)) (set (s .sells) (k - 1) (offer .count)) → lots ≡ bid .lots + offer .lots
+          → r ≡ acceptedWith next 0 0 lots → OutcomeIs (stepIn m (Pull account contract operator)) r buys′ sells′ trades
+      unfolding carriedOut pulled
+      pull-accepted b o n l a =
+          removal-accepted (isOf (account - 1)) (record { queue = b .queue; count = b .count; lots = b .lots }) (record { queue = o .queue; count = o .count; lots = o .lots })
+          (Pull account contract operator) (pull-code ∙ none) refl n l a
+
+  -- ---- refused by one of the tests that both kinds make first
+
+  pub pull-refused : {code : ℕ} {r : Outcome} → code ≡ removalCode s account contract operator → code ≢ 0 → r ≡ refusedWith s code
+      → OutcomeIs (stepIn m (Pull account contract operator)) r buys sells trades
+  pull-refused {code} e h a = refusal s buys sells trades (Pull account contract operator) code (omega arith) (pull-code ∙ sym e) a
+
+  pub cancel-refused : (number : ℕ) {code : ℕ} {r : Outcome} → code ≡ removalCode s account contract operator → code ≢ 0 → r ≡ refusedWith s code
+      → OutcomeIs (stepIn m (Cancel account contract operator number)) r buys sells trades
+  cancel-refused number {code} e h a =
+      refusal s buys sells trades (Cancel account contract operator number) code (omega arith) (rw (cancel-code number, ← e, ne-eqb code 0 h)) a

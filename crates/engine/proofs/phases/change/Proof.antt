@@ -1,0 +1,74 @@
+-- `phases::change` meets its contract: each return by its law in Changes.antt. Assumes nothing.
+use mathlib.Core.Bool.{true, false}
+use mathlib.Core.Path.{_≡_, sym, _∙_}
+use borrow.Author.Needs.{needs}
+use borrow.Author.Tests.{not-true, not-false}
+use Rattle.engine.specs.Outcome.{isAbsent}
+use Rattle.engine.proofs.Changes.{phase-absent, phase-unlisted, phase-accepted}
+use Rattle.engine.proofs.Formed.{contract-low, contract-fits}
+use Rattle.engine.proofs.phases.change.Statement.{statement}
+use Rattle.engine.proofs.phases.change.Tie as tie
+
+present : (c : tie.Else1) → isAbsent (c .before .before .before .before .before .args .contract) (c .before .before .before .before .before .args .t1 .contractcount) ≡ false
+present c = sym (c .before .is-absent .ensures) ∙ c .if1 .left
+
+is-absent-requires : tie.Need-is-absent-requires
+is-absent-requires c κs = search needs
+
+refused-requires : tie.Need-refused-requires
+refused-requires c κs = search needs
+
+returns : tie.Need-returns
+returns c = phase-absent (c .before .before .before .before .before .before .pre) _ _ (sym (c .before .before .is-absent .ensures) ∙ c .before .if1 .taken) (c .refused .ensures)
+
+wide-requires : tie.Need-wide-requires
+wide-requires c κs = search needs
+
+sub-place : tie.Need-sub-place
+sub-place c = contract-low (c .before .before .before .before .before .before .pre) _ (c .wide .ensures) (present (c .before))
+
+mul-terms : tie.Need-mul-terms
+mul-terms c = search needs
+
+element-copy-out-terms : tie.Need-element-copy-out-terms
+element-copy-out-terms c = contract-fits (c .before .before .before .before .before .before .pre) _ (c .wide .ensures) (present (c .before))
+
+is-listed-requires : tie.Need-is-listed-requires
+is-listed-requires c κs = search needs
+
+refused-requires-2 : tie.Need-refused-requires-2
+refused-requires-2 c κs = search needs
+
+returns-2 : tie.Need-returns-2
+returns-2 c =
+    phase-unlisted (c .before .before .before .before .before .before .before .before .before .before .pre) _ _ (present (c .before .before .before .before .before)) (c .before .before .before .before .wide .ensures)
+    (sym (c .before .before .is-listed .ensures) ∙ not-true _ (c .before .if2 .taken)) (c .refused2 .ensures)
+
+with-phase-requires : tie.Need-with-phase-requires
+with-phase-requires c κs = contract-fits (c .before .before .before .before .before .before .before .before .before .pre) _ (c .before .before .before .wide .ensures) (present (c .before .before .before .before))
+
+accepted-requires : tie.Need-accepted-requires
+accepted-requires c κs = search needs
+
+returns-3 : tie.Need-returns-3
+returns-3 c =
+    phase-accepted (c .before .before .before .before .before .before .before .before .before .before .before .pre) _ _ (present (c .before .before .before .before .before .before)) (c .before .before .before .before .before .wide .ensures)
+    (sym (c .before .before .before .is-listed .ensures) ∙ not-false _ (c .before .before .if2 .left)) (c .before .with-phase .ensures) (c .accepted .ensures)
+
+pub change-spec : {M : Type 1} → statement M
+change-spec =
+    tie.close
+    (tie.spec
+    is-absent-requires
+    refused-requires
+    returns
+    wide-requires
+    sub-place
+    mul-terms
+    element-copy-out-terms
+    is-listed-requires
+    refused-requires-2
+    returns-2
+    with-phase-requires
+    accepted-requires
+    returns-3)

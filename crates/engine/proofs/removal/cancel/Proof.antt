@@ -1,0 +1,149 @@
+-- `removal::cancel` meets its contract: each return by its law in Removals.antt. Assumes nothing.
+use mathlib.Core.Bool.{true, false}
+use mathlib.Core.Path.{_≡_, sym, _∙_}
+use Prim.Native.Nat.{_-_, _<_}
+use borrow.Author.Needs.{needs}
+use Rattle.engine.specs.Removal.{removalCode}
+use Rattle.engine.proofs.Removals.{few-contracts, account-low, contract-low, contract-fits, side-room, side-once, cancel-refused, bid-done, bid-another, offer-refused, offer-done}
+use Rattle.engine.proofs.removal.cancel.Statement.{statement}
+use Rattle.engine.proofs.removal.cancel.Tie as tie
+
+-- ---- what the tests have shown
+
+none : (c : tie.Else1) → removalCode (c .before .before .before .before .before .args .t1) (c .before .before .before .before .before .args .account) (c .before .before .before .before .before .args .contract) (c .before .before .before .before .before .args .operator) ≡ 0
+none c = sym (c .before .refusal .ensures) ∙ c .if1 .left
+
+place : (c : tie.After-wide) → c .wide .result - 1 < 4
+place c = contract-fits (c .before .before .before .before .before .before .pre) _ _ _ (none (c .before)) (c .wide .ensures)
+
+-- ---- the needs
+
+refusal-requires : tie.Need-refusal-requires
+refusal-requires c κs = few-contracts (c .before .before .before .pre) (c .before .before .before .args .account) (c .before .before .before .args .contract) (c .before .before .before .args .operator)
+
+refused-requires : tie.Need-refused-requires
+refused-requires c κs = search needs
+
+returns : tie.Need-returns
+returns c = cancel-refused (c .before .before .before .before .before .before .pre) _ _ _ _ (c .before .before .refusal .ensures) (c .before .if1 .taken) (c .refused .ensures)
+
+wide-requires : tie.Need-wide-requires
+wide-requires c κs = search needs
+
+sub-c : tie.Need-sub-c
+sub-c c = contract-low (c .before .before .before .before .before .before .pre) _ _ _ (none (c .before)) (c .wide .ensures)
+
+mul-bought : tie.Need-mul-bought
+mul-bought c = search needs
+
+element-copy-out-bought : tie.Need-element-copy-out-bought
+element-copy-out-bought c = place c
+
+mul-sold : tie.Need-mul-sold
+mul-sold c = search needs
+
+element-copy-out-sold : tie.Need-element-copy-out-sold
+element-copy-out-sold c = place (c .before)
+
+sub-cancel-in : tie.Need-sub-cancel-in
+sub-cancel-in c = account-low (c .before .before .before .before .before .before .before .before .before .pre) _ _ _ (none (c .before .before .before .before))
+
+cancel-in-requires : tie.Need-cancel-in-requires
+cancel-in-requires c κs =
+    (side-room (c .before .before .before .before .before .before .before .before .before .pre) _ _ _ (none (c .before .before .before .before)) (c .before .before .before .wide .ensures) false, side-once (c .before .before .before .before .before .before .before .before .before .pre) _ _ _ (none (c .before .before .before .before)) (c .before .before .before .wide .ensures) false)
+
+with-counts-requires : tie.Need-with-counts-requires
+with-counts-requires c κs = place (c .before .before .before .before .before .before .before .before)
+
+accepted-requires : tie.Need-accepted-requires
+accepted-requires c κs = search needs
+
+same-length : tie.Need-same-length
+same-length c = search needs
+
+returns-2 : tie.Need-returns-2
+returns-2 c =
+    bid-done (c .before .before .before .before .before .before .before .before .before .before .before .before .before .before .before .before .pre) _ _ _ (none (c .before .before .before .before .before .before .before .before .before .before .before)) (c .before .before .before .before .before .before .before .before .before .before .wide .ensures) _ (c .before .before .before .before .before .before .cancel-in .ensures) (c .before .before .if2 .taken)
+    (c .before .with-counts .ensures) (c .accepted .ensures)
+
+refused-requires-2 : tie.Need-refused-requires-2
+refused-requires-2 c κs = search needs
+
+same-length-2 : tie.Need-same-length-2
+same-length-2 c = search needs
+
+returns-3 : tie.Need-returns-3
+returns-3 c =
+    bid-another (c .before .before .before .before .before .before .before .before .before .before .before .before .before .before .before .before .before .pre) _ _ _ (none (c .before .before .before .before .before .before .before .before .before .before .before .before)) (c .before .before .before .before .before .before .before .before .before .before .before .wide .ensures) _ (c .before .before .before .before .before .before .before .cancel-in .ensures) (c .before .if3 .taken) (c .refused2 .ensures)
+
+sub-cancel-in-2 : tie.Need-sub-cancel-in-2
+sub-cancel-in-2 c = account-low (c .before .before .before .before .before .before .before .before .before .before .before .before .before .before .before .before .before .pre) _ _ _ (none (c .before .before .before .before .before .before .before .before .before .before .before .before))
+
+cancel-in-requires-2 : tie.Need-cancel-in-requires-2
+cancel-in-requires-2 c κs =
+    (side-room (c .before .before .before .before .before .before .before .before .before .before .before .before .before .before .before .before .before .pre) _ _ _ (none (c .before .before .before .before .before .before .before .before .before .before .before .before)) (c .before .before .before .before .before .before .before .before .before .before .before .wide .ensures) true, side-once (c .before .before .before .before .before .before .before .before .before .before .before .before .before .before .before .before .before .pre) _ _ _ (none (c .before .before .before .before .before .before .before .before .before .before .before .before)) (c .before .before .before .before .before .before .before .before .before .before .before .wide .ensures) true)
+
+refused-requires-3 : tie.Need-refused-requires-3
+refused-requires-3 c κs = search needs
+
+same-length-3 : tie.Need-same-length-3
+same-length-3 c = search needs
+
+same-length-4 : tie.Need-same-length-4
+same-length-4 c = search needs
+
+returns-4 : tie.Need-returns-4
+returns-4 c =
+    offer-refused (c .before .before .before .before .before .before .before .before .before .before .before .before .before .before .before .before .before .before .before .before .before .before .before .pre) _ _ _ (none (c .before .before .before .before .before .before .before .before .before .before .before .before .before .before .before .before .before .before)) (c .before .before .before .before .before .before .before .before .before .before .before .before .before .before .before .before .before .wide .ensures) _ (c .before .before .before .before .before .before .before .before .before .before .before .before .before .cancel-in .ensures) (c .before .before .before .before .before .before .before .before .before .if2 .left) (c .before .before .before .before .before .before .before .if3 .left)
+    (c .before .before .before .before .before .cancel-in2 .ensures) (c .before .if4 .taken) (c .refused3 .ensures)
+
+with-counts-requires-2 : tie.Need-with-counts-requires-2
+with-counts-requires-2 c κs = place (c .before .before .before .before .before .before .before .before .before .before .before .before .before .before .before .before)
+
+accepted-requires-2 : tie.Need-accepted-requires-2
+accepted-requires-2 c κs = search needs
+
+same-length-5 : tie.Need-same-length-5
+same-length-5 c = c .before .before .before .before .before .before .before .before .before .before .before .before .before .before .cancel-in .kept .0
+
+same-length-6 : tie.Need-same-length-6
+same-length-6 c = search needs
+
+returns-5 : tie.Need-returns-5
+returns-5 c =
+    offer-done (c .before .before .before .before .before .before .before .before .before .before .before .before .before .before .before .before .before .before .before .before .before .before .before .before .pre) _ _ _ (none (c .before .before .before .before .before .before .before .before .before .before .before .before .before .before .before .before .before .before .before)) (c .before .before .before .before .before .before .before .before .before .before .before .before .before .before .before .before .before .before .wide .ensures) _ (c .before .before .before .before .before .before .before .before .before .before .before .before .before .before .cancel-in .ensures) (c .before .before .before .before .before .before .before .before .before .before .if2 .left) (c .before .before .before .before .before .before .before .before .if3 .left)
+    (c .before .before .before .before .before .before .cancel-in2 .ensures) (c .before .before .if4 .left) (c .before .with-counts2 .ensures) (c .accepted2 .ensures)
+
+pub cancel-spec : {M : Type 1} → statement M
+cancel-spec =
+    tie.close
+    (tie.spec
+    refusal-requires
+    refused-requires
+    returns
+    wide-requires
+    sub-c
+    mul-bought
+    element-copy-out-bought
+    mul-sold
+    element-copy-out-sold
+    sub-cancel-in
+    cancel-in-requires
+    with-counts-requires
+    accepted-requires
+    same-length
+    returns-2
+    refused-requires-2
+    same-length-2
+    returns-3
+    sub-cancel-in-2
+    cancel-in-requires-2
+    refused-requires-3
+    same-length-3
+    same-length-4
+    returns-4
+    with-counts-requires-2
+    accepted-requires-2
+    same-length-5
+    same-length-6
+    returns-5)

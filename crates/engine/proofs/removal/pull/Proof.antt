@@ -1,0 +1,115 @@
+-- `removal::pull` meets its contract: each return by its law in Removals.antt. Assumes nothing.
+use mathlib.Core.Bool.{true, false}
+use mathlib.Core.Path.{_≡_, refl, sym, _∙_}
+use Prim.Native.Nat.{_+_, _-_, _<_, _≤_}
+use native.Mathlib.Omega.{arith}
+use borrow.Author.Needs.{needs}
+use Rattle.engine.specs.Removal.{removalCode}
+use Rattle.engine.proofs.Removals.{few-contracts, account-low, contract-low, contract-fits, side-few, side-room, pulled-high, pull-refused, pull-accepted}
+use Rattle.engine.proofs.removal.pull.Statement.{statement}
+use Rattle.engine.proofs.removal.pull.Tie as tie
+
+-- ---- what the tests have shown
+
+none : (c : tie.Else1) → removalCode (c .before .before .before .before .before .args .t1) (c .before .before .before .before .before .args .account) (c .before .before .before .before .before .args .contract) (c .before .before .before .before .before .args .operator) ≡ 0
+none c = sym (c .before .refusal .ensures) ∙ c .if1 .left
+
+place : (c : tie.After-wide) → c .wide .result - 1 < 4
+place c = contract-fits (c .before .before .before .before .before .before .pre) _ _ _ (none (c .before)) (c .wide .ensures)
+
+few : (c : tie.After-struct-known2) → c .before .before .before .before .before .before .before .before .pull .result .lots + c .before .before .before .before .pull2 .result .lots ≤ 128_000
+few c =
+    let b = pulled-high (c .before .before .before .before .before .before .before .before .before .before .before .before .before .before .before .before .before .before .pre) _ _ _ (none (c .before .before .before .before .before .before .before .before .before .before .before .before .before)) (c .before .before .before .before .before .before .before .before .before .before .before .before .wide .ensures) false (c .before .before .before .before .before .before .before .before .pull .ensures) in
+    let o = pulled-high (c .before .before .before .before .before .before .before .before .before .before .before .before .before .before .before .before .before .before .pre) _ _ _ (none (c .before .before .before .before .before .before .before .before .before .before .before .before .before)) (c .before .before .before .before .before .before .before .before .before .before .before .before .wide .ensures) true (c .before .before .before .before .pull2 .ensures) in
+    omega arith
+
+-- ---- the needs
+
+refusal-requires : tie.Need-refusal-requires
+refusal-requires c κs = few-contracts (c .before .before .before .pre) (c .before .before .before .args .account) (c .before .before .before .args .contract) (c .before .before .before .args .operator)
+
+refused-requires : tie.Need-refused-requires
+refused-requires c κs = search needs
+
+returns : tie.Need-returns
+returns c = pull-refused (c .before .before .before .before .before .before .pre) _ _ _ (c .before .before .refusal .ensures) (c .before .if1 .taken) (c .refused .ensures)
+
+wide-requires : tie.Need-wide-requires
+wide-requires c κs = search needs
+
+sub-c : tie.Need-sub-c
+sub-c c = contract-low (c .before .before .before .before .before .before .pre) _ _ _ (none (c .before)) (c .wide .ensures)
+
+mul-bought : tie.Need-mul-bought
+mul-bought c = search needs
+
+element-copy-out-bought : tie.Need-element-copy-out-bought
+element-copy-out-bought c = place c
+
+mul-sold : tie.Need-mul-sold
+mul-sold c = search needs
+
+element-copy-out-sold : tie.Need-element-copy-out-sold
+element-copy-out-sold c = place (c .before)
+
+sub-pull : tie.Need-sub-pull
+sub-pull c = account-low (c .before .before .before .before .before .before .before .before .before .pre) _ _ _ (none (c .before .before .before .before))
+
+pull-requires : tie.Need-pull-requires
+pull-requires c κs =
+    (side-few (c .before .before .before .before .before .before .before .before .before .pre) _ _ _ (none (c .before .before .before .before)) (c .before .before .before .wide .ensures) false, side-room (c .before .before .before .before .before .before .before .before .before .pre) _ _ _ (none (c .before .before .before .before)) (c .before .before .before .wide .ensures) false)
+
+sub-pull-2 : tie.Need-sub-pull-2
+sub-pull-2 c = account-low (c .before .before .before .before .before .before .before .before .before .before .before .before .before .pre) _ _ _ (none (c .before .before .before .before .before .before .before .before))
+
+pull-requires-2 : tie.Need-pull-requires-2
+pull-requires-2 c κs =
+    (side-few (c .before .before .before .before .before .before .before .before .before .before .before .before .before .pre) _ _ _ (none (c .before .before .before .before .before .before .before .before)) (c .before .before .before .before .before .before .before .wide .ensures) true, side-room (c .before .before .before .before .before .before .before .before .before .before .before .before .before .pre) _ _ _ (none (c .before .before .before .before .before .before .before .before)) (c .before .before .before .before .before .before .before .wide .ensures) true)
+
+add-lots : tie.Need-add-lots
+add-lots c = omega (arith, few c)
+
+cast-lots : tie.Need-cast-lots
+cast-lots c = omega (arith, few c)
+
+with-counts-requires : tie.Need-with-counts-requires
+with-counts-requires c κs = place (c .before .before .before .before .before .before .before .before .before .before .before .before)
+
+accepted-requires : tie.Need-accepted-requires
+accepted-requires c κs = search needs
+
+same-length : tie.Need-same-length
+same-length c = search needs
+
+same-length-2 : tie.Need-same-length-2
+same-length-2 c = search needs
+
+returns-2 : tie.Need-returns-2
+returns-2 c =
+    pull-accepted (c .before .before .before .before .before .before .before .before .before .before .before .before .before .before .before .before .before .before .before .before .pre) _ _ _ (none (c .before .before .before .before .before .before .before .before .before .before .before .before .before .before .before)) (c .before .before .before .before .before .before .before .before .before .before .before .before .before .before .wide .ensures) (c .before .before .before .before .before .before .before .before .before .before .pull .ensures) (c .before .before .before .before .before .before .pull2 .ensures) (c .before .with-counts .ensures) refl
+    (c .accepted .ensures)
+
+pub pull-spec : {M : Type 1} → statement M
+pull-spec =
+    tie.close
+    (tie.spec
+    refusal-requires
+    refused-requires
+    returns
+    wide-requires
+    sub-c
+    mul-bought
+    element-copy-out-bought
+    mul-sold
+    element-copy-out-sold
+    sub-pull
+    pull-requires
+    sub-pull-2
+    pull-requires-2
+    add-lots
+    cast-lots
+    with-counts-requires
+    accepted-requires
+    same-length
+    same-length-2
+    returns-2)

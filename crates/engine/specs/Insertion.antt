@@ -1,0 +1,152 @@
+-- An insert's refusals in the parts in which the code tries them, over plain values; the side of a contract as it lies; and the
+-- state that an entered order leaves. Together with codes 2 and 3 the parts are the rules' list (proofs/Inserting.antt).
+-- Assumes nothing.
+use mathlib.Core.Bool.{Bool, true, not, _&&_}
+use mathlib.Core.List.{List, [], _∷_}
+use mathlib.Core.Path.{_≡_}
+use Prim.Native.Nat.{ℕ, _+_, _*_, _<_, _≤_}
+use lib.Dec.{leb, ltb, eqb}
+use lib.ListN.{length, getD, set}
+use Rattle.laws.specs.Choice.{pick}
+use Rattle.rules.specs.Answers.{Refusal, _when_, holdingRefused, moneyRefused, isFillOrKill, isGoodForDay, isLimit, mark, priceRefused}
+use Rattle.rules.specs.Bounds.{within, maxLots, maxResting, maxTrades, numbersEnd}
+use Rattle.rules.specs.EarlyStop.{countTrades}
+use Rattle.rules.specs.Exchange.{Exchange, bestPrice, noContract, placeOf}
+use Rattle.rules.specs.Matching.{Entered, enter, fillable}
+use Rattle.rules.specs.Memory.{queueIn}
+use Rattle.rules.specs.Step.{limitOf, withLast}
+use Rattle.rules.specs.WellFormed.{sorted}
+use Rattle.rules.specs.declared.Contract.{Contract}
+use Rattle.rules.specs.declared.Holding.{Holding}
+use Rattle.rules.specs.declared.NewOrder.{NewOrder}
+use Rattle.rules.specs.declared.Order.{Order}
+use Rattle.rules.specs.declared.PriceCondition.{PriceCondition}
+use Rattle.rules.specs.declared.State.{State}
+use Rattle.rules.specs.declared.Taker.{Taker}
+use Rattle.rules.specs.declared.TimeCondition.{TimeCondition}
+use Rattle.book.specs.Entry.{EntryReady, EntryIs}
+use Rattle.book.specs.declared.entry.Entry.{Entry}
+
+-- ---- the refusals
+
+-- 6: "market or best with good for day"
+abbrev pub dayWithoutLimit : PriceCondition → TimeCondition → Bool
+dayWithoutLimit condition time = not (isLimit condition) && isGoodForDay time
+
+-- 4 to 7: the contract's phase and terms, and the order's own fields
+unfoldable pub termsRefusals : Contract → NewOrder → List Refusal
+termsRefusals c o =
+    (4 when not (eqb (c .phase) 1))
+    ∷ (5 when not (within 1 maxLots (o .lots)))
+    ∷ (6 when dayWithoutLimit (o .condition) (o .time))
+    ∷ (7 when priceRefused c o)
+    ∷ []
+
+-- 8, with the account's resting lots on the order's own side: opens of an open, closes of a close
+unfoldable pub lotsRefused : Contract → Holding → ℕ → NewOrder → Bool
+lotsRefused c h rested o =
+    pick (o .close)
+    (ltb (pick (o .sell) (h .long) (h .short)) (rested + o .lots))
+    (ltb (c .limit) (pick (o .sell) (h .short) (h .long) + rested + o .lots))
+
+-- 8 and 9: the account's lots and its money
+unfoldable pub accountRefusals : Exchange → NewOrder → List Refusal
+accountRefusals x o = (8 when holdingRefused x o) ∷ (9 when moneyRefused x o) ∷ []
+
+-- 11: "fill or kill: fillable lots below lots"
+abbrev pub killRefused : Taker → List Order → ℕ → TimeCondition → Bool
+killRefused t queue lots time = isFillOrKill time && ltb (fillable t queue) lots
+
+-- 12: "it would make more trades than the day has room for"
+abbrev pub tradesRefused : ℕ → Taker → List Order → ℕ → Bool
+tradesRefused recorded t queue lots = ltb maxTrades (recorded + countTrades t lots queue)
+
+-- 13: "good for day, own side has 64, fillable lots below lots"
+abbrev pub fullRefused : ℕ → Taker → List Order → ℕ → TimeCondition → Bool
+fullRefused own t queue lots time = isGoodForDay time && leb maxResting own && ltb (fillable t queue) lots
+
+-- 10 to 13: the next number, the trades recorded, the orders on the own side, the order as it meets the opposite queue
+unfoldable pub bookRefusals : ℕ → ℕ → ℕ → Taker → List Order → NewOrder → List Refusal
+bookRefusals next recorded own t queue o =
+    (10 when leb numbersEnd next)
+    ∷ (11 when killRefused t queue (o .lots) (o .time))
+    ∷ (12 when tradesRefused recorded t queue (o .lots))
+    ∷ (13 when fullRefused own t queue (o .lots) (o .time))
+    ∷ []
+
+-- ---- one side of a contract, as it lies
+
+abbrev pub sideArea : Bool → List ℕ → List ℕ → List ℕ
+sideArea sell buys sells = pick sell sells buys
+
+abbrev pub sideCount : Bool → State → ℕ → ℕ
+sideCount sell s c = getD (pick sell (s .sells) (s .buys)) c 0
+
+-- a queue of at most 64 orders, with room in its area
+pub record QueueRoom (area : List ℕ) (c count : ℕ) : Type 0 where
+  pub few : count ≤ 64
+  pub room : 320 * c + 5 * count ≤ length area
+
+-- an arriving order and the opposite queue, best price first
+pub record Facing (t : Taker) (area : List ℕ) (c count : ℕ) : Type 0 where
+  pub queue : QueueRoom area c count
+  pub order : sorted (not (t .sell)) (queueIn area c count) ≡ true
+  pub best : t .best ≡ bestPrice (queueIn area c count)
+
+-- an order whose account and contract are in use
+pub record Present (s : State) (o : NewOrder) : Type 0 where
+  pub account-low : 1 ≤ o .account
+  pub account : placeOf (o .account) < s .accountcount
+  pub contract-low : 1 ≤ o .contract
+  pub contract : placeOf (o .contract) < s .contractcount
+
+-- ---- the order entered
+
+-- the order with the number it gets, against the opposite queue
+abbrev pub takerFor : ℕ → List Order → NewOrder → Taker
+takerFor next queue o =
+    record {
+      account = placeOf (o .account);
+      contract = placeOf (o .contract);
+      sell = o .sell;
+      close = mark (o .close);
+      number = next;
+      condition = o .condition;
+      best = bestPrice queue;
+    }
+
+-- its contract's last price
+abbrev pub lastIn : State → NewOrder → ℕ
+lastIn s o = getD (s .contracts) (placeOf (o .contract)) noContract .last
+
+-- ready to be entered on a side that lies in `owns`, against one that lies in `opposites`
+pub record Arriving (s : State) (owns : List ℕ) (own : ℕ) (opposites : List ℕ) (opposite : ℕ) (area : List ℕ) (o : NewOrder) : Type 0 where
+  pub account-low : 1 ≤ o .account
+  pub contract-low : 1 ≤ o .contract
+  pub queue : QueueRoom opposites (placeOf (o .contract)) opposite
+  pub ready : EntryReady (takerFor (s .next) (queueIn opposites (placeOf (o .contract)) opposite) o) (o .lots) (limitOf (o .condition)) (isGoodForDay (o .time)) (lastIn s o) (s .accounts) owns own opposites opposite area (s .tradecount)
+
+-- what it trades and leaves
+abbrev pub enteredFor : State → List Order → List Order → NewOrder → Entered
+enteredFor s own opposite o =
+    enter (takerFor (s .next) opposite o) (o .lots) (limitOf (o .condition)) (isGoodForDay (o .time)) (lastIn s o) own opposite
+
+pub record Arrived (s : State) (owns : List ℕ) (own : ℕ) (opposites : List ℕ) (opposite : ℕ) (area : List ℕ) (o : NewOrder) (r : Entry) (owns′ opposites′ area′ : List ℕ) : Type 0 where
+  pub entry : EntryIs (enteredFor s (queueIn owns (placeOf (o .contract)) own) (queueIn opposites (placeOf (o .contract)) opposite) o) (placeOf (o .contract)) owns own opposites opposite area (s .tradecount) (lastIn s o) (s .accounts) r owns′ opposites′ area′
+
+-- ---- the state after it
+
+-- the contract's last price and its counts of orders, the accounts, the trades, and one number more
+abbrev pub withEntry : State → ℕ → ℕ → ℕ → Entry → State
+withEntry s c bought sold e =
+    record {
+      contracts = set (s .contracts) c (withLast (getD (s .contracts) c noContract) (e .last));
+      accounts = e .accounts;
+      buys = set (s .buys) c bought;
+      sells = set (s .sells) c sold;
+      contractcount = s .contractcount;
+      accountcount = s .accountcount;
+      tradecount = e .made;
+      next = s .next + 1;
+      settlements = s .settlements;
+    }

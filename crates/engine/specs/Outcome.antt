@@ -1,0 +1,93 @@
+-- What a kind asks for, and what it gives and leaves, against the rules' response. Assumes nothing.
+use mathlib.Core.Bool.{Bool, true, _||_}
+use mathlib.Core.List.{List}
+use mathlib.Core.Path.{_≡_}
+use Prim.Native.Nat.{ℕ}
+use lib.Dec.{eqb, ltb}
+use lib.IntN.{ℤ}
+use lib.ListN.{getD, set}
+use Rattle.rules.specs.Exchange.{noAccount, noContract}
+use Rattle.rules.specs.Step.{answerOf, withBalance, withPhase}
+use Rattle.rules.specs.Memory.{Declared, Memory, Responded, wellFormedMemory}
+use Rattle.rules.specs.declared.Account.{Account}
+use Rattle.rules.specs.declared.Contract.{Contract}
+use Rattle.rules.specs.declared.State.{State}
+use Rattle.engine.specs.declared.answers.Outcome.{Outcome}
+
+-- a state with the areas lent with it
+abbrev pub memory : State → List ℕ → List ℕ → List ℕ → Memory
+memory state buys sells trades = record { state = state; buys = buys; sells = sells; trades = trades }
+
+-- a state whose arrays have the places of their types, well formed with its areas
+pub record WellFormedState (state : State) (buys sells trades : List ℕ) : Type 0 where
+  pub declared : Declared state
+  pub formed : wellFormedMemory (memory state buys sells trades) ≡ true
+
+-- the answer, the state, and the full content of the three areas
+pub record OutcomeIs (response : Responded) (r : Outcome) (buys sells trades : List ℕ) : Type 0 where
+  pub answer : r .answer ≡ response .answer
+  pub memory : memory (r .state) buys sells trades ≡ response .memory
+
+-- a number that no place below a count has
+abbrev pub isAbsent : ℕ → ℕ → Bool
+isAbsent number count = eqb number 0 || ltb count number
+
+-- ---- an outcome as the code makes it
+
+abbrev pub refusedWith : State → ℕ → Outcome
+refusedWith state code = record { answer = answerOf code 0 0 0; state = state }
+
+abbrev pub acceptedWith : State → ℕ → ℕ → ℕ → Outcome
+acceptedWith state number traded lots = record { answer = answerOf 0 number traded lots; state = state }
+
+-- ---- states with a part replaced
+
+abbrev pub withContractsIn : State → List Contract → State
+withContractsIn s contracts =
+    record {
+      contracts = contracts;
+      accounts = s .accounts;
+      buys = s .buys;
+      sells = s .sells;
+      contractcount = s .contractcount;
+      accountcount = s .accountcount;
+      tradecount = s .tradecount;
+      next = s .next;
+      settlements = s .settlements;
+    }
+
+abbrev pub withAccountsIn : State → List Account → State
+withAccountsIn s accounts =
+    record {
+      contracts = s .contracts;
+      accounts = accounts;
+      buys = s .buys;
+      sells = s .sells;
+      contractcount = s .contractcount;
+      accountcount = s .accountcount;
+      tradecount = s .tradecount;
+      next = s .next;
+      settlements = s .settlements;
+    }
+
+-- other counts of resting orders
+abbrev pub withCountsIn : State → List ℕ → List ℕ → State
+withCountsIn s buys sells =
+    record {
+      contracts = s .contracts;
+      accounts = s .accounts;
+      buys = buys;
+      sells = sells;
+      contractcount = s .contractcount;
+      accountcount = s .accountcount;
+      tradecount = s .tradecount;
+      next = s .next;
+      settlements = s .settlements;
+    }
+
+-- another balance at one account's place, another phase at one contract's
+abbrev pub withBalanceAt : State → ℕ → ℤ → State
+withBalanceAt s a balance = withAccountsIn s (set (s .accounts) a (withBalance (getD (s .accounts) a noAccount) balance))
+
+abbrev pub withPhaseAt : State → ℕ → ℕ → State
+withPhaseAt s c phase = withContractsIn s (set (s .contracts) c (withPhase (getD (s .contracts) c noContract) phase))

@@ -1,0 +1,50 @@
+// Answers, and the tests that several kinds share.
+ghost use mathlib.Core.Path.{_≡_};
+ghost use Rattle.engine.specs.Outcome.{refusedWith, acceptedWith, isAbsent};
+use rules::Answer;
+use rules::State;
+
+// An answer and the state after it.
+pub struct Outcome {
+    pub answer: Answer,
+    pub state: State,
+}
+
+// "a refusal gives three zeros and changes nothing"
+pub fn refused(state: State, code: u32) -> Outcome
+    ensures { λ r. ⌜ r ≡ refusedWith state code ⌝ }
+{
+    Outcome {
+        answer: Answer {
+            code,
+            number: 0,
+            traded: 0,
+            lots: 0,
+        },
+        state,
+    }
+}
+
+pub fn accepted(state: State, number: u32, traded: u32, lots: u32) -> Outcome
+    ensures { λ r. ⌜ r ≡ acceptedWith state number traded lots ⌝ }
+{
+    Outcome {
+        answer: Answer {
+            code: 0,
+            number,
+            traded,
+            lots,
+        },
+        state,
+    }
+}
+
+// A number that no place has: 0, or above the count.
+pub fn is_absent(number: u32, count: usize) -> bool
+    ensures { λ r. ⌜ r ≡ isAbsent number count ⌝ }
+{
+    if number == 0 {
+        return true;
+    }
+    count < laws::wide(number)
+}

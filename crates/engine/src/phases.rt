@@ -1,0 +1,61 @@
+// Changes of a contract's state. For our own crates: it asks for a well-formed state.
+ghost use mathlib.Core.Path.{_≡_};
+ghost use Prim.Native.Nat.{_<_};
+ghost use Rattle.rules.specs.Answers.{changeListed};
+ghost use Rattle.rules.specs.Memory.{stepIn};
+ghost use Rattle.rules.specs.declared.Command.the-variants.{Phase};
+ghost use Rattle.engine.specs.Outcome.{memory, OutcomeIs, WellFormedState, withPhaseAt};
+use crate::answers;
+use crate::answers::Outcome;
+use rules::State;
+
+// 0 to 1, 0 to 3, 1 to 2, 2 to 1, 1 to 3, 2 to 3.
+fn is_listed(from: u32, to: u32) -> bool
+    ensures { λ r. ⌜ r ≡ changeListed from to ⌝ }
+{
+    if from == 0 {
+        return to == 1 || to == 3;
+    }
+    if from == 1 {
+        return to == 2 || to == 3;
+    }
+    if from == 2 {
+        return to == 1 || to == 3;
+    }
+    false
+}
+
+// The state with another phase at one contract's place.
+fn with_phase(state: State, place: usize, phase: u32) -> State
+    requires { ⌜ place < 4 ⌝ }
+    ensures { λ r. ⌜ r ≡ withPhaseAt state place phase ⌝ }
+{
+    let mut next = state;
+    let mut contract = next.contracts[place];
+    contract.phase = phase;
+    next.contracts[place] = contract;
+    next
+}
+
+pub fn change(
+    state: State,
+    buys: &[u32],
+    sells: &[u32],
+    trades: &[u32],
+    contract: u32,
+    phase: u32,
+) -> Outcome
+    requires { ⌜ WellFormedState state (now buys) (now sells) (now trades) ⌝ }
+    ensures { λ r. ⌜ OutcomeIs (stepIn (memory state (now (buys .entry)) (now (sells .entry)) (now (trades .entry))) (Phase contract phase)) r (now (buys .entry)) (now (sells .entry)) (now (trades .entry)) ⌝ }
+{
+    if answers::is_absent(contract, state.contractcount) {
+        return answers::refused(state, 3);
+    }
+    let place = laws::wide(contract) - 1;
+    let terms = state.contracts[place];
+    let from = terms.phase;
+    if !is_listed(from, phase) {
+        return answers::refused(state, 17);
+    }
+    answers::accepted(with_phase(state, place, phase), 0, 0, 0)
+}

@@ -1,0 +1,159 @@
+// Cancel and pull. For our own crates: each asks for a well-formed state.
+ghost use mathlib.Core.Bool.{true};
+ghost use mathlib.Core.Path.{_≡_};
+ghost use Prim.Native.Nat.{_+_, _*_, _<_, _≤_};
+ghost use lib.ListN.{length, set};
+ghost use Rattle.rules.specs.Answers.{removalRefused};
+ghost use Rattle.rules.specs.Memory.{queueIn, stepIn};
+ghost use Rattle.rules.specs.WellFormed.{numbers, usedOnce};
+ghost use Rattle.rules.specs.declared.Command.the-variants.{Cancel, Pull};
+ghost use Rattle.engine.specs.Outcome.{memory, OutcomeIs, WellFormedState, withCountsIn};
+ghost use Rattle.engine.specs.Removal.{removalCode, CancelledIs};
+use crate::answers;
+use crate::answers::Outcome;
+use rules::Contract;
+use rules::State;
+
+// "Cancel and pull need continuous, or no trading with the operator bit."
+fn is_refused(terms: Contract, operator: bool) -> bool
+    ensures { λ r. ⌜ r ≡ removalRefused terms operator ⌝ }
+{
+    let phase = terms.phase;
+    if phase == 1 {
+        return false;
+    }
+    if phase == 2 {
+        return !operator;
+    }
+    true
+}
+
+// The tests that cancel and pull share: 2, 3 or 4, and 0 where none refuses. Requires at most 4 contracts.
+fn refusal(state: State, account: u32, contract: u32, operator: bool) -> u32
+    requires { ⌜ state .contractcount ≤ 4 ⌝ }
+    ensures { λ r. ⌜ r ≡ removalCode state account contract operator ⌝ }
+{
+    if answers::is_absent(account, state.accountcount) {
+        return 2;
+    }
+    if answers::is_absent(contract, state.contractcount) {
+        return 3;
+    }
+    let place = laws::wide(contract) - 1;
+    let terms = state.contracts[place];
+    if is_refused(terms, operator) {
+        return 4;
+    }
+    0
+}
+
+// The state with other counts of resting orders at one contract's place.
+fn with_counts(state: State, c: usize, bought: usize, sold: usize) -> State
+    requires { ⌜ c < 4 ⌝ }
+    ensures { λ r. ⌜ r ≡ withCountsIn state (set (state .buys) c bought) (set (state .sells) c sold) ⌝ }
+{
+    let mut next = state;
+    next.buys[c] = bought;
+    next.sells[c] = sold;
+    next
+}
+
+// A cancel in one queue: 0 or the code that refuses it, the orders that stay, the lots taken out.
+struct Cancelled {
+    code: u32,
+    count: usize,
+    lots: u32,
+}
+
+// Takes the account's order with a number out of one queue, whose numbers are used once.
+fn cancel_in(area: &mut [u32], c: usize, count: usize, account: u32, number: u32) -> Cancelled
+    requires { ⌜ (320 * c + 5 * count ≤ length (now area)) × (usedOnce (numbers (queueIn (now area) c count)) ≡ true) ⌝ }
+    ensures { λ r. ⌜ CancelledIs account number (now (area .entry)) c count r (now (area .exit)) ⌝ }
+{
+    let i = book::removal::find(&area[..], c, count, number);
+    if i == count {
+        return Cancelled {
+            code: 14,
+            count,
+            lots: 0,
+        };
+    }
+    let o = book::queue::order_at(&area[..], c, i);
+    if o.account != account {
+        return Cancelled {
+            code: 15,
+            count,
+            lots: 0,
+        };
+    }
+    book::queue::remove(area, c, count, i);
+    Cancelled {
+        code: 0,
+        count: count - 1,
+        lots: o.lots,
+    }
+}
+
+pub fn cancel(
+    state: State,
+    buys: &mut [u32],
+    sells: &mut [u32],
+    trades: &[u32],
+    account: u32,
+    contract: u32,
+    operator: bool,
+    number: u32,
+) -> Outcome
+    requires { ⌜ WellFormedState state (now buys) (now sells) (now trades) ⌝ }
+    ensures { λ r. ⌜ OutcomeIs (stepIn (memory state (now (buys .entry)) (now (sells .entry)) (now (trades .entry))) (Cancel account contract operator number)) r (now (buys .exit)) (now (sells .exit)) (now (trades .entry)) ⌝ }
+{
+    let code = refusal(state, account, contract, operator);
+    if code != 0 {
+        return answers::refused(state, code);
+    }
+    let c = laws::wide(contract) - 1;
+    let bought = state.buys[c];
+    let sold = state.sells[c];
+    let bid = cancel_in(buys, c, bought, account - 1, number);
+    if bid.code == 0 {
+        return answers::accepted(with_counts(state, c, bid.count, sold), number, 0, bid.lots);
+    }
+    if bid.code == 15 {
+        return answers::refused(state, 15);
+    }
+    let offer = cancel_in(sells, c, sold, account - 1, number);
+    if offer.code != 0 {
+        return answers::refused(state, offer.code);
+    }
+    answers::accepted(
+        with_counts(state, c, bought, offer.count),
+        number,
+        0,
+        offer.lots,
+    )
+}
+
+pub fn pull(
+    state: State,
+    buys: &mut [u32],
+    sells: &mut [u32],
+    trades: &[u32],
+    account: u32,
+    contract: u32,
+    operator: bool,
+) -> Outcome
+    requires { ⌜ WellFormedState state (now buys) (now sells) (now trades) ⌝ }
+    ensures { λ r. ⌜ OutcomeIs (stepIn (memory state (now (buys .entry)) (now (sells .entry)) (now (trades .entry))) (Pull account contract operator)) r (now (buys .exit)) (now (sells .exit)) (now (trades .entry)) ⌝ }
+{
+    let code = refusal(state, account, contract, operator);
+    if code != 0 {
+        return answers::refused(state, code);
+    }
+    let c = laws::wide(contract) - 1;
+    let bought = state.buys[c];
+    let sold = state.sells[c];
+    let bid = book::removal::pull(buys, c, bought, account - 1);
+    let offer = book::removal::pull(sells, c, sold, account - 1);
+    let lots = (bid.lots + offer.lots) as u32;
+    answers::accepted(with_counts(state, c, bid.count, offer.count), 0, 0, lots)
+}

@@ -1,0 +1,116 @@
+-- Holdings that become start-of-day ones, and a balance that takes the day's profit. Assumes nothing.
+use mathlib.Core.List.{List, map}
+use mathlib.Core.Path.{_≡_, refl, sym, ap, _∙_}
+use Prim.Native.Nat.{ℕ, _+_, _*_, _^_, _<_, _≤_}
+use native.Mathlib.Omega.{arith}
+use lib.IntN.{ℤ, pos, _+ℤ_}
+use lib.ListN.{length, getD, set, take, replicate}
+use mir.Syntax.{w64}
+use mir.Val.{SFits, toZ, ofZ}
+use mir.Facts.{toZ-ofZ}
+use Rattle.laws.specs.Bound.{Within, within-add}
+use Rattle.laws.proofs.Signed.{back, sum-fits, add-back}
+use Rattle.rules.specs.Exchange.{noHolding}
+use Rattle.rules.specs.Memory.{putAccount, putFirst}
+use Rattle.rules.specs.Settlement.{carriedHolding}
+use Rattle.rules.specs.declared.Account.{Account}
+use Rattle.rules.specs.declared.Holding.{Holding}
+use Rattle.rules.specs.declared.State.{State}
+use Rattle.settlement.specs.Settling.{accountIn, closingTo, holdingTo, carriedAccount, paidAccount, AllPayable, BooksIs, TotalIs}
+use Rattle.settlement.specs.declared.balances.Books.{Books}
+use Rattle.settlement.specs.declared.profit.Profit.{Profit}
+use Rattle.settlement.proofs.Places.{Writing, written, writing-none, writing-more, writing-done, written-mapped, written-accounts, written-padded}
+
+-- ---- the loop over an account's holdings: those in the first c contracts are carried over
+
+abbrev carriedAt : List Holding → ℕ → Holding
+carriedAt hs i = carriedHolding (getD hs i noHolding)
+
+pub record Carrying (account : Account) (contracts c : ℕ) (next : Account) : Type 0 where
+  pub balance : next .balance ≡ account .balance
+  pub holdings : Writing (λ i. carriedHolding (getD (account .holdings) i noHolding)) (account .holdings) contracts c (next .holdings)
+
+pub carrying-none : (account : Account) (contracts : ℕ) → Carrying account contracts 0 account
+carrying-none account contracts = record { balance = refl; holdings = writing-none _ _ _ }
+
+module _ (account : Account) (contracts : ℕ) (room : contracts ≤ length (account .holdings)) (c : ℕ) (next : Account) (w : Carrying account contracts c next) where
+  pub carrying-more : c < contracts → (h : Holding) → h ≡ carriedHolding (getD (account .holdings) c noHolding)
+      → Carrying account contracts (c + 1) (record { balance = next .balance; holdings = set (next .holdings) c h })
+  carrying-more l h e =
+      record { balance = w .balance; holdings = writing-more (carriedAt (account .holdings)) (account .holdings) contracts room c h (next .holdings) l e (w .holdings) }
+
+  pub carrying-done : contracts ≤ c → next ≡ putAccount (carriedAccount account contracts (account .balance)) account
+  carrying-done l =
+      let e : next .holdings ≡ putFirst (map carriedHolding (take contracts (account .holdings))) (account .holdings) =
+      writing-done (carriedAt (account .holdings)) (account .holdings) contracts c (next .holdings) l (w .holdings)
+      ∙ sym (written-mapped carriedHolding (account .holdings) contracts noHolding room) in
+      let b = w .balance in
+      λ i. record { balance = b i; holdings = e i }
+
+-- another balance, as the code reads it from its bits
+pub carried-paid : (account next : Account) (contracts : ℕ) (b x y : ℤ) → Within (2 * 10 ^ 18) (account .balance) → Within 16_000_000_000_000_000 x
+    → Within 16_000_000_000_000_000 y → SFits w64 b → b ≡ toZ w64 (ofZ w64 (account .balance)) +ℤ (toZ w64 (ofZ w64 x) +ℤ toZ w64 (ofZ w64 y))
+    → next ≡ putAccount (carriedAccount account contracts (account .balance)) account
+    → record { balance = toZ w64 (ofZ w64 b); holdings = next .holdings } ≡ putAccount (carriedAccount account contracts (account .balance +ℤ (x +ℤ y))) account
+carried-paid account next contracts b x y h hx hy f e n =
+    let u : toZ w64 (ofZ w64 x) ≡ x = back 16_000_000_000_000_000 (omega arith) hx in
+    let v : toZ w64 (ofZ w64 y) ≡ y = back 16_000_000_000_000_000 (omega arith) hy in
+    let p : toZ w64 (ofZ w64 b) ≡ account .balance +ℤ (x +ℤ y) = toZ-ofZ {w = w64} f ∙ e ∙ rw (back (2 * 10 ^ 18) (omega arith) h, u, v) in
+    let q : next .holdings ≡ putFirst (map carriedHolding (take contracts (account .holdings))) (account .holdings) = ap (λ (v : Account). v .holdings) n in
+    λ i. record { balance = p i; holdings = q i }
+
+-- ---- the balance
+
+module _ (b x y : ℤ) (hb : Within (2 * 10 ^ 18) b) (hx : Within 16_000_000_000_000_000 x) (hy : Within 16_000_000_000_000_000 y) where
+  both : toZ w64 (ofZ w64 (toZ w64 (ofZ w64 x) +ℤ toZ w64 (ofZ w64 y))) ≡ x +ℤ y
+  both = add-back hx hy (omega arith)
+
+  pub balance-fits : SFits w64 (toZ w64 (ofZ w64 b) +ℤ toZ w64 (ofZ w64 (toZ w64 (ofZ w64 x) +ℤ toZ w64 (ofZ w64 y))))
+  balance-fits = rw (both, back (2 * 10 ^ 18) (omega arith) hb) (sum-fits hb (within-add hx hy) (omega arith))
+
+  pub balance-back : toZ w64 (ofZ w64 (toZ w64 (ofZ w64 b) +ℤ toZ w64 (ofZ w64 (toZ w64 (ofZ w64 x) +ℤ toZ w64 (ofZ w64 y))))) ≡ b +ℤ (x +ℤ y)
+  balance-back = rw (both, back (2 * 10 ^ 18) (omega arith) hb) (toZ-ofZ {w = w64} (sum-fits hb (within-add hx hy) (omega arith)))
+
+-- ---- the loop over the accounts
+
+pub record Paying (s : State) (trades prices : List ℕ) (accounts : List Account) (closing holding : List ℤ) (a : ℕ) : Type 0 where
+  pub paid : Writing (λ i. putAccount (paidAccount s trades prices i) (accountIn s i)) (s .accounts) (s .accountcount) a accounts
+  pub closed : Writing (λ i. closingTo s trades i (s .contractcount)) (replicate 32 (pos 0)) (s .accountcount) a closing
+  pub held : Writing (λ i. holdingTo s trades prices i (s .contractcount)) (replicate 32 (pos 0)) (s .accountcount) a holding
+
+pub paying-none : (s : State) (trades prices : List ℕ) → Paying s trades prices (s .accounts) (replicate 32 (pos 0)) (replicate 32 (pos 0)) 0
+paying-none s trades prices = record { paid = writing-none _ _ _; closed = writing-none _ _ _; held = writing-none _ _ _ }
+
+module _ (s : State) (trades prices : List ℕ) (g : AllPayable s trades prices) (accounts : List Account) (closing holding : List ℤ) (a : ℕ)
+    (w : Paying s trades prices accounts closing holding a) where
+  -- what the code reads of the profit it got
+  module _ (p : Profit) (t : TotalIs s trades prices a p) where
+    pub closing-read : toZ w64 (ofZ w64 (p .closing)) ≡ closingTo s trades a (s .contractcount)
+    closing-read = back 16_000_000_000_000_000 (omega arith) (t .closing-small) ∙ t .closing
+
+    pub holding-read : toZ w64 (ofZ w64 (p .holding)) ≡ holdingTo s trades prices a (s .contractcount)
+    holding-read = back 16_000_000_000_000_000 (omega arith) (t .holding-small) ∙ t .holding
+
+    pub closing-reach : Within 16_000_000_000_000_000 (toZ w64 (ofZ w64 (p .closing)))
+    closing-reach = rw (back 16_000_000_000_000_000 (omega arith) (t .closing-small)) (t .closing-small)
+
+    pub holding-reach : Within 16_000_000_000_000_000 (toZ w64 (ofZ w64 (p .holding)))
+    holding-reach = rw (back 16_000_000_000_000_000 (omega arith) (t .holding-small)) (t .holding-small)
+
+    pub paying-more : a < s .accountcount → (r : Account)
+        → r ≡ putAccount (carriedAccount (accountIn s a) (s .contractcount) (accountIn s a .balance +ℤ (toZ w64 (ofZ w64 (p .closing)) +ℤ toZ w64 (ofZ w64 (p .holding))))) (accountIn s a)
+        → Paying s trades prices (set accounts a r) (set closing a (toZ w64 (ofZ w64 (p .closing)))) (set holding a (toZ w64 (ofZ w64 (p .holding)))) (a + 1)
+    paying-more l r e =
+        record {
+          paid = writing-more _ _ _ (omega (arith, g .accounts, g .declared .accounts)) a r accounts l (e ∙ rw (closing-read, holding-read)) (w .paid);
+          closed = writing-more _ _ _ (g .accounts) a _ closing l closing-read (w .closed);
+          held = writing-more _ _ _ (g .accounts) a _ holding l holding-read (w .held);
+        }
+
+  pub paying-done : s .accountcount ≤ a → BooksIs s trades prices (record { accounts = accounts; closing = closing; holding = holding })
+  paying-done l =
+      record {
+        accounts = writing-done _ _ _ a accounts l (w .paid) ∙ sym (written-accounts (paidAccount s trades prices) (s .accounts) (s .accountcount) (omega (arith, g .accounts, g .declared .accounts)));
+        closing = writing-done _ _ _ a closing l (w .closed) ∙ written-padded _ _ 32 (pos 0);
+        holding = writing-done _ _ _ a holding l (w .held) ∙ written-padded _ _ 32 (pos 0);
+      }

@@ -1,0 +1,172 @@
+-- What a well-formed memory says that margin and settlement ask for: terms, trades, holdings and balances in range, room, and
+-- closes that find their lots. Assumes nothing.
+use mathlib.Core.Bool.{Bool, true, false}
+use mathlib.Core.List.{List, [], _∷_}
+use mathlib.Core.Path.{_≡_, refl, sym, ap, subst, _∙_}
+use Prim.Native.Nat.{ℕ, _+_, _*_, _^_, _<_, _≤_}
+use native.Mathlib.Nat.{le-trans, le-of-eq}
+use native.Mathlib.Omega.{arith}
+use borrow.Author.Tests.{leb-true}
+use lib.Dec.{leb}
+use lib.IntN.{natAbs}
+use lib.ListN.{length, getD}
+use Rattle.laws.specs.Bound.{Within, within-abs, within-le}
+use Rattle.laws.specs.Choice.{allOf, both-true}
+use Rattle.rules.specs.Bounds.{tickMultiple, termsInRange, maxPrice}
+use Rattle.rules.specs.Exchange.{Exchange, Listing, noAccount, noContract, noHolding, listingAt, accountAt, holdingAt, restingOpens}
+use Rattle.rules.specs.Memory.{Memory, Declared, exchangeOf, listingIn, inUse, queueIn, recordedTrades, wellFormedMemory}
+use Rattle.rules.specs.Settlement.{Day, dayStart, legs, settlementPrice}
+use Rattle.rules.specs.WellFormed.{contractInRange, tradeInRange, wellFormedContents}
+use Rattle.rules.specs.declared.Account.{Account}
+use Rattle.rules.specs.declared.Contract.{Contract}
+use Rattle.rules.specs.declared.Holding.{Holding}
+use Rattle.rules.specs.declared.State.{State}
+use Rattle.rules.specs.declared.Trade.{Trade}
+use Rattle.accounting.specs.Article32.{AllCovered}
+use Rattle.accounting.proofs.Facts.{passed, trade-facts}
+use Rattle.accounting.proofs.PriceBound.{settlement-price-bound}
+use Rattle.accounting.proofs.Replay.{replay-covered}
+use Rattle.invariants.proofs.Clauses.{HoldingOk, WellFormed, well-formed}
+use Rattle.invariants.proofs.MemoryRoom.{CountsOk, RoomOk, MemoryOk, memory-ok}
+use Rattle.invariants.proofs.Ticks as ticks
+use Rattle.settlement.specs.Charge.{memoryOf, ChargeTerms, ChargeableIn, Chargeable}
+use Rattle.settlement.specs.Day.{Sized, AllSized, SizedTrades, Quotes, Priceable}
+use Rattle.settlement.specs.Settling.{contractIn, accountIn, holdingIn}
+use Rattle.settlement.specs.Sides.{Profitable}
+use Rattle.settlement.proofs.InUse.{contracts-in-use, accounts-in-use, listing-in-use, account-in-use, holding-in-use}
+
+-- the arrays have room for the accounts in use
+pub accounts-declared : (m : Memory) → Declared (m .state) → wellFormedMemory m ≡ true → m .state .accountcount ≤ length (m .state .accounts)
+accounts-declared m d w = omega (arith, d .accounts, memory-ok m w .counts .accounts-high)
+
+-- ---- a contract
+
+pub record ContractFacts (c : Contract) : Type 0 where
+  pub tick : 0 < c .tick
+  pub multiplier : c .multiplier ≤ 1_000
+  pub reference : c .reference ≤ 1_000_000
+  pub limit : c .limit ≤ 100_000
+  pub rate : c .rate ≤ 10_000
+
+contract-facts : (c : Contract) → contractInRange c ≡ true → ContractFacts c
+unfolding contractInRange
+contract-facts c e =
+    let t = ticks.terms c (passed (termsInRange c) (leb (c .phase) 3 ∷ tickMultiple (c .tick) (c .last) ∷ []) e .0) in
+    record {
+      tick = t .tick-low;
+      multiplier = t .multiplier-high;
+      reference = ticks.multiple (c .tick) (c .reference) (t .reference) .high;
+      limit = leb-true (c .limit) 100_000 (both-true (leb 1 (c .limit)) (leb (c .limit) 100_000) (t .limit) .1);
+      rate = leb-true (c .rate) 10_000 (both-true (leb 1 (c .rate)) (leb (c .rate) 10_000) (t .rate) .1);
+    }
+
+-- ---- the day's trades
+
+all-sized : (x : Exchange) (ts : List Trade) → allOf (tradeInRange x) ts ≡ true → AllSized ts
+unfolding allOf AllSized
+all-sized x [] h = tt
+all-sized x (t ∷ ts) h =
+    let b = both-true (tradeInRange x t) (allOf (tradeInRange x) ts) h in
+    let f = trade-facts x t (b .0) in
+    (record { price = f .price; some = f .lots-low; lots = f .lots-high }, all-sized x ts (b .1))
+
+-- ---- the memory
+
+module _ (m : Memory) (room : m .state .accountcount ≤ length (m .state .accounts)) (w : wellFormedMemory m ≡ true) where
+  abbrev s : State
+  s = m .state
+
+  its : MemoryOk m
+  its = memory-ok m w
+
+  contents : WellFormed (exchangeOf m)
+  contents = well-formed (exchangeOf m) (its .contents)
+
+  pub contracts-four : s .contractcount ≤ 4
+  contracts-four = its .counts .contracts-high
+
+  pub accounts-few : s .accountcount ≤ 32
+  accounts-few = its .counts .accounts-high
+
+  pub accounts-counted : length (exchangeOf m .accounts) ≡ s .accountcount
+  accounts-counted = accounts-in-use m room
+
+  module _ (c : ℕ) (lc : c < s .contractcount) where
+    listed : c < length (exchangeOf m .listings)
+    listed = rw (contracts-in-use m) lc
+
+    pub contract-at : ContractFacts (contractIn s c)
+    unfolding listingIn
+    contract-at = contract-facts (contractIn s c) (rw (listing-in-use m c lc) at (contents .listing c listed .contract))
+
+    pub charge-terms : ChargeTerms (contractIn s c)
+    charge-terms = record { multiplier = contract-at .multiplier; reference = contract-at .reference; rate = contract-at .rate }
+
+    pub quotes : Quotes (m .buys) (getD (s .buys) c 0) (m .sells) (getD (s .sells) c 0) c
+    quotes =
+        record {
+          buyroom = omega (arith, its .counts .buys c lc, its .room .buys);
+          sellroom = omega (arith, its .counts .sells c lc, its .room .sells);
+        }
+
+    pub price-high : settlementPrice (exchangeOf m) c ≤ 1_000_000
+    price-high = settlement-price-bound (exchangeOf m) (its .contents) c listed
+
+    module _ (a : ℕ) (la : a < s .accountcount) where
+      known : a < length (exchangeOf m .accounts)
+      known = rw accounts-counted la
+
+      its-holding : HoldingOk (listingIn m c) a (holdingIn s a c)
+      its-holding = rw (listing-in-use m c lc, holding-in-use m a c la lc) at (contents .holding a c known listed)
+
+      pub holding-starts : (holdingIn s a c .startlong ≤ 100_000) × (holdingIn s a c .startshort ≤ 100_000)
+      unfolding listingIn
+      holding-starts = (omega (arith, its-holding .startlong, contract-at .limit), omega (arith, its-holding .startshort, contract-at .limit))
+
+      pub chargeable-in : ChargeableIn (contractIn s c) (m .buys) (getD (s .buys) c 0) (m .sells) (getD (s .sells) c 0) c a (holdingIn s a c)
+      unfolding listingIn
+      chargeable-in =
+          record {
+            terms = charge-terms;
+            bids = its .counts .buys c lc;
+            offers = its .counts .sells c lc;
+            buyroom = quotes .buyroom;
+            sellroom = quotes .sellroom;
+            long = le-trans (its-holding .opens false) (contract-at .limit);
+            short = le-trans (its-holding .opens true) (contract-at .limit);
+          }
+
+      pub legs-covered : AllCovered (dayStart (contractIn s c .reference) (holdingIn s a c .startlong) (holdingIn s a c .startshort)) (legs a c (recordedTrades (m .trades) (s .tradecount)))
+      unfolding exchangeOf
+      legs-covered =
+          subst (λ (h : Holding). AllCovered (dayStart (contractIn s c .reference) (h .startlong) (h .startshort)) (legs a c (recordedTrades (m .trades) (s .tradecount))))
+          (holding-in-use m a c la lc)
+          (replay-covered a c (exchangeOf m .accounts) (exchangeOf m .trades) (contractIn s c .reference) (contents .covered))
+
+  -- an account's margin
+  pub chargeable : (a : ℕ) → a < s .accountcount → Chargeable s (m .buys) (m .sells) a
+  chargeable a la = record { account = la; accounts = accounts-few; contracts = contracts-four; each = λ c lc. chargeable-in c lc a la }
+
+  pub sized-trades : SizedTrades (m .trades) (s .tradecount)
+  unfolding exchangeOf
+  sized-trades =
+      record {
+        few = its .counts .trades;
+        room = omega (arith, its .room .trades, its .counts .trades);
+        sized = all-sized (exchangeOf m) (exchangeOf m .trades) (contents .trades);
+      }
+
+  pub priceable : (c : ℕ) → c < s .contractcount
+      → Priceable (contractIn s c) (m .buys) (getD (s .buys) c 0) (m .sells) (getD (s .sells) c 0) (m .trades) (s .tradecount) c
+  priceable c lc = record { tick = contract-at c lc .tick; place = omega (arith, contracts-four); trades = sized-trades; quotes = quotes c lc }
+
+  pub balance-within : (a : ℕ) → a < s .accountcount → Within (2 * 10 ^ 18) (accountIn s a .balance)
+  balance-within a la =
+      let b : natAbs (accountIn s a .balance) ≤ 2 * 10 ^ 18 = le-trans (le-of-eq (ap (λ (v : Account). natAbs (v .balance)) (sym (account-in-use m a la)))) balance-high in
+      within-abs (accountIn s a .balance) (2 * 10 ^ 18) b
+    where
+      known : a < length (exchangeOf m .accounts)
+      known = rw accounts-counted la
+
+      balance-high : natAbs (accountAt (exchangeOf m .accounts) a .balance) ≤ 2 * 10 ^ 18
+      balance-high = omega (arith, contents .balance a known, contents .settlements)

@@ -1,0 +1,287 @@
+-- The whole settlement: from a well-formed state to what each part asks for, and from the parts to the state, the areas and the
+-- report that the rules give. Assumes nothing.
+use mathlib.Core.Bool.{Bool, true, false}
+use mathlib.Core.List.{List, [], _∷_, map}
+use mathlib.Core.Path.{_≡_, refl, sym, ap, subst, _∙_}
+use Prim.Native.Nat.{ℕ, zero, suc, _+_, _*_, _<_, _≤_}
+use native.Mathlib.Nat.{le-trans, le-of-eq}
+use native.Mathlib.Omega.{arith}
+use borrow.Author.Tests.{leb-false}
+use lib.IntN.{ℤ, pos, _+ℤ_, _*ℤ_}
+use lib.ListN.{length, getD, take}
+use Rattle.laws.specs.Sums.{sumTo, sumTo-ext}
+use Rattle.laws.specs.Tabulate.{tabulate, length-tabulate, getD-tabulate}
+use Rattle.areas.specs.Lists.{padded}
+use Rattle.areas.proofs.Lists.{getD-padded}
+use Rattle.rules.specs.Answers.{codeOf, refusals, settleRefusals}
+use Rattle.rules.specs.Bounds.{maxSettlements}
+use Rattle.rules.specs.Exchange.{Exchange, Listing, noListing, noContract, listingAt, accountAt, holdingAt}
+use Rattle.rules.specs.Margin as margin
+use Rattle.rules.specs.Memory.{Memory, Declared, exchangeOf, listingIn, inUse, put, putState, putFirst, putAccounts, putQueues, putQueue, putTrades, recordedTrades, wellFormedMemory}
+use Rattle.rules.specs.Settlement.{Day, dayOf, dayStart, afterLegs, holdingGain, settlementPrice, closingProfit, holdingProfit, carriedHolding, settledAccount, settledContract, settledListing, settled}
+use Rattle.rules.specs.Step.{carriedOut}
+use Rattle.rules.specs.declared.Account.{Account}
+use Rattle.rules.specs.declared.Command.the-variants.{Settle}
+use Rattle.rules.specs.declared.Contract.{Contract}
+use Rattle.rules.specs.declared.Holding.{Holding}
+use Rattle.rules.specs.declared.Order.{Order}
+use Rattle.rules.specs.declared.State.{State}
+use Rattle.invariants.proofs.Accepted.{failed}
+use Rattle.invariants.proofs.MemoryKeeps.{accepted-read, accepted-keeps}
+use Rattle.invariants.proofs.MemoryRoom.{memory-ok}
+use Rattle.settlement.specs.Charge.{memoryOf}
+use Rattle.settlement.specs.Settling.{Settleable, SettledIs, contractIn, accountIn, holdingIn, dayIn, closingTo, holdingTo, Payable, AllPayable, paidAccount, BooksIs, Clearable, AllClearable, ClearedAre, AllChargeable, ChargesAre, nextDay}
+use Rattle.settlement.specs.Sides.{dayOver}
+use Rattle.settlement.specs.declared.balances.Books.{Books}
+use Rattle.settlement.specs.declared.settle.Settled.{Settled}
+use Rattle.settlement.proofs.Formed.{accounts-declared, contracts-four, accounts-few, contract-at, price-high, holding-starts, legs-covered, chargeable, sized-trades, balance-within, accounts-counted}
+use Rattle.settlement.proofs.InUse.{contracts-in-use, listing-in-use, account-in-use, holding-in-use}
+use Rattle.settlement.proofs.Places.{tabulate-ext, map-tabulate, length-written, written-accounts}
+
+-- ---- the state of the next day, from its parts
+
+pub next-day-is : (s : State) (accounts : List Account) (prices : List ℕ) (cs : List Contract) (bids offers : List ℕ)
+    → cs ≡ putFirst (tabulate (s .contractcount) (λ c. settledContract (contractIn s c) (getD prices c 0))) (s .contracts)
+    → bids ≡ putFirst (tabulate (s .contractcount) (λ c. 0)) (s .buys) → offers ≡ putFirst (tabulate (s .contractcount) (λ c. 0)) (s .sells)
+    → record { contracts = cs; accounts = accounts; buys = bids; sells = offers; contractcount = s .contractcount; accountcount = s .accountcount; tradecount = 0; next = 1; settlements = s .settlements + 1 }
+    ≡ nextDay s accounts prices
+next-day-is s accounts prices cs bids offers e f g =
+    λ i. record { contracts = e i; accounts = accounts; buys = f i; sells = g i; contractcount = s .contractcount; accountcount = s .accountcount; tradecount = 0; next = 1; settlements = s .settlements + 1 }
+
+-- ---- an account's day, by what stands at its places
+
+day-of : (x : Exchange) (l : Listing) (h : Holding) (a c : ℕ) → listingAt x c ≡ l → holdingAt (x .accounts) a c ≡ h
+    → dayOver (l .contract .reference) h a c (x .trades) ≡ dayOf x a c
+unfolding dayOf
+day-of x l h a c e f = rw (e, f)
+
+-- ---- queues that agree are written alike
+
+put-queues-ext : (area counts : List ℕ) (f g : ℕ → List Order) (n : ℕ) → ((c : ℕ) → c < n → f c ≡ g c) → putQueues area counts f n ≡ putQueues area counts g n
+unfolding putQueues
+put-queues-ext area counts f g zero h = refl
+put-queues-ext area counts f g (suc n) h = rw (put-queues-ext area counts f g n (λ c l. h c (omega arith)), h n (omega arith))
+
+module _ (s : State) (buys sells trades : List ℕ) (g : Settleable s buys sells trades) where
+  abbrev m : Memory
+  m = memoryOf s buys sells trades
+
+  abbrev x : Exchange
+  x = exchangeOf m
+
+  room : s .accountcount ≤ length (s .accounts)
+  room = accounts-declared m (g .declared) (g .formed)
+
+  pub settlements-left : s .settlements < 250
+  unfolding codeOf refusals settleRefusals exchangeOf
+  settlements-left = leb-false maxSettlements (x .settlements) (failed (settleRefusals x) (omega arith) (g .accepted) .1 .0)
+
+  pub few-contracts : s .contractcount ≤ 4
+  few-contracts = contracts-four m room (g .formed)
+
+  pub all-clearable : AllClearable s buys sells trades
+  all-clearable =
+      let k = memory-ok m (g .formed) in
+      record {
+        buys = record { few = few-contracts; counts = k .counts .buys; room = k .room .buys };
+        sells = record { few = few-contracts; counts = k .counts .sells; room = k .room .sells };
+        few = k .counts .trades;
+        trades = omega (arith, k .counts .trades, k .room .trades);
+      }
+
+  -- ---- the prices
+
+  abbrev Prices : List ℕ → Type 0
+  Prices prices = prices ≡ padded 4 0 (tabulate (s .contractcount) (settlementPrice x))
+
+  price-at : (prices : List ℕ) → Prices prices → (c : ℕ) → c < s .contractcount → getD prices c 0 ≡ settlementPrice x c
+  price-at prices e c lc =
+      rw (e, getD-padded 4 c 0 0 (tabulate (s .contractcount) (settlementPrice x)) (rw (length-tabulate (s .contractcount) (settlementPrice x)) lc))
+      (getD-tabulate (s .contractcount) c (settlementPrice x) 0 lc)
+
+  module _ (prices : List ℕ) (e : Prices prices) where
+    pub all-payable : AllPayable s trades prices
+    all-payable =
+        record {
+          declared = g .declared;
+          accounts = accounts-few m room (g .formed);
+          contracts = few-contracts;
+          balance = balance-within m room (g .formed);
+          each = λ a la. record {
+            account = omega (arith, accounts-few m room (g .formed));
+            contracts = few-contracts;
+            multiplier = λ c lc. contract-at m room (g .formed) c lc .multiplier;
+            each = λ c lc. record {
+              trades = sized-trades m room (g .formed);
+              reference = contract-at m room (g .formed) c lc .reference;
+              long = holding-starts m room (g .formed) c lc a la .0;
+              short = holding-starts m room (g .formed) c lc a la .1;
+              price = le-trans (le-of-eq (price-at prices e c lc)) (price-high m room (g .formed) c lc);
+              covered = legs-covered m room (g .formed) c lc a la;
+            };
+          };
+        }
+
+    -- ---- profit
+
+    module _ (a : ℕ) (la : a < s .accountcount) where
+      same-day : (c : ℕ) → c < s .contractcount → dayIn s trades a c ≡ dayOf x a c
+      unfolding dayIn exchangeOf listingIn
+      same-day c lc = day-of x (listingIn m c) (holdingIn s a c) a c (listing-in-use m c lc) (holding-in-use m a c la lc)
+
+      same-multiplier : (c : ℕ) → c < s .contractcount → contractIn s c .multiplier ≡ listingAt x c .contract .multiplier
+      unfolding listingIn
+      same-multiplier c lc = ap (λ (l : Listing). l .contract .multiplier) (sym (listing-in-use m c lc))
+
+      closing-is : closingTo s trades a (s .contractcount) ≡ closingProfit x a
+      unfolding closingTo closingProfit
+      closing-is =
+          sumTo-ext (s .contractcount) (λ c. pos (contractIn s c .multiplier) *ℤ dayIn s trades a c .closing)
+          (λ c. pos (listingAt x c .contract .multiplier) *ℤ dayOf x a c .closing)
+          (λ c lc. rw (same-multiplier c lc, same-day c lc))
+          ∙ ap (λ (n : ℕ). sumTo n (λ c. pos (listingAt x c .contract .multiplier) *ℤ dayOf x a c .closing)) (sym (contracts-in-use m))
+
+      holding-is : holdingTo s trades prices a (s .contractcount) ≡ holdingProfit x a
+      unfolding holdingTo holdingProfit
+      holding-is =
+          sumTo-ext (s .contractcount) (λ c. pos (contractIn s c .multiplier) *ℤ holdingGain (getD prices c 0) (dayIn s trades a c))
+          (λ c. pos (listingAt x c .contract .multiplier) *ℤ holdingGain (settlementPrice x c) (dayOf x a c))
+          (λ c lc. rw (same-multiplier c lc, same-day c lc, price-at prices e c lc))
+          ∙ ap (λ (n : ℕ). sumTo n (λ c. pos (listingAt x c .contract .multiplier) *ℤ holdingGain (settlementPrice x c) (dayOf x a c))) (sym (contracts-in-use m))
+
+      paid-is : paidAccount s trades prices a ≡ settledAccount x a
+      unfolding settledAccount
+      paid-is = rw (account-in-use m a la, closing-is, holding-is)
+
+    -- ---- the state
+
+    accounts-is : putAccounts (tabulate (s .accountcount) (paidAccount s trades prices)) (s .accounts) ≡ putAccounts (settled x .accounts) (s .accounts)
+    unfolding settled
+    accounts-is =
+        ap (λ (l : List Account). putAccounts l (s .accounts))
+        (tabulate-ext (s .accountcount) (paidAccount s trades prices) (settledAccount x) paid-is
+        ∙ ap (λ (n : ℕ). tabulate n (settledAccount x)) (sym (accounts-counted m room (g .formed))))
+
+    -- a field of the settled listings, contract by contract
+    listed : {A : Type 0} (f : ℕ → A) (h : Listing → A) → ((c : ℕ) → c < s .contractcount → f c ≡ h (settledListing x c)) → tabulate (s .contractcount) f ≡ map h (settled x .listings)
+    unfolding settled
+    listed f h k =
+        tabulate-ext (s .contractcount) f (λ c. h (settledListing x c)) k
+        ∙ ap (λ (n : ℕ). tabulate n (λ c. h (settledListing x c))) (sym (contracts-in-use m))
+        ∙ sym (map-tabulate h (length (x .listings)) (settledListing x))
+
+    contract-is : (c : ℕ) → c < s .contractcount → settledContract (contractIn s c) (getD prices c 0) ≡ settledListing x c .contract
+    unfolding settledListing listingIn
+    contract-is c lc = rw (listing-in-use m c lc, price-at prices e c lc)
+
+    no-bids : (c : ℕ) → c < s .contractcount → 0 ≡ length (settledListing x c .buys)
+    unfolding settledListing
+    no-bids c lc = refl
+
+    no-offers : (c : ℕ) → c < s .contractcount → 0 ≡ length (settledListing x c .sells)
+    unfolding settledListing
+    no-offers c lc = refl
+
+    no-trade : 0 ≡ length (settled x .trades)
+    unfolding settled
+    no-trade = refl
+
+    no-trade-list : [] ≡ settled x .trades
+    unfolding settled
+    no-trade-list = refl
+
+    first-number : 1 ≡ settled x .next
+    unfolding settled
+    first-number = refl
+
+    one-more : s .settlements + 1 ≡ settled x .settlements
+    unfolding settled exchangeOf
+    one-more = refl
+
+    -- ---- the areas
+
+    no-queue : (c : ℕ) → c < s .contractcount → (listingAt (settled x) c .buys ≡ []) × (listingAt (settled x) c .sells ≡ [])
+    unfolding listingAt settled settledListing
+    no-queue c lc =
+        let q = getD-tabulate (length (x .listings)) c (settledListing x) noListing (rw (contracts-in-use m) lc) in
+        (ap (λ (l : Listing). l .buys) q, ap (λ (l : Listing). l .sells) q)
+
+    module _ (accounts : List Account) (f : accounts ≡ putAccounts (tabulate (s .accountcount) (paidAccount s trades prices)) (s .accounts)) where
+      state-is : nextDay s accounts prices ≡ putState s (settled x)
+      unfolding putState
+      state-is =
+          let cs : putFirst (tabulate (s .contractcount) (λ c. settledContract (contractIn s c) (getD prices c 0))) (s .contracts) ≡ putFirst (map (λ l. l .contract) (settled x .listings)) (s .contracts) =
+          ap (λ (l : List Contract). putFirst l (s .contracts)) (listed (λ c. settledContract (contractIn s c) (getD prices c 0)) (λ l. l .contract) contract-is) in
+          let bs : putFirst (tabulate (s .contractcount) (λ c. 0)) (s .buys) ≡ putFirst (map (λ l. length (l .buys)) (settled x .listings)) (s .buys) =
+          ap (λ (l : List ℕ). putFirst l (s .buys)) (listed (λ c. 0) (λ l. length (l .buys)) no-bids) in
+          let os : putFirst (tabulate (s .contractcount) (λ c. 0)) (s .sells) ≡ putFirst (map (λ l. length (l .sells)) (settled x .listings)) (s .sells) =
+          ap (λ (l : List ℕ). putFirst l (s .sells)) (listed (λ c. 0) (λ l. length (l .sells)) no-offers) in
+          let as′ : accounts ≡ putAccounts (settled x .accounts) (s .accounts) = f ∙ accounts-is in
+          λ i. record {
+            contracts = cs i;
+            accounts = as′ i;
+            buys = bs i;
+            sells = os i;
+            contractcount = s .contractcount;
+            accountcount = s .accountcount;
+            tradecount = no-trade i;
+            next = first-number i;
+            settlements = one-more i;
+          }
+
+      module _ (buys′ sells′ trades′ : List ℕ) (h : ClearedAre s buys sells trades buys′ sells′ trades′) where
+        memory-is : memoryOf (nextDay s accounts prices) buys′ sells′ trades′ ≡ put m (settled x)
+        unfolding put
+        memory-is =
+            let b : buys′ ≡ putQueues buys (s .buys) (λ c. listingAt (settled x) c .buys) (s .contractcount) =
+            h .buys ∙ put-queues-ext buys (s .buys) (λ c. []) (λ c. listingAt (settled x) c .buys) (s .contractcount) (λ c lc. sym (no-queue c lc .0)) in
+            let o : sells′ ≡ putQueues sells (s .sells) (λ c. listingAt (settled x) c .sells) (s .contractcount) =
+            h .sells ∙ put-queues-ext sells (s .sells) (λ c. []) (λ c. listingAt (settled x) c .sells) (s .contractcount) (λ c lc. sym (no-queue c lc .1)) in
+            let t : trades′ ≡ putTrades trades (s .tradecount) (settled x .trades) = h .trades ∙ cleared in
+            let n = state-is in
+            λ i. record { state = n i; buys = b i; sells = o i; trades = t i }
+          where
+            cleared : putTrades trades (s .tradecount) [] ≡ putTrades trades (s .tradecount) (settled x .trades)
+            cleared = ap (putTrades trades (s .tradecount)) no-trade-list
+
+        -- ---- the margin afterwards: the state written is well formed, and read back as the rules say
+
+        after-is : carriedOut x Settle .exchange ≡ settled x
+        unfolding carriedOut
+        after-is = refl
+
+        well-formed-after : wellFormedMemory (memoryOf (nextDay s accounts prices) buys′ sells′ trades′) ≡ true
+        well-formed-after = rw (memory-is, ← after-is) (accepted-keeps m (g .formed) Settle (g .accepted))
+
+        read-after : exchangeOf (memoryOf (nextDay s accounts prices) buys′ sells′ trades′) ≡ settled x
+        read-after = rw (memory-is, ← after-is) (accepted-read m (g .formed) Settle (g .accepted))
+
+        room-after : s .accountcount ≤ length accounts
+        room-after =
+            le-trans room
+            (le-of-eq (sym (ap length f ∙ ap length (written-accounts (paidAccount s trades prices) (s .accounts) (s .accountcount) room) ∙ length-written _ (s .accounts) (s .accountcount) room)))
+
+        pub all-chargeable : (next : State) → next ≡ nextDay s accounts prices → AllChargeable next buys′ sells′
+        all-chargeable next e =
+            rw e
+            (record {
+              accounts = accounts-few m room (g .formed);
+              each = chargeable (memoryOf (nextDay s accounts prices) buys′ sells′ trades′) room-after well-formed-after;
+            })
+
+        charged-is : (charged : List ℕ) → ChargesAre (nextDay s accounts prices) buys′ sells′ charged
+            → charged ≡ padded 32 0 (tabulate (s .accountcount) (margin.charged (settled x)))
+        charged-is charged k = k .charged trades′ ∙ ap (λ (y : Exchange). padded 32 0 (tabulate (s .accountcount) (margin.charged y))) read-after
+
+        -- THE SETTLEMENT
+        pub settled-is : (next : State) (closing holding : List ℤ) (charged : List ℕ) → next ≡ nextDay s accounts prices
+            → BooksIs s trades prices (record { accounts = accounts; closing = closing; holding = holding }) → ChargesAre next buys′ sells′ charged
+            → SettledIs m (record { state = next; prices = prices; closing = closing; holding = holding; charged = charged }) buys′ sells′ trades′
+        settled-is next closing holding charged n b k =
+            record {
+              memory = ap (λ (t : State). memoryOf t buys′ sells′ trades′) n ∙ memory-is;
+              prices = e;
+              closing = b .closing ∙ ap (padded 32 (pos 0)) (tabulate-ext (s .accountcount) (λ a. closingTo s trades a (s .contractcount)) (closingProfit x) closing-is);
+              holding = b .holding ∙ ap (padded 32 (pos 0)) (tabulate-ext (s .accountcount) (λ a. holdingTo s trades prices a (s .contractcount)) (holdingProfit x) holding-is);
+              charged = charged-is charged (rw n at k);
+            }

@@ -1,0 +1,56 @@
+-- What a settlement prints, in arrays with zeros past the counts: prices contract by contract, charged margin account by account.
+-- Assumes nothing.
+use mathlib.Core.List.{List, []}
+use mathlib.Core.Path.{_≡_, refl, sym, ap, _∙_}
+use Prim.Native.Nat.{ℕ, _+_, _*_, _<_, _≤_}
+use native.Mathlib.Omega.{arith}
+use lib.ListN.{length, getD, set, replicate}
+use Rattle.laws.specs.Tabulate.{tabulate}
+use Rattle.areas.specs.Lists.{padded}
+use Rattle.rules.specs.Exchange.{Exchange, Listing, listingAt}
+use Rattle.rules.specs.Margin as margin
+use Rattle.rules.specs.Memory.{Memory, exchangeOf, listingIn, queueIn, recordedTrades}
+use Rattle.rules.specs.Settlement.{priceFrom, tradesIn, settlementPrice}
+use Rattle.rules.specs.declared.State.{State}
+use Rattle.settlement.specs.Charge.{memoryOf, ChargedIs}
+use Rattle.settlement.specs.Settling.{contractIn, AllChargeable, ChargesAre}
+use Rattle.settlement.proofs.InUse.{listing-in-use}
+use Rattle.settlement.proofs.Places.{Writing, written, writing-none, writing-more, writing-done, written-padded}
+
+-- ---- prices
+
+price-of : (x : Exchange) (l : Listing) (c : ℕ) → listingAt x c ≡ l
+    → priceFrom (l .contract .tick) (l .contract .reference) (tradesIn c (x .trades)) (l .buys) (l .sells) ≡ settlementPrice x c
+unfolding settlementPrice
+price-of x l c e = rw e
+
+-- the price by what stands in the state is the rules' price
+pub price-in-use : (m : Memory) (c : ℕ) → c < m .state .contractcount → (r : ℕ)
+    → r ≡ priceFrom (contractIn (m .state) c .tick) (contractIn (m .state) c .reference) (tradesIn c (recordedTrades (m .trades) (m .state .tradecount)))
+    (queueIn (m .buys) c (getD (m .state .buys) c 0)) (queueIn (m .sells) c (getD (m .state .sells) c 0))
+    → r ≡ settlementPrice (exchangeOf m) c
+unfolding exchangeOf listingIn
+price-in-use m c lc r e = e ∙ price-of (exchangeOf m) (listingIn m c) c (listing-in-use m c lc)
+
+abbrev pub PricesSoFar : Memory → ℕ → List ℕ → Type 0
+PricesSoFar m c prices = Writing (settlementPrice (exchangeOf m)) (replicate 4 0) (m .state .contractcount) c prices
+
+pub prices-done : (m : Memory) (c : ℕ) (prices : List ℕ) → m .state .contractcount ≤ c → PricesSoFar m c prices
+    → prices ≡ padded 4 0 (tabulate (m .state .contractcount) (settlementPrice (exchangeOf m)))
+prices-done m c prices h w = writing-done _ _ _ c prices h w ∙ written-padded _ _ 4 0
+
+-- ---- charged margin, whatever trades the day has
+
+pub record ChargesSoFar (s : State) (buys sells : List ℕ) (a : ℕ) (r : List ℕ) : Type 0 where
+  pub each : (trades : List ℕ) → Writing (margin.charged (exchangeOf (memoryOf s buys sells trades))) (replicate 32 0) (s .accountcount) a r
+
+module _ (s : State) (buys sells : List ℕ) where
+  pub charges-none : ChargesSoFar s buys sells 0 (replicate 32 0)
+  charges-none = record { each = λ trades. writing-none _ _ _ }
+
+  pub charges-more : AllChargeable s buys sells → (a v : ℕ) (r : List ℕ) → a < s .accountcount → ChargedIs s buys sells a v → ChargesSoFar s buys sells a r
+      → ChargesSoFar s buys sells (a + 1) (set r a v)
+  charges-more g a v r h e w = record { each = λ trades. writing-more _ _ _ (g .accounts) a v r h (e .charged trades) (w .each trades) }
+
+  pub charges-done : (a : ℕ) (r : List ℕ) → s .accountcount ≤ a → ChargesSoFar s buys sells a r → ChargesAre s buys sells r
+  charges-done a r h w = record { charged = λ trades. writing-done _ _ _ a r h (w .each trades) ∙ written-padded _ _ 32 0 }

@@ -1,0 +1,91 @@
+use mathlib.Core.Path.{_≡_, sym, _∙_}
+use Prim.Native.Nat.{_-_, _≤_}
+use native.Mathlib.Nat.{le-trans, le-of-eq}
+use native.Mathlib.Omega.{arith}
+use borrow.Author.Needs.{needs}
+use lib.ListN.{length, getD}
+use Rattle.rules.specs.Exchange.{noContract}
+use Rattle.rules.specs.Settlement.{settledContract}
+use Rattle.settlement.proofs.Places.{Writing, writing-none, writing-more, writing-done, written-first, unmapped}
+use Rattle.settlement.proofs.reopen.all_reopened.Statement.{statement}
+use Rattle.settlement.proofs.reopen.all_reopened.Tie as tie
+use Rattle.settlement.proofs.reopen.all_reopened.Reads as reads
+use Rattle.settlement.proofs.reopen.all_reopened.Lts as lts
+use Rattle.settlement.proofs.reopen.reopened.Reads as reopened-reads
+
+abbrev Inv-loop : tie.InvT-loop
+Inv-loop count contracts prices next₀ c₀ next c = Writing (λ i. settledContract (getD contracts i noContract) (getD prices i 0)) contracts count c next
+
+abbrev μ-loop : tie.MeasureT-loop
+μ-loop count contracts prices next₀ c₀ next c = count - c
+
+-- the array has its places
+four : (c : tie.Start Inv-loop μ-loop) → length (c .args .t1) ≡ 4
+four c = search (needs, unmapped)
+
+-- src/reopen.rt:30:5
+loop-holds : tie.Need-loop-holds Inv-loop μ-loop
+loop-holds c = writing-none _ _ _
+
+-- src/reopen.rt:31:24
+mul-contract : tie.Need-mul-contract Inv-loop μ-loop
+mul-contract c = omega arith
+
+-- src/reopen.rt:31:24
+array-copy-out-contract : tie.Need-array-copy-out-contract Inv-loop μ-loop
+array-copy-out-contract c = omega arith
+
+-- src/reopen.rt:32:21
+mul-price : tie.Need-mul-price Inv-loop μ-loop
+mul-price c = omega arith
+
+-- src/reopen.rt:32:21
+array-read-price : tie.Need-array-read-price Inv-loop μ-loop
+array-read-price c = omega arith
+
+-- src/reopen.rt:33:19
+reopened-requires : tie.Need-reopened-requires Inv-loop μ-loop
+reopened-requires c κs = search needs
+
+-- src/reopen.rt:33:9
+mul-next : tie.Need-mul-next Inv-loop μ-loop
+mul-next c = omega arith
+
+-- src/reopen.rt:33:9
+array-set-from-next : tie.Need-array-set-from-next Inv-loop μ-loop
+array-set-from-next c = omega arith
+
+-- src/reopen.rt:34:9
+add-c : tie.Need-add-c Inv-loop μ-loop
+add-c c = omega arith
+
+-- src/reopen.rt:30:5
+loop-less : tie.Need-loop-less Inv-loop μ-loop
+loop-less c = omega arith
+
+-- src/reopen.rt:30:5
+loop-again : tie.Need-loop-again Inv-loop μ-loop
+loop-again c = writing-more _ _ _ (omega (arith, four (c .before .before .before .before))) _ _ _ (c .before .before .loop-test .taken) (c .reopened .ensures) (c .before .before .before .loop .inv)
+
+-- src/reopen.rt:24:1
+returns : tie.Need-returns Inv-loop μ-loop
+returns c = writing-done _ _ _ _ _ (c .loop-test .left) (c .before .loop .inv) ∙ sym (written-first _ _ _)
+
+pub all-reopened-spec : {M : Type 1} → statement M
+all-reopened-spec =
+    tie.close
+    (tie.spec
+    Inv-loop
+    μ-loop
+    loop-holds
+    mul-contract
+    array-copy-out-contract
+    mul-price
+    array-read-price
+    reopened-requires
+    mul-next
+    array-set-from-next
+    add-c
+    loop-less
+    loop-again
+    returns)

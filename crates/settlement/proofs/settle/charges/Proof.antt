@@ -1,0 +1,61 @@
+use Prim.Native.Nat.{_-_}
+use native.Mathlib.Omega.{arith}
+use Rattle.settlement.proofs.Report.{ChargesSoFar, charges-none, charges-more, charges-done}
+use Rattle.settlement.proofs.settle.charges.Statement.{statement}
+use Rattle.settlement.proofs.settle.charges.Tie as tie
+use Rattle.settlement.proofs.settle.charges.Reads as reads
+use Rattle.settlement.proofs.settle.charges.Lts as lts
+use Rattle.settlement.proofs.margin.charged.Reads as charged-reads
+
+abbrev Inv-loop : tie.InvT-loop
+Inv-loop state buys sells accounts charged₀ a₀ charged a = ChargesSoFar state buys sells a charged
+
+abbrev μ-loop : tie.MeasureT-loop
+μ-loop state buys sells accounts charged₀ a₀ charged a = accounts - a
+
+-- src/settle.rt:53:5
+loop-holds : tie.Need-loop-holds Inv-loop μ-loop
+loop-holds c = charges-none _ _ _
+
+-- src/settle.rt:54:22
+charged-requires : tie.Need-charged-requires Inv-loop μ-loop
+charged-requires c κs = c .before .before .before .before .pre .each _ (c .loop-test .taken)
+
+-- src/settle.rt:54:9
+mul-charged : tie.Need-mul-charged Inv-loop μ-loop
+mul-charged c = omega arith
+
+-- src/settle.rt:54:9
+array-write-charged : tie.Need-array-write-charged Inv-loop μ-loop
+array-write-charged c = omega arith
+
+-- src/settle.rt:55:9
+add-a : tie.Need-add-a Inv-loop μ-loop
+add-a c = omega arith
+
+-- src/settle.rt:53:5
+loop-less : tie.Need-loop-less Inv-loop μ-loop
+loop-less c = omega arith
+
+-- src/settle.rt:53:5
+loop-again : tie.Need-loop-again Inv-loop μ-loop
+loop-again c = charges-more _ _ _ (c .before .before .before .before .before .pre) _ _ _ (c .before .loop-test .taken) (c .charged .ensures) (c .before .before .loop .inv)
+
+-- src/settle.rt:46:1
+returns : tie.Need-returns Inv-loop μ-loop
+returns c = charges-done _ _ _ _ _ (c .loop-test .left) (c .before .loop .inv)
+
+pub charges-spec : {M : Type 1} → statement M
+charges-spec =
+    tie.close
+    (tie.spec
+    Inv-loop
+    μ-loop
+    loop-holds
+    charged-requires
+    mul-charged
+    array-write-charged
+    add-a
+    loop-less
+    loop-again
+    returns)

@@ -1,0 +1,97 @@
+use Prim.Native.Nat.{_-_, _≤_}
+use native.Mathlib.Omega.{arith}
+use Rattle.settlement.specs.Charge.{memoryOf}
+use Rattle.settlement.proofs.Formed.{accounts-declared, contracts-four, priceable}
+use Rattle.settlement.proofs.Places.{writing-none, writing-more}
+use Rattle.settlement.proofs.Report.{PricesSoFar, price-in-use, prices-done}
+use Rattle.settlement.proofs.settle.prices.Statement.{statement}
+use Rattle.settlement.proofs.settle.prices.Tie as tie
+use Rattle.settlement.proofs.settle.prices.Reads as reads
+use Rattle.settlement.proofs.settle.prices.Lts as lts
+use Rattle.settlement.proofs.price.settlement_price.Reads as settlement-price-reads
+
+abbrev Inv-loop : tie.InvT-loop
+Inv-loop buys sells trades state contracts count prices₀ c₀ prices c = PricesSoFar (memoryOf state buys sells trades) c prices
+
+abbrev μ-loop : tie.MeasureT-loop
+μ-loop buys sells trades state contracts count prices₀ c₀ prices c = contracts - c
+
+few : (c : tie.Start Inv-loop μ-loop) → c .args .t1 .contractcount ≤ 4
+few c = contracts-four _ (accounts-declared _ (c .pre .declared) (c .pre .formed)) (c .pre .formed)
+
+-- src/settle.rt:33:5
+loop-holds : tie.Need-loop-holds Inv-loop μ-loop
+loop-holds c = writing-none _ _ _
+
+-- src/settle.rt:34:24
+mul-contract : tie.Need-mul-contract Inv-loop μ-loop
+mul-contract c = omega (arith, few (c .before .before .before .before .before))
+
+-- src/settle.rt:34:24
+element-copy-out-contract : tie.Need-element-copy-out-contract Inv-loop μ-loop
+element-copy-out-contract c = omega (arith, few (c .before .before .before .before .before))
+
+-- src/settle.rt:35:24
+mul-buycount : tie.Need-mul-buycount Inv-loop μ-loop
+mul-buycount c = omega (arith, few (c .before .before .before .before .before .before))
+
+-- src/settle.rt:35:24
+element-copy-out-buycount : tie.Need-element-copy-out-buycount Inv-loop μ-loop
+element-copy-out-buycount c = omega (arith, few (c .before .before .before .before .before .before))
+
+-- src/settle.rt:36:25
+mul-sellcount : tie.Need-mul-sellcount Inv-loop μ-loop
+mul-sellcount c = omega (arith, few (c .before .before .before .before .before .before .before))
+
+-- src/settle.rt:36:25
+element-copy-out-sellcount : tie.Need-element-copy-out-sellcount Inv-loop μ-loop
+element-copy-out-sellcount c = omega (arith, few (c .before .before .before .before .before .before .before))
+
+-- src/settle.rt:37:21
+settlement-price-requires : tie.Need-settlement-price-requires Inv-loop μ-loop
+settlement-price-requires c κs = priceable _ (accounts-declared _ (c .before .before .before .before .before .before .before .before .pre .declared) (c .before .before .before .before .before .before .before .before .pre .formed)) (c .before .before .before .before .before .before .before .before .pre .formed) _ (c .before .before .before .loop-test .taken)
+
+-- src/settle.rt:37:9
+mul-prices : tie.Need-mul-prices Inv-loop μ-loop
+mul-prices c = omega (arith, few (c .before .before .before .before .before .before .before .before .before))
+
+-- src/settle.rt:37:9
+array-write-prices : tie.Need-array-write-prices Inv-loop μ-loop
+array-write-prices c = omega (arith, few (c .before .before .before .before .before .before .before .before .before))
+
+-- src/settle.rt:38:9
+add-c : tie.Need-add-c Inv-loop μ-loop
+add-c c = omega (arith, few (c .before .before .before .before .before .before .before .before .before))
+
+-- src/settle.rt:33:5
+loop-less : tie.Need-loop-less Inv-loop μ-loop
+loop-less c = omega arith
+
+-- src/settle.rt:33:5
+loop-again : tie.Need-loop-again Inv-loop μ-loop
+loop-again c = writing-more _ _ _ (few (c .before .before .before .before .before .before .before .before .before)) _ _ _ (c .before .before .before .before .loop-test .taken) (price-in-use _ _ (c .before .before .before .before .loop-test .taken) _ (c .settlement-price .ensures)) (c .before .before .before .before .before .loop .inv)
+
+-- src/settle.rt:25:1
+returns : tie.Need-returns Inv-loop μ-loop
+returns c = prices-done _ _ _ (c .loop-test .left) (c .before .loop .inv)
+
+pub prices-spec : {M : Type 1} → statement M
+prices-spec =
+    tie.close
+    (tie.spec
+    Inv-loop
+    μ-loop
+    loop-holds
+    mul-contract
+    element-copy-out-contract
+    mul-buycount
+    element-copy-out-buycount
+    mul-sellcount
+    element-copy-out-sellcount
+    settlement-price-requires
+    mul-prices
+    array-write-prices
+    add-c
+    loop-less
+    loop-again
+    returns)

@@ -1,0 +1,141 @@
+-- What a settlement asks for, what it gives back, and its parts as the code makes them, on the state as it lies. Assumes nothing.
+use mathlib.Core.Bool.{true}
+use mathlib.Core.List.{List, [], map}
+use mathlib.Core.Path.{_≡_}
+use Prim.Native.Nat.{ℕ, _+_, _*_, _^_, _<_, _≤_}
+use lib.IntN.{ℤ, pos, _+ℤ_, _*ℤ_}
+use lib.ListN.{length, getD, take}
+use Rattle.laws.specs.Bound.{Within}
+use Rattle.laws.specs.Sums.{sumTo}
+use Rattle.laws.specs.Tabulate.{tabulate}
+use Rattle.areas.specs.Lists.{padded}
+use Rattle.rules.specs.Answers.{codeOf}
+use Rattle.rules.specs.Bounds.{maxContracts, maxAccounts}
+use Rattle.rules.specs.Exchange.{noAccount, noContract, noHolding}
+use Rattle.rules.specs.Margin as margin
+use Rattle.rules.specs.Memory.{Memory, Declared, exchangeOf, put, putAccounts, putFirst, putQueues, putTrades, recordedTrades, wellFormedMemory}
+use Rattle.rules.specs.Settlement.{Day, holdingGain, settlementPrice, closingProfit, holdingProfit, carriedHolding, settledContract, settled}
+use Rattle.rules.specs.declared.Account.{Account}
+use Rattle.rules.specs.declared.Command.the-variants.{Settle}
+use Rattle.rules.specs.declared.Contract.{Contract}
+use Rattle.rules.specs.declared.Holding.{Holding}
+use Rattle.rules.specs.declared.State.{State}
+use Rattle.settlement.specs.Charge.{memoryOf, Chargeable}
+use Rattle.settlement.specs.Sides.{dayOver, Profitable}
+use Rattle.settlement.specs.declared.profit.Profit.{Profit}
+use Rattle.settlement.specs.declared.balances.Books.{Books}
+use Rattle.settlement.specs.declared.settle.Settled.{Settled}
+
+-- ---- THE SETTLEMENT: asked for on a well-formed state whose answer is code 0
+
+pub record Settleable (s : State) (buys sells trades : List ℕ) : Type 0 where
+  pub declared : Declared s
+  pub formed : wellFormedMemory (memoryOf s buys sells trades) ≡ true
+  pub accepted : codeOf (exchangeOf (memoryOf s buys sells trades)) Settle ≡ 0
+
+-- the state and all three areas; the prices, each account's closing and holding profit, and its charged margin afterwards,
+-- with zeros past the counts
+pub record SettledIs (m : Memory) (r : Settled) (buys sells trades : List ℕ) : Type 0 where
+  pub memory : memoryOf (r .state) buys sells trades ≡ put m (settled (exchangeOf m))
+  pub prices : r .prices ≡ padded maxContracts 0 (tabulate (m .state .contractcount) (settlementPrice (exchangeOf m)))
+  pub closing : r .closing ≡ padded maxAccounts (pos 0) (tabulate (m .state .accountcount) (closingProfit (exchangeOf m)))
+  pub holding : r .holding ≡ padded maxAccounts (pos 0) (tabulate (m .state .accountcount) (holdingProfit (exchangeOf m)))
+  pub charged : r .charged ≡ padded maxAccounts 0 (tabulate (m .state .accountcount) (margin.charged (settled (exchangeOf m))))
+
+-- ---- its parts, on the state as it lies
+
+abbrev pub contractIn : State → ℕ → Contract
+contractIn s c = getD (s .contracts) c noContract
+
+abbrev pub accountIn : State → ℕ → Account
+accountIn s a = getD (s .accounts) a noAccount
+
+abbrev pub holdingIn : State → ℕ → ℕ → Holding
+holdingIn s a c = getD (accountIn s a .holdings) c noHolding
+
+-- an account's day in a contract
+unfoldable pub dayIn : State → List ℕ → ℕ → ℕ → Day
+dayIn s trades a c = dayOver (contractIn s c .reference) (holdingIn s a c) a c (recordedTrades trades (s .tradecount))
+
+-- its profit over the first n contracts
+unfoldable pub closingTo : State → List ℕ → ℕ → ℕ → ℤ
+closingTo s trades a n = sumTo n (λ c. pos (contractIn s c .multiplier) *ℤ dayIn s trades a c .closing)
+
+unfoldable pub holdingTo : State → List ℕ → List ℕ → ℕ → ℕ → ℤ
+holdingTo s trades prices a n = sumTo n (λ c. pos (contractIn s c .multiplier) *ℤ holdingGain (getD prices c 0) (dayIn s trades a c))
+
+-- all that an account's profit is worked out from
+pub record Payable (s : State) (trades prices : List ℕ) (a : ℕ) : Type 0 where
+  pub account : a < 32
+  pub contracts : s .contractcount ≤ 4
+  pub multiplier : (c : ℕ) → c < s .contractcount → contractIn s c .multiplier ≤ 1_000
+  pub each : (c : ℕ) → c < s .contractcount → Profitable (contractIn s c .reference) (holdingIn s a c) a c trades (s .tradecount) (getD prices c 0)
+
+pub record TotalIs (s : State) (trades prices : List ℕ) (a : ℕ) (r : Profit) : Type 0 where
+  pub closing : r .closing ≡ closingTo s trades a (s .contractcount)
+  pub holding : r .holding ≡ holdingTo s trades prices a (s .contractcount)
+  pub closing-small : Within 16_000_000_000_000_000 (r .closing)
+  pub holding-small : Within 16_000_000_000_000_000 (r .holding)
+
+-- an account with a new balance: "holdings become start-of-day"
+abbrev pub carriedAccount : Account → ℕ → ℤ → Account
+carriedAccount a contracts balance = record { balance = balance; holdings = map carriedHolding (take contracts (a .holdings)) }
+
+-- "The balance takes both."
+abbrev pub paidAccount : State → List ℕ → List ℕ → ℕ → Account
+paidAccount s trades prices a =
+    carriedAccount (accountIn s a) (s .contractcount)
+    (accountIn s a .balance +ℤ (closingTo s trades a (s .contractcount) +ℤ holdingTo s trades prices a (s .contractcount)))
+
+pub record AllPayable (s : State) (trades prices : List ℕ) : Type 0 where
+  pub declared : Declared s
+  pub accounts : s .accountcount ≤ 32
+  pub contracts : s .contractcount ≤ 4
+  pub balance : (a : ℕ) → a < s .accountcount → Within (2 * 10 ^ 18) (accountIn s a .balance)
+  pub each : (a : ℕ) → a < s .accountcount → Payable s trades prices a
+
+pub record BooksIs (s : State) (trades prices : List ℕ) (r : Books) : Type 0 where
+  pub accounts : r .accounts ≡ putAccounts (tabulate (s .accountcount) (paidAccount s trades prices)) (s .accounts)
+  pub closing : r .closing ≡ padded maxAccounts (pos 0) (tabulate (s .accountcount) (λ a. closingTo s trades a (s .contractcount)))
+  pub holding : r .holding ≡ padded maxAccounts (pos 0) (tabulate (s .accountcount) (λ a. holdingTo s trades prices a (s .contractcount)))
+
+-- the queues of the contracts in use, in room for them
+pub record Clearable (area cs : List ℕ) (n : ℕ) : Type 0 where
+  pub few : n ≤ 4
+  pub counts : (c : ℕ) → c < n → getD cs c 0 ≤ 64
+  pub room : 320 * n ≤ length area
+
+pub record AllClearable (s : State) (bids offers day : List ℕ) : Type 0 where
+  pub buys : Clearable bids (s .buys) (s .contractcount)
+  pub sells : Clearable offers (s .sells) (s .contractcount)
+  pub few : s .tradecount ≤ 1_024
+  pub trades : 9 * s .tradecount ≤ length day
+
+-- no order and no trade left
+pub record ClearedAre (s : State) (bids offers day bids′ offers′ day′ : List ℕ) : Type 0 where
+  pub buys : bids′ ≡ putQueues bids (s .buys) (λ c. []) (s .contractcount)
+  pub sells : offers′ ≡ putQueues offers (s .sells) (λ c. []) (s .contractcount)
+  pub trades : day′ ≡ putTrades day (s .tradecount) []
+
+-- every account in use can be charged
+pub record AllChargeable (s : State) (buys sells : List ℕ) : Type 0 where
+  pub accounts : s .accountcount ≤ 32
+  pub each : (a : ℕ) → a < s .accountcount → Chargeable s buys sells a
+
+pub record ChargesAre (s : State) (buys sells : List ℕ) (r : List ℕ) : Type 0 where
+  pub charged : (trades : List ℕ) → r ≡ padded maxAccounts 0 (tabulate (s .accountcount) (margin.charged (exchangeOf (memoryOf s buys sells trades))))
+
+-- the state of the next day, its accounts and prices given
+abbrev pub nextDay : State → List Account → List ℕ → State
+nextDay s accounts prices =
+    record {
+      contracts = putFirst (tabulate (s .contractcount) (λ c. settledContract (contractIn s c) (getD prices c 0))) (s .contracts);
+      accounts = accounts;
+      buys = putFirst (tabulate (s .contractcount) (λ c. 0)) (s .buys);
+      sells = putFirst (tabulate (s .contractcount) (λ c. 0)) (s .sells);
+      contractcount = s .contractcount;
+      accountcount = s .accountcount;
+      tradecount = 0;
+      next = 1;
+      settlements = s .settlements + 1;
+    }

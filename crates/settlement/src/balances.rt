@@ -1,0 +1,127 @@
+// The accounts in a settlement: each one's profit over all contracts, its balance and its holdings (document 01, "Margin and
+// settlement"). For our own crates: each function asks for values in the ranges of a well-formed state.
+ghost use mathlib.Core.Path.{_≡_};
+ghost use Prim.Native.Nat.{_*_, _^_, _≤_};
+ghost use lib.IntN.{pos, _+ℤ_, _*ℤ_};
+ghost use Rattle.laws.specs.Bound.{Within};
+ghost use Rattle.rules.specs.Memory.{putAccount};
+ghost use Rattle.rules.specs.Settlement as settlement;
+ghost use Rattle.settlement.specs.Settling.{Payable, TotalIs, carriedAccount, AllPayable, BooksIs};
+use crate::profit;
+use crate::profit::Profit;
+use rules::Account;
+use rules::Holding;
+use rules::State;
+
+// The accounts after a settlement, and each one's closing and holding profit.
+pub struct Books {
+    pub accounts: [Account; 32],
+    pub closing: [i64; 32],
+    pub holding: [i64; 32],
+}
+
+fn multiplied(profit: i64, multiplier: u32) -> i64
+    requires { ⌜ Within 4000000000000 profit × (multiplier ≤ 1000) ⌝ }
+    ensures { λ r. ⌜ r ≡ pos multiplier *ℤ profit ⌝ }
+{
+    profit * multiplier as i64
+}
+
+// An account's profit: "times multiplier", over all contracts.
+fn total(state: State, trades: &[u32], prices: [u32; 4], a: usize) -> Profit
+    requires { ⌜ Payable state (now trades) prices a ⌝ }
+    ensures { λ r. ⌜ TotalIs state (now (trades .entry)) prices a r ⌝ }
+{
+    let account = a as u32;
+    let holder = state.accounts[a];
+    let contracts = state.contractcount;
+    let count = state.tradecount;
+    let mut closing: i64 = 0;
+    let mut holding: i64 = 0;
+    let mut c: usize = 0;
+    while c < contracts {
+        let contract = state.contracts[c];
+        let h = holder.holdings[c];
+        let price = prices[c];
+        let reference = contract.reference;
+        let multiplier = contract.multiplier;
+        let p = profit::profit_of(trades, count, account, c as u32, reference, h, price);
+        closing += multiplied(p.closing, multiplier);
+        holding += multiplied(p.holding, multiplier);
+        c += 1;
+    }
+    Profit { closing, holding }
+}
+
+// "holdings become start-of-day"
+fn carried(h: Holding) -> Holding
+    ensures { λ r. ⌜ r ≡ settlement.carriedHolding h ⌝ }
+{
+    Holding {
+        long: h.long,
+        short: h.short,
+        startlong: h.long,
+        startshort: h.short,
+    }
+}
+
+fn carried_over(account: Account, contracts: usize) -> Account
+    requires { ⌜ contracts ≤ 4 ⌝ }
+    ensures { λ r. ⌜ r ≡ putAccount (carriedAccount account contracts (account .balance)) account ⌝ }
+{
+    let mut next = account;
+    let mut c: usize = 0;
+    while c < contracts {
+        let h = account.holdings[c];
+        next.holdings[c] = carried(h);
+        c += 1;
+    }
+    next
+}
+
+// "The balance takes both."
+fn with_profit(balance: i64, closing: i64, holding: i64) -> i64
+    requires { ⌜ Within (2 * 10 ^ 18) balance × Within 16000000000000000 closing × Within 16000000000000000 holding ⌝ }
+    ensures { λ r. ⌜ r ≡ balance +ℤ (closing +ℤ holding) ⌝ }
+{
+    balance + (closing + holding)
+}
+
+// The account that a settlement leaves.
+fn paid(account: Account, contracts: usize, closing: i64, holding: i64) -> Account
+    requires { ⌜ (contracts ≤ 4) × Within (2 * 10 ^ 18) (account .balance) × Within 16000000000000000 closing × Within 16000000000000000 holding ⌝ }
+    ensures { λ r. ⌜ r ≡ putAccount (carriedAccount account contracts (account .balance +ℤ (closing +ℤ holding))) account ⌝ }
+{
+    let balance = with_profit(account.balance, closing, holding);
+    let mut next = carried_over(account, contracts);
+    next.balance = balance;
+    next
+}
+
+// Every account in use.
+pub fn all_paid(state: State, trades: &[u32], prices: [u32; 4]) -> Books
+    requires { ⌜ AllPayable state (now trades) prices ⌝ }
+    ensures { λ r. ⌜ BooksIs state (now (trades .entry)) prices r ⌝ }
+{
+    let contracts = state.contractcount;
+    let count = state.accountcount;
+    let mut accounts = state.accounts;
+    let mut closing: [i64; 32] = [0; 32];
+    let mut holding: [i64; 32] = [0; 32];
+    let mut a: usize = 0;
+    while a < count {
+        let account = state.accounts[a];
+        let p = total(state, trades, prices, a);
+        let closed = p.closing;
+        let held = p.holding;
+        accounts[a] = paid(account, contracts, closed, held);
+        closing[a] = closed;
+        holding[a] = held;
+        a += 1;
+    }
+    Books {
+        accounts,
+        closing,
+        holding,
+    }
+}

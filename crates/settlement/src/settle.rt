@@ -1,0 +1,116 @@
+// The daily settlement (document 01, "Margin and settlement"). For our own crates: `settle` asks for a well-formed state in which a
+// settle command is accepted.
+ghost use mathlib.Core.Path.{_≡_};
+ghost use Prim.Native.Nat.{_<_, _≤_};
+ghost use Rattle.laws.specs.Tabulate.{tabulate};
+ghost use Rattle.areas.specs.Lists.{padded};
+ghost use Rattle.rules.specs.Bounds.{maxContracts};
+ghost use Rattle.rules.specs.Memory.{exchangeOf};
+ghost use Rattle.rules.specs.Settlement as settlement;
+ghost use Rattle.settlement.specs.Charge.{memoryOf};
+ghost use Rattle.settlement.specs.Settling.{Settleable, SettledIs, AllChargeable, ChargesAre, nextDay};
+use crate::balances;
+use crate::margin;
+use crate::price;
+use crate::reopen;
+use rules::Account;
+use rules::State;
+
+// The state after a settlement; the prices, each account's closing and holding profit, and its charged margin afterwards.
+pub struct Settled {
+    pub state: State,
+    pub prices: [u32; 4],
+    pub closing: [i64; 32],
+    pub holding: [i64; 32],
+    pub charged: [u64; 32],
+}
+
+// The settlement price of each contract in use.
+fn prices<'a>(state: State, buys: &'a [u32], sells: &'a [u32], trades: &'a [u32]) -> [u32; 4]
+    requires { ⌜ Settleable state (now buys) (now sells) (now trades) ⌝ }
+    ensures { λ r. ⌜ r ≡ padded maxContracts 0 (tabulate (state .contractcount) (settlement.settlementPrice (exchangeOf (memoryOf state (now (buys .entry)) (now (sells .entry)) (now (trades .entry)))))) ⌝ }
+{
+    let contracts = state.contractcount;
+    let count = state.tradecount;
+    let mut prices: [u32; 4] = [0; 4];
+    let mut c: usize = 0;
+    while c < contracts {
+        let contract = state.contracts[c];
+        let buycount = state.buys[c];
+        let sellcount = state.sells[c];
+        prices[c] = price::settlement_price(
+            contract,
+            buys,
+            buycount,
+            sells,
+            sellcount,
+            trades,
+            count,
+            c,
+        );
+        c += 1;
+    }
+    prices
+}
+
+// Each account's charged margin.
+fn charges<'a>(state: State, buys: &'a [u32], sells: &'a [u32]) -> [u64; 32]
+    requires { ⌜ AllChargeable state (now buys) (now sells) ⌝ }
+    ensures { λ r. ⌜ ChargesAre state (now (buys .entry)) (now (sells .entry)) r ⌝ }
+{
+    let accounts = state.accountcount;
+    let mut charged: [u64; 32] = [0; 32];
+    let mut a: usize = 0;
+    while a < accounts {
+        charged[a] = margin::charged(state, buys, sells, a);
+        a += 1;
+    }
+    charged
+}
+
+// "resting orders go, holdings become start-of-day, trades and order numbers start afresh, the settlement price becomes the
+// reference, contracts return to pre-open": the state of the next day.
+fn next_day(state: State, accounts: [Account; 32], prices: [u32; 4]) -> State
+    requires { ⌜ (state .contractcount ≤ 4) × (state .settlements < 250) ⌝ }
+    ensures { λ r. ⌜ r ≡ nextDay state accounts prices ⌝ }
+{
+    let contracts = state.contractcount;
+    let terms = state.contracts;
+    let bids = state.buys;
+    let offers = state.sells;
+    let reopened = reopen::all_reopened(terms, contracts, prices);
+    let nobids = reopen::no_orders(bids, contracts);
+    let nooffers = reopen::no_orders(offers, contracts);
+    State {
+        contracts: reopened,
+        accounts,
+        buys: nobids,
+        sells: nooffers,
+        contractcount: contracts,
+        accountcount: state.accountcount,
+        tradecount: 0,
+        next: 1,
+        settlements: state.settlements + 1,
+    }
+}
+
+pub fn settle(state: State, buys: &mut [u32], sells: &mut [u32], trades: &mut [u32]) -> Settled
+    requires { ⌜ Settleable state (now buys) (now sells) (now trades) ⌝ }
+    ensures { λ r. ⌜ SettledIs (memoryOf state (now (buys .entry)) (now (sells .entry)) (now (trades .entry))) r (now (buys .exit)) (now (sells .exit)) (now (trades .exit)) ⌝ }
+{
+    let prices = prices(state, &buys[..], &sells[..], &trades[..]);
+    let books = balances::all_paid(state, &trades[..], prices);
+    let accounts = books.accounts;
+    let closing = books.closing;
+    let holding = books.holding;
+    reopen::clear_areas(state, buys, sells, trades);
+    let next = next_day(state, accounts, prices);
+    let charged = charges(next, &buys[..], &sells[..]);
+    Settled {
+        state: next,
+        prices,
+        closing,
+        holding,
+        charged,
+    }
+}
