@@ -1,0 +1,3 @@
+// The library's public calls over the engine: one command on any state, and a list of commands.
+pub mod settling;
+pub mod step;
