@@ -1,0 +1,70 @@
+-- `settling::all_closed` meets its contract: the contracts below c are closed. Assumes nothing.
+use mathlib.Core.Bool.{true, false}
+use mathlib.Core.Path.{_≡_, sym, _∙_}
+use Prim.Native.Nat.{_≤_, _-_}
+use native.Mathlib.Omega.{arith}
+use borrow.Author.Tests.{eq-eqb, ne-eqb}
+use borrow.Author.Needs.{needs}
+use lib.Dec.{eqb}
+use lib.ListN.{getD}
+use Rattle.laws.specs.Choice.{all, all-none, all-more, all-stop}
+use Rattle.rules.specs.Exchange.{noContract}
+use Rattle.exchange.proofs.settling.all_closed.Statement.{statement}
+use Rattle.exchange.proofs.settling.all_closed.Tie as tie
+use Rattle.exchange.proofs.settling.all_closed.Reads as reads
+use Rattle.exchange.proofs.settling.all_closed.Lts as lts
+
+abbrev Inv-loop : tie.InvT-loop
+Inv-loop n contracts c₀ c = (c ≤ n) × (all (λ k. eqb (getD contracts k noContract .phase) 3) c ≡ true)
+
+abbrev μ-loop : tie.MeasureT-loop
+μ-loop n contracts c₀ c = n - c
+
+-- src/settling.rt:57:5
+loop-holds : tie.Need-loop-holds Inv-loop μ-loop
+loop-holds c = (omega arith, all-none _)
+
+-- src/settling.rt:58:24
+mul-contract : tie.Need-mul-contract Inv-loop μ-loop
+mul-contract c = search needs
+
+-- src/settling.rt:58:24
+array-copy-out-contract : tie.Need-array-copy-out-contract Inv-loop μ-loop
+array-copy-out-contract c = omega arith
+
+-- src/settling.rt:60:13
+returns : tie.Need-returns Inv-loop μ-loop
+returns c = sym (all-stop _ _ _ (c .before .before .before .loop-test .taken) (ne-eqb _ _ (c .if1 .taken)))
+
+-- src/settling.rt:62:9
+add-c : tie.Need-add-c Inv-loop μ-loop
+add-c c = omega arith
+
+-- src/settling.rt:57:5
+loop-less : tie.Need-loop-less Inv-loop μ-loop
+loop-less c = omega arith
+
+-- src/settling.rt:57:5
+loop-again : tie.Need-loop-again Inv-loop μ-loop
+loop-again c = (omega arith, all-more _ _ (c .before .before .before .before .loop .inv .1) (eq-eqb _ _ (c .if1 .left)))
+
+-- src/settling.rt:52:1
+returns-2 : tie.Need-returns-2 Inv-loop μ-loop
+returns-2 c =
+    let e : c .before .loop .c ≡ c .before .before .args .n = omega arith in
+    rw (← e) (sym (c .before .loop .inv .1))
+
+pub all-closed-spec : {M : Type 1} → statement M
+all-closed-spec =
+    tie.close
+    (tie.spec
+    Inv-loop
+    μ-loop
+    loop-holds
+    mul-contract
+    array-copy-out-contract
+    returns
+    add-c
+    loop-less
+    loop-again
+    returns-2)

@@ -1,0 +1,29 @@
+-- `settling::code` meets its contract, each return by its law. Assumes nothing.
+use mathlib.Core.Path.{sym, _∙_}
+use borrow.Author.Tests.{not-true, not-false}
+use Rattle.engine.proofs.Formed.{formed}
+use Rattle.exchange.proofs.Responses.{settle-open, settle-many, settle-none}
+use Rattle.exchange.proofs.settling.code.Statement.{statement}
+use Rattle.exchange.proofs.settling.code.Tie as tie
+use Rattle.exchange.proofs.settling.code.Reads as reads
+use Rattle.exchange.proofs.settling.code.Lts as lts
+use Rattle.exchange.proofs.settling.all_closed.Reads as all-closed-reads
+
+-- src/settling.rt:73:9
+all-closed-requires : tie.Need-all-closed-requires
+all-closed-requires c κs = formed (c .before .before .before .before .pre) .contracts-high
+
+-- src/settling.rt:74:9
+returns : tie.Need-returns
+returns c = sym (settle-open (c .before .before .before .before .before .before .pre) (sym (c .before .all-closed .ensures) ∙ not-true (c .before .all-closed .result) (c .if1 .taken)))
+
+-- src/settling.rt:77:9
+returns-2 : tie.Need-returns-2
+returns-2 c = sym (settle-many (c .before .before .before .before .before .before .before .before .pre) (sym (c .before .before .before .all-closed .ensures) ∙ not-false (c .before .before .before .all-closed .result) (c .before .before .if1 .left)) (c .if2 .taken))
+
+-- src/settling.rt:68:1
+returns-3 : tie.Need-returns-3
+returns-3 c = sym (settle-none (c .before .before .before .before .before .before .before .before .pre) (sym (c .before .before .before .all-closed .ensures) ∙ not-false (c .before .before .before .all-closed .result) (c .before .before .if1 .left)) (c .if2 .left))
+
+pub code-spec : {M : Type 1} → statement M
+code-spec = tie.close (tie.spec all-closed-requires returns returns-2 returns-3)

@@ -1,0 +1,4 @@
+// The library's public calls over the engine: one command on any state, and a list of commands.
+pub mod run;
+pub mod settling;
+pub mod step;

@@ -1,0 +1,82 @@
+// One command on a well-formed state. For our own crates.
+ghost use mathlib.Core.Path.{_≡_};
+ghost use Rattle.engine.specs.Outcome.{memory, WellFormedState};
+ghost use Rattle.exchange.specs.Response.{ResponseIs};
+use crate::settling;
+use crate::settling::Response;
+use engine::answers;
+use engine::insertion;
+use engine::payments;
+use engine::phases;
+use engine::removal;
+use rules::Command;
+use rules::State;
+
+pub fn step(
+    state: State,
+    buys: &mut [u32],
+    sells: &mut [u32],
+    trades: &mut [u32],
+    command: Command,
+) -> Response
+    requires { ⌜ WellFormedState state (now buys) (now sells) (now trades) ⌝ }
+    ensures { λ r. ⌜ ResponseIs (memory state (now (buys .entry)) (now (sells .entry)) (now (trades .entry))) command r (now (buys .exit)) (now (sells .exit)) (now (trades .exit)) ⌝ }
+{
+    match command {
+        Command::Malformed => settling::plain(answers::refused(state, 1)),
+        Command::Deposit { account, amount } => settling::plain(payments::deposit(
+            state,
+            &buys[..],
+            &sells[..],
+            &trades[..],
+            account,
+            amount,
+        )),
+        Command::Withdraw { account, amount } => settling::plain(payments::withdraw(
+            state,
+            &buys[..],
+            &sells[..],
+            &trades[..],
+            account,
+            amount,
+        )),
+        Command::Insert(o) => settling::plain(insertion::insert(state, buys, sells, trades, o)),
+        Command::Cancel {
+            account,
+            contract,
+            operator,
+            number,
+        } => settling::plain(removal::cancel(
+            state,
+            buys,
+            sells,
+            &trades[..],
+            account,
+            contract,
+            operator,
+            number,
+        )),
+        Command::Pull {
+            account,
+            contract,
+            operator,
+        } => settling::plain(removal::pull(
+            state,
+            buys,
+            sells,
+            &trades[..],
+            account,
+            contract,
+            operator,
+        )),
+        Command::Phase { contract, phase } => settling::plain(phases::change(
+            state,
+            &buys[..],
+            &sells[..],
+            &trades[..],
+            contract,
+            phase,
+        )),
+        Command::Settle => settling::settle(state, buys, sells, trades),
+    }
+}
