@@ -8,20 +8,13 @@ use lib.Dec.{eqb}
 use lib.ListN.{length, getD, set, length-set, length-map, List·getD-map}
 use lib.Seq.{getD-set-same, getD-set-other}
 use Rattle.laws.specs.Choice.{pick}
+use Rattle.laws.specs.Lists.{kept-at}
 use Rattle.rules.specs.Exchange.{noAccount, noHolding, accountAt, holdingAt}
 use Rattle.rules.specs.Holdings.{withLong, withShort, withHolding, startHolding, startAccount, startOfDay, afterLeg, bookLeg, bookBuyer, bookTrade, bookTrades}
 use Rattle.rules.specs.declared.Account.{Account}
 use Rattle.rules.specs.declared.Holding.{Holding}
 use Rattle.rules.specs.declared.Trade.{Trade}
 use Rattle.accounting.specs.Shape.{Placed}
-
--- what a stored element has in common with the one that it replaces, every place has in common with what stood there
-pub set-keeps : {A B : Type 0} (f : A → B) (l : List A) (i : ℕ) (v d : A) → f v ≡ f (getD l i d) → (j : ℕ) → f (getD (set l i v) j d) ≡ f (getD l j d)
-set-keeps f [] i v d e j = refl
-set-keeps f (x ∷ xs) zero v d e zero = e
-set-keeps f (x ∷ xs) zero v d e (suc j) = refl
-set-keeps f (x ∷ xs) (suc i) v d e zero = refl
-set-keeps f (x ∷ xs) (suc i) v d e (suc j) = set-keeps f xs i v d e j
 
 -- ---- one holding replaced
 
@@ -97,11 +90,11 @@ module _ (accounts : List Account) (sell : Bool) (close lots : ℕ) where
   pub booked-wide : (u e a : ℕ) →
       length (accountAt (bookLeg accounts u e sell close lots) a .holdings) ≡ length (accountAt accounts a .holdings)
   unfolding accountAt bookLeg
-  booked-wide u e a = set-keeps (λ (x : Account). length (x .holdings)) accounts u _ noAccount (length-set (getD accounts u noAccount .holdings) e _) a
+  booked-wide u e a = kept-at (λ (x : Account). length (x .holdings)) accounts u _ noAccount (length-set (getD accounts u noAccount .holdings) e _) a
 
   pub booked-balance : (u e a : ℕ) → accountAt (bookLeg accounts u e sell close lots) a .balance ≡ accountAt accounts a .balance
   unfolding accountAt bookLeg
-  booked-balance u e a = set-keeps (λ (x : Account). x .balance) accounts u _ noAccount refl a
+  booked-balance u e a = kept-at (λ (x : Account). x .balance) accounts u _ noAccount refl a
 
   -- no leg changes what was held at the start of the day
   pub booked-start : {B : Type 0} (f : ℕ → ℕ → B) (u e a c : ℕ) →
@@ -109,8 +102,8 @@ module _ (accounts : List Account) (sell : Bool) (close lots : ℕ) where
       ≡ f (holdingAt accounts a c .startlong) (holdingAt accounts a c .startshort)
   unfolding holdingAt accountAt bookLeg
   booked-start {B} f u e a c =
-      set-keeps (λ (x : Account). start (getD (x .holdings) c noHolding)) accounts u _ noAccount
-      (set-keeps start (getD accounts u noAccount .holdings) e _ noHolding
+      kept-at (λ (x : Account). start (getD (x .holdings) c noHolding)) accounts u _ noAccount
+      (kept-at start (getD accounts u noAccount .holdings) e _ noHolding
       (leg-cases (λ k. start k ≡ start (getD (getD accounts u noAccount .holdings) e noHolding)) _ sell close lots refl refl refl refl) c) a
     where
       start : Holding → B

@@ -10,19 +10,19 @@ use borrow.Author.Tests.{leb-true}
 use lib.Dec.{leb, eqb}
 use lib.ListN.{length, getD, take, drop, length-append, length-take, length-drop, length-map}
 use Rattle.laws.specs.Choice.{pick, all, both-true}
-use Rattle.laws.specs.Tabulate.{length-tabulate}
+use Rattle.laws.specs.Chains.{passed}
 use Rattle.rules.specs.Answers.{codeOf}
 use Rattle.rules.specs.Bounds.{within, maxContracts, maxAccounts, maxTrades, maxResting}
 use Rattle.rules.specs.Command.{commandOf}
 use Rattle.rules.specs.Exchange.{Exchange, Listing, noAccount, accountAt}
-use Rattle.rules.specs.Memory.{Memory, Declared, listingIn, inUse, exchangeOf, putFirst, putAccounts, putState, put, countsInRange, hasRoom, wellFormedMemory, refusedIn, inMemory, stepIn, respond}
+use Rattle.rules.specs.Memory.{Memory, Declared, inUse, exchangeOf, putFirst, putAccounts, putState, put, countsInRange, hasRoom, wellFormedMemory, refusedIn, inMemory, stepIn, respond}
 use Rattle.rules.specs.Step.{carriedOut}
 use Rattle.rules.specs.WellFormed.{wellFormedContents}
 use Rattle.rules.specs.declared.Account.{Account}
 use Rattle.rules.specs.declared.Record.{Record}
 use Rattle.rules.specs.declared.State.{State}
+use Rattle.rules.proofs.InUse.{account-in-use, contracts-in-use}
 use Rattle.accounting.specs.Shape.{Shaped}
-use Rattle.accounting.proofs.Facts.{passed}
 use Rattle.accounting.proofs.StepShape.{SameShape, carried-shape}
 
 -- ---- the counts of a well-formed state
@@ -47,14 +47,6 @@ counts m w =
 
 -- ---- each account in use has a holding in each contract in use
 
-account-in-use : (n : ℕ) (accounts : List Account) (k a : ℕ) → a < length (take k accounts) →
-    getD (map (inUse n) (take k accounts)) a noAccount .holdings ≡ take n (getD accounts a noAccount .holdings)
-account-in-use n [] zero a l = absurd (not-suc-le-zero l)
-account-in-use n [] (suc k) a l = absurd (not-suc-le-zero l)
-account-in-use n (x ∷ xs) zero a l = absurd (not-suc-le-zero l)
-account-in-use n (x ∷ xs) (suc k) zero l = refl
-account-in-use n (x ∷ xs) (suc k) (suc a) l = account-in-use n xs k a (le-of-suc-le-suc l)
-
 module _ (m : Memory) (d : Declared (m .state)) where
   accounts-in-use : length (exchangeOf m .accounts) ≡ min (m .state .accountcount) maxAccounts
   unfolding exchangeOf
@@ -63,18 +55,14 @@ module _ (m : Memory) (d : Declared (m .state)) where
       ∙ length-take (m .state .accountcount) (m .state .accounts)
       ∙ ap (λ (n : ℕ). min (m .state .accountcount) n) (d .accounts)
 
-  contracts-in-use : length (exchangeOf m .listings) ≡ m .state .contractcount
-  unfolding exchangeOf
-  contracts-in-use = length-tabulate (m .state .contractcount) (listingIn m)
-
   pub declared-shaped : wellFormedMemory m ≡ true → Shaped (exchangeOf m)
-  unfolding Shaped exchangeOf accountAt
+  unfolding Shaped accountAt
   declared-shaped w = λ a l.
-      let k : a < length (take (m .state .accountcount) (m .state .accounts)) = rw (length-map (take (m .state .accountcount) (m .state .accounts)) (inUse (m .state .contractcount))) at l in
-      ap length (account-in-use (m .state .contractcount) (m .state .accounts) (m .state .accountcount) a k)
-      ∙ length-take (m .state .contractcount) (getD (m .state .accounts) a noAccount .holdings)
-      ∙ omega (arith, d .holdings a (omega (arith, d .accounts, length-take (m .state .accountcount) (m .state .accounts), k)), counts m w .contracts)
-      ∙ sym contracts-in-use
+      let k : a < m .state .accountcount = omega (arith, accounts-in-use, l) in
+      ap (λ (v : Account). length (v .holdings)) (account-in-use m a k)
+      ∙ length-take (m .state .contractcount) (accountAt (m .state .accounts) a .holdings)
+      ∙ omega (arith, d .holdings a (omega (arith, accounts-in-use, l)), counts m w .contracts)
+      ∙ sym (contracts-in-use m)
 
 -- ---- a state written back keeps the lengths of its arrays
 
@@ -100,7 +88,7 @@ wide-putAccounts n (x ∷ as′) (room ∷ rooms) f g (suc a) l =
 
 module _ (m : Memory) (d : Declared (m .state)) (w : wellFormedMemory m ≡ true) (x : Exchange) (s : SameShape (exchangeOf m) x) where
   listings-fit : length (x .listings) ≤ maxContracts
-  listings-fit = omega (arith, s .listings, contracts-in-use m d, counts m w .contracts)
+  listings-fit = omega (arith, s .listings, contracts-in-use m, counts m w .contracts)
 
   accounts-fit : length (x .accounts) ≤ maxAccounts
   accounts-fit = omega (arith, s .accounts, accounts-in-use m d)
@@ -109,7 +97,7 @@ module _ (m : Memory) (d : Declared (m .state)) (w : wellFormedMemory m ≡ true
   unfolding Shaped
   holdings-fit a l =
       let k : a < length (exchangeOf m .accounts) = rw (s .accounts) at l in
-      omega (arith, s .wide a k, declared-shaped m d w a k, contracts-in-use m d, counts m w .contracts)
+      omega (arith, s .wide a k, declared-shaped m d w a k, contracts-in-use m, counts m w .contracts)
 
   array-kept : {A : Type 0} (f : Listing → A) (room : List A) → length room ≡ maxContracts → length (putFirst (map f (x .listings)) room) ≡ maxContracts
   array-kept f room e =

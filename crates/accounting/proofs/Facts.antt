@@ -1,6 +1,6 @@
 -- What a well-formed state says, as far as money needs it: trades between accounts in use, prices and terms in range, starting
 -- lots within the limit, a replay that holds. Assumes nothing.
-use mathlib.Core.Bool.{Bool, true, false, not, _&&_}
+use mathlib.Core.Bool.{true, false, not}
 use mathlib.Core.List.{List, [], _∷_}
 use mathlib.Core.Path.{_≡_}
 use Prim.Native.Nat.{ℕ, _+_, _<_, _≤_}
@@ -10,32 +10,16 @@ use borrow.Author.Tests.{leb-true, ltb-true}
 use lib.Dec.{leb, ltb, eqb}
 use lib.ListN.{length}
 use Rattle.laws.specs.Choice.{all, allOf, all-at, allOf-at, both-true}
-use Rattle.rules.specs.Bounds.{within, onTick, tickMultiple, termsInRange, dayLow, dayHigh, allowedToday, maxPrice, maxLots}
+use Rattle.laws.specs.Chains.{Passed, passed}
+use Rattle.rules.specs.Bounds.{within, onTick, dayLow, dayHigh, allowedToday, maxPrice, maxLots}
 use Rattle.rules.specs.Exchange.{Exchange, Listing, noListing, listingAt, holdingAt, restingOpens, restingCloses}
 use Rattle.rules.specs.WellFormed.{contractInRange, sorted, uncrossed, orderInRange, listingInRange, tradeInRange, replays, holdingInRange, holdingsInRange, balanceInRange, countersInRange, usedOnce, allNumbers, wellFormedContents}
 use Rattle.rules.specs.declared.Contract.{Contract}
 use Rattle.rules.specs.declared.Holding.{Holding}
 use Rattle.rules.specs.declared.Order.{Order}
 use Rattle.rules.specs.declared.Trade.{Trade}
+use Rattle.rules.proofs.Terms.{Terms, contract-terms}
 use Rattle.accounting.specs.Money.{AllKnown}
-
--- ---- tests joined by `_&&_`, taken apart in one go
-
-abbrev pub joined : Bool → List Bool → Bool
-joined a [] = a
-joined a (b ∷ bs) = joined (a && b) bs
-
-abbrev pub Passed : Bool → List Bool → Type 0
-Passed a [] = a ≡ true
-Passed a (b ∷ bs) = (a ≡ true) × Passed b bs
-
-pub passed : (a : Bool) (bs : List Bool) → joined a bs ≡ true → Passed a bs
-passed a [] h = h
-passed a (b ∷ bs) h = front a b bs (passed (a && b) bs h)
-  where
-    front : (a b : Bool) (bs : List Bool) → Passed (a && b) bs → Passed a (b ∷ bs)
-    front a b [] p = both-true a b p
-    front a b (c ∷ cs) p = let q = both-true a b (p .0) in (q .0, (q .1, p .1))
 
 -- ---- prices
 
@@ -52,29 +36,6 @@ order-price accounts next c o h =
     allowed-price c (o .price)
     (passed (within 1 maxLots (o .lots))
     (ltb (o .account) accounts ∷ allowedToday c (o .price) ∷ leb 1 (o .number) ∷ ltb (o .number) next ∷ leb (o .close) 1 ∷ []) h .1 .1 .0)
-
--- ---- a contract's terms
-
-pub record Terms (c : Contract) : Type 0 where
-  pub multiplier : c .multiplier ≤ 1_000
-  pub reference : c .reference ≤ maxPrice
-  pub limit : c .limit ≤ 100_000
-
-tick-price : (tick n : ℕ) → tickMultiple tick n ≡ true → n ≤ maxPrice
-unfolding tickMultiple
-tick-price tick n h = leb-true n maxPrice (both-true (leb tick n) (leb n maxPrice) (both-true (onTick tick n) (within tick maxPrice n) h .1) .1)
-
-terms : (c : Contract) → termsInRange c ≡ true → Terms c
-unfolding termsInRange
-terms c h =
-    let p = passed (within 1 1_000 (c .multiplier))
-    (within 1 1_000 (c .tick) ∷ tickMultiple (c .tick) (c .reference) ∷ tickMultiple (c .tick) (c .band)
-    ∷ within 1 100_000 (c .limit) ∷ within 1 10_000 (c .rate) ∷ []) h in
-    record {
-      multiplier = leb-true (c .multiplier) 1_000 (both-true (leb 1 (c .multiplier)) (leb (c .multiplier) 1_000) (p .0) .1);
-      reference = tick-price (c .tick) (c .reference) (p .1 .1 .0);
-      limit = leb-true (c .limit) 100_000 (both-true (leb 1 (c .limit)) (leb (c .limit) 100_000) (p .1 .1 .1 .1 .0) .1);
-    }
 
 -- ---- a recorded trade
 
@@ -137,11 +98,6 @@ module _ (x : Exchange) (h : wellFormedContents x ≡ true) where
       ∷ allOf (orderInRange (length (x .accounts)) (x .next) (m .contract)) (m .sells) ∷ []) e in
       (p .0, p .1 .1 .1 .1 .0)
 
-  contract-terms : (c : Contract) → contractInRange c ≡ true → Terms c
-  unfolding contractInRange
-  contract-terms c e =
-      terms c (passed (termsInRange c) (leb (c .phase) 3 ∷ tickMultiple (c .tick) (c .last) ∷ []) e .0)
-
   terms-at : (c : ℕ) → c < length (x .listings) → Terms (listingAt x c .contract)
   terms-at c l = contract-terms _ (listing-clauses (listingAt x c) (listing-in-range c l) .0)
 
@@ -166,7 +122,7 @@ module _ (x : Exchange) (h : wellFormedContents x ≡ true) where
       (holdingAt (x .accounts) a c .startlong ≤ 100_000) × (holdingAt (x .accounts) a c .startshort ≤ 100_000)
   starts a c la lc =
       let s = start-lots (listingAt x c) a (holdingAt (x .accounts) a c) (holding-in-range a c la lc) in
-      let t = terms-at c lc .limit in
+      let t = terms-at c lc .limit-high in
       (omega (arith, s .0), omega (arith, s .1))
 
   pub facts : Facts x

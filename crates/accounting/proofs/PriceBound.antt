@@ -74,4 +74,4 @@ unfolding settlementPrice
 settlement-price-bound x w c l =
     let f = facts x w in
     price-to _ _ (length (x .accounts)) (x .next) (listingAt x c .contract) _ _ _
-    (one-contract maxPrice c (x .trades) (trades-to x (x .trades) (f .trades))) (f .terms-of c l .reference) (f .buys c l)
+    (one-contract maxPrice c (x .trades) (trades-to x (x .trades) (f .trades))) (f .terms-of c l .reference .high) (f .buys c l)

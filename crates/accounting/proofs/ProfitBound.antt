@@ -184,7 +184,7 @@ module _ (x : Exchange) (w : wellFormedContents x ≡ true) (few : length (x .tr
     few-lots k = omega (arith, opened-few c k, facts x w .startlong a c la lc, facts x w .startshort a c la lc)
 
     reference-in-range : listingAt x c .contract .reference ≤ maxPrice
-    reference-in-range = facts x w .terms-of c lc .reference
+    reference-in-range = facts x w .terms-of c lc .reference .high
 
     legs-in-range : (k : ℕ) → LegsTo maxPrice (legs a c (take k (x .trades)))
     legs-in-range k = legs-priced x a c (take k (x .trades)) (allOf-take (tradeInRange x) k (x .trades) (facts x w .trades))
@@ -268,7 +268,7 @@ module _ (x : Exchange) (w : wellFormedContents x ≡ true) (few : length (x .tr
             let lc : c < length (x .listings) = omega arith in
             within-le
             (omega (arith, facts x w .startlong a c la lc, facts x w .startshort a c la lc))
-            (multiplied (listingAt x c .contract .multiplier) 1_000 (facts x w .terms-of c lc .multiplier) (h c lc))
+            (multiplied (listingAt x c .contract .multiplier) 1_000 (facts x w .terms-of c lc .multiplier-high) (h c lc))
 
         in-all : total n reaches ≤ maxDayProfit
         in-all =

@@ -13,6 +13,7 @@ use Rattle.laws.specs.Choice.{pick}
 use Rattle.laws.specs.Ring.{*ℤ-add}
 use Rattle.laws.specs.Sums.{sumTo, sumTo-ext, sumTo-add}
 use Rattle.laws.specs.Tabulate.{getD-tabulate}
+use Rattle.laws.specs.Lists.{kept-at}
 use Rattle.rules.specs.Answers.{codeOf, listingOf}
 use Rattle.rules.specs.Exchange.{Exchange, Listing, noAccount, noHolding, noListing, listingAt, accountAt, holdingAt, placeOf}
 use Rattle.rules.specs.Settlement.{dayOf, holdingGain, settlementPrice, closingProfit, holdingProfit, carriedHolding, settledAccount, settledContract, settledListing, settled}
@@ -27,7 +28,7 @@ use Rattle.accounting.specs.Books.{Move, pays, makes, settles, marked, a
 use Rattle.accounting.specs.Money.{netAtStart, netNow, AllKnown}
 use Rattle.accounting.specs.Moves.{booksOf, moveBy}
 use Rattle.accounting.specs.Shape.{Shaped}
-use Rattle.accounting.proofs.Booking.{set-keeps, all-booked-balance, all-booked-start}
+use Rattle.accounting.proofs.Booking.{all-booked-balance, all-booked-start}
 use Rattle.accounting.proofs.BooksLaws.{marked-nothing}
 use Rattle.accounting.proofs.Identity.{day-money, net-moves, placed}
 
@@ -45,8 +46,8 @@ unfolding after booksOf listingAt netAtStart
 same-listing x c l r m = record {
   balance = λ a k. refl;
   start = λ a e k j. refl;
-  reference = λ e k. sym (set-keeps (λ (n : Listing). n .contract .reference) (x .listings) c l noListing r e);
-  multiplier = λ e k. sym (set-keeps (λ (n : Listing). n .contract .multiplier) (x .listings) c l noListing m e);
+  reference = λ e k. sym (kept-at (λ (n : Listing). n .contract .reference) (x .listings) c l noListing r e);
+  multiplier = λ e k. sym (kept-at (λ (n : Listing). n .contract .multiplier) (x .listings) c l noListing m e);
   trades = append-nil (x .trades);
 }
 
@@ -82,7 +83,7 @@ paid-balance accounts u a z l = by (eqb u a) refl
 paid-start : (x : Exchange) (u : ℕ) (b : ℤ) (a c : ℕ) → netAtStart x a c ≡ netAtStart (paid x u b) a c
 unfolding paid netAtStart holdingAt accountAt
 paid-start x u b a c =
-    sym (set-keeps (λ (k : Account). pos (getD (k .holdings) c noHolding .startlong) -ℤ pos (getD (k .holdings) c noHolding .startshort))
+    sym (kept-at (λ (k : Account). pos (getD (k .holdings) c noHolding .startlong) -ℤ pos (getD (k .holdings) c noHolding .startshort))
     (x .accounts) u _ noAccount refl a)
 
 paid-moves : (x : Exchange) (u : ℕ) (z : ℤ) → Makes x (pays u z) (paid x u (accountAt (x .accounts) u .balance +ℤ z))
@@ -102,8 +103,8 @@ unfolding after booksOf exchangeAfter netAtStart listingAt listingAfter listingO
 inserted-moves x o = record {
   balance = λ a l. sym (all-booked-balance (x .accounts) (enteredOf x o .trades) a);
   start = λ a c l k. sym (all-booked-start (x .accounts) (enteredOf x o .trades) (λ i j. pos i -ℤ pos j) a c);
-  reference = λ c k. sym (set-keeps (λ (n : Listing). n .contract .reference) (x .listings) (placeOf (o .contract)) _ noListing refl c);
-  multiplier = λ c k. sym (set-keeps (λ (n : Listing). n .contract .multiplier) (x .listings) (placeOf (o .contract)) _ noListing refl c);
+  reference = λ c k. sym (kept-at (λ (n : Listing). n .contract .reference) (x .listings) (placeOf (o .contract)) _ noListing refl c);
+  multiplier = λ c k. sym (kept-at (λ (n : Listing). n .contract .multiplier) (x .listings) (placeOf (o .contract)) _ noListing refl c);
   trades = refl;
 }
 

@@ -7,6 +7,7 @@ use lib.IntN.{ℤ}
 use lib.ListN.{length, getD, length-set, length-map}
 use Rattle.laws.specs.Choice.{pick}
 use Rattle.laws.specs.Tabulate.{length-tabulate, getD-tabulate}
+use Rattle.laws.specs.Lists.{kept-at}
 use Rattle.rules.specs.Answers.{codeOf}
 use Rattle.rules.specs.Exchange.{Exchange, Listing, noAccount, accountAt, placeOf}
 use Rattle.rules.specs.Settlement.{carriedHolding, settledAccount, settledListing, settled}
@@ -15,7 +16,7 @@ use Rattle.rules.specs.declared.Account.{Account}
 use Rattle.rules.specs.declared.Command.{Command}
 use Rattle.rules.specs.declared.NewOrder.{NewOrder}
 use Rattle.rules.specs.declared.Command.the-variants.{Malformed, Deposit, Withdraw, Insert, Cancel, Pull, Phase, Settle}
-use Rattle.accounting.proofs.Booking.{set-keeps, all-booked-length, all-booked-wide}
+use Rattle.accounting.proofs.Booking.{all-booked-length, all-booked-wide}
 
 pub record SameShape (x x′ : Exchange) : Type 0 where
   pub listings : length (x′ .listings) ≡ length (x .listings)
@@ -41,7 +42,7 @@ module _ (x : Exchange) where
   paid-shape u b = record {
     listings = refl;
     accounts = length-set (x .accounts) u _;
-    wide = λ a l. set-keeps (λ (k : Account). length (k .holdings)) (x .accounts) u _ noAccount refl a;
+    wide = λ a l. kept-at (λ (k : Account). length (k .holdings)) (x .accounts) u _ noAccount refl a;
   }
 
   inserted-shape : (o : NewOrder) → SameShape x (exchangeAfter x o (enteredOf x o))

@@ -8,8 +8,8 @@ use borrow.Author.Tests.{not-true, not-false, le-leb, lt-leb, lt-ltb, le-ltb}
 use lib.Dec.{leb, ltb}
 use lib.ListN.{getD}
 use Rattle.laws.specs.Choice.{both-false, false-both, true-both}
+use Rattle.laws.specs.Chains.{joined}
 use Rattle.rules.specs.Bounds.{within}
-use Rattle.accounting.proofs.Facts.{joined}
 
 -- ---- what a call answered
 

@@ -1,11 +1,11 @@
 -- Each clause of "a state is well formed" as the chain of tests that code makes for it. Assumes nothing.
 use mathlib.Core.Bool.{Bool, true, false, not, _&&_}
 use mathlib.Core.List.{List, [], _∷_}
-use mathlib.Core.Path.{_≡_, refl}
+use mathlib.Core.Path.{refl}
 use Prim.Native.Nat.{ℕ, _+_, _*_}
 use lib.Dec.{leb, ltb, eqb}
 use lib.ListN.{length, getD}
-use Rattle.laws.specs.Choice.{all, allOf, both-true}
+use Rattle.laws.specs.Choice.{all, allOf}
 use Rattle.rules.specs.Bounds.{within, termsInRange, tickMultiple, allowedToday}
 use Rattle.rules.specs.Exchange.{Listing, restingOpens, restingCloses}
 use Rattle.rules.specs.Memory.{Memory, countsInRange, hasRoom}
@@ -85,9 +85,3 @@ pub numbers-chain : (t : Trade) (next : ℕ)
     (not (eqb (t .buyorder) (t .sellorder)) ∷ leb 1 (t .buyorder) ∷ ltb (t .buyorder) next ∷ leb 1 (t .sellorder) ∷ [])
     (ltb (t .sellorder) next)
 numbers-chain t next = record { is = refl }
-
--- ---- what later tests rely on
-
-pub terms-passed : (c : Contract) → contractInRange c ≡ true → termsInRange c ≡ true
-unfolding contractInRange
-terms-passed c h = both-true (termsInRange c) (leb (c .phase) 3) (both-true (termsInRange c && leb (c .phase) 3) (tickMultiple (c .tick) (c .last)) h .0) .0

@@ -1,6 +1,6 @@
 -- A holding's limit and cover, and a balance's bound, in the tests that code makes of them. Assumes nothing.
-use mathlib.Core.Bool.{Bool, true, false, true≢false, false≢true}
-use mathlib.Core.Path.{_≡_, refl, sym, ap, ap₂, _∙_}
+use mathlib.Core.Bool.{true, false, false≢true}
+use mathlib.Core.Path.{_≡_, sym, ap, ap₂, _∙_}
 use Prim.Native.Nat.{ℕ, zero, suc, _+_, _-_, _*_, _<_, _≤_, _^_}
 use native.Mathlib.Omega.{arith}
 use borrow.Author.Tests.{leb-true, le-leb, lt-leb, ltb-true}
@@ -10,7 +10,7 @@ use lib.Signed.{ltZ}
 use mir.Facts.{toZ-ofZ}
 use mir.Syntax.{w64}
 use mir.Val.{SFits, toZ, ofZ}
-use Rattle.laws.specs.Bound.{within-pos, within-ltZ, within-fits, within-neg-pos, abs-within}
+use Rattle.laws.specs.Bound.{within-ltZ, within-fits, within-neg-pos, abs-within}
 use Rattle.laws.specs.Choice.{same-test}
 use Rattle.laws.proofs.Signed.{read-pos}
 use Rattle.rules.specs.WellFormed.{balanceInRange}

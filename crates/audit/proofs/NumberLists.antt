@@ -10,7 +10,7 @@ use lib.Dec.{eqb}
 use lib.ListN.{length, getD, set, take, drop, length-append, length-set}
 use lib.Seq.{take-suc, take-suc-set, take-all}
 use Rattle.laws.specs.Choice.{allOf}
-use Rattle.laws.specs.Tabulate.{tabulate}
+use Rattle.laws.specs.Tabulate.{tabulate, tabulate-last}
 use Rattle.rules.specs.Exchange.{Listing, noOrder}
 use Rattle.rules.specs.Memory.{orderFrom, queueIn}
 use Rattle.rules.specs.WellFormed.{numbers, allNumbers, usedOnce}
@@ -82,11 +82,6 @@ behind-both {before} {between} {r} {x} {y} a b =
     }
 
 -- ---- all contracts
-
-tabulate-last : {A : Type 0} (n : ℕ) (f : ℕ → A) → tabulate (suc n) f ≡ tabulate n f ++ (f n ∷ [])
-unfolding tabulate
-tabulate-last zero f = refl
-tabulate-last (suc n) f = ap (λ l. f 0 ∷ l) (tabulate-last n (λ i. f (suc i)))
 
 all-last : (ls : List Listing) (l : Listing) → allNumbers (ls ++ (l ∷ [])) ≡ allNumbers ls ++ (numbers (l .buys) ++ numbers (l .sells))
 unfolding allNumbers

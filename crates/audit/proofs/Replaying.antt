@@ -2,7 +2,7 @@
 -- Assumes nothing.
 use mathlib.Core.Bool.{Bool, true, false, _&&_}
 use mathlib.Core.List.{List, [], _∷_}
-use mathlib.Core.Path.{_≡_, refl, sym, subst, ap, ap₂, _∙_}
+use mathlib.Core.Path.{_≡_, refl, sym, subst, ap, _∙_}
 use Prim.Native.Nat.{ℕ, zero, suc, _+_, _-_, _*_, _<_, _≤_}
 use native.Mathlib.Omega.{arith}
 use lib.Dec.{eqb}
@@ -10,14 +10,14 @@ use lib.ListN.{length, getD, set, drop, length-set}
 use Rattle.laws.specs.Choice.{pick}
 use Rattle.rules.specs.Exchange.{accountAt, holdingAt, noAccount, noHolding, noTrade}
 use Rattle.rules.specs.Holdings.{afterLeg, bookBuyer, bookLeg, bookSeller, bookTrade, bookTrades, legCovered, neverBelowZero, sameHoldings, startOfDay, withHolding, withLong, withShort}
-use Rattle.rules.specs.Memory.{recordedTrades, tradeFrom}
+use Rattle.rules.specs.Memory.{recordedTrades, tradeFrom, used}
 use Rattle.rules.specs.WellFormed.{replays}
 use Rattle.rules.specs.declared.Account.{Account}
 use Rattle.rules.specs.declared.Holding.{Holding}
 use Rattle.rules.specs.declared.Trade.{Trade}
 use Rattle.rules.proofs.Codecs.{trade-at}
 use Rattle.book.specs.Bounds.{HoldingWithin}
-use Rattle.audit.specs.Parts.{Booked, replayed, used}
+use Rattle.audit.specs.Parts.{Booked, replayed}
 use Rattle.audit.proofs.TestedTrades.{next-trade, no-trades}
 use Rattle.audit.proofs.UsedAccounts.{leg-booked, leg-read, length-day, one-leg, start-at, used-day}
 

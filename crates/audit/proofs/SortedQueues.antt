@@ -1,18 +1,15 @@
 -- One queue read from its area in turn: sorted, uncrossed, each order in range. Assumes nothing.
 use mathlib.Core.Bool.{Bool, true, false}
 use mathlib.Core.List.{List, [], _∷_}
-use mathlib.Core.Logic.{⊎-elim}
 use mathlib.Core.Path.{_≡_, refl, sym, ap, _∙_}
 use Prim.Native.Nat.{ℕ, _+_, _*_, _<_, _≤_}
 use native.Mathlib.Omega.{arith}
 use borrow.Author.Tests.{leb-true, leb-false}
 use lib.Dec.{leb, ltb}
-use lib.ListN.{drop, getD}
-use Rattle.rules.specs.Exchange.{noOrder}
+use lib.ListN.{drop}
 use Rattle.rules.specs.Memory.{orderFrom, queueIn}
 use Rattle.rules.specs.WellFormed.{ahead, aheadOfFirst, sorted, uncrossed}
 use Rattle.rules.specs.declared.Order.{Order}
-use Rattle.rules.proofs.Codecs.{order-at}
 use Rattle.book.proofs.Queues.{next-order, no-more}
 use Rattle.audit.proofs.Walks.{turn, stop, end}
 

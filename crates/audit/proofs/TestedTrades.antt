@@ -1,11 +1,10 @@
 -- Recorded trades, each tested by itself as it is read from its area. Assumes nothing.
-use mathlib.Core.Bool.{Bool, true, false, not, _&&_}
+use mathlib.Core.Bool.{Bool, not, _&&_}
 use mathlib.Core.List.{List, [], _∷_}
-use mathlib.Core.Path.{_≡_, refl, sym, ap, _∙_}
+use mathlib.Core.Path.{_≡_, sym, ap, _∙_}
 use Prim.Native.Nat.{ℕ, _+_, _*_, _<_, _≤_}
-use native.Mathlib.Omega.{arith}
 use lib.Dec.{leb, ltb, eqb}
-use lib.ListN.{length, getD, drop, length-replicate, drop-of-length-le}
+use lib.ListN.{getD, drop, length-replicate, drop-of-length-le}
 use Rattle.laws.specs.Tabulate.{length-tabulate, getD-tabulate}
 use Rattle.rules.specs.Bounds.{within, allowedToday}
 use Rattle.rules.specs.Exchange.{Listing, listingAt, noContract, noListing, noTrade}

@@ -1,35 +1,25 @@
 -- The accounts in use, and what reading, booking and comparing them is on the accounts as they lie. Assumes nothing.
-use mathlib.Core.Bool.{Bool, true, false, _&&_}
+use mathlib.Core.Bool.{Bool, true, false}
 use mathlib.Core.List.{List, [], _∷_, _++_, map, append-nil, append-assoc}
-use mathlib.Core.Path.{_≡_, refl, sym, ap, ap₂, _∙_, subst}
+use mathlib.Core.Path.{_≡_, refl, sym, ap, ap₂, _∙_}
 use Prim.Native.Nat.{ℕ, zero, suc, _+_, _<_, _≤_}
-use native.Mathlib.Nat.{le-of-suc-le-suc, not-suc-le-zero}
 use native.Mathlib.Numerals.{add-one}
 use native.Mathlib.Omega.{arith}
 use borrow.Author.Tests.{eq-eqb, ne-eqb}
 use lib.Dec.{leb, eqb}
 use lib.ListN.{length, getD, set, take, drop, length-map, length-take, drop-of-length-le, List·getD-map}
-use lib.Seq.{getD-at, set-at, take-suc, take-all, drop-cons, take-set-lt, getD-take, length-take-le, drop-length}
+use lib.Seq.{getD-at, set-at, take-suc, take-all, drop-cons, length-take-le, drop-length}
 use Rattle.laws.specs.Choice.{pick}
 use Rattle.rules.specs.Exchange.{accountAt, holdingAt, noAccount, noHolding}
 use Rattle.rules.specs.Holdings.{afterLeg, bookLeg, legCovered, sameHoldings, sameLots, startAccount, startHolding, startOfDay, withHolding}
-use Rattle.rules.specs.Memory.{inUse}
+use Rattle.rules.specs.Memory.{inUse, used}
 use Rattle.rules.specs.declared.Account.{Account}
 use Rattle.rules.specs.declared.Holding.{Holding}
-use Rattle.laws.specs.Lists.{map-set}
-use Rattle.audit.specs.Parts.{used}
+use Rattle.laws.specs.Lists.{take-map}
+use Rattle.rules.proofs.InUse.{length-used, used-at, used-holding, used-leg}
 use Rattle.audit.proofs.Walks.{next-in, next-of, none-in}
 
--- the length of a list, from that of a function of its elements: an array of structs has it so
-pub unmapped : {X Y : Type 0} (f : X → Y) (l : List X) (n : ℕ) → length (map f l) ≡ n → length l ≡ n
-unmapped f l n e = sym (length-map l f) ∙ e
-
 -- ---- the start of the day
-
-take-map : {A B : Type 0} (f : A → B) (k : ℕ) (l : List A) → take k (map f l) ≡ map f (take k l)
-take-map f zero l = refl
-take-map f (suc k) [] = refl
-take-map f (suc k) (x ∷ l) = ap (λ ys. f x ∷ ys) (take-map f k l)
 
 -- four stores make the holdings of the start of the day
 pub four-starts : (hs : List Holding) {r₀ r₁ r₂ r₃ : Holding} → length hs ≡ 4
@@ -90,13 +80,6 @@ start-at l a c =
 -- ---- the accounts in use
 
 module _ (k : ℕ) where
-  pub used-at : (n : ℕ) (l : List Account) (i : ℕ) → i < n → n ≤ length l → accountAt (used k n l) i ≡ inUse k (accountAt l i)
-  unfolding accountAt
-  used-at zero l i h m = absurd (not-suc-le-zero h)
-  used-at (suc n) [] i h m = absurd (not-suc-le-zero m)
-  used-at (suc n) (a ∷ l) zero h m = refl
-  used-at (suc n) (a ∷ l) (suc i) h m = used-at n l i (le-of-suc-le-suc h) (le-of-suc-le-suc m)
-
   used-start : (n : ℕ) (l : List Account) → used k n (startOfDay l) ≡ startOfDay (used k n l)
   unfolding startOfDay
   used-start zero l = refl
@@ -119,37 +102,18 @@ module _ (k n : ℕ) where
   pub used-day : (l : List Account) → used k n (startOfDay l) ≡ startOfDay (used k n l)
   used-day l = used-start k n l
 
-  pub length-used : (l : List Account) → n ≤ length l → length (used k n l) ≡ n
-  length-used l m = length-map (take n l) (inUse k) ∙ length-take-le n l m
-
-  used-set : (l : List Account) (i : ℕ) (v : Account) → i < n → used k n (set l i v) ≡ set (used k n l) i (inUse k v)
-  used-set l i v h = rw (take-set-lt n l i v h) (map-set (inUse k) (take n l) i v)
-
-  pub used-holding : (l : List Account) (a c : ℕ) → a < n → n ≤ length l → c < k → holdingAt (used k n l) a c ≡ holdingAt l a c
-  unfolding holdingAt
-  used-holding l a c h m hc = rw (used-at k n l a h m) (getD-take k (accountAt l a .holdings) c noHolding hc)
-
-  used-leg : (l : List Account) (a c : ℕ) (sell : Bool) (close lots : ℕ) → a < n → n ≤ length l → c < k
-      → used k n (bookLeg l a c sell close lots) ≡ bookLeg (used k n l) a c sell close lots
-  unfolding bookLeg
-  used-leg l a c sell close lots h m hc =
-      let v = afterLeg (holdingAt l a c) sell close lots in
-      let e : inUse k (withHolding (accountAt l a) c v) ≡ withHolding (inUse k (accountAt l a)) c v =
-      ap (λ (hs : List Holding). record { balance = accountAt l a .balance; holdings = hs }) (take-set-lt k (accountAt l a .holdings) c v hc) in
-      used-set l a (withHolding (accountAt l a) c v) h ∙ rw (e, used-holding l a c h m hc, used-at k n l a h m) refl
-
   -- a leg as code tests and books it, on the account that it reads: account a and contract c are those of the trade
   module _ (l : List Account) {who place a c : ℕ} (ea : who ≡ a) (ec : place ≡ c) (ha : a < n) (m : n ≤ length l) (hc : c < k) (sell : Bool) (close lots : ℕ) where
     pub leg-read : legCovered (getD l who noAccount ∷ []) 0 place sell close lots ≡ legCovered (used k n l) a c sell close lots
     unfolding legCovered
     leg-read =
         let e : holdingAt (getD l who noAccount ∷ []) 0 place ≡ holdingAt (used k n l) a c =
-        read-alone l who place ∙ ap₂ (holdingAt l) ea ec ∙ sym (used-holding l a c ha m hc) in
+        read-alone l who place ∙ ap₂ (holdingAt l) ea ec ∙ sym (used-holding k n l a c ha hc) in
         ap (λ (h : Holding). pick (eqb close 0) true (leb lots (pick sell (h .long) (h .short)))) e
 
     pub leg-booked : {x : Account} → x ≡ withHolding (getD l who noAccount) place (afterLeg (getD (getD l who noAccount .holdings) place noHolding) sell close lots)
         → used k n (set l who x) ≡ bookLeg (used k n l) a c sell close lots
-    leg-booked {x} ex = ap (used k n) (one-leg l ea ec sell close lots ex) ∙ used-leg l a c sell close lots ha m hc
+    leg-booked {x} ex = ap (used k n) (one-leg l ea ec sell close lots ex) ∙ sym (used-leg k n l a c sell close lots ha hc)
 
 -- ---- two lists of accounts compared
 
@@ -206,7 +170,7 @@ module _ (k n : ℕ) where
   unfolding accountAt
   used-next l a h m =
       next-of (used k n l) a noAccount (rw (length-used k n l m) h)
-      ∙ ap (λ (x : Account). x ∷ drop (a + 1) (used k n l)) (used-at k n l a h m)
+      ∙ ap (λ (x : Account). x ∷ drop (a + 1) (used k n l)) (used-at k n l a h)
 
   used-none : (l : List Account) (a : ℕ) → n ≤ a → drop a (used k n l) ≡ []
   used-none l a h = drop-of-length-le (used k n l) {i = a} (rw (length-map (take n l) (inUse k), length-take n l) (omega arith))

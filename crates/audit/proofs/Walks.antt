@@ -8,7 +8,7 @@ use native.Mathlib.Numerals.{add-one}
 use native.Mathlib.Omega.{arith}
 use lib.ListN.{length, getD, drop, take, length-take, drop-of-length-le}
 use lib.Seq.{drop-cons, getD-take, length-take-le}
-use Rattle.laws.specs.Choice.{all, allOf, true-both, false-both}
+use Rattle.laws.specs.Choice.{all, allOf}
 
 -- ---- a count from 0 to n, with the test p of each number
 

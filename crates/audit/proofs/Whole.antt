@@ -1,8 +1,8 @@
 -- The clauses on a state's contents, each as the test that code makes of the state as it lies; and what a passed test gives the
 -- tests behind it. Assumes nothing.
-use mathlib.Core.Bool.{Bool, true, false, _&&_}
+use mathlib.Core.Bool.{Bool, true, _&&_}
 use mathlib.Core.List.{List, [], _∷_, map}
-use mathlib.Core.Path.{_≡_, refl, sym, ap, ap₂, _∙_}
+use mathlib.Core.Path.{_≡_, refl, ap, ap₂, _∙_}
 use Prim.Native.Nat.{ℕ, zero, suc, _*_, _<_, _≤_}
 use native.Mathlib.Omega.{arith}
 use borrow.Author.Tests.{leb-true}
@@ -11,20 +11,18 @@ use lib.ListN.{length, getD, take, length-replicate}
 use Rattle.laws.specs.Choice.{all, allOf, all-at, all-ext, allOf-all, allOf-at, both-true}
 use Rattle.laws.specs.Tabulate.{tabulate, length-tabulate, getD-tabulate}
 use Rattle.rules.specs.Bounds.{within, termsInRange}
-use Rattle.rules.specs.Exchange.{Exchange, Listing, listingAt, accountAt, holdingAt, noContract, noListing, noTrade}
-use Rattle.rules.specs.Memory.{Memory, exchangeOf, inUse, listingIn, recordedTrades, countsInRange, hasRoom, wellFormedMemory}
+use Rattle.rules.specs.Exchange.{Exchange, Listing, listingAt, holdingAt, noContract, noListing, noTrade}
+use Rattle.rules.specs.Memory.{Memory, exchangeOf, inUse, listingIn, recordedTrades, countsInRange, hasRoom, wellFormedMemory, used}
 use Rattle.rules.specs.WellFormed.{countersInRange, listingInRange, allNumbers, usedOnce, tradeInRange, replays, holdingInRange, holdingsInRange, balanceInRange, wellFormedContents}
-use Rattle.rules.specs.declared.Account.{Account}
 use Rattle.rules.specs.declared.State.{State}
 use Rattle.rules.specs.declared.Trade.{Trade}
 use Rattle.rules.proofs.Codecs.{length-trades}
-use Rattle.terms.proofs.Ranges.{term-bounds}
+use Rattle.rules.proofs.InUse.{length-used, used-holding}
+use Rattle.rules.proofs.Terms.{terms, terms-passed}
 use Rattle.invariants.proofs.Clauses.{holding-ok, listing-ok, trade-ok}
 use Rattle.invariants.proofs.MemoryRoom.{counts-ok, room-ok}
-use Rattle.audit.specs.Parts.{Booked, Ready, listing, memory, replayed, tested, used}
-use Rattle.audit.proofs.Chains.{Chain, group}
-use Rattle.audit.proofs.Clauses.{terms-passed}
-use Rattle.audit.proofs.UsedAccounts.{length-used, used-holding}
+use Rattle.audit.specs.Parts.{Booked, Ready, listing, memory, replayed, tested}
+use Rattle.audit.proofs.Chains.{Chain}
 
 -- ---- tests of every element
 
@@ -126,7 +124,7 @@ module _ (s : State) (buys sells trades : List ℕ) where
     holding-same a h =
         rw length-tabulate
         (all-ext _ (λ c. holdingInRange (listing s buys sells c) a (holdingAt (s .accounts) a c)) (s .contractcount)
-        (λ c hc. ap₂ (λ l g. holdingInRange l a g) (getD-tabulate (s .contractcount) c (listingIn m) noListing hc) (used-holding (s .contractcount) (s .accountcount) (s .accounts) a c h fit hc)))
+        (λ c hc. ap₂ (λ l g. holdingInRange l a g) (getD-tabulate (s .contractcount) c (listingIn m) noListing hc) (used-holding (s .contractcount) (s .accountcount) (s .accounts) a c h hc)))
 
     holdings-same : all (holdingsInRange (exchangeOf m)) (length (exchangeOf m .accounts)) ≡ holdingsTest
     holdings-same = rw accounts-count (all-ext (holdingsInRange (exchangeOf m)) _ (s .accountcount) holding-same)
@@ -172,8 +170,8 @@ module _ (s : State) (buys sells trades : List ℕ) (counts : countsInRange s �
         let h = holding-ok (listing s buys sells c) a (holdingAt (s .accounts) a c)
         (all-at (λ c. holdingInRange (listing s buys sells c) a (holdingAt (s .accounts) a c)) c (s .contractcount)
         (all-at (λ a. all (λ c. holdingInRange (listing s buys sells c) a (holdingAt (s .accounts) a c)) (s .contractcount)) a (s .accountcount) held ha) hc) in
-        let t = term-bounds (getD (s .contracts) c noContract) (terms-tested c hc) in
-        (omega (arith, h .startlong, t .limit), omega (arith, h .startshort, t .limit))
+        let t = terms (getD (s .contracts) c noContract) (terms-tested c hc) in
+        (omega (arith, h .startlong, t .limit-high), omega (arith, h .startshort, t .limit-high))
 
   pub trades-tested : tradesTest s buys sells trades ≡ true
       → (i : ℕ) → i < s .tradecount → Booked (s .contractcount) (s .accountcount) (getD (recordedTrades trades (s .tradecount)) i noTrade)

@@ -1,13 +1,13 @@
 -- The parts of a state in memory that a single test of the audit is about, so that its promise can cite the rule it tests.
 -- Assumes nothing.
 use mathlib.Core.Bool.{true}
-use mathlib.Core.List.{List, [], map}
+use mathlib.Core.List.{List, []}
 use mathlib.Core.Path.{_≡_}
 use Prim.Native.Nat.{ℕ, _*_, _<_, _≤_}
-use lib.ListN.{length, getD, replicate, take}
+use lib.ListN.{length, getD, replicate}
 use Rattle.laws.specs.Tabulate.{tabulate}
 use Rattle.rules.specs.Exchange.{Exchange, Listing, noAccount, noContract}
-use Rattle.rules.specs.Memory.{Memory, countsInRange, inUse, listingIn}
+use Rattle.rules.specs.Memory.{Memory, countsInRange, listingIn}
 use Rattle.rules.specs.declared.Account.{Account}
 use Rattle.rules.specs.declared.Contract.{Contract}
 use Rattle.rules.specs.declared.State.{State}
@@ -26,10 +26,6 @@ pub record Ready (s : State) (buys sells : List ℕ) : Type 0 where
   pub counts : countsInRange s ≡ true
   pub buy-room : 320 * s .contractcount ≤ length buys
   pub sell-room : 320 * s .contractcount ≤ length sells
-
--- the accounts in use, each with its holdings in the contracts in use
-abbrev pub used : ℕ → ℕ → List Account → List Account
-used contracts accounts l = map (inUse contracts) (take accounts l)
 
 -- what a recorded trade is tested against: the contracts, the numbers of accounts and contracts, the next order number
 unfoldable pub tested : List Contract → ℕ → ℕ → ℕ → Exchange

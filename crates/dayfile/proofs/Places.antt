@@ -13,7 +13,7 @@ use Rattle.laws.specs.Tabulate.{getD-tabulate}
 use Rattle.rules.specs.Bounds.{within, maxBalance}
 use Rattle.rules.specs.DayFile.{u32At, u64At, contractsIn, contractPlace, accountsIn, accountPlace, commandsIn, commandPlace, contractSound, accountSound, balanceFrom, recordFrom, recordsOf, sound}
 use Rattle.rules.specs.declared.Record.{Record}
-use Rattle.terms.proofs.Ranges.{within-low, within-high}
+use Rattle.rules.proofs.Terms.{within-low, within-high}
 use Rattle.dayfile.specs.Opening.{shaped}
 
 -- ---- places

@@ -10,39 +10,24 @@ use lib.ListN.{getD, take, replicate, getD-replicate}
 use Rattle.areas.specs.Lists.{padded}
 use Rattle.areas.specs.Records.{decode, records}
 use Rattle.areas.proofs.Lists.{getD-padded, take-padded}
-use Rattle.laws.specs.Tabulate.{tabulate, length-tabulate, getD-tabulate, tabulate-eq}
+use Rattle.laws.specs.Tabulate.{tabulate, length-tabulate, getD-tabulate, tabulate-below, map-tabulate}
 use Rattle.rules.specs.DayFile.{contractsIn, accountsIn, openingListing, openingAccount, opening, sound}
-use Rattle.rules.specs.Exchange.{noContract, noHolding, noListing}
-use Rattle.rules.specs.Memory.{Memory, queueIn, recordedTrades, listingIn, inUse, exchangeOf}
+use Rattle.rules.specs.Exchange.{noContract, noHolding}
+use Rattle.rules.specs.Memory.{Memory, queueIn, listingIn, inUse, exchangeOf}
+use Rattle.rules.proofs.Codecs.{trades-none}
 use Rattle.dayfile.specs.Opening.{accountWith, openingContract, openingHolder, openingContracts, openingAccounts, openingState}
 use Rattle.dayfile.proofs.Places.{sound-layout}
 
--- ---- tables
-
-module _ {A : Type 0} where
-  pub tabulate-ext : (n : ℕ) (f g : ℕ → A) (d : A) → ((i : ℕ) → i < n → f i ≡ g i) → tabulate n f ≡ tabulate n g
-  tabulate-ext n f g d h =
-      tabulate-eq n g (tabulate n f) d (length-tabulate n f) (λ i k. getD-tabulate n i f d k ∙ h i k)
-
-  pub map-tabulate : {B : Type 0} (h : A → B) (n : ℕ) (f : ℕ → A) → map h (tabulate n f) ≡ tabulate n (λ i. h (f i))
-  unfolding tabulate
-  map-tabulate h zero f = refl
-  map-tabulate {B = B} h (suc n) f = ap (λ (l : List B). h (f 0) ∷ l) (map-tabulate h n (λ i. f (suc i)))
-
-  pub take-replicate : (k n : ℕ) (z : A) → k ≤ n → take k (replicate n z) ≡ replicate k z
-  take-replicate zero n z h = refl
-  take-replicate (suc k) zero z h = absurd (not-suc-le-zero h)
-  take-replicate (suc k) (suc n) z h = ap (λ (l : List A). z ∷ l) (take-replicate k n z (le-of-suc-le-suc h))
+take-replicate : {A : Type 0} (k n : ℕ) (z : A) → k ≤ n → take k (replicate n z) ≡ replicate k z
+take-replicate zero n z h = refl
+take-replicate (suc k) zero z h = absurd (not-suc-le-zero h)
+take-replicate {A} (suc k) (suc n) z h = ap (λ (l : List A). z ∷ l) (take-replicate k n z (le-of-suc-le-suc h))
 
 -- ---- no order and no trade is in use
 
 no-orders : (area : List ℕ) (c n : ℕ) → n ≡ 0 → queueIn area c n ≡ []
 unfolding queueIn records decode
 no-orders area c n e = rw e
-
-no-trades : (area : List ℕ) → recordedTrades area 0 ≡ []
-unfolding recordedTrades records decode
-no-trades area = refl
 
 -- ---- the opening state
 
@@ -83,13 +68,13 @@ module _ (file buys sells trades : List ℕ) (h : sound file ≡ true) where
       let t : take n (padded 32 (accountWith 0) holders) ≡ holders =
       rw (length-tabulate n (openingHolder file)) at (take-padded 32 (accountWith 0) holders) in
       rw (t, map-tabulate (inUse (contractsIn file)) n (openingHolder file))
-      (tabulate-ext n (λ a. inUse (contractsIn file) (openingHolder file a)) (openingAccount file) (accountWith 0) at-account)
+      (tabulate-below n (λ a. inUse (contractsIn file) (openingHolder file a)) (openingAccount file) at-account)
 
   pub opening-exchange : exchangeOf m ≡ opening file
   unfolding exchangeOf opening openingState
   opening-exchange =
       rw (
-        tabulate-ext (contractsIn file) (listingIn m) (openingListing file) noListing at-listing,
+        tabulate-below (contractsIn file) (listingIn m) (openingListing file) at-listing,
         accounts-in-use,
-        no-trades trades,
+        trades-none trades,
       )

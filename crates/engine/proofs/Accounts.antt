@@ -1,24 +1,20 @@
 -- Accounts in use written into the memory they were read from: one changed account changes its own place, and booked trades
 -- leave the room of every account as it was. Assumes nothing.
 use mathlib.Core.Bool.{Bool, true, false}
-use mathlib.Core.List.{List, [], _∷_, _++_, map, append-nil}
-use mathlib.Core.Path.{_≡_, refl, sym, ap, _∙_}
-use Prim.Native.Nat.{ℕ, zero, suc, _+_, _<_, _≤_}
+use mathlib.Core.List.{List, [], _∷_}
+use mathlib.Core.Path.{_≡_, refl, ap, _∙_}
+use Prim.Native.Nat.{ℕ, zero, suc, _<_, _≤_}
 use native.Mathlib.Nat.{le-of-suc-le-suc, not-suc-le-zero}
 use native.Mathlib.Omega.{arith}
-use lib.ListN.{length, getD, set, take, drop, length-set, length-take, take-append-drop}
-use lib.Seq.{drop-set-lt, take-set-lt, getD-set-same, getD-set-other, getD-take, take-set-le, length-take-le}
-use Rattle.laws.specs.Lists.{getD-map-lt, map-set}
-use Rattle.rules.specs.Exchange.{accountAt, holdingAt, noAccount, noHolding}
+use lib.ListN.{length, set, take, drop, length-set, take-append-drop}
+use lib.Seq.{drop-set-lt, length-take-le}
+use Rattle.rules.specs.Exchange.{accountAt, holdingAt}
 use Rattle.rules.specs.Holdings.{afterLeg, bookLeg, bookTrade, bookTrades, withHolding}
-use Rattle.rules.specs.Memory.{inUse, putAccount, putAccounts, putFirst}
+use Rattle.rules.specs.Memory.{inUse, putAccount, putAccounts, putFirst, used}
 use Rattle.rules.specs.declared.Account.{Account}
 use Rattle.rules.specs.declared.Holding.{Holding}
 use Rattle.rules.specs.declared.Trade.{Trade}
-
--- the accounts in use, their holdings in the contracts in use
-abbrev pub used : ℕ → ℕ → List Account → List Account
-used contracts n accounts = map (inUse contracts) (take n accounts)
+use Rattle.rules.proofs.InUse.{used-leg, used-set}
 
 -- ---- one account
 
@@ -59,27 +55,6 @@ same-room-set k (suc i) v (next e′ h′ s) h e l = next e′ h′ (same-room-s
 -- ---- booked trades
 
 module _ (k n : ℕ) where
-  pub used-set : (l : List Account) (i : ℕ) (v : Account) → i < n → used k n (set l i v) ≡ set (used k n l) i (inUse k v)
-  used-set l i v h = rw (take-set-lt n l i v h) (map-set (inUse k) (take n l) i v)
-
-  pub used-at : (l : List Account) (i : ℕ) → i < n → n ≤ length l → accountAt (used k n l) i ≡ inUse k (accountAt l i)
-  unfolding accountAt
-  used-at l i h m = getD-map-lt (inUse k) (take n l) i noAccount noAccount (rw (length-take-le n l m) h) ∙ ap (inUse k) (getD-take n l i noAccount h)
-
-  pub used-holding : (l : List Account) (a c : ℕ) → a < n → n ≤ length l → c < k → holdingAt (used k n l) a c ≡ holdingAt l a c
-  unfolding holdingAt
-  used-holding l a c h m hc = rw (used-at l a h m) (getD-take k (accountAt l a .holdings) c noHolding hc)
-
-  pub used-leg : (l : List Account) (a c : ℕ) (sell : Bool) (close lots : ℕ) → a < n → n ≤ length l → c < k
-      → bookLeg (used k n l) a c sell close lots ≡ used k n (bookLeg l a c sell close lots)
-  unfolding bookLeg
-  used-leg l a c sell close lots h m hc =
-      let hs = accountAt l a .holdings in
-      let v = afterLeg (holdingAt l a c) sell close lots in
-      let e : withHolding (inUse k (accountAt l a)) c v ≡ inUse k (withHolding (accountAt l a) c v) =
-      ap (λ (r : List Holding). record { balance = accountAt l a .balance; holdings = r }) (sym (take-set-lt k hs c v hc)) in
-      rw (used-holding l a c h m hc, used-at l a h m, e) (sym (used-set l a (withHolding (accountAt l a) c v) h))
-
   -- trades of accounts and contracts in use
   unfoldable pub TradesUsed : List Trade → Type 0
   TradesUsed [] = Unit {0}
@@ -97,7 +72,7 @@ module _ (k n : ℕ) where
       let lb : length b ≡ length l = length-leg l (t .buyer) (t .contract) false (t .buyclose) (t .lots) in
       let s = bookLeg b (t .seller) (t .contract) true (t .sellclose) (t .lots) in
       let ls : length s ≡ length b = length-leg b (t .seller) (t .contract) true (t .sellclose) (t .lots) in
-      rw (used-leg l (t .buyer) (t .contract) false (t .buyclose) (t .lots) (u .0 .1 .0) m (u .0 .0), used-leg b (t .seller) (t .contract) true (t .sellclose) (t .lots) (u .0 .1 .1) (omega arith) (u .0 .0))
+      rw (used-leg k n l (t .buyer) (t .contract) false (t .buyclose) (t .lots) (u .0 .1 .0) (u .0 .0), used-leg k n b (t .seller) (t .contract) true (t .sellclose) (t .lots) (u .0 .1 .1) (u .0 .0))
       (used-trades s ts (omega arith) (u .1))
 
   pub same-room-leg : {l rooms : List Account} (a c : ℕ) (sell : Bool) (close lots : ℕ) → SameRoom k n l rooms → a < n → c < k
@@ -126,4 +101,4 @@ module _ (k n : ℕ) where
   pub put-account-set : (l : List Account) (i : ℕ) (v : Account) → n ≤ length l → ((j : ℕ) → j < n → k ≤ length (accountAt l j .holdings)) → i < n
       → v .holdings ≡ accountAt l i .holdings → putAccounts (set (used k n l) i (inUse k v)) l ≡ set l i v
   put-account-set l i v m wide h e =
-      rw (← used-set l i v h) (same-room-put k (same-room-set k i v (same-room k n l m wide) h (ap (drop k) e) (ap length e)))
+      rw (← used-set k n l i v h) (same-room-put k (same-room-set k i v (same-room k n l m wide) h (ap (drop k) e) (ap length e)))

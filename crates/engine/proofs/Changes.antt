@@ -15,7 +15,6 @@ use Rattle.rules.specs.Exchange.{Listing, listingAt, noContract}
 use Rattle.rules.specs.Memory.{Memory, exchangeOf, listingIn, put, stepIn}
 use Rattle.rules.specs.Step.{carriedOut, phaseChanged, withPhase}
 use Rattle.rules.specs.declared.Command.the-variants.{Phase}
-use Rattle.rules.specs.declared.Contract.{Contract}
 use Rattle.rules.specs.declared.State.{State}
 use Rattle.engine.specs.Outcome.{isAbsent, memory, WellFormedState, OutcomeIs, refusedWith, acceptedWith, withPhaseAt}
 use Rattle.engine.specs.declared.answers.Outcome.{Outcome}

@@ -1,6 +1,6 @@
 -- What the type of a State says of its arrays, for the proofs of functions that take one. Assumes nothing.
 use mathlib.Core.List.{List, [], _∷_, map}
-use mathlib.Core.Path.{_≡_, sym, _∙_}
+use mathlib.Core.Path.{_≡_}
 use Prim.Native.Nat.{ℕ, zero, suc, _<_}
 use native.Mathlib.Nat.{le-of-suc-le-suc, not-suc-le-zero}
 use native.Mathlib.Omega.{arith}
@@ -10,16 +10,13 @@ use denote.Array.{each}
 use denote.Laws.{Is}
 use denote.Shadow.{shadow}
 use denote.Struct.Declared.{row}
-use lib.ListN.{length, getD, length-map}
+use lib.ListN.{length, getD}
 use mir.Val.{Val}
+use Rattle.laws.specs.Lists.{unmapped}
 use Rattle.rules.specs.Exchange.{accountAt, noAccount}
 use Rattle.rules.specs.Memory.{Declared}
 use Rattle.rules.specs.declared.State.{State}
 use Rattle.rules.proofs.State.{the-type}
-
--- the length of a list, from that of a function of its elements
-unmapped : {X Y : Type 0} (f : X → Y) (l : List X) (n : ℕ) → length (map f l) ≡ n → length l ≡ n
-unmapped f l n e = sym (length-map l f) ∙ e
 
 -- what an element's type says of it holds at each place of an array
 each-at : {A D : Type 0} (g : A → D) (own : D → List Val → Fml) (P : A → Type 0) → ((a : A) (v : Val) → shadow (own (g a) (v ∷ [])) → P a)

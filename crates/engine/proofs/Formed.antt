@@ -2,23 +2,23 @@
 -- values of the arrays and areas. Assumes nothing.
 use mathlib.Core.Bool.{true, false}
 use mathlib.Core.List.{List, [], _∷_}
-use mathlib.Core.Path.{_≡_, ap, _∙_}
-use Prim.Native.Nat.{ℕ, _+_, _-_, _*_, _<_, _≤_, _^_}
+use mathlib.Core.Path.{_≡_, ap}
+use Prim.Native.Nat.{ℕ, _-_, _*_, _<_, _≤_, _^_}
 use native.Mathlib.Omega.{arith}
 use borrow.Author.Tests.{leb-true}
 use lib.Dec.{leb}
 use lib.ListN.{length, getD, set}
 use Rattle.laws.specs.Bound.{Within, within-abs, within-le}
 use Rattle.laws.specs.Choice.{all, all-at, both-true}
+use Rattle.laws.specs.Chains.{passed}
 use Rattle.rules.specs.Bounds.{within, maxContracts, maxAccounts, maxResting, maxTrades}
 use Rattle.rules.specs.Exchange.{absent, accountAt, holdingAt, listingAt}
 use Rattle.rules.specs.Memory.{Memory, Declared, exchangeOf, inUse, listingIn, putAccounts, countsInRange, hasRoom, wellFormedMemory}
 use Rattle.rules.specs.WellFormed.{wellFormedContents}
 use Rattle.rules.specs.declared.Account.{Account}
 use Rattle.rules.specs.declared.State.{State}
+use Rattle.rules.proofs.InUse.{accounts-in-use, contracts-in-use, account-in-use, holding-in-use, listing-in-use}
 use Rattle.invariants.proofs.Clauses.{WellFormed, well-formed}
-use Rattle.accounting.proofs.Facts.{passed}
-use Rattle.settlement.proofs.InUse.{accounts-in-use, contracts-in-use, account-in-use, holding-in-use, listing-in-use}
 use Rattle.engine.specs.Outcome.{isAbsent, memory, WellFormedState}
 use Rattle.engine.proofs.Accounts.{put-account-set, same-room, same-room-put}
 use Rattle.engine.proofs.Tests.{place-below}

@@ -1,42 +1,27 @@
 -- Margin of an account of a well-formed state: it can be charged, and what is charged is small. Assumes nothing.
-use mathlib.Core.Bool.{Bool, true, false}
-use mathlib.Core.List.{[], _∷_}
+use mathlib.Core.Bool.{true, false}
 use mathlib.Core.Path.{_≡_, refl}
 use Prim.Native.Nat.{ℕ, zero, suc, _+_, _*_, _<_, _≤_, _^_}
 use native.Mathlib.Numerals.{add-one}
 use native.Mathlib.Omega.{arith}
-use borrow.Author.Tests.{leb-true}
-use lib.Dec.{leb}
 use lib.ListN.{length, getD}
-use Rattle.laws.specs.Choice.{both-true}
-use Rattle.rules.specs.Bounds.{tickMultiple, termsInRange}
 use Rattle.rules.specs.Exchange.{accountAt, holdingAt, noAccount, noContract, noHolding}
 use Rattle.rules.specs.Margin.{charged, chargedTo}
 use Rattle.rules.specs.Memory.{Memory, exchangeOf, listingIn}
-use Rattle.rules.specs.WellFormed.{contractInRange}
 use Rattle.rules.specs.declared.Contract.{Contract}
-use Rattle.accounting.proofs.Facts.{passed}
+use Rattle.rules.proofs.Terms.{Terms, terms, terms-passed}
 use Rattle.invariants.proofs.Clauses.{HoldingOk, ListingOk}
-use Rattle.invariants.proofs.Ticks.{Terms, terms, multiple}
 use Rattle.settlement.specs.Charge.{ChargeTerms, ChargeableIn, Chargeable}
 use Rattle.settlement.proofs.Charging.{chargedAt, charged-more, charged-small}
 use Rattle.engine.proofs.Formed.{Formed, contracts-count, accounts-count, listing-at, holding-at}
-
--- a contract in range, as margin and limits read it
-terms-of : (c : Contract) → contractInRange c ≡ true → Terms c
-unfolding contractInRange
-terms-of c h = terms c (passed (termsInRange c) (leb (c .phase) 3 ∷ tickMultiple (c .tick) (c .last) ∷ []) h .0)
 
 charge-terms : (c : Contract) → Terms c → ChargeTerms c
 charge-terms c t =
     record {
       multiplier = t .multiplier-high;
-      reference = multiple (c .tick) (c .reference) (t .reference) .high;
-      rate = leb-true _ _ (both-true (leb 1 (c .rate)) (leb (c .rate) 10_000) (t .rate) .1);
+      reference = t .reference .high;
+      rate = t .rate-high;
     }
-
-limit-high : (c : Contract) → Terms c → c .limit ≤ 100_000
-limit-high c t = leb-true _ _ (both-true (leb 1 (c .limit)) (leb (c .limit) 100_000) (t .limit) .1)
 
 module _ (m : Memory) (f : Formed m) where
   -- the terms of a contract in use
@@ -44,7 +29,7 @@ module _ (m : Memory) (f : Formed m) where
   unfolding listingIn
   contract-terms c l =
       let k : ListingOk (length (exchangeOf m .accounts)) (exchangeOf m .next) (listingIn m c) = rw (listing-at m f c l) at (f .contents .listing c (rw (contracts-count m f) l)) in
-      terms-of (getD (m .state .contracts) c noContract) (k .contract)
+      terms _ (terms-passed (getD (m .state .contracts) c noContract) (k .contract))
 
   module _ (a : ℕ) (here : a < m .state .accountcount) where
     in-contract : (c : ℕ) → c < m .state .contractcount
@@ -61,8 +46,8 @@ module _ (m : Memory) (f : Formed m) where
           offers = f .sells-high c l;
           buyroom = omega (arith, f .buys-high c l, f .buys-room);
           sellroom = omega (arith, f .sells-high c l, f .sells-room);
-          long = omega (arith, k .opens false, limit-high (getD (m .state .contracts) c noContract) t);
-          short = omega (arith, k .opens true, limit-high (getD (m .state .contracts) c noContract) t);
+          long = omega (arith, k .opens false, t .limit-high);
+          short = omega (arith, k .opens true, t .limit-high);
         }
 
     pub chargeable : Chargeable (m .state) (m .buys) (m .sells) a

@@ -1,5 +1,5 @@
 -- Deposit and withdraw: the code's tests are the rules' refusals, and the balance changed is the rules' state. Assumes nothing.
-use mathlib.Core.Bool.{Bool, true, false, not, _||_}
+use mathlib.Core.Bool.{true, false, _||_}
 use mathlib.Core.List.{List}
 use mathlib.Core.Path.{_≡_, refl, ap, _∙_}
 use Prim.Native.Nat.{ℕ, _-_, _*_, _<_, _≤_, _^_}

@@ -1,13 +1,13 @@
 -- Cancel and pull: the code's tests are the rules' refusals, and the queues without the orders taken out are the rules' state.
 -- Assumes nothing.
-use mathlib.Core.Bool.{Bool, true, false, not, _||_, true≢false, false≢true}
+use mathlib.Core.Bool.{Bool, true, false, not}
 use mathlib.Core.List.{List, [], _∷_, _++_, append-assoc}
 use mathlib.Core.Logic.{_⊎_, _≢_, ⊎-elim}
 use mathlib.Core.Path.{_≡_, refl, sym, ap, _∙_}
 use Prim.Native.Nat.{ℕ, zero, suc, _+_, _-_, _*_, _<_, _≤_}
-use native.Mathlib.Nat.{le-of-suc-le-suc, not-suc-le-zero, eq-or-lt-of-le, mul-le-mul-left}
+use native.Mathlib.Nat.{le-of-suc-le-suc, not-suc-le-zero, eq-or-lt-of-le}
 use native.Mathlib.Omega.{arith}
-use borrow.Author.Tests.{eq-eqb, ne-eqb, eqb-true}
+use borrow.Author.Tests.{eq-eqb, ne-eqb}
 use lib.Dec.{eqb}
 use lib.ListN.{length, getD, set, drop}
 use Rattle.laws.specs.Choice.{pick, allOf, allOf-at}
@@ -16,7 +16,7 @@ use Rattle.areas.specs.Lists.{removeAt}
 use Rattle.areas.proofs.Lists.{length-removeAt}
 use Rattle.rules.specs.Answers.{_when_, cancelRefusals, codeOf, firstOf, noSuchOrder, numbered, ofAnother, pullRefusals, refusals, removalRefused, restingOrder}
 use Rattle.rules.specs.Bounds.{maxLots}
-use Rattle.rules.specs.Exchange.{Listing, listingAt, lotsWhere, noContract, noListing, noOrder, own}
+use Rattle.rules.specs.Exchange.{Listing, listingAt, lotsWhere, noContract, noListing, noOrder}
 use Rattle.rules.specs.Memory.{Memory, exchangeOf, listingIn, orderFrom, put, putQueue, queueIn, stepIn}
 use Rattle.rules.specs.Places.{firstWhere, indexOf}
 use Rattle.rules.specs.Step.{Stepped, answerOf, carriedOut, cancelled, hasNumber, isOf, listingWithout, pulled, removed, withListing, without}

@@ -1,31 +1,24 @@
 -- One contract of a well-formed state as the code reads it: the queue of a side lies in the side's area, sorted, its orders are of
 -- accounts in use, and what these accounts hold and have resting is small. Assumes nothing.
 use mathlib.Core.Bool.{Bool, true, false, not}
-use mathlib.Core.List.{List, [], _∷_}
+use mathlib.Core.List.{List}
 use mathlib.Core.Path.{_≡_, ap}
 use Prim.Native.Nat.{ℕ, _+_, _*_, _<_, _≤_}
 use native.Mathlib.Omega.{arith}
-use lib.Dec.{leb}
 use lib.ListN.{length, getD}
 use Rattle.laws.specs.Choice.{allOf, allOf-at}
 use Rattle.rules.specs.Answers.{mark}
-use Rattle.rules.specs.Bounds.{termsInRange, tickMultiple}
+use Rattle.rules.specs.Bounds.{termsInRange}
 use Rattle.rules.specs.Exchange.{Exchange, Listing, holdingAt, listingAt, noContract, noOrder, opposite, own, resting}
 use Rattle.rules.specs.Memory.{Memory, exchangeOf, listingIn, queueIn}
-use Rattle.rules.specs.WellFormed.{contractInRange, orderInRange, sorted}
-use Rattle.rules.specs.declared.Contract.{Contract}
+use Rattle.rules.specs.WellFormed.{orderInRange, sorted}
 use Rattle.rules.specs.declared.Order.{Order}
 use Rattle.rules.proofs.Codecs.{length-queue}
-use Rattle.accounting.proofs.Facts.{passed}
-use Rattle.terms.proofs.Ranges.{term-bounds}
+use Rattle.rules.proofs.Terms.{terms, terms-passed}
 use Rattle.book.specs.Bounds.{HoldingWithin}
 use Rattle.invariants.proofs.Clauses.{HoldingOk, ListingOk, order-ok}
 use Rattle.engine.specs.Insertion.{QueueRoom, sideArea, sideCount}
 use Rattle.engine.proofs.Formed.{Formed, accounts-count, contracts-count, holding-at, listing-at}
-
-terms-of : (c : Contract) → contractInRange c ≡ true → termsInRange c ≡ true
-unfolding contractInRange
-terms-of c h = passed (termsInRange c) (leb (c .phase) 3 ∷ tickMultiple (c .tick) (c .last) ∷ []) h .0
 
 module _ (m : Memory) (f : Formed m) (c : ℕ) (h : c < m .state .contractcount) where
   abbrev x : Exchange
@@ -77,10 +70,10 @@ module _ (m : Memory) (f : Formed m) (c : ℕ) (h : c < m .state .contractcount)
   contract-is = ap (λ (l : Listing). l .contract) (listing-at m f c h)
 
   pub contract-terms : termsInRange (getD (m .state .contracts) c noContract) ≡ true
-  contract-terms = rw (← contract-is) (terms-of (listingAt x c .contract) (listing .contract))
+  contract-terms = rw (← contract-is) (terms-passed (listingAt x c .contract) (listing .contract))
 
   limit-high : listingAt x c .contract .limit ≤ 100_000
-  limit-high = rw contract-is (term-bounds (getD (m .state .contracts) c noContract) contract-terms .limit)
+  limit-high = rw contract-is (terms (getD (m .state .contracts) c noContract) contract-terms .limit-high)
 
   -- ---- what an account in use holds and has resting
 

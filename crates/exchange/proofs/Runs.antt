@@ -6,7 +6,7 @@ use Prim.Native.Nat.{ℕ, zero, suc, _+_, _*_, _/_}
 use native.Mathlib.Numerals.{add-one}
 use lib.ListN.{length}
 use Rattle.laws.specs.Choice.{pick}
-use Rattle.laws.specs.Tabulate.{tabulate}
+use Rattle.laws.specs.Tabulate.{tabulate, tabulate-last}
 use Rattle.rules.specs.Command.{commandOf}
 use Rattle.rules.specs.Condition3.{run}
 use Rattle.rules.specs.DayFile.{recordFrom}
@@ -29,11 +29,6 @@ run-declared : (m : Memory) (rs : List Record) → Declared (m .state) → Decla
 unfolding run
 run-declared m [] d = d
 run-declared m (r ∷ rs) d = run-declared (respond m r .memory) rs (declared-kept m r d)
-
-tabulate-snoc : {A : Type 0} (n : ℕ) (f : ℕ → A) → tabulate (suc n) f ≡ tabulate n f ++ (f n ∷ [])
-unfolding tabulate
-tabulate-snoc zero f = refl
-tabulate-snoc {A} (suc n) f = ap (λ (l : List A). f 0 ∷ l) (tabulate-snoc n (λ i. f (suc i)))
 
 -- a state that is not well formed stays as it is
 pub run-refused : (m : Memory) (rs : List Record) → wellFormedMemory m ≡ false → run m rs ≡ m
@@ -60,7 +55,7 @@ module _ (m : Memory) (d : Declared (m .state)) (bytes : List ℕ) where
     unfolding firstRecords respond
     one-more k m′ e =
         sym e
-        ∙ sym (rw (add-one k, tabulate-snoc k (λ i. recordFrom bytes (24 * i)), run-snoc m (tabulate k (λ i. recordFrom bytes (24 * i))) (recordFrom bytes (24 * k)), run-keeps m (tabulate k (λ i. recordFrom bytes (24 * i))) w))
+        ∙ sym (rw (add-one k, tabulate-last k (λ i. recordFrom bytes (24 * i)), run-snoc m (tabulate k (λ i. recordFrom bytes (24 * i))) (recordFrom bytes (24 * k)), run-keeps m (tabulate k (λ i. recordFrom bytes (24 * i))) w))
 
     pub all-ran : (k : ℕ) (m′ : Memory) → k ≡ length bytes / 24 → m′ ≡ run m (firstRecords bytes k) → RanIs m bytes m′
     all-ran k m′ e h = record { memory = subst (λ (n : ℕ). m′ ≡ run m (firstRecords bytes n)) e h; money = λ o. money-is-kept m d o (recordsIn bytes) }

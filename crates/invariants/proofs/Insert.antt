@@ -8,6 +8,7 @@ use borrow.Author.Tests.{eqb-true, leb-true, leb-false}
 use lib.Dec.{leb, eqb}
 use lib.ListN.{length, set, length-set, length-append}
 use Rattle.laws.specs.Choice.{pick, allOf, allOf-append, true-both}
+use Rattle.laws.specs.Lists.{at-set}
 use Rattle.rules.specs.Answers.{codeOf, isGoodForDay, mark, listingOf, takerOf, tradesNeeded, fillableLots}
 use Rattle.rules.specs.Bounds.{maxResting, maxTrades}
 use Rattle.rules.specs.Exchange.{Exchange, Listing, listingAt, holdingAt, placeOf, own, opposite, withQueues, noListing, restingOpens, restingCloses}
@@ -33,7 +34,6 @@ use Rattle.invariants.proofs.Legs.{resting-cons, KeptAt}
 use Rattle.invariants.proofs.Numbers.{occurs, uses, usesIn, once-count, once-changed, next-unused}
 use Rattle.invariants.proofs.SweptHoldings.{SweptKept, swept-kept, fewer-by}
 use Rattle.invariants.proofs.SweptTrades.{ofContract, swept-in-range, swept-contract, other-holding}
-use Rattle.invariants.proofs.Tests.{at-set}
 
 -- ---- limits and coverage with the arriving lots in front of the own side's queue
 

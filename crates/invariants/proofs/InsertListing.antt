@@ -8,6 +8,7 @@ use borrow.Author.Tests.{lt-ltb}
 use lib.Dec.{leb, ltb}
 use lib.ListN.{length}
 use Rattle.laws.specs.Choice.{allOf, allOf-imp}
+use Rattle.laws.specs.Chains.{passed, join}
 use Rattle.rules.specs.Answers.{isGoodForDay, isLimit, mark, listingOf, takerOf}
 use Rattle.rules.specs.Bounds.{onTick, tickMultiple, termsInRange, allowedToday, dayLow, dayHigh}
 use Rattle.rules.specs.Exchange.{Exchange, placeOf, own, opposite}
@@ -22,13 +23,12 @@ use Rattle.rules.specs.declared.PriceCondition.the-variants.{Limit, Market, Bes
 use Rattle.rules.specs.declared.Trade.{Trade}
 use Rattle.rules.proofs.Prices.{swept-allowed, last-test}
 use Rattle.rules.proofs.Rest.{rest-sorted, uncrossedFrom, entered-uncrossed}
+use Rattle.rules.proofs.Terms.{multiple, multiple-test}
 use Rattle.invariants.proofs.Carry.{Allows, orders-carried}
 use Rattle.invariants.proofs.Clauses.{order-ok, order-test, ListingOk, WellFormed}
 use Rattle.invariants.proofs.InsertAccepted.{Passes}
 use Rattle.invariants.proofs.InsertQueues.{SidesOk, listing-sides, sides-listing, rested-all, rested-sorted, rest-orders}
-use Rattle.accounting.proofs.Facts.{passed}
-use Rattle.invariants.proofs.Tests.{join}
-use Rattle.invariants.proofs.Ticks.{multiple, multiple-test, allowed-multiple}
+use Rattle.invariants.proofs.Ticks.{allowed-multiple}
 
 -- ---- the contract with another last price
 

@@ -1,4 +1,3 @@
-pub mod Tests
 pub mod Clauses
 pub mod Accepted
 pub mod Replay

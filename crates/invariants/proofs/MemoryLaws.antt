@@ -10,13 +10,14 @@ use borrow.Author.Tests.{leb-true, leb-false}
 use lib.Dec.{leb}
 use lib.ListN.{length, getD, take, drop, length-take, length-map, drop-of-length-le, List·getD-append, List·getD-map}
 use lib.Seq.{take-at, take-all}
-use Rattle.laws.specs.Tabulate.{tabulate, length-tabulate, getD-tabulate, tabulate-eq}
+use Rattle.laws.specs.Tabulate.{tabulate, length-tabulate, tabulate-eq}
 use Rattle.rules.specs.Bounds.{maxResting}
 use Rattle.rules.specs.Exchange.{Exchange, Listing, listingAt, accountAt, own, noListing, noAccount, noContract}
 use Rattle.rules.specs.Memory.{Memory, Declared, queueIn, recordedTrades, listingIn, inUse, exchangeOf, putQueues, putTrades, putFirst, putAccounts, putState, put}
 use Rattle.rules.specs.declared.Account.{Account}
 use Rattle.rules.specs.declared.Holding.{Holding}
 use Rattle.rules.proofs.Codecs.{length-queue, putQueues-same, length-putQueues, queue-putQueues, length-trades, put-trades, trades-put, length-putTrades}
+use Rattle.rules.proofs.InUse.{listing-in-use}
 use Rattle.accounting.proofs.StepShape.{SameShape}
 use Rattle.invariants.proofs.Clauses.{Counted}
 use Rattle.invariants.proofs.MemoryRoom.{CountsOk, RoomOk}
@@ -184,10 +185,6 @@ accounts-same n (suc k) (r ∷ rooms) =
     (accounts-same n k rooms)
 
 module _ (m : Memory) (counts : CountsOk (m .state)) (room : RoomOk m) (arrays : Declared (m .state)) where
-  listing-at : (c : ℕ) → c < m .state .contractcount → listingAt (exchangeOf m) c ≡ listingIn m c
-  unfolding listingAt exchangeOf
-  listing-at c l = getD-tabulate (m .state .contractcount) c (listingIn m) noListing l
-
   contracts-put : putFirst (map (λ l. l .contract) (exchangeOf m .listings)) (m .state .contracts) ≡ m .state .contracts
   unfolding exchangeOf listingIn
   contracts-put =
@@ -227,13 +224,13 @@ module _ (m : Memory) (counts : CountsOk (m .state)) (room : RoomOk m) (arrays :
   unfolding listingIn
   buy-area =
       putQueues-same (m .buys) (m .state .buys) (λ c. listingAt (exchangeOf m) c .buys) (m .state .contractcount)
-      (λ c l. ap (λ (n : Listing). n .buys) (listing-at c l)) (counts .buys) (room .buys)
+      (λ c l. ap (λ (n : Listing). n .buys) (listing-in-use m c l)) (counts .buys) (room .buys)
 
   sell-area : putQueues (m .sells) (m .state .sells) (λ c. listingAt (exchangeOf m) c .sells) (m .state .contractcount) ≡ m .sells
   unfolding listingIn
   sell-area =
       putQueues-same (m .sells) (m .state .sells) (λ c. listingAt (exchangeOf m) c .sells) (m .state .contractcount)
-      (λ c l. ap (λ (n : Listing). n .sells) (listing-at c l)) (counts .sells) (room .sells)
+      (λ c l. ap (λ (n : Listing). n .sells) (listing-in-use m c l)) (counts .sells) (room .sells)
 
   trade-area : putTrades (m .trades) (m .state .tradecount) (exchangeOf m .trades) ≡ m .trades
   unfolding exchangeOf

@@ -8,12 +8,11 @@ use borrow.Author.Tests.{leb-true, le-leb}
 use lib.Dec.{leb}
 use lib.ListN.{length, getD}
 use Rattle.laws.specs.Choice.{all, all-at, all-true, both-true, true-both}
+use Rattle.laws.specs.Chains.{passed, join}
 use Rattle.rules.specs.Bounds.{within, maxContracts, maxAccounts, maxResting, maxTrades}
 use Rattle.rules.specs.Memory.{Memory, queueStride, tradeStride, exchangeOf, countsInRange, hasRoom, wellFormedMemory}
 use Rattle.rules.specs.WellFormed.{wellFormedContents}
 use Rattle.rules.specs.declared.State.{State}
-use Rattle.accounting.proofs.Facts.{passed}
-use Rattle.invariants.proofs.Tests.{join}
 
 -- the counts of a state
 pub record CountsOk (s : State) : Type 0 where

@@ -5,6 +5,7 @@ use Prim.Native.Nat.{ℕ, _<_, _≤_}
 use native.Mathlib.Nat.{le-refl}
 use native.Mathlib.Omega.{arith}
 use lib.ListN.{length, set, length-set}
+use Rattle.laws.specs.Lists.{at-set}
 use Rattle.rules.specs.Bounds.{maxResting}
 use Rattle.rules.specs.Exchange.{Exchange, Listing, listingAt, holdingAt, noListing, own}
 use Rattle.rules.specs.Step.{withListing}
@@ -12,7 +13,6 @@ use Rattle.rules.specs.declared.Holding.{Holding}
 use Rattle.invariants.proofs.Carry.{Allows, trades-carried}
 use Rattle.invariants.proofs.Clauses.{ListingOk, HoldingOk, WellFormed, Counted}
 use Rattle.invariants.proofs.Numbers.{usesIn, once-count, once-changed}
-use Rattle.invariants.proofs.Tests.{at-set}
 use Rattle.rules.specs.WellFormed.{allNumbers}
 
 module _ (x : Exchange) (k : WellFormed x) (c : ℕ) (there : c < length (x .listings)) (m : Listing)

@@ -9,19 +9,17 @@ use lib.Dec.{leb, eqb}
 use lib.IntN.{pos}
 use lib.ListN.{length, getD, replicate}
 use Rattle.laws.specs.Choice.{all, all-at, both-true}
+use Rattle.laws.specs.Chains.{passed, join}
 use Rattle.rules.specs.Bounds.{within, termsInRange, tickMultiple, maxContracts, maxAccounts, maxBalance}
 use Rattle.rules.specs.DayFile.{maxCommands, u16At, contractsIn, contractPlace, accountsIn, commandsIn, commandPlace, contractFrom, contractSound, balanceFrom, accountSound, sound, openingListing, openingAccount, opening}
 use Rattle.rules.specs.Exchange.{noHolding}
 use Rattle.rules.specs.Holdings.{startHolding, startAccount}
 use Rattle.rules.specs.WellFormed.{contractInRange, wellFormedContents}
-use Rattle.rules.specs.declared.Contract.{Contract}
 use Rattle.rules.specs.declared.Holding.{Holding}
-use Rattle.accounting.proofs.Facts.{passed}
+use Rattle.rules.proofs.Terms.{terms, multiple-test}
 use Rattle.invariants.proofs.Clauses.{well-formed-test}
 use Rattle.invariants.proofs.FreshDay.{fresh-day, fresh-counted}
 use Rattle.invariants.proofs.Keeps.{Sound}
-use Rattle.invariants.proofs.Tests.{join}
-use Rattle.invariants.proofs.Ticks.{terms}
 
 no-lots : (n c : ℕ) → getD (replicate n noHolding) c noHolding ≡ noHolding
 no-lots zero c = refl
@@ -56,7 +54,7 @@ module _ (file : List ℕ) (h : sound file ≡ true) where
       let t = both-true (termsInRange (contractFrom file (contractPlace c))) (eqb (u16At file (contractPlace c + 18)) 0) k .0 in
       join (termsInRange (contractFrom file (contractPlace c)))
       (leb 0 3 ∷ tickMultiple (contractFrom file (contractPlace c) .tick) (contractFrom file (contractPlace c) .reference) ∷ [])
-      (t, (le-leb 0 3 (omega arith), terms (contractFrom file (contractPlace c)) t .reference))
+      (t, (le-leb 0 3 (omega arith), multiple-test _ _ (terms (contractFrom file (contractPlace c)) t .reference)))
 
   start : (a : ℕ) → startAccount (openingAccount file a) ≡ openingAccount file a
   unfolding openingAccount

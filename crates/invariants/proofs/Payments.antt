@@ -12,7 +12,7 @@ use lib.ListN.{length, getD, set, length-set, List·getD-map}
 use lib.Seq.{map-set-same}
 use Rattle.laws.specs.Bound.{within-abs, within-d, abs-within}
 use Rattle.laws.specs.Choice.{either-false}
-use Rattle.laws.specs.Lists.{map-set}
+use Rattle.laws.specs.Lists.{map-set, at-set}
 use Rattle.laws.specs.Ring.{d, d-ind, posPart, negPart, split, ring, ltZ-d}
 use Rattle.rules.specs.Answers.{depositRefusals, withdrawRefusals, codeOf, refusals, liftsTooHigh, amountRefused}
 use Rattle.rules.specs.Bounds.{maxBalance, maxDayProfit}
@@ -27,7 +27,6 @@ use Rattle.invariants.proofs.Accepted.{failed, present}
 use Rattle.invariants.proofs.Carry.{trades-carried}
 use Rattle.invariants.proofs.Clauses.{WellFormed, Counted}
 use Rattle.invariants.proofs.Replay.{lotsOf, lotsOnly, same-holdings, holdings-same, book-same, never-same}
-use Rattle.invariants.proofs.Tests.{at-set}
 
 module _ (x : Exchange) (k : WellFormed x) (a : ℕ) (there : a < length (x .accounts)) (balance : ℤ)
     (bound : natAbs balance ≤ maxBalance + x .settlements * maxDayProfit) where

@@ -9,6 +9,7 @@ use borrow.Author.Tests.{leb-true, leb-false, le-leb, ne-eqb, not-false}
 use lib.Dec.{leb, eqb}
 use lib.ListN.{length}
 use Rattle.laws.specs.Choice.{both-false}
+use Rattle.laws.specs.Chains.{passed, join}
 use Rattle.rules.specs.Answers.{codeOf, refusals, phaseRefusals, changeListed}
 use Rattle.rules.specs.Bounds.{termsInRange, tickMultiple, allowedToday, dayLow, dayHigh}
 use Rattle.rules.specs.Exchange.{Exchange, Listing, placeOf, own}
@@ -21,8 +22,6 @@ use Rattle.invariants.proofs.Carry.{Allows, orders-carried}
 use Rattle.invariants.proofs.Clauses.{ListingOk, WellFormed, Counted}
 use Rattle.invariants.proofs.Numbers.{usesIn}
 use Rattle.invariants.proofs.OneListing.{relisted-keeps, relisted-counted}
-use Rattle.accounting.proofs.Facts.{passed}
-use Rattle.invariants.proofs.Tests.{join}
 
 -- a listed change leads to one of the four states
 known : (from to : ℕ) → changeListed from to ≡ true → to ≤ 3

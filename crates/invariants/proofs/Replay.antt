@@ -3,7 +3,7 @@
 use mathlib.Core.Bool.{Bool, true, false, false≢true}
 use mathlib.Core.List.{List, [], _∷_, map}
 use mathlib.Core.Path.{_≡_, refl, sym, ap, ap₂, _∙_}
-use Prim.Native.Nat.{ℕ, zero, suc, _+_, _-_}
+use Prim.Native.Nat.{ℕ, _+_, _-_}
 use native.Mathlib.Omega.{arith}
 use borrow.Author.Tests.{eqb-true, eq-eqb}
 use lib.Dec.{eqb}
@@ -11,13 +11,12 @@ use lib.IntN.{pos}
 use lib.ListN.{length, getD, set, drop, List·getD-map}
 use Rattle.laws.specs.Choice.{pick, both-true, true-both}
 use Rattle.laws.specs.Lists.{map-set}
+use Rattle.laws.specs.Chains.{passed, join}
 use Rattle.rules.specs.Exchange.{accountAt, holdingAt, noAccount, noHolding}
 use Rattle.rules.specs.Holdings.{withLong, withShort, afterLeg, bookLeg, bookBuyer, bookSeller, bookTrade, bookTrades, legCovered, neverBelowZero, sameLots, sameHoldings}
 use Rattle.rules.specs.declared.Account.{Account}
 use Rattle.rules.specs.declared.Holding.{Holding}
 use Rattle.rules.specs.declared.Trade.{Trade}
-use Rattle.accounting.proofs.Facts.{passed}
-use Rattle.invariants.proofs.Tests.{join}
 
 -- ---- lots now, and nothing else
 

@@ -10,6 +10,7 @@ use lib.Dec.{leb, eqb}
 use lib.ListN.{length, getD, List·getD-map}
 use Rattle.laws.specs.Choice.{pick, allOf, allOf-imp, both-true, true-both}
 use Rattle.laws.specs.Sums.{sumOf}
+use Rattle.laws.specs.Chains.{passed, join}
 use Rattle.rules.specs.Answers.{codeOf, refusals, settleRefusals}
 use Rattle.rules.specs.Bounds.{within, tickMultiple, termsInRange, maxPrice, maxSettlements}
 use Rattle.rules.specs.Exchange.{Exchange, listingAt, accountAt, holdingAt, own, noHolding}
@@ -24,13 +25,12 @@ use Rattle.rules.specs.declared.Holding.{Holding}
 use Rattle.rules.specs.declared.Order.{Order}
 use Rattle.rules.specs.declared.Trade.{Trade}
 use Rattle.rules.proofs.Prices.{middle-any}
+use Rattle.rules.proofs.Terms.{Terms, terms, terms-test, Multiple}
 use Rattle.accounting.proofs.ProfitBound.{settled-balance-bound}
 use Rattle.invariants.proofs.Accepted.{failed}
 use Rattle.invariants.proofs.Clauses.{order-ok, ListingOk, TradeOk, trade-ok, WellFormed, Counted, well-formed-test}
-use Rattle.accounting.proofs.Facts.{passed}
 use Rattle.invariants.proofs.FreshDay.{fresh-counted, fresh-day}
-use Rattle.invariants.proofs.Tests.{join}
-use Rattle.invariants.proofs.Ticks.{Terms, terms, terms-test, Multiple, multiple, multiple-test, allowed-multiple, weighted-multiple}
+use Rattle.invariants.proofs.Ticks.{allowed-multiple, weighted-multiple}
 
 -- ---- the settlement price
 
@@ -88,11 +88,11 @@ module _ (x : Exchange) (c : ℕ) (k : ListingOk (length (x .accounts)) (x .next
   price-from : (ts : List Trade) (buys sells : List Order) → allOf ownTrade ts ≡ true → listingAt x c .buys ≡ buys → listingAt x c .sells ≡ sells →
       Multiple tick (priceFrom tick (listingAt x c .contract .reference) ts buys sells)
   unfolding priceFrom quotedPrice
-  price-from [] [] sells h b s = multiple tick _ (its-terms .reference)
-  price-from [] (p ∷ ps) [] h b s = multiple tick _ (its-terms .reference)
+  price-from [] [] sells h b s = its-terms .reference
+  price-from [] (p ∷ ps) [] h b s = its-terms .reference
   price-from [] (p ∷ ps) (q ∷ qs) h b s =
       middle-any (Multiple tick) (p .price) (q .price) _ (first-multiple false p ps b) (first-multiple true q qs s)
-      (multiple tick _ (its-terms .reference))
+      (its-terms .reference)
   price-from (t ∷ ts) buys sells h b s = weighted-multiple tick (t ∷ ts) (its-terms .tick-low) (some-lots t ts h) (priced (t ∷ ts) h)
 
   pub price-multiple : allOf (tradeInRange x) (x .trades) ≡ true → Multiple tick (settlementPrice x c)
@@ -115,10 +115,12 @@ contract-settled c price h m =
             multiplier-high = t .multiplier-high;
             tick-low = t .tick-low;
             tick-high = t .tick-high;
-            reference = multiple-test (c .tick) price m;
+            reference = m;
             band = t .band;
-            limit = t .limit;
-            rate = t .rate;
+            limit-low = t .limit-low;
+            limit-high = t .limit-high;
+            rate-low = t .rate-low;
+            rate-high = t .rate-high;
           }),
       (le-leb 0 3 (omega arith), p .1 .1),
     )

@@ -6,6 +6,7 @@ use mathlib.Core.Path.{_≡_}
 use Prim.Native.Nat.{ℕ, _-_, _<_, _≤_, min}
 use native.Mathlib.Omega.{arith}
 use Rattle.laws.specs.Choice.{pick, allOf, both-true}
+use Rattle.laws.specs.Chains.{join}
 use Rattle.rules.specs.Exchange.{resting}
 use Rattle.rules.specs.Holdings.{bookTrade, bookTrades, legCovered, bookBuyer, neverBelowZero}
 use Rattle.rules.specs.Matching.{withLots, remainder, Swept, sweep, tradedLots, tradeWith}
@@ -21,7 +22,6 @@ use Rattle.rules.proofs.Holdings.{never-nil}
 use Rattle.rules.proofs.Sweep.{trade-lots, partFilled, filled, sweep-ind}
 use Rattle.invariants.proofs.Clauses.{order-ok}
 use Rattle.invariants.proofs.Legs.{resting-cons, Kept, buyer-covered, seller-covered, trade-kept}
-use Rattle.invariants.proofs.Tests.{join}
 
 -- the two queues by side: own and opposite
 abbrev pub KeptBy : Bool → ℕ → ℕ → ℕ → List Account → List Order → List Order → Type 0

@@ -1,5 +1,6 @@
 -- The definitions that the crates share, each with its laws. Assumes nothing.
 pub mod Bound
+pub mod Chains
 pub mod Choice
 pub mod Lists
 pub mod Ring

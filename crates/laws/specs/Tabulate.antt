@@ -1,8 +1,9 @@
 -- The list of a function's values at 0, 1, .. : for rules that say what stands at each place. Assumes nothing.
 use mathlib.Core.Path.{_≡_, refl, sym, ap}
-use mathlib.Core.List.{List, [], _∷_, map}
+use mathlib.Core.List.{List, [], _∷_, _++_, map}
 use Prim.Native.Nat.{ℕ, zero, suc, _<_, _≤_}
 use native.Mathlib.Nat.{le-of-suc-le-suc, not-suc-le-zero}
+use native.Mathlib.Omega.{arith}
 use lib.ListN.{length, getD, take}
 use lib.Seq.{ext-getD, getD-take, length-take-le}
 
@@ -27,10 +28,19 @@ module _ {A : Type 0} where
   pub tabulate-eq : (n : ℕ) (f : ℕ → A) (l : List A) (d : A) → length l ≡ n → ((i : ℕ) → i < n → getD l i d ≡ f i) → l ≡ tabulate n f
   tabulate-eq n f l d e h = ext-getD d l (tabulate n f) (rw length-tabulate e) (λ i k. let k′ : i < n = rw e at k in rw (getD-tabulate n i f d k′) (h i k′))
 
-  pub tabulate-ext : (n : ℕ) (f g : ℕ → A) → ((i : ℕ) → f i ≡ g i) → tabulate n f ≡ tabulate n g
+  -- functions that agree on the places have one table
+  pub tabulate-below : (n : ℕ) (f g : ℕ → A) → ((i : ℕ) → i < n → f i ≡ g i) → tabulate n f ≡ tabulate n g
   unfolding tabulate
-  tabulate-ext zero f g e = refl
-  tabulate-ext (suc n) f g e = rw (e 0, tabulate-ext n (λ i. f (suc i)) (λ i. g (suc i)) (λ i. e (suc i)))
+  tabulate-below zero f g e = refl
+  tabulate-below (suc n) f g e = rw (e 0 (omega arith), tabulate-below n (λ i. f (suc i)) (λ i. g (suc i)) (λ i l. e (suc i) (omega arith)))
+
+  pub tabulate-ext : (n : ℕ) (f g : ℕ → A) → ((i : ℕ) → f i ≡ g i) → tabulate n f ≡ tabulate n g
+  tabulate-ext n f g e = tabulate-below n f g (λ i l. e i)
+
+  pub tabulate-last : (n : ℕ) (f : ℕ → A) → tabulate (suc n) f ≡ tabulate n f ++ (f n ∷ [])
+  unfolding tabulate
+  tabulate-last zero f = refl
+  tabulate-last (suc n) f = ap (λ (l : List A). f 0 ∷ l) (tabulate-last n (λ i. f (suc i)))
 
   -- the table of a list's own values is its front
   pub tabulate-take : (n : ℕ) (l : List A) (d : A) → n ≤ length l → tabulate n (λ i. getD l i d) ≡ take n l

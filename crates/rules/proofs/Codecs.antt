@@ -1,7 +1,7 @@
 -- Orders and trades as they lie in the areas: their codecs, and the laws of records written over as many places as were in
 -- use, for a queue and for the day's trades. Assumes nothing.
 use mathlib.Core.Bool.{Bool, true, false}
-use mathlib.Core.List.{List, _++_, append-assoc, append-nil}
+use mathlib.Core.List.{List, [], _++_, append-assoc, append-nil}
 use mathlib.Core.Logic.{_⊎_, inl, inr, ⊎-elim}
 use mathlib.Core.Path.{_≡_, refl, sym, ap, _∙_}
 use Prim.Native.Nat.{ℕ, zero, suc, _+_, _-_, _*_, _<_, _≤_, max}
@@ -13,7 +13,7 @@ use lib.ListN.{length, getD, take, drop, replicate, length-append, length-take, 
 use lib.Seq.{getD-drop}
 use Rattle.laws.specs.Tabulate.{tabulate, tabulate-take}
 use Rattle.areas.specs.Lists.{over, padded}
-use Rattle.areas.specs.Records.{Codec, encode, records, store}
+use Rattle.areas.specs.Records.{Codec, decode, encode, records, store}
 use Rattle.areas.proofs.Lists.{take-over, drop-over, drop-padded, padded-full}
 use Rattle.areas.proofs.Records.{length-encode, length-records, getD-records, take-records, length-store, store-front, store-append, store-records, records-store-front, records-store-before, records-store-after, store-comm}
 use Rattle.rules.specs.Exchange.{noOrder, noTrade}
@@ -283,6 +283,10 @@ pub trade-words : (area : List ℕ) (k : ℕ)
       sellclose = getD area (k + 8) 0;
     }
 trade-words area k = simp (getD-drop, add-zero)
+
+pub trades-none : (area : List ℕ) → recordedTrades area 0 ≡ []
+unfolding recordedTrades records decode
+trades-none area = refl
 
 module _ (area : List ℕ) (n : ℕ) where
   pub length-trades : length (recordedTrades area n) ≡ n

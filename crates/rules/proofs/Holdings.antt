@@ -10,6 +10,7 @@ use lib.Dec.{eqb, leb}
 use lib.ListN.{length, getD, set, drop, length-set, List·getD-map}
 use lib.Seq.{getD-set-same, getD-set-other, map-set-same}
 use Rattle.laws.specs.Choice.{pick, pick-same, allOf, both-true}
+use Rattle.laws.specs.Lists.{kept-at}
 use Rattle.rules.specs.Exchange.{accountAt, holdingAt, noAccount, noHolding}
 use Rattle.rules.specs.Holdings.{withLong, withShort, afterLeg, withHolding, bookLeg, bookBuyer, bookTrade, bookTrades, legCovered, neverBelowZero, startHolding, startAccount, startOfDay, sameLots, sameHoldings}
 use Rattle.rules.specs.Matching.{tradedLots}
@@ -19,14 +20,6 @@ use Rattle.rules.specs.declared.Trade.{Trade}
 use Rattle.rules.proofs.Fillable.{traded-nil, traded-cons}
 
 -- ---- one place of a list replaced
-
--- what the new value shares with the old is as it was at every place
-pub kept-at : {A B : Type 0} (f : A → B) (l : List A) (i : ℕ) (y d : A) → f y ≡ f (getD l i d) → (k : ℕ) → f (getD (set l i y) k d) ≡ f (getD l k d)
-kept-at f [] i y d e k = refl
-kept-at f (x ∷ xs) zero y d e zero = e
-kept-at f (x ∷ xs) zero y d e (suc k) = refl
-kept-at f (x ∷ xs) (suc i) y d e zero = refl
-kept-at f (x ∷ xs) (suc i) y d e (suc k) = kept-at f xs i y d e k
 
 -- what holds of each value, and of the new one, holds of each after it
 pub each-set : {A : Type 0} (P : A → Type 0) (l : List A) (i : ℕ) (y d : A) → ((k : ℕ) → P (getD l k d)) → P y → (k : ℕ) → P (getD (set l i y) k d)

@@ -6,3 +6,5 @@ pub mod Fillable
 pub mod Prices
 pub mod Holdings
 pub mod Rest
+pub mod InUse
+pub mod Terms

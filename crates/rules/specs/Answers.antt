@@ -2,10 +2,10 @@
 -- in a kind's list as `code when test`; the code given is the first whose test holds. Assumes nothing.
 use mathlib.Core.Bool.{Bool, true, false, not, _&&_, _||_}
 use mathlib.Core.List.{List, [], _∷_, _++_}
-use Prim.Native.Nat.{ℕ, zero, suc, _+_, _-_, _*_}
+use Prim.Native.Nat.{ℕ, _+_, _*_}
 use lib.Dec.{leb, ltb, eqb}
-use lib.IntN.{ℤ, pos, _+ℤ_, _-ℤ_}
-use lib.Signed.{leZ, ltZ}
+use lib.IntN.{pos, _+ℤ_}
+use lib.Signed.{ltZ}
 use lib.ListN.{length}
 use Rattle.laws.specs.Choice.{pick, allOf}
 use Rattle.rules.specs.Bounds.{within, allowedToday, maxLots, maxResting, maxTrades, maxSettlements, numbersEnd, maxAmount, maxBalance}

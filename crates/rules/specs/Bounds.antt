@@ -1,5 +1,5 @@
 -- "Numbers that bound everything": the limits of document 01, a contract's terms, its day's low and high. Assumes nothing.
-use mathlib.Core.Bool.{Bool, true, false, _&&_}
+use mathlib.Core.Bool.{Bool, _&&_}
 use Prim.Native.Nat.{ℕ, _+_, _-_, _*_, _/_, _%_, _^_, min, max}
 use lib.Dec.{leb, eqb}
 use Rattle.rules.specs.declared.Contract.{Contract}

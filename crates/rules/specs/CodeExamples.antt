@@ -13,20 +13,19 @@ use Rattle.rules.specs.Answers.{amountRefused, cancelRefusals, changeLis
 use Rattle.rules.specs.Bounds.{allowedToday, dayHigh, dayLow, onTick}
 use Rattle.rules.specs.Command.{bits, commandOf, insertFlags, insertOf, newOrder, phaseOf, priceCondition, settleOf, timeCondition, zeros}
 use Rattle.rules.specs.Examples.{Row, _gives_, allRight}
-use Rattle.rules.specs.Exchange.{Exchange, Listing, absent, accountAt, bestPrice, holdingAt, listingAt, lotsWhere, noHolding, noTrade, resting}
+use Rattle.rules.specs.Exchange.{Exchange, absent, accountAt, bestPrice, holdingAt, listingAt, lotsWhere, noHolding, noTrade, resting}
 use Rattle.rules.specs.Margin.{available, chargeOf, chargedLots, chargedTo}
 use Rattle.rules.specs.Matching.{fillable, meets, middle, stays, sweep, tradePrice, tradeWith}
 use Rattle.rules.specs.declared.Account.{Account}
 use Rattle.rules.specs.declared.Contract.{Contract}
 use Rattle.rules.specs.declared.Command.{Command}
-use Rattle.rules.specs.declared.Command.the-variants.{Malformed, Deposit, Withdraw, Insert, Cancel, Pull, Phase, Settle}
+use Rattle.rules.specs.declared.Command.the-variants.{Deposit, Withdraw, Insert, Cancel, Pull, Phase, Settle}
 use Rattle.rules.specs.declared.Order.{Order}
 use Rattle.rules.specs.declared.PriceCondition.{PriceCondition}
-use Rattle.rules.specs.declared.PriceCondition.the-variants.{Limit, Market, Best}
+use Rattle.rules.specs.declared.PriceCondition.the-variants.{Limit, Market}
 use Rattle.rules.specs.declared.Record.{Record}
 use Rattle.rules.specs.declared.TimeCondition.{TimeCondition}
 use Rattle.rules.specs.declared.TimeCondition.the-variants.{GoodForDay, ImmediateOrCancel, FillOrKill}
-use Rattle.rules.specs.declared.Trade.{Trade}
 
 -- ---- a state to ask: one contract, low 100 and high 120, a charge of 110 a lot, at most 1,000 lots a side; sells 7 at 110
 -- and 5 at 112 rest, of account 1; account 2 is short 995 lots and has money for 10 more

@@ -1,7 +1,7 @@
 -- A command's record: kinds, flags, fields that are not used (document 01, "The day file"). Assumes nothing.
-use mathlib.Core.Bool.{Bool, true, false, not, _&&_, _||_}
+use mathlib.Core.Bool.{Bool, true, false, _&&_}
 use mathlib.Core.List.{List, [], _∷_}
-use Prim.Native.Nat.{ℕ, zero, suc, _/_, _%_, _^_}
+use Prim.Native.Nat.{ℕ, _/_, _%_, _^_}
 use lib.Dec.{leb, ltb, eqb}
 use Rattle.laws.specs.Choice.{pick, allOf}
 use Rattle.rules.specs.declared.Record.{Record}

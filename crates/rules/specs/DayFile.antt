@@ -1,6 +1,6 @@
 -- "The day file": when it is sound, the state its run opens with, and its commands. Assumes nothing.
-use mathlib.Core.Bool.{Bool, true, false, _&&_}
-use mathlib.Core.List.{List, [], _∷_}
+use mathlib.Core.Bool.{Bool, _&&_}
+use mathlib.Core.List.{List, []}
 use Prim.Native.Nat.{ℕ, _+_, _*_, _^_}
 use lib.Dec.{leb, eqb}
 use lib.IntN.{pos}

@@ -10,7 +10,7 @@ use Rattle.rules.specs.Margin.{chargeOf}
 use Rattle.rules.specs.Matching.{middle, meets, fillable, tradedLots}
 use Rattle.rules.specs.Settlement.{priceFrom, weightedPrice, quotedPrice, tradedValue}
 use Rattle.rules.specs.declared.Order.{Order}
-use Rattle.rules.specs.declared.PriceCondition.the-variants.{Limit, Market, Best}
+use Rattle.rules.specs.declared.PriceCondition.the-variants.{Limit}
 use Rattle.rules.specs.declared.Taker.{Taker}
 use Rattle.rules.specs.declared.Trade.{Trade}
 

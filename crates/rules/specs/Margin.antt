@@ -1,6 +1,4 @@
 -- Margin (document 01, "Margin and settlement"; 002). Money is a whole number of any size. Assumes nothing.
-use mathlib.Core.Bool.{Bool, true, false}
-use mathlib.Core.List.{List, [], _∷_}
 use Prim.Native.Nat.{ℕ, zero, suc, _+_, _*_, _/_}
 use lib.IntN.{ℤ, pos, _-ℤ_}
 use lib.ListN.{length}

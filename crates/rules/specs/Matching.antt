@@ -1,9 +1,8 @@
 -- What an arriving order trades, with whom and at what price (document 01, "Matching"; 001, 4.3.2). Assumes nothing.
-use mathlib.Core.Bool.{Bool, true, false, not, _&&_}
+use mathlib.Core.Bool.{Bool, true, _&&_}
 use mathlib.Core.List.{List, [], _∷_, _++_}
 use Prim.Native.Nat.{ℕ, zero, suc, _+_, _-_, min, max}
 use lib.Dec.{leb, ltb, eqb}
-use lib.ListN.{length}
 use Rattle.laws.specs.Choice.{pick}
 use Rattle.laws.specs.Sums.{sumOf}
 use Rattle.rules.specs.Exchange.{lotsWhere, worse}

@@ -1,6 +1,6 @@
 -- Sweeps whose trades are known from the paper's words: the queue of 001's example 4.3.2.1 swept by one limit order, by market
 -- and by best. One table, one statement, as in Examples.antt. Assumes nothing.
-use mathlib.Core.Bool.{Bool, true, false, _&&_}
+use mathlib.Core.Bool.{true, false}
 use mathlib.Core.List.{List, [], _∷_}
 use mathlib.Core.Path.{_≡_, refl}
 use Prim.Native.Nat.{ℕ}

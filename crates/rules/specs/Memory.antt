@@ -1,6 +1,6 @@
 -- How the state lies in memory: the declared State and the three areas lent with it; what room beyond a count is; the
 -- counts and the room that a well-formed state needs; the whole step on it. Assumes nothing.
-use mathlib.Core.Bool.{Bool, true, false, _&&_}
+use mathlib.Core.Bool.{Bool, _&&_}
 use mathlib.Core.List.{List, [], _∷_, _++_, map}
 use mathlib.Core.Path.{_≡_}
 use Prim.Native.Nat.{ℕ, zero, suc, _*_, _<_}
@@ -19,7 +19,6 @@ use Rattle.rules.specs.WellFormed.{wellFormedContents}
 use Rattle.rules.specs.declared.Account.{Account}
 use Rattle.rules.specs.declared.Answer.{Answer}
 use Rattle.rules.specs.declared.Command.{Command}
-use Rattle.rules.specs.declared.Contract.{Contract}
 use Rattle.rules.specs.declared.Order.{Order}
 use Rattle.rules.specs.declared.Record.{Record}
 use Rattle.rules.specs.declared.State.{State}
@@ -98,12 +97,15 @@ listingIn m c =
 abbrev pub inUse : ℕ → Account → Account
 inUse contracts a = record { balance = a .balance; holdings = take contracts (a .holdings) }
 
+abbrev pub used : ℕ → ℕ → List Account → List Account
+used contracts n accounts = map (inUse contracts) (take n accounts)
+
 -- what of the memory is in use: all that an answer may depend on
 unfoldable pub exchangeOf : Memory → Exchange
 exchangeOf m =
     record {
       listings = tabulate (m .state .contractcount) (listingIn m);
-      accounts = map (inUse (m .state .contractcount)) (take (m .state .accountcount) (m .state .accounts));
+      accounts = used (m .state .contractcount) (m .state .accountcount) (m .state .accounts);
       trades = recordedTrades (m .trades) (m .state .tradecount);
       next = m .state .next;
       settlements = m .state .settlements;

@@ -1,12 +1,12 @@
 -- Days whose profit by Article 32 is worked out by hand. One table, one statement, as
 -- in Examples.antt. Assumes nothing.
-use mathlib.Core.Bool.{Bool, true, false}
+use mathlib.Core.Bool.{true, false}
 use mathlib.Core.List.{List, [], _∷_}
 use mathlib.Core.Path.{_≡_, refl}
 use Prim.Native.Nat.{ℕ, suc}
 use lib.IntN.{ℤ, pos, negsuc}
 use Rattle.rules.specs.Examples.{Row, _gives_, allRight}
-use Rattle.rules.specs.Settlement.{Day, Leg, leg, afterDayLeg, afterLegs, dayStart, firstLots, gain, holdingGain, otherLots}
+use Rattle.rules.specs.Settlement.{Day, leg, afterDayLeg, afterLegs, dayStart, firstLots, gain, holdingGain, otherLots}
 
 -- 2 long and 1 short at the start, reference 100; 3 bought at 104 to open; 4 long sold at 105 to close: the two old ones
 -- gain 5 each, two of today's 1 each; the short one bought back at 103 loses 3; 2 sold at 106 to open

@@ -1,10 +1,10 @@
 -- One command: what an accepted one does, and the whole step (document 01). Assumes nothing.
-use mathlib.Core.Bool.{Bool, true, false, not, _&&_}
+use mathlib.Core.Bool.{Bool}
 use mathlib.Core.List.{List, [], _∷_, _++_}
-use Prim.Native.Nat.{ℕ, zero, suc, _+_, _-_}
-use lib.Dec.{ltb, eqb}
+use Prim.Native.Nat.{ℕ, _+_, _-_}
+use lib.Dec.{eqb}
 use lib.IntN.{ℤ, pos, _+ℤ_, _-ℤ_}
-use lib.ListN.{length, set, drop}
+use lib.ListN.{set}
 use Rattle.laws.specs.Choice.{pick}
 use Rattle.rules.specs.Answers.{codeOf, takerOf, listingOf, isGoodForDay}
 use Rattle.rules.specs.Exchange.{Exchange, Listing, listingAt, accountAt, placeOf, own, opposite, withQueues, lotsWhere}
@@ -18,7 +18,6 @@ use Rattle.rules.specs.declared.NewOrder.{NewOrder}
 use Rattle.rules.specs.declared.Order.{Order}
 use Rattle.rules.specs.declared.PriceCondition.{PriceCondition}
 use Rattle.rules.specs.declared.PriceCondition.the-variants.{Limit, Market, Best}
-use Rattle.rules.specs.declared.Trade.{Trade}
 use Rattle.rules.specs.declared.Command.{Command}
 use Rattle.rules.specs.declared.Command.the-variants.{Malformed, Deposit, Withdraw, Insert, Cancel, Pull, Phase, Settle}
 

@@ -2,13 +2,13 @@
 -- Memory.antt, on the state as it lies. Assumes nothing.
 use mathlib.Core.Bool.{Bool, true, false, not, _&&_, _||_}
 use mathlib.Core.List.{List, [], _∷_, _++_}
-use Prim.Native.Nat.{ℕ, zero, suc, _+_, _*_}
+use Prim.Native.Nat.{ℕ, _+_, _*_}
 use lib.Dec.{leb, ltb, eqb}
 use lib.IntN.{natAbs}
 use lib.ListN.{length}
-use Rattle.laws.specs.Choice.{pick, all, allOf}
+use Rattle.laws.specs.Choice.{all, allOf}
 use Rattle.rules.specs.Bounds.{within, termsInRange, tickMultiple, allowedToday, numbersEnd, maxLots, maxSettlements, maxBalance, maxDayProfit}
-use Rattle.rules.specs.Exchange.{Exchange, Listing, listingAt, accountAt, holdingAt, worse, restingOpens, restingCloses}
+use Rattle.rules.specs.Exchange.{Exchange, Listing, listingAt, holdingAt, worse, restingOpens, restingCloses}
 use Rattle.rules.specs.Holdings.{bookTrades, neverBelowZero, startOfDay, sameHoldings}
 use Rattle.rules.specs.declared.Account.{Account}
 use Rattle.rules.specs.declared.Contract.{Contract}

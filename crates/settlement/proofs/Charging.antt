@@ -1,7 +1,7 @@
 -- Charged margin contract by contract, as a loop adds it up, and its bounds. Assumes nothing.
 use mathlib.Core.List.{List, []}
-use mathlib.Core.Path.{_≡_, refl, sym, ap, _∙_}
-use Prim.Native.Nat.{ℕ, zero, suc, _+_, _*_, _/_, _<_, _≤_, _^_}
+use mathlib.Core.Path.{_≡_, refl, ap, _∙_}
+use Prim.Native.Nat.{ℕ, zero, suc, _+_, _*_, _<_, _≤_}
 use native.Mathlib.Nat.{mul-le-mul-left, mul-le-mul-right, le-trans, le-of-eq}
 use native.Mathlib.Numerals.{add-one}
 use native.Mathlib.Omega.{arith}
@@ -13,14 +13,14 @@ use mir.Facts.{fits-below}
 use mir.Syntax.{w64}
 use mir.Val.{Fits}
 use Rattle.laws.specs.Ring.{d, posPart, negPart, split, pos-d, d-eq, ltZ-d, ring}
-use Rattle.rules.specs.Exchange.{Exchange, Listing, noAccount, noContract, noHolding, listingAt, holdingAt, restingOpens}
+use Rattle.rules.specs.Exchange.{noAccount, noContract, noHolding, restingOpens}
 use Rattle.rules.specs.Margin.{chargeOf, charge, chargedLots, chargedTo, charged}
 use Rattle.rules.specs.Memory.{Memory, exchangeOf, listingIn, queueIn}
 use Rattle.rules.specs.declared.Contract.{Contract}
 use Rattle.rules.specs.declared.Holding.{Holding}
 use Rattle.rules.specs.declared.State.{State}
+use Rattle.rules.proofs.InUse.{contracts-in-use, listing-in-use, holding-in-use}
 use Rattle.settlement.specs.Charge.{memoryOf, listingOf, ChargeTerms, ChargeableIn, Chargeable, ChargedIs}
-use Rattle.settlement.proofs.InUse.{contracts-in-use, listing-in-use, holding-in-use}
 
 -- ---- one contract
 

@@ -1,16 +1,14 @@
 -- Resting orders and the day's trades cleared from their areas: what the cleared parts make of the whole area. Assumes nothing.
 use mathlib.Core.List.{List, [], _++_}
 use mathlib.Core.Path.{_≡_, refl, sym, ap, _∙_}
-use Prim.Native.Nat.{ℕ, zero, suc, _+_, _-_, _*_, _<_, _≤_}
+use Prim.Native.Nat.{ℕ, _+_, _-_, _*_, _<_, _≤_}
 use native.Mathlib.Numerals.{add-one}
 use native.Mathlib.Omega.{arith}
 use borrow.Rule.Slice.PartMut.{putMid}
 use lib.ListN.{length, getD, take, drop, replicate}
-use Rattle.areas.specs.Lists.{padded}
-use Rattle.areas.specs.Records.{store}
 use Rattle.areas.proofs.Changes.{emptied}
 use Rattle.rules.specs.Exchange.{noOrder, noTrade}
-use Rattle.rules.specs.Memory.{orderWords, tradeWords, putQueue, putQueues, putTrades}
+use Rattle.rules.specs.Memory.{putQueue, putQueues, putTrades}
 use Rattle.rules.specs.declared.Order.{Order}
 use Rattle.rules.proofs.Codecs.{order-codec, trade-codec, length-putQueue}
 use Rattle.settlement.specs.Settling.{Clearable}

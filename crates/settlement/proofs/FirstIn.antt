@@ -1,19 +1,18 @@
 -- First in, first out, without a queue: after covered legs the open batches of a side are the batches ever open without the
 -- first lots, as many as were closed, and those are what the closes took. Assumes nothing.
-use mathlib.Core.Bool.{Bool, true, false, not, _&&_}
+use mathlib.Core.Bool.{true, false}
 use mathlib.Core.List.{List, [], _∷_, _++_, append-nil, append-assoc}
-use mathlib.Core.Path.{_≡_, refl, sym, ap, ap₂, subst, _∙_}
-use Prim.Native.Nat.{ℕ, zero, suc, _+_, _-_, _*_, _<_, _≤_, min}
+use mathlib.Core.Path.{_≡_, refl, sym, ap, _∙_}
+use Prim.Native.Nat.{ℕ, _+_, _-_, _*_, _≤_, min}
 use native.Mathlib.Nat.{add-zero, zero-add, add-assoc, mul-add}
 use native.Mathlib.Omega.{arith}
 use lib.IntN.{ℤ, pos, _+ℤ_, _-ℤ_, _*ℤ_}
-use Rattle.laws.specs.Choice.{pick}
-use Rattle.laws.specs.Ring.{split, d-eq, d-inj, ring}
+use Rattle.laws.specs.Ring.{d-eq, ring}
 use Rattle.laws.specs.Sums.{sumOf, sumOf-append}
 use Rattle.rules.specs.Settlement.{Leg, leg, Batch, Day, dayStart, gain, firstLots, otherLots, opened, afterDayLeg, afterLegs, holdingGain}
 use Rattle.accounting.specs.Article32.{lotsOf, Covered, AllCovered}
 use Rattle.accounting.proofs.DayProfit.{lots-first, lots-other}
-use Rattle.settlement.specs.Sides.{same, lotsIf, valueIf, batchIf, closedLots, closedValue, openedToday, cost, everOpen, SideIs}
+use Rattle.settlement.specs.Sides.{lotsIf, valueIf, batchIf, closedLots, closedValue, openedToday, cost, everOpen, SideIs}
 use Rattle.settlement.specs.declared.profit.Side.{Side}
 
 -- ---- batches without their first lots, and those lots

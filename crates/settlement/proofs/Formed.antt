@@ -1,64 +1,38 @@
 -- What a well-formed memory says that margin and settlement ask for: terms, trades, holdings and balances in range, room, and
 -- closes that find their lots. Assumes nothing.
-use mathlib.Core.Bool.{Bool, true, false}
+use mathlib.Core.Bool.{true, false}
 use mathlib.Core.List.{List, [], _∷_}
-use mathlib.Core.Path.{_≡_, refl, sym, ap, subst, _∙_}
-use Prim.Native.Nat.{ℕ, _+_, _*_, _^_, _<_, _≤_}
+use mathlib.Core.Path.{_≡_, sym, ap, subst}
+use Prim.Native.Nat.{ℕ, _*_, _^_, _<_, _≤_}
 use native.Mathlib.Nat.{le-trans, le-of-eq}
 use native.Mathlib.Omega.{arith}
-use borrow.Author.Tests.{leb-true}
-use lib.Dec.{leb}
 use lib.IntN.{natAbs}
 use lib.ListN.{length, getD}
-use Rattle.laws.specs.Bound.{Within, within-abs, within-le}
+use Rattle.laws.specs.Bound.{Within, within-abs}
 use Rattle.laws.specs.Choice.{allOf, both-true}
-use Rattle.rules.specs.Bounds.{tickMultiple, termsInRange, maxPrice}
-use Rattle.rules.specs.Exchange.{Exchange, Listing, noAccount, noContract, noHolding, listingAt, accountAt, holdingAt, restingOpens}
-use Rattle.rules.specs.Memory.{Memory, Declared, exchangeOf, listingIn, inUse, queueIn, recordedTrades, wellFormedMemory}
-use Rattle.rules.specs.Settlement.{Day, dayStart, legs, settlementPrice}
-use Rattle.rules.specs.WellFormed.{contractInRange, tradeInRange, wellFormedContents}
+use Rattle.rules.specs.Exchange.{Exchange, accountAt}
+use Rattle.rules.specs.Memory.{Memory, Declared, exchangeOf, listingIn, recordedTrades, wellFormedMemory}
+use Rattle.rules.specs.Settlement.{dayStart, legs, settlementPrice}
+use Rattle.rules.specs.WellFormed.{tradeInRange}
 use Rattle.rules.specs.declared.Account.{Account}
-use Rattle.rules.specs.declared.Contract.{Contract}
 use Rattle.rules.specs.declared.Holding.{Holding}
 use Rattle.rules.specs.declared.State.{State}
 use Rattle.rules.specs.declared.Trade.{Trade}
+use Rattle.rules.proofs.InUse.{contracts-in-use, accounts-in-use, listing-in-use, account-in-use, holding-in-use}
+use Rattle.rules.proofs.Terms.{Terms, contract-terms}
 use Rattle.accounting.specs.Article32.{AllCovered}
-use Rattle.accounting.proofs.Facts.{passed, trade-facts}
+use Rattle.accounting.proofs.Facts.{trade-facts}
 use Rattle.accounting.proofs.PriceBound.{settlement-price-bound}
 use Rattle.accounting.proofs.Replay.{replay-covered}
 use Rattle.invariants.proofs.Clauses.{HoldingOk, WellFormed, well-formed}
-use Rattle.invariants.proofs.MemoryRoom.{CountsOk, RoomOk, MemoryOk, memory-ok}
-use Rattle.invariants.proofs.Ticks as ticks
-use Rattle.settlement.specs.Charge.{memoryOf, ChargeTerms, ChargeableIn, Chargeable}
-use Rattle.settlement.specs.Day.{Sized, AllSized, SizedTrades, Quotes, Priceable}
+use Rattle.invariants.proofs.MemoryRoom.{MemoryOk, memory-ok}
+use Rattle.settlement.specs.Charge.{ChargeTerms, ChargeableIn, Chargeable}
+use Rattle.settlement.specs.Day.{AllSized, SizedTrades, Quotes, Priceable}
 use Rattle.settlement.specs.Settling.{contractIn, accountIn, holdingIn}
-use Rattle.settlement.specs.Sides.{Profitable}
-use Rattle.settlement.proofs.InUse.{contracts-in-use, accounts-in-use, listing-in-use, account-in-use, holding-in-use}
 
 -- the arrays have room for the accounts in use
 pub accounts-declared : (m : Memory) → Declared (m .state) → wellFormedMemory m ≡ true → m .state .accountcount ≤ length (m .state .accounts)
 accounts-declared m d w = omega (arith, d .accounts, memory-ok m w .counts .accounts-high)
-
--- ---- a contract
-
-pub record ContractFacts (c : Contract) : Type 0 where
-  pub tick : 0 < c .tick
-  pub multiplier : c .multiplier ≤ 1_000
-  pub reference : c .reference ≤ 1_000_000
-  pub limit : c .limit ≤ 100_000
-  pub rate : c .rate ≤ 10_000
-
-contract-facts : (c : Contract) → contractInRange c ≡ true → ContractFacts c
-unfolding contractInRange
-contract-facts c e =
-    let t = ticks.terms c (passed (termsInRange c) (leb (c .phase) 3 ∷ tickMultiple (c .tick) (c .last) ∷ []) e .0) in
-    record {
-      tick = t .tick-low;
-      multiplier = t .multiplier-high;
-      reference = ticks.multiple (c .tick) (c .reference) (t .reference) .high;
-      limit = leb-true (c .limit) 100_000 (both-true (leb 1 (c .limit)) (leb (c .limit) 100_000) (t .limit) .1);
-      rate = leb-true (c .rate) 10_000 (both-true (leb 1 (c .rate)) (leb (c .rate) 10_000) (t .rate) .1);
-    }
 
 -- ---- the day's trades
 
@@ -95,12 +69,12 @@ module _ (m : Memory) (room : m .state .accountcount ≤ length (m .state .accou
     listed : c < length (exchangeOf m .listings)
     listed = rw (contracts-in-use m) lc
 
-    pub contract-at : ContractFacts (contractIn s c)
+    pub contract-at : Terms (contractIn s c)
     unfolding listingIn
-    contract-at = contract-facts (contractIn s c) (rw (listing-in-use m c lc) at (contents .listing c listed .contract))
+    contract-at = contract-terms (contractIn s c) (rw (listing-in-use m c lc) at (contents .listing c listed .contract))
 
     pub charge-terms : ChargeTerms (contractIn s c)
-    charge-terms = record { multiplier = contract-at .multiplier; reference = contract-at .reference; rate = contract-at .rate }
+    charge-terms = record { multiplier = contract-at .multiplier-high; reference = contract-at .reference .high; rate = contract-at .rate-high }
 
     pub quotes : Quotes (m .buys) (getD (s .buys) c 0) (m .sells) (getD (s .sells) c 0) c
     quotes =
@@ -121,7 +95,7 @@ module _ (m : Memory) (room : m .state .accountcount ≤ length (m .state .accou
 
       pub holding-starts : (holdingIn s a c .startlong ≤ 100_000) × (holdingIn s a c .startshort ≤ 100_000)
       unfolding listingIn
-      holding-starts = (omega (arith, its-holding .startlong, contract-at .limit), omega (arith, its-holding .startshort, contract-at .limit))
+      holding-starts = (omega (arith, its-holding .startlong, contract-at .limit-high), omega (arith, its-holding .startshort, contract-at .limit-high))
 
       pub chargeable-in : ChargeableIn (contractIn s c) (m .buys) (getD (s .buys) c 0) (m .sells) (getD (s .sells) c 0) c a (holdingIn s a c)
       unfolding listingIn
@@ -132,8 +106,8 @@ module _ (m : Memory) (room : m .state .accountcount ≤ length (m .state .accou
             offers = its .counts .sells c lc;
             buyroom = quotes .buyroom;
             sellroom = quotes .sellroom;
-            long = le-trans (its-holding .opens false) (contract-at .limit);
-            short = le-trans (its-holding .opens true) (contract-at .limit);
+            long = le-trans (its-holding .opens false) (contract-at .limit-high);
+            short = le-trans (its-holding .opens true) (contract-at .limit-high);
           }
 
       pub legs-covered : AllCovered (dayStart (contractIn s c .reference) (holdingIn s a c .startlong) (holdingIn s a c .startshort)) (legs a c (recordedTrades (m .trades) (s .tradecount)))
@@ -158,7 +132,7 @@ module _ (m : Memory) (room : m .state .accountcount ≤ length (m .state .accou
 
   pub priceable : (c : ℕ) → c < s .contractcount
       → Priceable (contractIn s c) (m .buys) (getD (s .buys) c 0) (m .sells) (getD (s .sells) c 0) (m .trades) (s .tradecount) c
-  priceable c lc = record { tick = contract-at c lc .tick; place = omega (arith, contracts-four); trades = sized-trades; quotes = quotes c lc }
+  priceable c lc = record { tick = contract-at c lc .tick-low; place = omega (arith, contracts-four); trades = sized-trades; quotes = quotes c lc }
 
   pub balance-within : (a : ℕ) → a < s .accountcount → Within (2 * 10 ^ 18) (accountIn s a .balance)
   balance-within a la =

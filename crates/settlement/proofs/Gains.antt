@@ -1,9 +1,9 @@
 -- One account's profit in one contract from what the passes over the trades add up, side by side, with the bounds of those
 -- sums. Assumes nothing.
 use mathlib.Core.Bool.{Bool, true, false}
-use mathlib.Core.List.{List, [], _∷_}
+use mathlib.Core.List.{List, _∷_}
 use mathlib.Core.Path.{_≡_, refl, sym, ap, _∙_}
-use Prim.Native.Nat.{ℕ, zero, suc, _+_, _-_, _*_, _<_, _≤_, min}
+use Prim.Native.Nat.{ℕ, _+_, _-_, _*_, _≤_, min}
 use native.Mathlib.Nat.{mul-le-mul-left, mul-le-mul-right, le-trans}
 use native.Mathlib.Omega.{arith}
 use lib.IntN.{ℤ, pos, _-ℤ_}
@@ -12,12 +12,11 @@ use mir.Syntax.{w32, w64}
 use mir.Val.{Fits, SFits, toZ, ofZ}
 use Rattle.laws.specs.Bound.{within-diff}
 use Rattle.laws.specs.Sums.{sumOf}
-use Rattle.rules.specs.Settlement.{Leg, Batch, Day, dayStart, afterLegs, firstLots, otherLots, holdingGain}
+use Rattle.rules.specs.Settlement.{Leg, Batch, dayStart, afterLegs, firstLots, otherLots}
 use Rattle.accounting.specs.Article32.{lotsOf, AllCovered}
-use Rattle.settlement.specs.Sides.{closedLots, openedToday, cost, everOpen, ClosedIs, OpenedIs, SideIs, ProfitIs}
+use Rattle.settlement.specs.Sides.{closedLots, openedToday, cost, ClosedIs, OpenedIs, SideIs, ProfitIs}
 use Rattle.settlement.specs.declared.profit.Closed.{Closed}
 use Rattle.settlement.specs.declared.profit.Opened.{Opened}
-use Rattle.settlement.specs.declared.profit.Profit.{Profit}
 use Rattle.settlement.specs.declared.profit.Side.{Side}
 use Rattle.settlement.proofs.FirstIn.{closing-by-sides, holding-by-sides}
 

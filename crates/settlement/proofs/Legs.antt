@@ -2,13 +2,13 @@
 -- bounds of those sums. Assumes nothing.
 use mathlib.Core.Bool.{Bool, true, false, not, _&&_}
 use mathlib.Core.List.{List, [], _∷_, _++_, append-nil, append-assoc}
-use mathlib.Core.Path.{_≡_, refl, sym, ap, ap₂, subst, _∙_}
-use Prim.Native.Nat.{ℕ, zero, suc, _+_, _-_, _*_, _<_, _≤_, min}
-use native.Mathlib.Nat.{add-zero, mul-add, mul-le-mul-left, mul-le-mul-right, le-trans, le-of-eq}
+use mathlib.Core.Path.{_≡_, refl, sym, ap, _∙_}
+use Prim.Native.Nat.{ℕ, _+_, _-_, _*_, _<_, _≤_, min}
+use native.Mathlib.Nat.{mul-add, mul-le-mul-left, mul-le-mul-right, le-trans}
 use native.Mathlib.Omega.{arith}
 use borrow.Author.Tests.{eq-eqb, ne-eqb}
 use lib.Dec.{eqb}
-use lib.ListN.{length, drop}
+use lib.ListN.{drop}
 use mir.Facts.{fits-below}
 use mir.Syntax.{w32, w64}
 use mir.Val.{Fits}
@@ -17,15 +17,13 @@ use Rattle.laws.specs.Sums.{sumOf, sumOf-append}
 use Rattle.rules.specs.Memory.{recordedTrades, tradeFrom}
 use Rattle.rules.specs.Settlement.{Leg, leg, Batch, only, legs, buyLeg, sellLeg, firstLots, otherLots}
 use Rattle.rules.specs.declared.Trade.{Trade}
-use Rattle.rules.proofs.Codecs.{length-trades}
+use Rattle.rules.proofs.Codecs.{trades-none}
 use Rattle.accounting.specs.Article32.{lotsOf}
 use Rattle.accounting.proofs.Trades.{legs-append}
-use Rattle.settlement.specs.Day.{Sized, AllSized, SizedTrades}
+use Rattle.settlement.specs.Day.{Sized, SizedTrades}
 use Rattle.settlement.specs.Sides.{same, lotsIf, valueIf, batchIf, closedLots, closedValue, openedToday, cost, ClosedIs, OpenedIs}
-use Rattle.settlement.specs.declared.profit.Closed.{Closed}
-use Rattle.settlement.specs.declared.profit.Opened.{Opened}
 use Rattle.settlement.proofs.FirstIn.{lots-append, cost-append, first-append, other-append}
-use Rattle.settlement.proofs.Trading.{no-trades, more-trades, sized-at}
+use Rattle.settlement.proofs.Trading.{more-trades, sized-at}
 
 -- ---- one trade: its leg of a kind, where it is the account's in the contract
 
@@ -148,7 +146,7 @@ more-legs a c area i t e = ap (legs a c) (more-trades area i t e) ∙ legs-appen
 
 no-legs : (a c : ℕ) (area : List ℕ) → legs a c (recordedTrades area 0) ≡ []
 unfolding legs
-no-legs a c area = rw no-trades
+no-legs a c area = rw trades-none
 
 -- a trade's lots and value on a side
 module _ (a c : ℕ) (sell close : Bool) (t : Trade) (s : Sized t) (n : ℕ) (e : n ≡ sumOf (lotsIf sell close) (legs a c (t ∷ []))) where

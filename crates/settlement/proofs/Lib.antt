@@ -1,5 +1,4 @@
 -- The laws that the proofs of this crate's functions apply. Assumes nothing.
-pub mod InUse
 pub mod Charging
 pub mod Trading
 pub mod Quoting

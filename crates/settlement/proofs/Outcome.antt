@@ -1,24 +1,24 @@
 -- The whole settlement: from a well-formed state to what each part asks for, and from the parts to the state, the areas and the
 -- report that the rules give. Assumes nothing.
-use mathlib.Core.Bool.{Bool, true, false}
-use mathlib.Core.List.{List, [], _∷_, map}
-use mathlib.Core.Path.{_≡_, refl, sym, ap, subst, _∙_}
+use mathlib.Core.Bool.{true}
+use mathlib.Core.List.{List, [], map}
+use mathlib.Core.Path.{_≡_, refl, sym, ap, _∙_}
 use Prim.Native.Nat.{ℕ, zero, suc, _+_, _*_, _<_, _≤_}
 use native.Mathlib.Nat.{le-trans, le-of-eq}
 use native.Mathlib.Omega.{arith}
 use borrow.Author.Tests.{leb-false}
-use lib.IntN.{ℤ, pos, _+ℤ_, _*ℤ_}
-use lib.ListN.{length, getD, take}
+use lib.IntN.{ℤ, pos, _*ℤ_}
+use lib.ListN.{length, getD}
 use Rattle.laws.specs.Sums.{sumTo, sumTo-ext}
-use Rattle.laws.specs.Tabulate.{tabulate, length-tabulate, getD-tabulate}
+use Rattle.laws.specs.Tabulate.{tabulate, length-tabulate, getD-tabulate, tabulate-below, map-tabulate}
 use Rattle.areas.specs.Lists.{padded}
 use Rattle.areas.proofs.Lists.{getD-padded}
 use Rattle.rules.specs.Answers.{codeOf, refusals, settleRefusals}
 use Rattle.rules.specs.Bounds.{maxSettlements}
-use Rattle.rules.specs.Exchange.{Exchange, Listing, noListing, noContract, listingAt, accountAt, holdingAt}
+use Rattle.rules.specs.Exchange.{Exchange, Listing, noListing, listingAt, holdingAt}
 use Rattle.rules.specs.Margin as margin
-use Rattle.rules.specs.Memory.{Memory, Declared, exchangeOf, listingIn, inUse, put, putState, putFirst, putAccounts, putQueues, putQueue, putTrades, recordedTrades, wellFormedMemory}
-use Rattle.rules.specs.Settlement.{Day, dayOf, dayStart, afterLegs, holdingGain, settlementPrice, closingProfit, holdingProfit, carriedHolding, settledAccount, settledContract, settledListing, settled}
+use Rattle.rules.specs.Memory.{Memory, exchangeOf, listingIn, put, putState, putFirst, putAccounts, putQueues, putTrades, wellFormedMemory}
+use Rattle.rules.specs.Settlement.{dayOf, holdingGain, settlementPrice, closingProfit, holdingProfit, settledAccount, settledContract, settledListing, settled}
 use Rattle.rules.specs.Step.{carriedOut}
 use Rattle.rules.specs.declared.Account.{Account}
 use Rattle.rules.specs.declared.Command.the-variants.{Settle}
@@ -26,17 +26,15 @@ use Rattle.rules.specs.declared.Contract.{Contract}
 use Rattle.rules.specs.declared.Holding.{Holding}
 use Rattle.rules.specs.declared.Order.{Order}
 use Rattle.rules.specs.declared.State.{State}
+use Rattle.rules.proofs.InUse.{contracts-in-use, listing-in-use, account-in-use, holding-in-use}
 use Rattle.invariants.proofs.Accepted.{failed}
 use Rattle.invariants.proofs.MemoryKeeps.{accepted-read, accepted-keeps}
 use Rattle.invariants.proofs.MemoryRoom.{memory-ok}
 use Rattle.settlement.specs.Charge.{memoryOf}
-use Rattle.settlement.specs.Settling.{Settleable, SettledIs, contractIn, accountIn, holdingIn, dayIn, closingTo, holdingTo, Payable, AllPayable, paidAccount, BooksIs, Clearable, AllClearable, ClearedAre, AllChargeable, ChargesAre, nextDay}
+use Rattle.settlement.specs.Settling.{Settleable, SettledIs, contractIn, holdingIn, dayIn, closingTo, holdingTo, AllPayable, paidAccount, BooksIs, AllClearable, ClearedAre, AllChargeable, ChargesAre, nextDay}
 use Rattle.settlement.specs.Sides.{dayOver}
-use Rattle.settlement.specs.declared.balances.Books.{Books}
-use Rattle.settlement.specs.declared.settle.Settled.{Settled}
 use Rattle.settlement.proofs.Formed.{accounts-declared, contracts-four, accounts-few, contract-at, price-high, holding-starts, legs-covered, chargeable, sized-trades, balance-within, accounts-counted}
-use Rattle.settlement.proofs.InUse.{contracts-in-use, listing-in-use, account-in-use, holding-in-use}
-use Rattle.settlement.proofs.Places.{tabulate-ext, map-tabulate, length-written, written-accounts}
+use Rattle.settlement.proofs.Places.{length-written, written-accounts}
 
 -- ---- the state of the next day, from its parts
 
@@ -110,10 +108,10 @@ module _ (s : State) (buys sells trades : List ℕ) (g : Settleable s buys sells
           each = λ a la. record {
             account = omega (arith, accounts-few m room (g .formed));
             contracts = few-contracts;
-            multiplier = λ c lc. contract-at m room (g .formed) c lc .multiplier;
+            multiplier = λ c lc. contract-at m room (g .formed) c lc .multiplier-high;
             each = λ c lc. record {
               trades = sized-trades m room (g .formed);
-              reference = contract-at m room (g .formed) c lc .reference;
+              reference = contract-at m room (g .formed) c lc .reference .high;
               long = holding-starts m room (g .formed) c lc a la .0;
               short = holding-starts m room (g .formed) c lc a la .1;
               price = le-trans (le-of-eq (price-at prices e c lc)) (price-high m room (g .formed) c lc);
@@ -159,14 +157,14 @@ module _ (s : State) (buys sells trades : List ℕ) (g : Settleable s buys sells
     unfolding settled
     accounts-is =
         ap (λ (l : List Account). putAccounts l (s .accounts))
-        (tabulate-ext (s .accountcount) (paidAccount s trades prices) (settledAccount x) paid-is
+        (tabulate-below (s .accountcount) (paidAccount s trades prices) (settledAccount x) paid-is
         ∙ ap (λ (n : ℕ). tabulate n (settledAccount x)) (sym (accounts-counted m room (g .formed))))
 
     -- a field of the settled listings, contract by contract
     listed : {A : Type 0} (f : ℕ → A) (h : Listing → A) → ((c : ℕ) → c < s .contractcount → f c ≡ h (settledListing x c)) → tabulate (s .contractcount) f ≡ map h (settled x .listings)
     unfolding settled
     listed f h k =
-        tabulate-ext (s .contractcount) f (λ c. h (settledListing x c)) k
+        tabulate-below (s .contractcount) f (λ c. h (settledListing x c)) k
         ∙ ap (λ (n : ℕ). tabulate n (λ c. h (settledListing x c))) (sym (contracts-in-use m))
         ∙ sym (map-tabulate h (length (x .listings)) (settledListing x))
 
@@ -281,7 +279,7 @@ module _ (s : State) (buys sells trades : List ℕ) (g : Settleable s buys sells
             record {
               memory = ap (λ (t : State). memoryOf t buys′ sells′ trades′) n ∙ memory-is;
               prices = e;
-              closing = b .closing ∙ ap (padded 32 (pos 0)) (tabulate-ext (s .accountcount) (λ a. closingTo s trades a (s .contractcount)) (closingProfit x) closing-is);
-              holding = b .holding ∙ ap (padded 32 (pos 0)) (tabulate-ext (s .accountcount) (λ a. holdingTo s trades prices a (s .contractcount)) (holdingProfit x) holding-is);
+              closing = b .closing ∙ ap (padded 32 (pos 0)) (tabulate-below (s .accountcount) (λ a. closingTo s trades a (s .contractcount)) (closingProfit x) closing-is);
+              holding = b .holding ∙ ap (padded 32 (pos 0)) (tabulate-below (s .accountcount) (λ a. holdingTo s trades prices a (s .contractcount)) (holdingProfit x) holding-is);
               charged = charged-is charged (rw n at k);
             }

@@ -6,28 +6,13 @@ use native.Mathlib.Nat.{le-of-suc-le-suc, not-suc-le-zero}
 use native.Mathlib.Numerals.{add-one}
 use native.Mathlib.Omega.{arith}
 use lib.ListN.{length, getD, set, take, drop, replicate, length-append, length-drop, length-map, List·getD-map}
-use lib.Seq.{drop-cons, set-at, getD-take, getD-drop, length-take-le}
-use Rattle.laws.specs.Tabulate.{tabulate, length-tabulate, tabulate-eq, getD-tabulate}
+use lib.Seq.{drop-cons, set-at, getD-take, length-take-le}
+use Rattle.laws.specs.Tabulate.{tabulate, length-tabulate, tabulate-eq, tabulate-below, tabulate-last}
 use Rattle.areas.specs.Lists.{padded}
 use Rattle.areas.proofs.Lists.{drop-replicate}
 use Rattle.rules.specs.Exchange.{noAccount}
 use Rattle.rules.specs.Memory.{putFirst, putAccount, putAccounts}
 use Rattle.rules.specs.declared.Account.{Account}
-
-tabulate-last : {A : Type 0} (n : ℕ) (f : ℕ → A) → tabulate (suc n) f ≡ tabulate n f ++ (f n ∷ [])
-unfolding tabulate
-tabulate-last zero f = refl
-tabulate-last (suc n) f = ap (λ (l : List _). f 0 ∷ l) (tabulate-last n (λ i. f (suc i)))
-
-pub map-tabulate : {A B : Type 0} (g : A → B) (n : ℕ) (f : ℕ → A) → map g (tabulate n f) ≡ tabulate n (λ i. g (f i))
-unfolding tabulate
-map-tabulate g zero f = refl
-map-tabulate g (suc n) f = ap (λ (l : List _). g (f 0) ∷ l) (map-tabulate g n (λ i. f (suc i)))
-
-pub tabulate-ext : {A : Type 0} (n : ℕ) (f g : ℕ → A) → ((i : ℕ) → i < n → f i ≡ g i) → tabulate n f ≡ tabulate n g
-unfolding tabulate
-tabulate-ext zero f g h = refl
-tabulate-ext (suc n) f g h = rw (h 0 (omega arith), tabulate-ext n (λ i. f (suc i)) (λ i. g (suc i)) (λ i l. h (suc i) (omega arith)))
 
 -- the first n places hold f's values, the rest is as it was
 unfoldable pub written : {A : Type 0} → (ℕ → A) → List A → ℕ → List A
@@ -63,7 +48,7 @@ written-padded f n m z = rw (drop-replicate n m z, length-tabulate n f)
 -- other values that agree on the places written
 pub written-ext : {A : Type 0} (f g : ℕ → A) (l : List A) (n : ℕ) → ((i : ℕ) → i < n → f i ≡ g i) → written f l n ≡ written g l n
 unfolding written
-written-ext f g l n h = rw (tabulate-ext n f g h)
+written-ext f g l n h = rw (tabulate-below n f g h)
 
 -- ---- accounts
 
@@ -92,10 +77,6 @@ module _ {A : Type 0} (f : ℕ → A) (l : List A) (count : ℕ) where
   writing-done c next h w =
       let e : c ≡ count = omega (arith, w .within) in
       w .places ∙ rw e
-
--- the length of an array, from that of a function of its elements, which its type gives
-pub unmapped : {X Y : Type 0} (f : X → Y) (l : List X) (n : ℕ) → length (map f l) ≡ n → length l ≡ n
-unmapped f l n e = sym (length-map l f) ∙ e
 
 -- ---- holdings: the first n of a list, each changed
 

@@ -1,21 +1,21 @@
 -- The price from quotes, and the whole settlement price, by the tests of the code. Assumes nothing.
 use mathlib.Core.List.{List, [], _∷_}
-use mathlib.Core.Path.{_≡_, refl, sym, ap, _∙_}
-use Prim.Native.Nat.{ℕ, zero, suc, _+_, _*_, _/_, _<_, _≤_}
+use mathlib.Core.Path.{_≡_, refl, _∙_}
+use Prim.Native.Nat.{ℕ, zero, suc, _+_, _*_, _/_, _≤_}
 use native.Mathlib.Nat.{add-zero, div-mul-le-self, div-le-of-le-mul}
 use native.Mathlib.Omega.{arith}
-use lib.ListN.{length, drop}
+use lib.ListN.{drop}
 use mir.Facts.{fits-below}
 use mir.Syntax.{w32, w64}
 use mir.Val.{Fits}
 use Rattle.areas.specs.Records.{records, decode}
 use Rattle.laws.specs.Sums.{sumOf}
 use Rattle.rules.specs.Matching.{middle, tradedLots}
-use Rattle.rules.specs.Memory.{queueIn, orderFrom, recordedTrades}
-use Rattle.rules.specs.Settlement.{tradedValue, weightedPrice, quotedPrice, priceFrom, tradesIn}
+use Rattle.rules.specs.Memory.{queueIn, orderFrom}
+use Rattle.rules.specs.Settlement.{weightedPrice, quotedPrice, priceFrom}
 use Rattle.rules.specs.declared.Order.{Order}
 use Rattle.rules.specs.declared.Trade.{Trade}
-use Rattle.settlement.specs.Day.{AllSized, SizedTrades, TurnoverIs}
+use Rattle.settlement.specs.Day.{AllSized, TurnoverIs}
 use Rattle.settlement.specs.declared.price.Turnover.{Turnover}
 use Rattle.settlement.proofs.Trading.{some-lots, value-small}
 

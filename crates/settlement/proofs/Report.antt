@@ -1,10 +1,9 @@
 -- What a settlement prints, in arrays with zeros past the counts: prices contract by contract, charged margin account by account.
 -- Assumes nothing.
-use mathlib.Core.List.{List, []}
-use mathlib.Core.Path.{_≡_, refl, sym, ap, _∙_}
-use Prim.Native.Nat.{ℕ, _+_, _*_, _<_, _≤_}
-use native.Mathlib.Omega.{arith}
-use lib.ListN.{length, getD, set, replicate}
+use mathlib.Core.List.{List}
+use mathlib.Core.Path.{_≡_, _∙_}
+use Prim.Native.Nat.{ℕ, _+_, _<_, _≤_}
+use lib.ListN.{getD, set, replicate}
 use Rattle.laws.specs.Tabulate.{tabulate}
 use Rattle.areas.specs.Lists.{padded}
 use Rattle.rules.specs.Exchange.{Exchange, Listing, listingAt}
@@ -12,10 +11,10 @@ use Rattle.rules.specs.Margin as margin
 use Rattle.rules.specs.Memory.{Memory, exchangeOf, listingIn, queueIn, recordedTrades}
 use Rattle.rules.specs.Settlement.{priceFrom, tradesIn, settlementPrice}
 use Rattle.rules.specs.declared.State.{State}
+use Rattle.rules.proofs.InUse.{listing-in-use}
 use Rattle.settlement.specs.Charge.{memoryOf, ChargedIs}
 use Rattle.settlement.specs.Settling.{contractIn, AllChargeable, ChargesAre}
-use Rattle.settlement.proofs.InUse.{listing-in-use}
-use Rattle.settlement.proofs.Places.{Writing, written, writing-none, writing-more, writing-done, written-padded}
+use Rattle.settlement.proofs.Places.{Writing, writing-none, writing-more, writing-done, written-padded}
 
 -- ---- prices
 

@@ -2,13 +2,13 @@
 -- Assumes nothing.
 use mathlib.Core.Bool.{Bool, true, false}
 use mathlib.Core.List.{List, [], _∷_, _++_}
-use mathlib.Core.Path.{_≡_, refl, sym, ap, subst, _∙_}
-use Prim.Native.Nat.{ℕ, zero, suc, _+_, _*_, _-_, _<_, _≤_}
-use native.Mathlib.Nat.{mul-le-mul-left, mul-le-mul-right, le-trans, le-of-eq, div-mul-le-self, div-le-of-le-mul}
+use mathlib.Core.Path.{_≡_, refl, sym, ap, _∙_}
+use Prim.Native.Nat.{ℕ, suc, _+_, _*_, _-_, _<_, _≤_}
+use native.Mathlib.Nat.{mul-le-mul-left, mul-le-mul-right, le-trans}
 use native.Mathlib.Omega.{arith}
 use borrow.Author.Tests.{eq-eqb, ne-eqb}
 use lib.Dec.{eqb}
-use lib.ListN.{length, take, drop, length-take}
+use lib.ListN.{length, drop}
 use mir.Facts.{fits-below}
 use mir.Syntax.{w64}
 use mir.Val.{Fits}
@@ -16,20 +16,15 @@ use Rattle.laws.specs.Choice.{pick}
 use Rattle.laws.specs.Sums.{sumOf, sumOf-append}
 use Rattle.areas.specs.Records.{records, decode}
 use Rattle.areas.proofs.Records.{records-add}
-use Rattle.rules.specs.Bounds.{maxPrice, maxLots}
 use Rattle.rules.specs.Matching.{tradedLots}
 use Rattle.rules.specs.Memory.{recordedTrades, tradeFrom}
 use Rattle.rules.specs.Settlement.{tradesIn, tradedValue}
 use Rattle.rules.specs.declared.Trade.{Trade}
-use Rattle.rules.proofs.Codecs.{trade-codec, length-trades, take-trades}
+use Rattle.rules.proofs.Codecs.{trade-codec, length-trades, trades-none}
 use Rattle.settlement.specs.Day.{Sized, AllSized, SizedTrades, TurnoverIs}
 use Rattle.settlement.specs.declared.price.Turnover.{Turnover}
 
 -- ---- one more trade
-
-pub no-trades : (area : List ℕ) → recordedTrades area 0 ≡ []
-unfolding recordedTrades records decode
-no-trades area = refl
 
 pub more-trades : (area : List ℕ) (i : ℕ) (t : Trade) → t ≡ tradeFrom (drop (9 * i) area) → recordedTrades area (i + 1) ≡ recordedTrades area i ++ (t ∷ [])
 unfolding recordedTrades records decode
@@ -129,7 +124,7 @@ pub record Trading (area : List ℕ) (count c v l i : ℕ) : Type 0 where
 
 pub trading-none : (area : List ℕ) (count c : ℕ) → Trading area count c 0 0 0
 unfolding tradesIn tradedValue tradedLots sumOf
-trading-none area count c = record { within = omega arith; value = rw no-trades; lots = rw no-trades }
+trading-none area count c = record { within = omega arith; value = rw trades-none; lots = rw trades-none }
 
 module _ (area : List ℕ) (count c : ℕ) (s : SizedTrades area count) where
   turnover-small : (value lots i : ℕ) → Trading area count c value lots i → (value ≤ 1_024_000_000_000) × (lots ≤ 1_024_000)

@@ -2,12 +2,12 @@
 use borrow.Author.Tests.{not-true, not-false}
 use borrow.Author.Needs.{needs}
 use Rattle.rules.specs.Bounds.{allowedToday}
-use Rattle.terms.proofs.Ranges.{term-bounds}
+use Rattle.rules.proofs.Terms.{terms}
 use Rattle.terms.proofs.allowed_today.Statement.{statement}
 use Rattle.terms.proofs.allowed_today.Tie as tie
 
 on-tick-requires : tie.Need-on-tick-requires
-on-tick-requires c κs = term-bounds (c .args .c) (c .pre) .tick
+on-tick-requires c κs = terms (c .args .c) (c .pre) .tick-low
 
 returns : tie.Need-returns
 unfolding allowedToday

@@ -1,21 +1,19 @@
 -- `terms::day_high` meets its contract: terms within their ranges leave every number within its width. Assumes nothing.
-use mathlib.Core.Path.{_≡_}
-use Prim.Native.Nat.{ℕ, _*_, _/_, _≤_}
 use native.Mathlib.Nat.{div-add-mod'}
 use native.Mathlib.Omega.{arith}
 use borrow.Author.Needs.{needs}
 use Rattle.rules.specs.Bounds.{dayHigh}
-use Rattle.terms.proofs.Ranges.{term-bounds}
+use Rattle.rules.proofs.Terms.{terms}
 use Rattle.terms.proofs.day_high.Statement.{statement}
 use Rattle.terms.proofs.day_high.Tie as tie
 
 add-smaller : tie.Need-add-smaller
 add-smaller c =
-    let t = term-bounds (c .before .args .c) (c .before .pre) in
-    record { fits = omega (arith, t .reference, t .band) }
+    let t = terms (c .before .args .c) (c .before .pre) in
+    record { fits = omega (arith, t .reference .high, t .band .high) }
 
 div-smaller : tie.Need-div-smaller
-div-smaller c = omega (arith, term-bounds (c .before .args .c) (c .before .pre) .tick)
+div-smaller c = omega (arith, terms (c .before .args .c) (c .before .pre) .tick-low)
 
 mul-smaller : tie.Need-mul-smaller
 mul-smaller c = record { fits = omega (arith, div-add-mod' 1_000_000 (c .before .args .c .tick)) }

@@ -1,5 +1,4 @@
 -- `terms::day_low` meets its contract: a difference below zero is smaller than a tick. Assumes nothing.
-use mathlib.Core.Path.{_≡_}
 use native.Mathlib.Omega.{arith}
 use borrow.Author.Needs.{needs}
 use Rattle.rules.specs.Bounds.{dayLow}

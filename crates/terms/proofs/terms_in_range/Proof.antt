@@ -5,7 +5,7 @@ use borrow.Author.Tests.{not-true, not-false}
 use borrow.Author.Needs.{needs}
 use Rattle.rules.specs.Bounds.{within, tickMultiple, termsInRange}
 use Rattle.rules.specs.declared.Contract.{Contract}
-use Rattle.terms.proofs.Ranges.{within-low}
+use Rattle.rules.proofs.Terms.{within-low}
 use Rattle.terms.proofs.terms_in_range.Statement.{statement}
 use Rattle.terms.proofs.terms_in_range.Tie as tie
 

@@ -5,7 +5,7 @@ use native.Mathlib.Omega.{arith}
 use lib.ListN.{take}
 use Rattle.laws.specs.Tabulate.{tabulate}
 use Rattle.rules.specs.Memory.{listingIn}
-use Rattle.rules.specs.WellFormed.{allNumbers, numbers}
+use Rattle.rules.specs.WellFormed.{allNumbers}
 use Rattle.audit.specs.Parts.{listing}
 use Rattle.invariants.proofs.MemoryRoom.{counts-ok}
 use Rattle.audit.proofs.Rooms.{few-buys, few-sells}

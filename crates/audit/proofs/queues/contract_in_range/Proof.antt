@@ -2,7 +2,7 @@
 use mathlib.Core.Path.{_∙_}
 use borrow.Author.Needs.{needs}
 use borrow.Author.Tests.{le-leb, lt-leb}
-use Rattle.terms.proofs.Ranges.{term-bounds}
+use Rattle.rules.proofs.Terms.{terms}
 use Rattle.audit.proofs.Chains.{fails, last, passed, refused}
 use Rattle.audit.proofs.Clauses.{contract-chain}
 use Rattle.audit.proofs.queues.contract_in_range.Statement.{statement}
@@ -19,7 +19,7 @@ returns-2 c = fails (contract-chain _) 1 (lt-leb _ _ (c .if2 .taken))
 
 tick-multiple-requires : tie.Need-tick-multiple-requires
 tick-multiple-requires c κs =
-    term-bounds _ (passed (c .before .before .before .terms-in-range .ensures) (c .before .before .if1 .left)) .tick
+    terms _ (passed (c .before .before .before .terms-in-range .ensures) (c .before .before .if1 .left)) .tick-low
 
 returns-3 : tie.Need-returns-3
 returns-3 c =

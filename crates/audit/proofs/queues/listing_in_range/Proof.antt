@@ -2,8 +2,9 @@
 use mathlib.Core.Path.{_∙_}
 use borrow.Author.Needs.{needs}
 use Rattle.rules.specs.Memory.{listingIn}
+use Rattle.rules.proofs.Terms.{terms-passed}
 use Rattle.audit.proofs.Chains.{fails, last, passed, refused}
-use Rattle.audit.proofs.Clauses.{listing-chain, terms-passed}
+use Rattle.audit.proofs.Clauses.{listing-chain}
 use Rattle.audit.proofs.Rooms.{buys-room, contract-in, sells-room}
 use Rattle.audit.proofs.queues.listing_in_range.Statement.{statement}
 use Rattle.audit.proofs.queues.listing_in_range.Tie as tie

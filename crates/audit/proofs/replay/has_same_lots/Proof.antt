@@ -4,8 +4,9 @@ use Prim.Native.Nat.{_-_, _≤_}
 use native.Mathlib.Omega.{arith}
 use borrow.Author.Needs.{needs}
 use lib.ListN.{drop, length, take}
+use Rattle.laws.specs.Lists.{unmapped}
 use Rattle.rules.specs.Holdings.{sameLots}
-use Rattle.audit.proofs.UsedAccounts.{long-differs, same-end, same-turn, short-differs, unmapped}
+use Rattle.audit.proofs.UsedAccounts.{long-differs, same-end, same-turn, short-differs}
 use Rattle.audit.proofs.replay.has_same_lots.Statement.{statement}
 use Rattle.audit.proofs.replay.has_same_lots.Tie as tie
 

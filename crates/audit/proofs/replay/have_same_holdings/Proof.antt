@@ -4,10 +4,11 @@ use Prim.Native.Nat.{_-_, _≤_}
 use native.Mathlib.Omega.{arith}
 use borrow.Author.Needs.{needs}
 use lib.ListN.{drop, length}
+use Rattle.laws.specs.Lists.{unmapped}
 use Rattle.rules.specs.Holdings.{sameHoldings}
-use Rattle.audit.specs.Parts.{used}
+use Rattle.rules.specs.Memory.{used}
 use Rattle.audit.proofs.Chains.{passed, refused}
-use Rattle.audit.proofs.UsedAccounts.{account-differs, account-turn, accounts-end, unmapped}
+use Rattle.audit.proofs.UsedAccounts.{account-differs, account-turn, accounts-end}
 use Rattle.audit.proofs.replay.have_same_holdings.Statement.{statement}
 use Rattle.audit.proofs.replay.have_same_holdings.Tie as tie
 

@@ -4,9 +4,9 @@ use Prim.Native.Nat.{_-_, _<_}
 use native.Mathlib.Omega.{arith}
 use borrow.Author.Needs.{needs}
 use lib.ListN.{set}
+use Rattle.laws.specs.Lists.{unmapped}
 use Rattle.audit.specs.Parts.{Booked}
-use Rattle.audit.proofs.Chains.{between, passed, refused}
-use Rattle.audit.proofs.UsedAccounts.{unmapped}
+use Rattle.audit.proofs.Chains.{passed, refused}
 use Rattle.audit.proofs.Replaying.{Bought, Going, buyer-booked, buyer-fits, buyer-short, going-first, replayed-all, seller-booked, seller-fits, seller-short, trade-read}
 use Rattle.audit.proofs.replay.replays.Statement.{statement}
 use Rattle.audit.proofs.replay.replays.Tie as tie

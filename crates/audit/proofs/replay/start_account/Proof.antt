@@ -2,7 +2,8 @@
 use mathlib.Core.Path.{ap}
 use mathlib.Core.List.{List}
 use borrow.Author.Needs.{needs}
-use Rattle.audit.proofs.UsedAccounts.{four-starts, unmapped}
+use Rattle.laws.specs.Lists.{unmapped}
+use Rattle.audit.proofs.UsedAccounts.{four-starts}
 use Rattle.rules.specs.declared.Holding.{Holding}
 use Rattle.audit.proofs.replay.start_account.Statement.{statement}
 use Rattle.audit.proofs.replay.start_account.Tie as tie

@@ -2,7 +2,8 @@
 use Prim.Native.Nat.{_-_, _≤_}
 use native.Mathlib.Omega.{arith}
 use borrow.Author.Needs.{needs}
-use Rattle.audit.proofs.UsedAccounts.{Started, started-all, started-more, started-none, unmapped}
+use Rattle.laws.specs.Lists.{unmapped}
+use Rattle.audit.proofs.UsedAccounts.{Started, started-all, started-more, started-none}
 use Rattle.audit.proofs.replay.start_of_day.Statement.{statement}
 use Rattle.audit.proofs.replay.start_of_day.Tie as tie
 

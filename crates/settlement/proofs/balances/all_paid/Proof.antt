@@ -1,6 +1,5 @@
 use Prim.Native.Nat.{_-_}
 use native.Mathlib.Omega.{arith}
-use borrow.Author.Needs.{needs}
 use Rattle.settlement.proofs.Carrying.{Paying, paying-none, closing-reach, holding-reach, paying-more, paying-done}
 use Rattle.settlement.proofs.balances.all_paid.Statement.{statement}
 use Rattle.settlement.proofs.balances.all_paid.Tie as tie

@@ -1,10 +1,10 @@
 use mathlib.Core.Path.{_≡_}
-use Prim.Native.Nat.{_-_, _≤_}
+use Prim.Native.Nat.{_-_}
 use native.Mathlib.Omega.{arith}
 use borrow.Author.Needs.{needs}
 use lib.ListN.{length}
+use Rattle.laws.specs.Lists.{unmapped}
 use Rattle.settlement.proofs.Carrying.{Carrying, carrying-none, carrying-more, carrying-done}
-use Rattle.settlement.proofs.Places.{unmapped}
 use Rattle.settlement.proofs.balances.carried_over.Statement.{statement}
 use Rattle.settlement.proofs.balances.carried_over.Tie as tie
 use Rattle.settlement.proofs.balances.carried_over.Reads as reads

@@ -1,4 +1,3 @@
-use mathlib.Core.Path.{_∙_}
 use Rattle.settlement.proofs.Carrying.{carried-paid}
 use borrow.Author.Needs.{needs}
 use Rattle.settlement.proofs.balances.paid.Statement.{statement}

@@ -1,7 +1,6 @@
 use lib.IntN.{pos}
 use Prim.Native.Nat.{_-_}
 use native.Mathlib.Omega.{arith}
-use borrow.Author.Needs.{needs}
 use Rattle.settlement.proofs.Totals.{Totalling, totalling-none, closing-bits, holding-bits, closing-fits, holding-fits, totalling-more, totalling-done}
 use Rattle.settlement.proofs.balances.total.Statement.{statement}
 use Rattle.settlement.proofs.balances.total.Tie as tie

@@ -2,7 +2,6 @@ use Prim.Native.Nat.{_+_}
 use mir.Facts.{toZ-ofZ}
 use Rattle.laws.proofs.Signed.{read-pos}
 use Rattle.settlement.proofs.Charging.{below-both}
-use lib.Dec.{T, ltb}
 use native.Mathlib.Omega.{arith}
 use borrow.Author.Needs.{needs}
 use Rattle.settlement.proofs.margin.too_little.Statement.{statement}

@@ -1,7 +1,6 @@
 use native.Mathlib.Omega.{arith}
 use Rattle.settlement.proofs.Trading.{contract-sized}
 use Rattle.settlement.proofs.Quoting.{price-quoted, price-weighted, turnover-low}
-use borrow.Author.Needs.{needs}
 use Rattle.settlement.proofs.price.settlement_price.Statement.{statement}
 use Rattle.settlement.proofs.price.settlement_price.Tie as tie
 use Rattle.settlement.proofs.price.settlement_price.Reads as reads

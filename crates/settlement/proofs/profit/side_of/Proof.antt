@@ -1,4 +1,4 @@
-use Rattle.settlement.proofs.Gains.{first-fits, kept-fits, closed-fits, opened-fits, lots-fit, side-is}
+use Rattle.settlement.proofs.Gains.{first-fits, kept-fits, closed-fits, opened-fits, side-is}
 use borrow.Author.Needs.{needs}
 use Rattle.settlement.proofs.profit.side_of.Statement.{statement}
 use Rattle.settlement.proofs.profit.side_of.Tie as tie

@@ -1,12 +1,12 @@
 use mathlib.Core.Path.{_≡_, sym, _∙_}
-use Prim.Native.Nat.{_-_, _≤_}
-use native.Mathlib.Nat.{le-trans, le-of-eq}
+use Prim.Native.Nat.{_-_}
 use native.Mathlib.Omega.{arith}
 use borrow.Author.Needs.{needs}
 use lib.ListN.{length, getD}
+use Rattle.laws.specs.Lists.{unmapped}
 use Rattle.rules.specs.Exchange.{noContract}
 use Rattle.rules.specs.Settlement.{settledContract}
-use Rattle.settlement.proofs.Places.{Writing, writing-none, writing-more, writing-done, written-first, unmapped}
+use Rattle.settlement.proofs.Places.{Writing, writing-none, writing-more, writing-done, written-first}
 use Rattle.settlement.proofs.reopen.all_reopened.Statement.{statement}
 use Rattle.settlement.proofs.reopen.all_reopened.Tie as tie
 use Rattle.settlement.proofs.reopen.all_reopened.Reads as reads

@@ -1,7 +1,7 @@
 use Prim.Native.Nat.{_-_}
 use native.Mathlib.Omega.{arith}
 use borrow.Author.Needs.{needs}
-use Rattle.settlement.proofs.Clearing.{Clearing, clearing-none, queue-room, clearing-more, clearing-done}
+use Rattle.settlement.proofs.Clearing.{Clearing, clearing-none, clearing-more, clearing-done}
 use Rattle.settlement.proofs.reopen.clear_queues.Statement.{statement}
 use Rattle.settlement.proofs.reopen.clear_queues.Tie as tie
 use Rattle.settlement.proofs.reopen.clear_queues.Reads as reads

@@ -1,9 +1,10 @@
 use mathlib.Core.Path.{_≡_, refl, sym, _∙_}
-use Prim.Native.Nat.{_-_, _≤_}
+use Prim.Native.Nat.{_-_}
 use native.Mathlib.Omega.{arith}
 use borrow.Author.Needs.{needs}
 use lib.ListN.{length}
-use Rattle.settlement.proofs.Places.{Writing, writing-none, writing-more, writing-done, written-first, unmapped}
+use Rattle.laws.specs.Lists.{unmapped}
+use Rattle.settlement.proofs.Places.{Writing, writing-none, writing-more, writing-done, written-first}
 use Rattle.settlement.proofs.reopen.no_orders.Statement.{statement}
 use Rattle.settlement.proofs.reopen.no_orders.Tie as tie
 use Rattle.settlement.proofs.reopen.no_orders.Reads as reads

@@ -1,0 +1,100 @@
+-- What a passed test of a range, of a tick multiple and of a contract's terms says, and back. Assumes nothing.
+use mathlib.Core.Bool.{Bool, true}
+use mathlib.Core.List.{List, [], _∷_}
+use mathlib.Core.Path.{_≡_}
+use Prim.Native.Nat.{ℕ, _≤_}
+use borrow.Author.Tests.{leb-true, le-leb}
+use lib.Dec.{leb}
+use Rattle.laws.specs.Chains.{join, passed}
+use Rattle.laws.specs.Choice.{both-true, true-both}
+use Rattle.rules.specs.Bounds.{within, onTick, tickMultiple, termsInRange, maxPrice}
+use Rattle.rules.specs.WellFormed.{contractInRange}
+use Rattle.rules.specs.declared.Contract.{Contract}
+
+module _ (low high n : ℕ) where
+  pub within-low : within low high n ≡ true → low ≤ n
+  within-low h = leb-true low n (both-true (leb low n) (leb n high) h .0)
+
+  pub within-high : within low high n ≡ true → n ≤ high
+  within-high h = leb-true n high (both-true (leb low n) (leb n high) h .1)
+
+  pub within-test : low ≤ n → n ≤ high → within low high n ≡ true
+  within-test h k = true-both (leb low n) (leb n high) (le-leb low n h) (le-leb n high k)
+
+-- ---- a tick multiple from one tick on
+
+pub record Multiple (tick n : ℕ) : Type 0 where
+  pub on-tick : onTick tick n ≡ true
+  pub low : tick ≤ n
+  pub high : n ≤ maxPrice
+
+module _ (tick n : ℕ) where
+  pub multiple : tickMultiple tick n ≡ true → Multiple tick n
+  unfolding tickMultiple
+  multiple h =
+      let p = both-true (onTick tick n) (within tick maxPrice n) h in
+      record { on-tick = p .0; low = within-low tick maxPrice n (p .1); high = within-high tick maxPrice n (p .1) }
+
+  pub multiple-test : Multiple tick n → tickMultiple tick n ≡ true
+  unfolding tickMultiple
+  multiple-test k = true-both (onTick tick n) (within tick maxPrice n) (k .on-tick) (within-test tick maxPrice n (k .low) (k .high))
+
+-- ---- a contract's terms
+
+pub record Terms (c : Contract) : Type 0 where
+  pub multiplier-low : 1 ≤ c .multiplier
+  pub multiplier-high : c .multiplier ≤ 1_000
+  pub tick-low : 1 ≤ c .tick
+  pub tick-high : c .tick ≤ 1_000
+  pub reference : Multiple (c .tick) (c .reference)
+  pub band : Multiple (c .tick) (c .band)
+  pub limit-low : 1 ≤ c .limit
+  pub limit-high : c .limit ≤ 100_000
+  pub rate-low : 1 ≤ c .rate
+  pub rate-high : c .rate ≤ 10_000
+
+module _ (c : Contract) where
+  abbrev termTests : List Bool
+  termTests =
+      within 1 1_000 (c .tick)
+      ∷ tickMultiple (c .tick) (c .reference)
+      ∷ tickMultiple (c .tick) (c .band)
+      ∷ within 1 100_000 (c .limit)
+      ∷ within 1 10_000 (c .rate)
+      ∷ []
+
+  pub terms : termsInRange c ≡ true → Terms c
+  unfolding termsInRange
+  terms h =
+      let p = passed (within 1 1_000 (c .multiplier)) termTests h in
+      record {
+        multiplier-low = within-low 1 1_000 (c .multiplier) (p .0);
+        multiplier-high = within-high 1 1_000 (c .multiplier) (p .0);
+        tick-low = within-low 1 1_000 (c .tick) (p .1 .0);
+        tick-high = within-high 1 1_000 (c .tick) (p .1 .0);
+        reference = multiple (c .tick) (c .reference) (p .1 .1 .0);
+        band = multiple (c .tick) (c .band) (p .1 .1 .1 .0);
+        limit-low = within-low 1 100_000 (c .limit) (p .1 .1 .1 .1 .0);
+        limit-high = within-high 1 100_000 (c .limit) (p .1 .1 .1 .1 .0);
+        rate-low = within-low 1 10_000 (c .rate) (p .1 .1 .1 .1 .1);
+        rate-high = within-high 1 10_000 (c .rate) (p .1 .1 .1 .1 .1);
+      }
+
+  pub terms-test : Terms c → termsInRange c ≡ true
+  unfolding termsInRange
+  terms-test t =
+      join (within 1 1_000 (c .multiplier)) termTests
+      (within-test 1 1_000 (c .multiplier) (t .multiplier-low) (t .multiplier-high),
+      (within-test 1 1_000 (c .tick) (t .tick-low) (t .tick-high),
+      (multiple-test (c .tick) (c .reference) (t .reference),
+      (multiple-test (c .tick) (c .band) (t .band),
+      (within-test 1 100_000 (c .limit) (t .limit-low) (t .limit-high),
+      within-test 1 10_000 (c .rate) (t .rate-low) (t .rate-high))))))
+
+  -- a contract of a well-formed state has its terms in range
+  pub terms-passed : contractInRange c ≡ true → termsInRange c ≡ true
+  unfolding contractInRange
+  terms-passed h = passed (termsInRange c) (leb (c .phase) 3 ∷ tickMultiple (c .tick) (c .last) ∷ []) h .0
+
+  pub contract-terms : contractInRange c ≡ true → Terms c
+  contract-terms h = terms (terms-passed h)
