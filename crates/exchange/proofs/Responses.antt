@@ -10,21 +10,22 @@ use lib.Dec.{eqb, leb, eqb·suc-zero}
 use lib.ListN.{length, getD}
 use Rattle.laws.specs.Choice.{all, all-ext, allOf, allOf-all, pick}
 use Rattle.rules.specs.Answers.{codeOf, firstOf, refusals, settleRefusals}
-use Rattle.rules.specs.Command.{isSettle}
+use Rattle.rules.specs.Command.{commandOf, isSettle}
 use Rattle.rules.specs.Exchange.{Listing, listingAt, noContract, noListing}
-use Rattle.rules.specs.Memory.{Memory, exchangeOf, listingIn, put, stepIn}
+use Rattle.rules.specs.Memory.{Memory, exchangeOf, listingIn, put, respond, stepIn, wellFormedMemory}
 use Rattle.rules.specs.Settlement.{settled}
 use Rattle.rules.specs.Step.{answerOf, carriedOut}
 use Rattle.rules.specs.declared.Command.{Command}
 use Rattle.rules.specs.declared.Command.the-variants.{Malformed, Settle}
+use Rattle.rules.specs.declared.Record.{Record}
 use Rattle.rules.specs.declared.State.{State}
 use Rattle.engine.proofs.Formed.{Formed, formed, contracts-count, listing-at}
 use Rattle.engine.proofs.Outcomes.{refusal}
-use Rattle.engine.specs.Outcome.{memory, OutcomeIs, WellFormedState}
+use Rattle.engine.specs.Outcome.{memory, OutcomeIs, WellFormedState, refusedWith}
 use Rattle.engine.specs.declared.answers.Outcome.{Outcome}
 use Rattle.settlement.specs.Settling.{SettledIs}
 use Rattle.settlement.specs.declared.settle.Settled.{Settled}
-use Rattle.exchange.specs.Response.{ResponseIs, noReport, reportOf, settlementReport, withReport}
+use Rattle.exchange.specs.Response.{ExecutedIs, ResponseIs, noReport, reportOf, settlementReport, withReport}
 use Rattle.exchange.specs.declared.settling.Response.{Response}
 
 -- a kind that is no settlement
@@ -98,18 +99,35 @@ module _ {s : State} {buys sells trades : List ℕ} (k : WellFormedState s buys 
         report = rw (e, k′ .prices, k′ .closing, k′ .holding, k′ .charged);
       }
 
--- ---- a command that is told to be of a kind
+-- ---- a command that is told to be another: of a kind, or that of certain bytes
+
+pub response-as : (m : Memory) {command told : Command} {r : Response} {buys sells trades : List ℕ} → command ≡ told → ResponseIs m told r buys sells trades
+    → ResponseIs m command r buys sells trades
+response-as m {command} {told} {r} {buys} {sells} {trades} e k = subst⁻¹ (λ (d : Command). ResponseIs m d r buys sells trades) e k
 
 pub plain-as : (m : Memory) {command told : Command} (o : Outcome) {r : Response} {buys sells trades : List ℕ} → command ≡ told → isSettle told ≡ false
     → OutcomeIs (stepIn m told) o buys sells trades → r ≡ withReport o noReport → ResponseIs m command r buys sells trades
 plain-as m {command} {told} o {r} {buys} {sells} {trades} e n k f =
-    subst⁻¹ (λ (d : Command). ResponseIs m d r buys sells trades) e (plain-response m told o r buys sells trades n k f)
-
-pub settle-as : (m : Memory) {command : Command} {r : Response} {buys sells trades : List ℕ} → command ≡ Settle → ResponseIs m Settle r buys sells trades
-    → ResponseIs m command r buys sells trades
-settle-as m {command} {r} {buys} {sells} {trades} e k = subst⁻¹ (λ (d : Command). ResponseIs m d r buys sells trades) e k
+    response-as m e (plain-response m told o r buys sells trades n k f)
 
 pub malformed-as : (s : State) (buys sells trades : List ℕ) {command : Command} (o : Outcome) {r : Response} → command ≡ Malformed
     → o ≡ record { answer = answerOf 1 0 0 0; state = s } → r ≡ withReport o noReport → ResponseIs (memory s buys sells trades) command r buys sells trades
 malformed-as s buys sells trades o e g f =
     plain-as (memory s buys sells trades) o e refl (refusal s buys sells trades Malformed 1 (omega arith) (malformed-code (memory s buys sells trades)) g) f
+
+-- ---- any state: code 21, and the command of a well-formed one
+
+pub executed-refused : (s : State) (buys sells trades : List ℕ) (bytes : Record) (o : Outcome) {r : Response} → wellFormedMemory (memory s buys sells trades) ≡ false
+    → o ≡ refusedWith s 21 → r ≡ withReport o noReport → ExecutedIs (memory s buys sells trades) bytes r buys sells trades
+unfolding respond
+executed-refused s buys sells trades bytes o w g h =
+    record {
+      answer = ap (λ (v : Response). v .answer) h ∙ ap (λ (v : Outcome). v .answer) g ∙ rw w;
+      memory = ap (λ (v : Response). memory (v .state) buys sells trades) h ∙ ap (λ (v : Outcome). memory (v .state) buys sells trades) g ∙ rw w;
+      report = ap (λ (v : Response). v .report) h ∙ rw w;
+    }
+
+pub executed : (m : Memory) (bytes : Record) {r : Response} {buys sells trades : List ℕ} → wellFormedMemory m ≡ true → ResponseIs m (commandOf bytes) r buys sells trades
+    → ExecutedIs m bytes r buys sells trades
+unfolding respond
+executed m bytes w k = record { answer = rw w (k .answer); memory = rw w (k .memory); report = rw w (k .report) }

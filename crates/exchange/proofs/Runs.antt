@@ -11,7 +11,6 @@ use Rattle.rules.specs.Command.{commandOf}
 use Rattle.rules.specs.Condition3.{run}
 use Rattle.rules.specs.DayFile.{recordFrom}
 use Rattle.rules.specs.Memory.{Declared, Memory, refusedIn, respond, stepIn, wellFormedMemory}
-use Rattle.rules.specs.declared.Command.{Command}
 use Rattle.rules.specs.declared.Record.{Record}
 use Rattle.rules.specs.declared.State.{State}
 use Rattle.accounting.proofs.Declared.{declared-kept}
@@ -61,14 +60,9 @@ module _ (m : Memory) (d : Declared (m .state)) (bytes : List ℕ) where
     all-ran k m′ e h = record { memory = subst (λ (n : ℕ). m′ ≡ run m (firstRecords bytes n)) e h; money = λ o. money-is-kept m d o (recordsIn bytes) }
 
     -- a turn of the loop
-    pub one-turn : (k : ℕ) {s : State} {buys sells trades : List ℕ} {command : Command} {r : Record} {m′ : Memory} → memory s buys sells trades ≡ run m (firstRecords bytes k)
-        → r ≡ recordFrom bytes (24 * k) → command ≡ commandOf r → m′ ≡ stepIn (memory s buys sells trades) command .memory → m′ ≡ run m (firstRecords bytes (k + 1))
-    one-turn k {s} {buys} {sells} {trades} {command} {r} {m′} e f g h =
-        one-more k m′
-        (sym
-        (h
-        ∙ ap (λ (v : Memory). stepIn v command .memory) e
-        ∙ ap (λ (d : Command). stepIn (run m (firstRecords bytes k)) d .memory) (g ∙ ap commandOf f)))
+    pub one-turn : (k : ℕ) {s : State} {buys sells trades : List ℕ} {m′ : Memory} → memory s buys sells trades ≡ run m (firstRecords bytes k)
+        → m′ ≡ stepIn (memory s buys sells trades) (commandOf (recordFrom bytes (24 * k))) .memory → m′ ≡ run m (firstRecords bytes (k + 1))
+    one-turn k {m′ = m′} e h = one-more k m′ (sym (h ∙ ap (λ (v : Memory). stepIn v (commandOf (recordFrom bytes (24 * k))) .memory) e))
 
 -- before the first command
 pub none-ran : (m : Memory) (bytes : List ℕ) → m ≡ run m (firstRecords bytes 0)

@@ -23,9 +23,7 @@ pub fn run(
     let mut current = state;
     let mut k: usize = 0;
     while k < n {
-        let record = dayfile::bytes::record_at(bytes, 24 * k);
-        let command = commands::command_of(record);
-        let r = step::step(current, buys, sells, trades, command);
+        let r = step::step_at(current, buys, sells, trades, bytes, 24 * k);
         current = r.state;
         k += 1;
     }

@@ -1,5 +1,9 @@
-// One command on a well-formed state. For our own crates.
+// One command on a well-formed state, as such and as 24 bytes. For our own crates.
 ghost use mathlib.Core.Path.{_≡_};
+ghost use Prim.Native.Nat.{_+_, _≤_};
+ghost use lib.ListN.{length};
+ghost use Rattle.rules.specs.Command.{commandOf};
+ghost use Rattle.rules.specs.DayFile.{recordFrom};
 ghost use Rattle.engine.specs.Outcome.{memory, WellFormedState};
 ghost use Rattle.exchange.specs.Response.{ResponseIs};
 use crate::settling;
@@ -79,4 +83,21 @@ pub fn step(
         )),
         Command::Settle => settling::settle(state, buys, sells, trades),
     }
+}
+
+// The command whose 24 bytes stand at a place of a list.
+pub fn step_at(
+    state: State,
+    buys: &mut [u32],
+    sells: &mut [u32],
+    trades: &mut [u32],
+    bytes: &[u8],
+    at: usize,
+) -> Response
+    requires { ⌜ WellFormedState state (now buys) (now sells) (now trades) × (at + 24 ≤ length (now bytes)) ⌝ }
+    ensures { λ r. ⌜ ResponseIs (memory state (now (buys .entry)) (now (sells .entry)) (now (trades .entry))) (commandOf (recordFrom (now (bytes .entry)) at)) r (now (buys .exit)) (now (sells .exit)) (now (trades .exit)) ⌝ }
+{
+    let record = dayfile::bytes::record_at(bytes, at);
+    let command = commands::command_of(record);
+    step(state, buys, sells, trades, command)
 }

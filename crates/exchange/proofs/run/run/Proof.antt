@@ -19,9 +19,7 @@ use Rattle.exchange.proofs.run.run.Tie as tie
 use Rattle.exchange.proofs.run.run.Reads as reads
 use Rattle.exchange.proofs.run.run.Lts as lts
 use Rattle.audit.proofs.well_formed.Reads as well-formed-reads
-use Rattle.commands.proofs.command_of.Reads as command-of-reads
-use Rattle.dayfile.proofs.bytes.record_at.Reads as record-at-reads
-use Rattle.exchange.proofs.step.step.Reads as step-reads
+use Rattle.exchange.proofs.step.step_at.Reads as step-at-reads
 
 abbrev Inv-loop : tie.InvT-loop
 Inv-loop buys₀ sells₀ trades₀ bytes n current₀ k₀ buys sells trades current k =
@@ -66,28 +64,20 @@ returns c = refused-ran _ (typed (c .before .before .before .before .before .bef
 loop-holds : tie.Need-loop-holds Inv-loop μ-loop
 loop-holds c = (omega arith, (none-ran _ _, (refl, (refl, refl))))
 
--- src/run.rt:20:55
-mul-record-at : tie.Need-mul-record-at Inv-loop μ-loop
-mul-record-at c = omega (arith, whole (length (now (c .before .before .before .before .before .before .before .before .before .before .before .args .bytes))))
+-- src/run.rt:26:68
+mul-step-at : tie.Need-mul-step-at Inv-loop μ-loop
+mul-step-at c = omega (arith, whole (length (now (c .before .before .before .before .before .before .before .before .before .before .before .before .before .before .args .bytes))))
 
--- src/run.rt:20:13
-record-at-requires : tie.Need-record-at-requires Inv-loop μ-loop
-record-at-requires c κs = omega (arith, whole (length (now (c .before .before .before .before .before .before .before .before .before .before .before .args .bytes))))
-
--- src/run.rt:21:13
-command-of-requires : tie.Need-command-of-requires Inv-loop μ-loop
-command-of-requires c κs = search needs
-
--- src/run.rt:22:13
-step-requires : tie.Need-step-requires Inv-loop μ-loop
-step-requires c κs = running _ (typed (c .before .before .before .before .before .before .before .before .before .before .before .before .before .before .before .before)) _ (sound (c .before .before .before .before .before .before .before)) _ (c .before .before .before .before .before .before .loop .inv .1 .0)
+-- src/run.rt:26:13
+step-at-requires : tie.Need-step-at-requires Inv-loop μ-loop
+step-at-requires c κs = (running _ (typed (c .before .before .before .before .before .before .before .before .before .before .before .before .before .before)) _ (sound (c .before .before .before .before .before)) _ (c .before .before .before .before .loop .inv .1 .0), omega (arith, whole (length (now (c .before .before .before .before .before .before .before .before .before .before .before .before .before .before .args .bytes)))))
 
 -- src/run.rt:24:9
 few : (c : tie.In-loop Inv-loop μ-loop) → c .before .loop .k + 1 < 2 ^ 64
 few c = omega (arith, whole (length (now (c .before .before .before .before .before .before .before .before .before .before .before .args .bytes))))
 
 add-k : tie.Need-add-k Inv-loop μ-loop
-add-k c = record { fits = few (c .before .before .before .before .before .before .before .before .before .before .before .before .before) }
+add-k c = record { fits = few (c .before .before .before .before .before .before .before .before .before .before .before) }
 
 -- src/run.rt:19:5
 loop-less : tie.Need-loop-less Inv-loop μ-loop
@@ -98,8 +88,8 @@ loop-again : tie.Need-loop-again Inv-loop μ-loop
 loop-again c = (
   omega arith,
   (
-    one-turn _ (typed (c .before .before .before .before .before .before .before .before .before .before .before .before .before .before .before .before .before .before .before .before .before .before .before .before)) _ (sound (c .before .before .before .before .before .before .before .before .before .before .before .before .before .before .before)) _ (c .before .before .before .before .before .before .before .before .before .before .before .before .before .before .loop .inv .1 .0) (c .before .before .before .before .before .before .before .before .before .before .before .before .record-at .ensures) (c .before .before .before .before .before .before .before .before .before .before .before .command-of .ensures) (c .before .before .before .before .before .before .before .step .ensures .memory),
-    (c .before .before .before .before .before .before .before .step .kept .1 .0 ∙ c .before .before .before .before .before .before .before .before .before .before .before .before .before .before .loop .inv .1 .1 .0, (c .before .before .before .before .before .before .before .step .kept .1 .1 .0 ∙ c .before .before .before .before .before .before .before .before .before .before .before .before .before .before .loop .inv .1 .1 .1 .0, c .before .before .before .before .before .before .before .step .kept .1 .1 .1 .0 ∙ c .before .before .before .before .before .before .before .before .before .before .before .before .before .before .loop .inv .1 .1 .1 .1)),
+    one-turn _ (typed (c .before .before .before .before .before .before .before .before .before .before .before .before .before .before .before .before .before .before .before .before .before .before)) _ (sound (c .before .before .before .before .before .before .before .before .before .before .before .before .before)) _ (c .before .before .before .before .before .before .before .before .before .before .before .before .loop .inv .1 .0) (c .before .before .before .before .before .before .before .step-at .ensures .memory),
+    (c .before .before .before .before .before .before .before .step-at .kept .1 .0 ∙ c .before .before .before .before .before .before .before .before .before .before .before .before .loop .inv .1 .1 .0, (c .before .before .before .before .before .before .before .step-at .kept .1 .1 .0 ∙ c .before .before .before .before .before .before .before .before .before .before .before .before .loop .inv .1 .1 .1 .0, c .before .before .before .before .before .before .before .step-at .kept .1 .1 .1 .0 ∙ c .before .before .before .before .before .before .before .before .before .before .before .before .loop .inv .1 .1 .1 .1)),
   ),
 )
 
@@ -131,10 +121,8 @@ run-spec =
     same-length-3
     returns
     loop-holds
-    mul-record-at
-    record-at-requires
-    command-of-requires
-    step-requires
+    mul-step-at
+    step-at-requires
     add-k
     loop-less
     loop-again

@@ -2,7 +2,7 @@
 use mathlib.Core.Path.{refl}
 use denote.Ref.{now}
 use Rattle.engine.specs.Outcome.{memory}
-use Rattle.exchange.proofs.Responses.{plain-as, malformed-as, settle-as}
+use Rattle.exchange.proofs.Responses.{plain-as, malformed-as, response-as}
 use borrow.Author.Needs.{needs}
 use Rattle.exchange.proofs.step.step.Statement.{statement}
 use Rattle.exchange.proofs.step.step.Tie as tie
@@ -224,7 +224,7 @@ same-length-21 c = search needs
 
 -- src/step.rt:14:1
 returns-8 : tie.Need-returns-8
-returns-8 c = settle-as (memory (c .before .before .before .before .before .before .before .before .before .before .before .before .before .before .before .args .state) (now (c .before .before .before .before .before .before .before .before .before .before .before .before .before .before .before .args .buys)) (now (c .before .before .before .before .before .before .before .before .before .before .before .before .before .before .before .args .sells)) (now (c .before .before .before .before .before .before .before .before .before .before .before .before .before .before .before .args .trades))) (c .before .before .before .before .before .before .before .before .before .before .enum-told2 .given .1) (c .before .before .before .before .before .before .settle .ensures)
+returns-8 c = response-as (memory (c .before .before .before .before .before .before .before .before .before .before .before .before .before .before .before .args .state) (now (c .before .before .before .before .before .before .before .before .before .before .before .before .before .before .before .args .buys)) (now (c .before .before .before .before .before .before .before .before .before .before .before .before .before .before .before .args .sells)) (now (c .before .before .before .before .before .before .before .before .before .before .before .before .before .before .before .args .trades))) (c .before .before .before .before .before .before .before .before .before .before .enum-told2 .given .1) (c .before .before .before .before .before .before .settle .ensures)
 
 pub step-spec : {M : Type 1} → statement M
 step-spec =
