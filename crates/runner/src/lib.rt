@@ -1,0 +1,2 @@
+// The day runner: a day file's commands played in turn, and the lines that they print.
+pub mod printing;
