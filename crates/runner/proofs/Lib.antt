@@ -1,2 +1,3 @@
 pub mod Tables
 pub mod Recorded
+pub mod Responded

@@ -1,2 +1,3 @@
 // The day runner: a day file's commands played in turn, and the lines that they print.
 pub mod printing;
+pub mod turn;
