@@ -1,3 +1,4 @@
-pub mod Tables
+pub mod Playing
 pub mod Recorded
 pub mod Responded
+pub mod Tables

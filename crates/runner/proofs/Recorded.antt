@@ -6,7 +6,7 @@ use Prim.Native.Nat.{ℕ, zero, suc, _+_, _-_, _*_, _≤_, _<_, max}
 use native.Mathlib.Omega.{arith}
 use lib.Dec.{leb}
 use borrow.Author.Tests.{leb-true, leb-false}
-use lib.ListN.{length, drop, length-drop}
+use lib.ListN.{length, drop, length-drop, drop-of-length-le}
 use lib.Seq.{drop-append-le}
 use Rattle.areas.specs.Records.{decode, records}
 use Rattle.areas.proofs.Records.{records-add}
@@ -18,12 +18,6 @@ use Rattle.lines.specs.Written.{Written}
 use Rattle.lines.proofs.Text.{no-byte, looser, then}
 use Rattle.lines.proofs.Turns.{trade-turn}
 
-drop-past : {A : Type 0} (n : ℕ) (l : List A) → length l ≤ n → drop n l ≡ []
-drop-past zero [] h = refl
-drop-past zero (x ∷ l) h = absurd (omega arith)
-drop-past (suc n) [] h = refl
-drop-past (suc n) (x ∷ l) h = drop-past n l (omega arith)
-
 module _ (area : List ℕ) where
   recorded-more : (i : ℕ) → recordedTrades area (i + 1) ≡ recordedTrades area i ++ (tradeFrom (drop (9 * i) area) ∷ [])
   unfolding recordedTrades records decode
@@ -31,7 +25,7 @@ module _ (area : List ℕ) where
 
   module _ (first : ℕ) where
     none-past : (count : ℕ) → count ≤ first → drop first (recordedTrades area count) ≡ []
-    none-past count h = drop-past first (recordedTrades area count) (rw (length-trades area count) h)
+    none-past count h = drop-of-length-le (recordedTrades area count) {i = first} (rw (length-trades area count) h)
 
     -- the trades from `first` on, once i of them are passed
     recorded-turn : (i : ℕ) → first ≤ i → tradeLines (first + 1) (drop first (recordedTrades area (i + 1)))

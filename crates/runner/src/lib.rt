@@ -1,3 +1,4 @@
 // The day runner: a day file's commands played in turn, and the lines that they print.
+pub mod play;
 pub mod printing;
 pub mod turn;
