@@ -1,13 +1,12 @@
 -- The memory that a sound file's run opens with is well formed, whatever stands in the areas lent with it, and opens without
 -- holdings or trades. Assumes nothing.
 use mathlib.Core.Bool.{true}
-use mathlib.Core.List.{List, [], _∷_, _++_}
-use mathlib.Core.Path.{_≡_, refl, sym, ap, _∙_}
-use Prim.Native.Nat.{ℕ, zero, suc, _+_, _-_, _<_, _≤_}
-use native.Mathlib.Nat.{le-of-suc-le-suc, not-suc-le-zero}
+use mathlib.Core.List.{List, [], _++_}
+use mathlib.Core.Path.{_≡_, refl, ap, _∙_}
+use Prim.Native.Nat.{ℕ, zero, suc, _+_, _-_, _<_}
 use native.Mathlib.Omega.{arith}
-use lib.ListN.{length, getD, replicate, getD-replicate, length-replicate}
-use Rattle.laws.specs.Tabulate.{tabulate, length-tabulate, getD-tabulate}
+use lib.ListN.{length, getD, replicate}
+use Rattle.laws.specs.Tabulate.{tabulate, length-tabulate}
 use Rattle.areas.specs.Lists.{padded}
 use Rattle.areas.proofs.Lists.{length-padded}
 use Rattle.rules.specs.Condition3.{Opening}

@@ -1,8 +1,8 @@
 -- Parts of a day: the run and the lines of one part after another are those of both together. Assumes nothing.
 use mathlib.Core.Bool.{Bool, true, false}
 use mathlib.Core.List.{List, [], _∷_, _++_, append-assoc, append-nil}
-use mathlib.Core.Path.{_≡_, refl, sym, ap, _∙_, subst, subst⁻¹}
-use Prim.Native.Nat.{ℕ, zero, suc, _+_, _-_, _<_, _≤_}
+use mathlib.Core.Path.{_≡_, refl, sym, ap, _∙_, subst⁻¹}
+use Prim.Native.Nat.{ℕ, suc, _+_, _-_, _<_, _≤_}
 use native.Mathlib.Nat.{add-zero}
 use native.Mathlib.Numerals.{add-one}
 use native.Mathlib.Omega.{arith}
@@ -13,7 +13,7 @@ use lib.Seq.{drop-append-le, length-slice, length-take-le, slice-empty, take-suc
 use Rattle.laws.specs.Tabulate.{length-tabulate}
 use Rattle.rules.specs.Command.{commandOf}
 use Rattle.rules.specs.Condition3.{run}
-use Rattle.rules.specs.DayFile.{commandPlace, commandsIn, recordFrom, recordsOf, sound}
+use Rattle.rules.specs.DayFile.{commandPlace, commandsIn, recordFrom, recordsOf}
 use Rattle.rules.specs.Exchange.{Exchange}
 use Rattle.rules.specs.Lines.{runLines, stepLines}
 use Rattle.rules.specs.Memory.{Declared, Memory, exchangeOf, respond, wellFormedMemory}
@@ -28,7 +28,6 @@ use Rattle.lines.specs.Written.{Written}
 use Rattle.lines.proofs.Text.{looser, no-byte, then}
 use Rattle.runner.specs.Parts.{part, Playable, PlayedIs}
 use Rattle.runner.specs.Turns.{commandMost, TurnIs}
-use Rattle.runner.specs.declared.play.Played.{Played}
 use Rattle.runner.specs.declared.turn.Turn.{Turn}
 
 -- ---- a run and its lines, of a list in two parts
@@ -46,8 +45,8 @@ lines-append m w k (r ∷ rs) qs =
     let e : k + 1 + length rs ≡ k + suc (length rs) = omega arith in
     let x : Exchange = exchangeOf m in
     let h : runLines (k + 1) (step x (commandOf r) .exchange) (rs ++ qs)
-        ≡ runLines (k + 1) (step x (commandOf r) .exchange) rs ++ runLines (k + suc (length rs)) (exchangeOf (run (respond m r .memory) rs)) qs
-        = rw (e, read-back m r w) at (lines-append (respond m r .memory) (memory-keeps m r w) (k + 1) rs qs) in
+    ≡ runLines (k + 1) (step x (commandOf r) .exchange) rs ++ runLines (k + suc (length rs)) (exchangeOf (run (respond m r .memory) rs)) qs
+    = rw (e, read-back m r w) at (lines-append (respond m r .memory) (memory-keeps m r w) (k + 1) rs qs) in
     rw h (sym (append-assoc (stepLines k x (commandOf r)) (runLines (k + 1) (step x (commandOf r) .exchange) rs) (runLines (k + suc (length rs)) (exchangeOf (run (respond m r .memory) rs)) qs)))
 
 -- ---- parts of a file
@@ -128,7 +127,7 @@ module _ (file : List ℕ) (k : ℕ) {s₀ : State} {buys₀ sells₀ trades₀ 
     one-printed v =
         let u = then v (is .lines) in
         let g : Written (length out₀) out₀ 0 (lines i ++ stepLines (i + 1) (exchangeOf (memory s buys sells trades)) (commandOf r)) after (t .end) =
-            record { content = u .content; ends = u .ends; short = omega (arith, u .ends, u .inside); kept = u .kept; inside = u .inside } in
+        record { content = u .content; ends = u .ends; short = omega (arith, u .ends, u .inside); kept = u .kept; inside = u .inside } in
         rw lines-more g
 
   -- the two ways out: all commands are played, or less room is left than one command can need
@@ -144,7 +143,7 @@ module _ (file : List ℕ) (k : ℕ) {s₀ : State} {buys₀ sells₀ trades₀ 
     unfolding runLines
     none-yet q =
         let e : length (lines i) ≡ 0 =
-            ap (λ (n : ℕ). length (lines n)) (sym q) ∙ ap (λ (rs : List Record). length (runLines (k + 1) (exchangeOf m) rs)) (part-none file k) in
+        ap (λ (n : ℕ). length (lines n)) (sym q) ∙ ap (λ (rs : List Record). length (runLines (k + 1) (exchangeOf m) rs)) (part-none file k) in
         omega (arith, v .ends)
 
     pub room-played : length after - at < commandMost → PlayedIs file k m out₀ (record { state = s; next = i; end = at }) m′ after

@@ -1,12 +1,11 @@
 -- The lines of a response in memory are the rules' lines of the command. Assumes nothing.
-use mathlib.Core.Bool.{Bool, true, false, _&&_}
-use mathlib.Core.List.{List, [], _∷_, _++_}
+use mathlib.Core.Bool.{Bool, true, false}
+use mathlib.Core.List.{List, [], _++_}
 use mathlib.Core.Path.{_≡_, refl, sym, ap, _∙_, subst, subst⁻¹}
-use Prim.Native.Nat.{ℕ, zero, suc, _+_, _<_, _≤_}
+use Prim.Native.Nat.{ℕ, zero, suc, _<_}
 use borrow.Author.Tests.{eq-eqb, ne-eqb}
-use native.Mathlib.Omega.{arith}
 use lib.Dec.{eqb}
-use lib.IntN.{ℤ, pos}
+use lib.IntN.{pos}
 use lib.ListN.{length, drop, getD}
 use Rattle.laws.specs.Choice.{pick}
 use Rattle.laws.specs.Tabulate.{tabulate, length-tabulate, getD-tabulate}
@@ -15,24 +14,23 @@ use Rattle.areas.proofs.Lists.{getD-padded}
 use Rattle.rules.specs.Answers.{codeOf}
 use Rattle.rules.specs.Command.{commandOf, isSettle}
 use Rattle.rules.specs.Exchange.{Exchange, accountAt, noAccount}
-use Rattle.rules.specs.Lines.{answerLine, tradeLines, priceLines, accountLines, settlementLines, newTrades, stepLines}
+use Rattle.rules.specs.Lines.{priceLines, accountLines, settlementLines, newTrades, stepLines}
 use Rattle.rules.specs.Margin.{charged}
 use Rattle.rules.specs.Memory.{Declared, Memory, exchangeOf, put, putState, recordedTrades, respond, stepIn, wellFormedMemory}
 use Rattle.rules.specs.Settlement.{closingProfit, holdingProfit, settled, settlementPrice}
-use Rattle.rules.specs.Step.{Stepped, carriedOut, step}
+use Rattle.rules.specs.Step.{carriedOut, step}
 use Rattle.rules.specs.declared.Account.{Account}
 use Rattle.rules.specs.declared.Answer.{Answer}
 use Rattle.rules.specs.declared.Command.{Command}
 use Rattle.rules.specs.declared.Command.the-variants.{Malformed, Deposit, Withdraw, Insert, Cancel, Pull, Phase, Settle}
 use Rattle.rules.specs.declared.Record.{Record}
 use Rattle.rules.specs.declared.State.{State}
-use Rattle.rules.specs.declared.Trade.{Trade}
 use Rattle.rules.proofs.Codecs.{length-trades}
 use Rattle.accounting.proofs.Declared.{declared-kept}
 use Rattle.invariants.proofs.MemoryKeeps.{memory-keeps, step-in-read}
-use Rattle.engine.proofs.Formed.{Formed, formed, account-at, accounts-count, contracts-count}
+use Rattle.engine.proofs.Formed.{formed, account-at, accounts-count, contracts-count}
 use Rattle.engine.specs.Outcome.{memory, WellFormedState}
-use Rattle.exchange.specs.Response.{ResponseIs, noReport, reportOf, settlementReport}
+use Rattle.exchange.specs.Response.{ResponseIs, reportOf, settlementReport}
 use Rattle.exchange.specs.declared.settling.Report.{Report}
 use Rattle.exchange.specs.declared.settling.Response.{Response}
 use Rattle.lines.specs.Written.{Written, priceLine, accountLine}

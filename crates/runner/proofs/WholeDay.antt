@@ -1,27 +1,26 @@
--- A day printed part by part: the run of all its parts is the run of its commands, THE PARTS' LINES ONE AFTER THE OTHER ARE THE
--- RULES' WHOLE OUTPUT, and condition 3 holds of it. Assumes nothing.
+-- A day printed part by part: the run of its parts is the run of its commands, WHAT THE PARTS WRITE ONE AFTER THE OTHER IS THE RULES'
+-- WHOLE OUTPUT, and condition 3 holds of it. Assumes nothing.
 use mathlib.Core.Bool.{true, false, true≢false}
-use mathlib.Core.List.{List, [], _∷_, _++_}
+use mathlib.Core.List.{List, [], _++_}
 use mathlib.Core.Path.{_≡_, refl, sym, ap, _∙_, subst⁻¹}
-use Prim.Native.Nat.{ℕ, zero, suc, _+_, _-_, _<_, _≤_}
+use Prim.Native.Nat.{ℕ, _+_, _≤_}
 use native.Mathlib.Omega.{arith}
 use lib.ListN.{length, take, drop}
-use lib.Seq.{take-length, slice-empty, length-slice}
-use Rattle.laws.specs.Choice.{pick}
+use lib.Seq.{take-append-seam, take-length, length-slice}
+use Rattle.areas.specs.Lists.{over}
+use Rattle.lines.specs.Written.{Written}
 use Rattle.rules.specs.Condition3.{run}
-use Rattle.rules.specs.DayFile.{sound, commandsIn, recordsOf, opening}
-use Rattle.rules.specs.Lines.{output, runLines}
+use Rattle.rules.specs.DayFile.{sound, commandsIn, opening, recordsOf}
+use Rattle.rules.specs.Lines.{brokenLine, output, runLines}
 use Rattle.rules.specs.Memory.{Declared, Memory, exchangeOf, wellFormedMemory}
-use Rattle.rules.specs.declared.Record.{Record}
 use Rattle.rules.specs.declared.State.{State}
 use Rattle.dayfile.specs.Opening.{openingState}
 use Rattle.invariants.proofs.Condition3.{money-is-kept}
 use Rattle.invariants.proofs.MemoryKeeps.{run-keeps}
-use Rattle.engine.specs.Outcome.{memory, WellFormedState}
+use Rattle.engine.specs.Outcome.{memory}
 use Rattle.exchange.proofs.Runs.{run-declared}
-use Rattle.runner.specs.Day.{Ready, DayIs, openingOf, partLines, Stops, allParts}
+use Rattle.runner.specs.Day.{Ready, DayIs, openingOf, linesTo}
 use Rattle.runner.specs.Parts.{part, Playable, PlayedIs}
-use Rattle.runner.specs.declared.day.Day.{Day}
 use Rattle.runner.specs.declared.play.Played.{Played}
 use Rattle.runner.proofs.Opened.{opens-formed, opens-as-told, opens-empty}
 use Rattle.runner.proofs.Playing.{length-commands, lines-append, part-part, run-append}
@@ -30,31 +29,26 @@ use Rattle.runner.proofs.Playing.{length-commands, lines-append, part-p
 pub one-part : (file : List ℕ) → part file 0 (commandsIn file) ≡ recordsOf file
 one-part file = rw (← length-commands file) (take-length (recordsOf file))
 
--- ---- the lines
+-- what stands in front of a buffer that was written from its start
+front : {most end : ℕ} {before bytes after : List ℕ} → Written most before 0 bytes after end → take end after ≡ bytes
+unfolding over
+front {before = before} {bytes = bytes} w =
+    let e : _≡_ {A = ℕ} (0 + length bytes) (length bytes) = omega arith in
+    rw (w .content, w .ends, e) (take-append-seam bytes (drop (length bytes) before))
 
-module _ (file : List ℕ) (m : Memory) (w : wellFormedMemory m ≡ true) where
-  run-parts : (k n : ℕ) → k ≤ n → n ≤ commandsIn file → run m (part file 0 n) ≡ run (run m (part file 0 k)) (part file k n)
-  run-parts k n h l = ap (run m) (part-part file 0 k n (omega arith) h l) ∙ run-append m (part file 0 k) (part file k n)
+-- ---- the output: nothing before the first command, all of it after the last
 
-  -- one part after another
-  lines-parts : (k i n : ℕ) → k ≤ i → i ≤ n → n ≤ commandsIn file → partLines file m k n ≡ partLines file m k i ++ partLines file m i n
-  unfolding partLines
-  lines-parts k i n h l b =
-      let e : k + 1 + length (part file k i) ≡ i + 1 = rw (length-slice k i (recordsOf file) (rw (length-commands file) (omega arith))) (omega arith) in
-      rw (part-part file k i n h l b, lines-append (run m (part file 0 k)) (run-keeps m (part file 0 k) w) (k + 1) (part file k i) (part file i n), e, run-parts k i h (omega arith))
+pub nothing-yet : (file : List ℕ) → linesTo file 0 ≡ []
+unfolding linesTo runLines
+nothing-yet file = refl
 
-  nothing-left : (k : ℕ) → partLines file m k k ≡ []
-  unfolding partLines runLines
-  nothing-left k = rw (slice-empty k (recordsOf file))
+pub all-is-output : (file : List ℕ) → sound file ≡ true → linesTo file (commandsIn file) ≡ output file
+unfolding linesTo output
+all-is-output file h = rw (h, one-part file)
 
-  last-stop : (k : ℕ) (stops : List ℕ) → Stops file k stops → k ≤ commandsIn file
-  last-stop k [] s = omega arith
-  last-stop k (n ∷ ns) s = omega (arith, s .0, s .1 .0)
-
-  all-lines : (k : ℕ) (stops : List ℕ) → Stops file k stops → allParts file m k stops ≡ partLines file m k (commandsIn file)
-  unfolding allParts
-  all-lines k [] s = sym (ap (λ (n : ℕ). partLines file m n (commandsIn file)) s ∙ nothing-left (commandsIn file))
-  all-lines k (n ∷ ns) s = rw (all-lines n ns (s .1 .1)) (sym (lines-parts k n (commandsIn file) (s .0) (s .1 .0) (omega arith)))
+pub broken-is-output : (file : List ℕ) → sound file ≡ false → {most end : ℕ} {before after : List ℕ} → Written most before 0 brokenLine after end → output file ≡ take end after
+unfolding output
+broken-is-output file h w = rw h (sym (front w))
 
 -- ---- a day
 
@@ -62,12 +56,19 @@ module _ (file : List ℕ) {buys sells trades out : List ℕ} (ready : Ready fil
   abbrev m₀ : Memory
   m₀ = openingOf file buys sells trades
 
-  -- THE OUTPUT: wherever the parts stop, their lines one after the other are the rules' whole output
-  pub parts-are-output : (stops : List ℕ) → Stops file 0 stops → allParts file m₀ 0 stops ≡ output file
-  unfolding output partLines run
-  parts-are-output stops s =
-      all-lines file m₀ (opens-formed file ready .formed) 0 stops s
-      ∙ rw (ready .whole, one-part file, opens-as-told file ready)
+  formed₀ : wellFormedMemory m₀ ≡ true
+  formed₀ = opens-formed file ready .formed
+
+  run-parts : (k n : ℕ) → k ≤ n → n ≤ commandsIn file → run m₀ (part file 0 n) ≡ run (run m₀ (part file 0 k)) (part file k n)
+  run-parts k n h l = ap (run m₀) (part-part file 0 k n (omega arith) h l) ∙ run-append m₀ (part file 0 k) (part file k n)
+
+  lines-parts : (k n : ℕ) → k ≤ n → n ≤ commandsIn file
+      → linesTo file n ≡ linesTo file k ++ runLines (k + 1) (exchangeOf (run m₀ (part file 0 k))) (part file k n)
+  unfolding linesTo
+  lines-parts k n h l =
+      let e : 1 + length (part file 0 k) ≡ k + 1 = rw (length-slice 0 k (recordsOf file) (rw (length-commands file) (omega arith))) (omega arith) in
+      ap (runLines 1 (opening file)) (part-part file 0 k n (omega arith) h l)
+      ∙ rw (← opens-as-told file ready, lines-append m₀ formed₀ 1 (part file 0 k) (part file k n), e)
 
   pub none-done : {s : State} → s ≡ openingState file → memory s buys sells trades ≡ run m₀ (part file 0 0)
   unfolding run
@@ -90,7 +91,15 @@ module _ (file : List ℕ) {buys sells trades out : List ℕ} (ready : Ready fil
     pub part-done : {before after : List ℕ} {p : Played} {m′ : Memory} → PlayedIs file k (memory s buys′ sells′ trades′) before p m′ after → m′ ≡ run m₀ (part file 0 (p .next))
     part-done {p = p} is =
         is .memory ∙ ap (λ (v : Memory). run v (part file k (p .next))) e
-        ∙ sym (run-parts file m₀ (opens-formed file ready .formed) k (p .next) (is .onward) (is .within))
+        ∙ sym (run-parts k (p .next) (is .onward) (is .within))
+
+    -- the bytes that a part leaves in front of the buffer are what its commands add to the output
+    pub part-written : {before after : List ℕ} {p : Played} {m′ : Memory} → PlayedIs file k (memory s buys′ sells′ trades′) before p m′ after
+        → linesTo file (p .next) ≡ linesTo file k ++ take (p .end) after
+    part-written {before} {after} {p} is =
+        lines-parts k (p .next) (is .onward) (is .within)
+        ∙ ap (λ (l : List ℕ). linesTo file k ++ l)
+        (ap (λ (v : Memory). runLines (k + 1) (exchangeOf v) (part file k (p .next))) (sym e) ∙ sym (front (is .lines)))
 
     -- the two ways out
     pub stopped : DayIs file buys sells trades (record { state = s; played = k; whole = false }) (memory s buys′ sells′ trades′)

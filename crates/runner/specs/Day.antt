@@ -1,13 +1,13 @@
--- What printing a day asks for and leaves, and the lines of a day's parts one after the other. Assumes nothing.
+-- What printing a day asks for and leaves, and the lines of a day's first commands. Assumes nothing.
 use mathlib.Core.Bool.{true}
-use mathlib.Core.List.{List, [], _∷_, _++_}
+use mathlib.Core.List.{List}
 use mathlib.Core.Path.{_≡_}
-use Prim.Native.Nat.{ℕ, _+_, _≤_}
+use Prim.Native.Nat.{ℕ, _≤_}
 use lib.ListN.{length}
 use Rattle.rules.specs.Condition3.{Condition3, run}
-use Rattle.rules.specs.DayFile.{sound, commandsIn, recordsOf}
+use Rattle.rules.specs.DayFile.{sound, commandsIn, opening, recordsOf}
 use Rattle.rules.specs.Lines.{runLines}
-use Rattle.rules.specs.Memory.{Memory, exchangeOf}
+use Rattle.rules.specs.Memory.{Memory}
 use Rattle.dayfile.specs.Opening.{openingState}
 use Rattle.engine.specs.Outcome.{memory}
 use Rattle.runner.specs.Parts.{part}
@@ -34,16 +34,6 @@ pub record DayIs (file buys sells trades : List ℕ) (day : Day) (m′ : Memory)
   pub memory : m′ ≡ run (openingOf file buys sells trades) (part file 0 (day .played))
   pub money : Condition3 (openingOf file buys sells trades) (part file 0 (day .played))
 
--- ---- the parts' lines: a part begins where the one before it stopped, on the state that the commands before it left
-
-unfoldable pub partLines : List ℕ → Memory → ℕ → ℕ → List ℕ
-partLines file m k n = runLines (k + 1) (exchangeOf (run m (part file 0 k))) (part file k n)
-
--- the places where parts stop: in order, the last of them behind the last command
-abbrev pub Stops : List ℕ → ℕ → List ℕ → Type 0
-Stops file k [] = k ≡ commandsIn file
-Stops file k (n ∷ ns) = (k ≤ n) × ((n ≤ commandsIn file) × Stops file n ns)
-
-unfoldable pub allParts : List ℕ → Memory → ℕ → List ℕ → List ℕ
-allParts file m k [] = []
-allParts file m k (n ∷ ns) = partLines file m k n ++ allParts file m n ns
+-- ---- what the first n commands print: nothing at first, and the whole output once all are played
+unfoldable pub linesTo : List ℕ → ℕ → List ℕ
+linesTo file n = runLines 1 (opening file) (part file 0 n)

@@ -1,9 +1,13 @@
 // A whole day printed to a file descriptor, part by part.
 ghost use mathlib.Core.Path.{_≡_};
+ghost use mathlib.Core.Bool.{false};
+ghost use mathlib.Core.List.{_++_};
 ghost use Prim.Native.Nat.{_≤_};
-ghost use lib.ListN.{length};
+ghost use lib.ListN.{length, take};
+ghost use Rattle.rules.specs.DayFile.{sound};
+ghost use Rattle.rules.specs.Lines.{output};
 ghost use Rattle.engine.specs.Outcome.{memory};
-ghost use Rattle.runner.specs.Day.{Ready, DayIs};
+ghost use Rattle.runner.specs.Day.{Ready, DayIs, linesTo};
 use crate::play::play;
 use dayfile::file;
 use dayfile::opening::opening_state;
@@ -17,10 +21,19 @@ pub struct Day {
     pub whole: bool,
 }
 
-fn write_first(fd: i32, all: &[u8], n: usize) -> bool
-    requires { ⌜ n ≤ length (now all) ⌝ }
+// A write of a buffer's front. No promise can tell what a write does with its bytes, so it asks that they are what the commands
+// from place k up to `next` add to the output.
+fn write_part(fd: i32, file: &[u8], k: usize, next: usize, out: &[u8], end: usize) -> bool
+    requires { ⌜ (end ≤ length (now out)) × (linesTo (now file) next ≡ linesTo (now file) k ++ take end (now out)) ⌝ }
 {
-    io::write_all(fd, &all[..n])
+    io::write_all(fd, &out[..end])
+}
+
+// The same of all that a file prints.
+fn write_output(fd: i32, file: &[u8], out: &[u8], end: usize) -> bool
+    requires { ⌜ (end ≤ length (now out)) × (output (now file) ≡ take end (now out)) ⌝ }
+{
+    io::write_all(fd, &out[..end])
 }
 
 // A sound file's commands from its opening state on, in areas with room for four contracts, a day's trades and one command's
@@ -41,9 +54,11 @@ pub fn print_day(
     let mut k: usize = 0;
     while k < n {
         let p = play(file, k, state, buys, sells, trades, out);
+        let next = p.next;
+        let is_written = write_part(fd, file, k, next, &out[..], p.end);
         state = p.state;
-        k = p.next;
-        if !write_first(fd, &out[..], p.end) {
+        k = next;
+        if !is_written {
             return Day {
                 state,
                 played: k,
@@ -58,16 +73,19 @@ pub fn print_day(
     }
 }
 
-fn print_broken(fd: i32) -> bool {
+// "A broken file prints `X 20`."
+fn print_broken(fd: i32, file: &[u8]) -> bool
+    requires { ⌜ sound (now file) ≡ false ⌝ }
+{
     let mut out = [0u8; 23];
     let end = put_broken(&mut out, 0);
-    write_first(fd, &out, end)
+    write_output(fd, file, &out, end)
 }
 
 // The day's lines, or `X 20` for a file that is not sound. Answers whether all of it was written.
 pub fn print_file(fd: i32, file: &[u8]) -> bool {
     if !file::sound(file) {
-        return print_broken(fd);
+        return print_broken(fd, file);
     }
     let mut buys = [0u32; 1280];
     let mut sells = [0u32; 1280];

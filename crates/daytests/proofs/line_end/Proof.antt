@@ -5,8 +5,6 @@ use borrow.Author.Needs.{needs}
 use lib.ListN.{length}
 use Rattle.daytests.proofs.line_end.Statement.{statement}
 use Rattle.daytests.proofs.line_end.Tie as tie
-use Rattle.daytests.proofs.line_end.Reads as reads
-use Rattle.daytests.proofs.line_end.Lts as lts
 
 abbrev Inv-loop : tie.InvT-loop
 Inv-loop list start end₀ end =

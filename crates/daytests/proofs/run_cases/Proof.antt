@@ -4,10 +4,6 @@ use borrow.Author.Needs.{needs}
 use lib.ListN.{length}
 use Rattle.daytests.proofs.run_cases.Statement.{statement}
 use Rattle.daytests.proofs.run_cases.Tie as tie
-use Rattle.daytests.proofs.run_cases.Reads as reads
-use Rattle.daytests.proofs.run_cases.Lts as lts
-use Rattle.daytests.proofs.line_end.Reads as line-end-reads
-use Rattle.daytests.proofs.run_case.Reads as run-case-reads
 
 abbrev Inv-loop : tie.InvT-loop
 Inv-loop list start₀ start =

@@ -1,23 +1,16 @@
 -- `day::print_day` meets its contract: after each part the memory is the rules' run of the commands so far. Assumes nothing.
-use mathlib.Core.Path.{_≡_, refl, sym, ap, _∙_}
-use Prim.Native.Nat.{ℕ, _+_, _-_, _*_, _<_, _≤_}
+use mathlib.Core.Path.{_≡_, refl, _∙_}
+use Prim.Native.Nat.{_-_, _<_, _≤_}
 use native.Mathlib.Omega.{arith}
-use borrow.Author.Needs.{needs}
 use lib.ListN.{length}
 use Rattle.rules.specs.Condition3.{run}
 use Rattle.rules.specs.DayFile.{commandsIn}
 use Rattle.engine.specs.Outcome.{memory}
 use Rattle.runner.specs.Day.{openingOf}
 use Rattle.runner.specs.Parts.{part}
-use Rattle.runner.proofs.WholeDay.{none-done, can-play, part-done, stopped, whole-day}
+use Rattle.runner.proofs.WholeDay.{none-done, can-play, part-done, part-written, stopped, whole-day}
 use Rattle.runner.proofs.day.print_day.Statement.{statement}
 use Rattle.runner.proofs.day.print_day.Tie as tie
-use Rattle.runner.proofs.day.print_day.Reads as reads
-use Rattle.runner.proofs.day.print_day.Lts as lts
-use Rattle.dayfile.proofs.file.commands_in.Reads as commands-in-reads
-use Rattle.dayfile.proofs.opening.opening_state.Reads as opening-state-reads
-use Rattle.runner.proofs.day.write_first.Reads as write-first-reads
-use Rattle.runner.proofs.play.play.Reads as play-reads
 
 abbrev Inv-loop : tie.InvT-loop
 Inv-loop fd file buys₀ sells₀ trades₀ out₀ n state₀ k₀ buys sells trades out state k =
@@ -43,8 +36,8 @@ loop-holds c = (omega arith, (none-done _ (c .before .before .before .before .be
 play-requires : tie.Need-play-requires Inv-loop μ-loop
 play-requires c κs = can-play _ (c .before .before .before .before .before .before .before .before .before .before .before .before .before .pre) (c .before .before .before .before .before .loop .k) (omega (arith, c .before .before .before .before .before .before .before .commands-in .ensures, c .before .before .before .before .before .loop .inv .0)) (c .before .before .before .before .before .loop .inv .1 .0) _ (c .before .before .before .before .before .loop .inv .1 .1 .1 .1 .1)
 
-write-first-requires : tie.Need-write-first-requires Inv-loop μ-loop
-write-first-requires c κs = omega (arith, c .before .before .before .before .before .before .before .before .before .before .play .ensures .lines .inside, c .before .before .before .before .before .before .before .before .before .before .play .ensures .lines .kept)
+write-part-requires : tie.Need-write-part-requires Inv-loop μ-loop
+write-part-requires c κs = (omega (arith, c .before .before .before .before .before .before .before .before .before .play .ensures .lines .inside, c .before .before .before .before .before .before .before .before .before .play .ensures .lines .kept), part-written _ (c .before .before .before .before .before .before .before .before .before .before .before .before .before .before .before .before .before .before .before .before .before .before .before .pre) (c .before .before .before .before .before .before .before .before .before .before .before .before .before .before .before .loop .k) (omega (arith, c .before .before .before .before .before .before .before .before .before .before .before .before .before .before .before .before .before .commands-in .ensures, c .before .before .before .before .before .before .before .before .before .before .before .before .before .before .before .loop .inv .0)) (c .before .before .before .before .before .before .before .before .before .before .before .before .before .before .before .loop .inv .1 .0) (c .before .before .before .before .before .before .before .before .before .play .ensures))
 
 same-length : tie.Need-same-length Inv-loop μ-loop
 same-length c = c .before .before .before .before .before .before .before .before .before .before .before .before .play .kept .1 .1 .1 .0 ∙ c .before .before .before .before .before .before .before .before .before .before .before .before .before .before .before .before .before .before .loop .inv .1 .1 .0
@@ -101,7 +94,7 @@ print-day-spec =
     opening-state-requires
     loop-holds
     play-requires
-    write-first-requires
+    write-part-requires
     same-length
     same-length-2
     same-length-3

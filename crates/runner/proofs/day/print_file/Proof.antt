@@ -2,20 +2,15 @@
 use mathlib.Core.Path.{sym, _∙_}
 use native.Mathlib.Omega.{arith}
 use borrow.Author.Needs.{needs}
-use borrow.Author.Tests.{not-false}
+use borrow.Author.Tests.{not-true, not-false}
 use Rattle.runner.proofs.day.print_file.Statement.{statement}
 use Rattle.runner.proofs.day.print_file.Tie as tie
-use Rattle.runner.proofs.day.print_file.Reads as reads
-use Rattle.runner.proofs.day.print_file.Lts as lts
-use Rattle.dayfile.proofs.file.sound.Reads as sound-reads
-use Rattle.runner.proofs.day.print_broken.Reads as print-broken-reads
-use Rattle.runner.proofs.day.print_day.Reads as print-day-reads
 
 sound-requires : tie.Need-sound-requires
 sound-requires c κs = search needs
 
 print-broken-requires : tie.Need-print-broken-requires
-print-broken-requires c κs = search needs
+print-broken-requires c κs = sym (c .before .sound .ensures) ∙ not-true (c .before .sound .result) (c .if1 .taken)
 
 returns : tie.Need-returns
 returns c = search needs
@@ -33,7 +28,7 @@ slice-aggregate-print-day-4 : tie.Need-slice-aggregate-print-day-4
 slice-aggregate-print-day-4 c = search needs
 
 print-day-requires : tie.Need-print-day-requires
-print-day-requires c κs = 
+print-day-requires c κs =
     record {
       whole = sym (c .before .before .before .before .before .sound .ensures) ∙ not-false (c .before .before .before .before .before .sound .result) (c .before .before .before .before .if1 .left);
       buys-room = omega arith;

@@ -1,8 +1,7 @@
 -- `play::play` meets its contract: what is played from k up to i is the rules' run and its lines. Assumes nothing.
-use mathlib.Core.Path.{_≡_, refl, sym, ap, _∙_}
-use Prim.Native.Nat.{ℕ, _+_, _-_, _*_, _<_, _≤_}
+use mathlib.Core.Path.{_≡_, refl, _∙_}
+use Prim.Native.Nat.{_+_, _-_, _<_, _≤_}
 use native.Mathlib.Omega.{arith}
-use borrow.Author.Needs.{needs}
 use lib.ListN.{length}
 use Rattle.rules.specs.Condition3.{run}
 use Rattle.rules.specs.DayFile.{commandsIn}
@@ -15,12 +14,6 @@ use Rattle.runner.specs.Parts.{part}
 use Rattle.runner.proofs.Playing.{none-played, none-printed, still-formed, one-played, one-printed, all-played, room-played}
 use Rattle.runner.proofs.play.play.Statement.{statement}
 use Rattle.runner.proofs.play.play.Tie as tie
-use Rattle.runner.proofs.play.play.Reads as reads
-use Rattle.runner.proofs.play.play.Lts as lts
-use Rattle.dayfile.proofs.file.commands_in.Reads as commands-in-reads
-use Rattle.dayfile.proofs.file.first_command.Reads as first-command-reads
-use Rattle.dayfile.proofs.file.record_of.Reads as record-of-reads
-use Rattle.runner.proofs.turn.play_record.Reads as play-record-reads
 
 abbrev Inv-loop : tie.InvT-loop
 Inv-loop file k buys₀ sells₀ trades₀ out₀ n first current₀ i₀ at₀ buys sells trades out current i at =

@@ -1,9 +1,8 @@
 -- `printing::put_accounts` meets its contract: an account a turn. Assumes nothing.
-use mathlib.Core.Path.{_≡_, refl, sym, ap, _∙_}
-use Prim.Native.Nat.{ℕ, _+_, _-_, _*_, _<_, _≤_}
+use mathlib.Core.Path.{_≡_}
+use Prim.Native.Nat.{_-_, _*_, _≤_}
 use native.Mathlib.Omega.{arith}
-use borrow.Author.Needs.{needs}
-use lib.ListN.{length, getD}
+use lib.ListN.{getD}
 use mir.Facts.{toZ-ofZ}
 use mir.Syntax.{w64}
 use mir.Val.{toZ, ofZ}
@@ -14,9 +13,6 @@ use Rattle.runner.specs.Rows.{rows, accountRow}
 use Rattle.runner.proofs.Tables.{rows-none, rows-more}
 use Rattle.runner.proofs.printing.put_accounts.Statement.{statement}
 use Rattle.runner.proofs.printing.put_accounts.Tie as tie
-use Rattle.runner.proofs.printing.put_accounts.Reads as reads
-use Rattle.runner.proofs.printing.put_accounts.Lts as lts
-use Rattle.lines.proofs.line.put_account.Reads as put-account-reads
 
 abbrev Inv-loop : tie.InvT-loop
 Inv-loop out₀ at n accounts closing holding charged next₀ a₀ out next a =

@@ -1,17 +1,12 @@
 -- `printing::put_prices` meets its contract: a contract a turn. Assumes nothing.
-use mathlib.Core.Path.{_≡_, refl, sym, ap, _∙_}
-use Prim.Native.Nat.{ℕ, _+_, _-_, _*_, _<_, _≤_}
+use mathlib.Core.Path.{_≡_}
+use Prim.Native.Nat.{_-_, _*_, _≤_}
 use native.Mathlib.Omega.{arith}
-use borrow.Author.Needs.{needs}
-use lib.ListN.{length}
 use Rattle.lines.specs.Written.{Written}
 use Rattle.runner.specs.Rows.{rows, priceRow}
 use Rattle.runner.proofs.Tables.{rows-none, rows-more}
 use Rattle.runner.proofs.printing.put_prices.Statement.{statement}
 use Rattle.runner.proofs.printing.put_prices.Tie as tie
-use Rattle.runner.proofs.printing.put_prices.Reads as reads
-use Rattle.runner.proofs.printing.put_prices.Lts as lts
-use Rattle.lines.proofs.line.put_price.Reads as put-price-reads
 
 abbrev Inv-loop : tie.InvT-loop
 Inv-loop out₀ at n prices next₀ c₀ out next c =

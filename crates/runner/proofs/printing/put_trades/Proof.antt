@@ -1,9 +1,8 @@
 -- `printing::put_trades` meets its contract: a trade a turn. Assumes nothing.
-use mathlib.Core.Path.{_≡_, refl, sym, ap, _∙_}
-use Prim.Native.Nat.{ℕ, _+_, _-_, _*_, _<_, _≤_, max}
+use Prim.Native.Nat.{_+_, _-_, _*_, _≤_, max}
 use native.Mathlib.Omega.{arith}
 use borrow.Author.Needs.{needs}
-use lib.ListN.{length, drop}
+use lib.ListN.{drop}
 use Rattle.rules.specs.Lines.{tradeLines}
 use Rattle.rules.specs.Memory.{recordedTrades}
 use Rattle.lines.specs.Written.{Written}
@@ -11,10 +10,6 @@ use Rattle.lines.proofs.Text.{looser}
 use Rattle.runner.proofs.Recorded.{trades-none, trades-more, trades-done}
 use Rattle.runner.proofs.printing.put_trades.Statement.{statement}
 use Rattle.runner.proofs.printing.put_trades.Tie as tie
-use Rattle.runner.proofs.printing.put_trades.Reads as reads
-use Rattle.runner.proofs.printing.put_trades.Lts as lts
-use Rattle.book.proofs.trades.trade_at.Reads as trade-at-reads
-use Rattle.lines.proofs.line.put_trade.Reads as put-trade-reads
 
 abbrev Inv-loop : tie.InvT-loop
 Inv-loop out₀ at area first count next₀ i₀ out next i =

@@ -1,17 +1,8 @@
 -- `turn::play_record` meets its contract: the step, then its lines. Assumes nothing.
-use mathlib.Core.Path.{_≡_, refl, sym, ap, _∙_}
-use Prim.Native.Nat.{ℕ, _+_, _-_, _*_, _<_, _≤_}
-use native.Mathlib.Omega.{arith}
 use borrow.Author.Needs.{needs}
-use lib.ListN.{length}
 use Rattle.runner.proofs.Responded.{counts-in-range, turn-is}
 use Rattle.runner.proofs.turn.play_record.Statement.{statement}
 use Rattle.runner.proofs.turn.play_record.Tie as tie
-use Rattle.runner.proofs.turn.play_record.Reads as reads
-use Rattle.runner.proofs.turn.play_record.Lts as lts
-use Rattle.commands.proofs.command_of.Reads as command-of-reads
-use Rattle.exchange.proofs.step.step.Reads as step-reads
-use Rattle.runner.proofs.turn.put_response.Reads as put-response-reads
 
 command-of-requires : tie.Need-command-of-requires
 command-of-requires c κs = search needs

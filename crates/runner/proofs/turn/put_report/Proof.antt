@@ -1,18 +1,12 @@
 -- `turn::put_report` meets its contract: the two tests, then the tables. Assumes nothing.
-use mathlib.Core.Path.{_≡_, refl, sym, ap, _∙_}
-use Prim.Native.Nat.{ℕ, _+_, _-_, _*_, _<_, _≤_}
+use mathlib.Core.Path.{sym, _∙_}
 use native.Mathlib.Omega.{arith}
 use borrow.Author.Needs.{needs}
-use lib.ListN.{length}
 use borrow.Author.Tests.{not-true, not-false}
-use Rattle.lines.proofs.Text.{looser, then, no-byte}
+use Rattle.lines.proofs.Text.{looser, no-byte}
 use Rattle.runner.proofs.Responded.{report-none, report-refused, report-made}
 use Rattle.runner.proofs.turn.put_report.Statement.{statement}
 use Rattle.runner.proofs.turn.put_report.Tie as tie
-use Rattle.runner.proofs.turn.put_report.Reads as reads
-use Rattle.runner.proofs.turn.put_report.Lts as lts
-use Rattle.runner.proofs.turn.is_settle.Reads as is-settle-reads
-use Rattle.runner.proofs.turn.put_settlement.Reads as put-settlement-reads
 
 is-settle-requires : tie.Need-is-settle-requires
 is-settle-requires c κs = search needs

@@ -1,18 +1,10 @@
 -- `turn::put_response` meets its contract: its parts in turn. Assumes nothing.
-use mathlib.Core.Path.{_≡_, refl, sym, ap, _∙_}
-use Prim.Native.Nat.{ℕ, _+_, _-_, _*_, _<_, _≤_}
 use native.Mathlib.Omega.{arith}
 use borrow.Author.Needs.{needs}
-use lib.ListN.{length}
-use Rattle.lines.proofs.Text.{looser, then, no-byte}
+use Rattle.lines.proofs.Text.{looser, then}
 use Rattle.runner.specs.Rows.{responseRows}
 use Rattle.runner.proofs.turn.put_response.Statement.{statement}
 use Rattle.runner.proofs.turn.put_response.Tie as tie
-use Rattle.runner.proofs.turn.put_response.Reads as reads
-use Rattle.runner.proofs.turn.put_response.Lts as lts
-use Rattle.lines.proofs.line.put_answer.Reads as put-answer-reads
-use Rattle.runner.proofs.printing.put_trades.Reads as put-trades-reads
-use Rattle.runner.proofs.turn.put_report.Reads as put-report-reads
 
 put-answer-requires : tie.Need-put-answer-requires
 put-answer-requires c κs = search needs

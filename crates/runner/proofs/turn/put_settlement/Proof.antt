@@ -1,17 +1,10 @@
 -- `turn::put_settlement` meets its contract: its two tables. Assumes nothing.
-use mathlib.Core.Path.{_≡_, refl, sym, ap, _∙_}
-use Prim.Native.Nat.{ℕ, _+_, _-_, _*_, _<_, _≤_}
 use native.Mathlib.Omega.{arith}
 use borrow.Author.Needs.{needs}
-use lib.ListN.{length}
-use Rattle.lines.proofs.Text.{looser, then, no-byte}
+use Rattle.lines.proofs.Text.{looser, then}
 use Rattle.runner.specs.Rows.{settlementRows}
 use Rattle.runner.proofs.turn.put_settlement.Statement.{statement}
 use Rattle.runner.proofs.turn.put_settlement.Tie as tie
-use Rattle.runner.proofs.turn.put_settlement.Reads as reads
-use Rattle.runner.proofs.turn.put_settlement.Lts as lts
-use Rattle.runner.proofs.printing.put_accounts.Reads as put-accounts-reads
-use Rattle.runner.proofs.printing.put_prices.Reads as put-prices-reads
 
 put-prices-requires : tie.Need-put-prices-requires
 put-prices-requires c κs = search needs
