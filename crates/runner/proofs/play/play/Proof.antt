@@ -54,7 +54,7 @@ same-length-4 : tie.Need-same-length-4 Inv-loop μ-loop
 same-length-4 c = c .before .before .loop .inv .1 .1 .1 .0 .kept
 
 returns : tie.Need-returns Inv-loop μ-loop
-returns c = room-played _ _ (c .before .before .before .before .before .before .before .before .before .before .pre) (c .before .before .loop .i) (c .before .before .loop .inv .0) (omega (arith, c .before .before .before .before .commands-in .ensures, c .before .before .loop .inv .1 .0)) (c .before .before .loop .current) (c .before .before .loop .inv .1 .1 .0) (c .before .before .loop .inv .1 .1 .1 .0) (c .if1 .taken)
+returns c = room-played _ _ (c .before .before .before .before .before .before .before .before .before .before .pre) (c .before .before .loop .i) (c .before .before .loop .inv .0) (omega (arith, c .before .before .before .before .commands-in .ensures, c .before .before .loop .inv .1 .0)) (c .before .before .loop .current) (c .before .before .loop .inv .1 .1 .0) (c .before .before .loop .inv .1 .1 .1 .0) (omega (arith, c .if1 .taken))
 
 record-of-requires : tie.Need-record-of-requires Inv-loop μ-loop
 record-of-requires c κs = (c .before .before .before .before .before .before .before .before .before .before .pre .whole, c .before .before .before .first-command .ensures, omega (arith, c .before .before .before .before .commands-in .ensures))
