@@ -349,7 +349,7 @@ pub opening-skip : (area : List ℕ) (count a c : ℕ) (short : Bool) (closed : 
 opening-skip area count a c short closed g skip u n v i lt w t at k e z =
     let taken : 0 ≡ min skip k = omega (arith, z) in
     let o : Opening area count a c short closed (skip - 0) (u + t .price * 0) (n + (k - 0)) (v + t .price * (k - 0)) (i + 1)
-        = opening-more area count a c short closed g skip u n v i lt w t at k e 0 taken in
+    = opening-more area count a c short closed g skip u n v i lt w t at k e 0 taken in
     let none : t .price * (k - 0) ≡ 0 = rw z (omega arith) in
     record {
       within = omega arith;
