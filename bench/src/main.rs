@@ -1,10 +1,15 @@
-//! Instructions per operation of the order book, beside a plain Rust version of it. `bench/run` builds and starts it.
+//! Instructions per operation of the order book and per command of the exchange, beside plain Rust versions of both. `bench/run` builds
+//! and starts it.
 
 mod cases;
+mod days;
+mod exchange;
 mod ours;
 mod plain;
 
 use cases::{any_sweeps, queue_case, whole_sweeps, Random, Sweeps, SweepsCase, Swept};
+use days::{encode, file, kind_lists, mixed, Memory, KINDS};
+use ours::Probe;
 use plain::Order;
 use std::hint::black_box;
 use std::process::{exit, Command};
@@ -129,42 +134,177 @@ fn exercise(operation: usize, book: &Book) -> usize {
     operations
 }
 
-/// Instructions per operation: this program again, under valgrind, which counts within one function alone.
-fn instructions(operation: usize, which: usize) -> f64 {
+/// What this program prints and the instructions it takes within one function alone, run again with some words under valgrind.
+fn counted(function: &str, words: &[String]) -> (String, f64) {
     let program = std::env::current_exe().unwrap();
     let out = program.with_extension("callgrind");
     let said = Command::new("valgrind")
         .arg("--tool=callgrind")
-        .arg(format!("--toggle-collect={}", BOOKS[which].counted[operation.min(2)]))
+        .arg(format!("--toggle-collect={function}"))
         .arg(format!("--callgrind-out-file={}", out.display()))
         .arg(&program)
-        .args([operation.to_string(), which.to_string()])
+        .args(words)
         .output();
     let (Ok(said), Ok(profile)) = (said, std::fs::read_to_string(&out)) else {
         eprintln!("bench: valgrind did not run");
         exit(2)
     };
     let total = profile.lines().find_map(|line| line.strip_prefix("totals: ")).and_then(|n| n.trim().parse().ok());
-    let operations = String::from_utf8_lossy(&said.stdout).trim().parse().ok();
-    let (Some(total), Some(operations)): (Option<f64>, Option<f64>) = (total, operations) else {
+    let Some(total) = total else {
         eprintln!("bench: valgrind counted nothing:\n{}", String::from_utf8_lossy(&said.stderr));
         exit(2)
     };
-    total / operations
+    (String::from_utf8_lossy(&said.stdout).trim().to_string(), total)
+}
+
+fn per_operation(operation: usize, which: usize) -> f64 {
+    let words = [operation, which].map(|n| n.to_string());
+    let (operations, total) = counted(BOOKS[which].counted[operation.min(2)], &words);
+    total / operations.parse::<f64>().unwrap()
+}
+
+fn head(title: &str) {
+    println!("\n{title:34} {:>8} {:>8} {:>6}", "ours", "Rust", "ratio");
+}
+
+fn row(name: &str, [ours, plain]: [f64; 2]) {
+    println!("{name:34} {ours:8.0} {plain:8.0} {:6.2}", ours / plain);
+}
+
+fn book() {
+    let rounds = 50_000;
+    compare(rounds);
+    println!("book: same results of {rounds} random inserts, cancels and sweeps each");
+    head("instructions per operation");
+    for (operation, name) in OPERATIONS.iter().enumerate() {
+        row(name, [0, 1].map(|which| per_operation(operation, which)));
+    }
+}
+
+// ---- the exchange
+
+#[no_mangle]
+#[inline(never)]
+fn plain_run(day: &[u8], commands: &[u8], m: &mut Memory) -> exchange::State {
+    exchange::run(day, commands, &mut m.areas())
+}
+
+/// The same of the Rust version's state.
+fn probe(s: &exchange::State, account: usize, contract: usize) -> Probe {
+    let h = s.accounts[account].holdings[contract];
+    let terms = s.contracts[contract];
+    Probe {
+        balance: s.accounts[account].balance,
+        bought: s.resting[0][contract],
+        sold: s.resting[1][contract],
+        made: s.made,
+        long: h.long,
+        short: h.short,
+        startlong: h.startlong,
+        startshort: h.startshort,
+        reference: terms.reference,
+        phase: terms.phase,
+        last: terms.last,
+        next: s.next,
+        settlements: s.settlements,
+    }
+}
+
+/// Runs the same list on each exchange: all areas, balances, holdings, contracts and counts have to be equal.
+fn compare_run(accounts: usize, list: &[days::Command]) {
+    let day = file(accounts);
+    let commands = encode(list);
+    let mut memory = Memory::new();
+    let state = plain_run(&day, &commands, &mut memory);
+    for i in 0..cases::ACCOUNTS * days::CONTRACTS {
+        let (account, contract) = (i / days::CONTRACTS, i % days::CONTRACTS);
+        let mut same = Memory::new();
+        let other = ours::run(&day, &commands, &mut same, account, contract);
+        if other != probe(&state, account, contract) || same != memory {
+            eprintln!("bench: the two exchanges differ after a list of {} commands", list.len());
+            exit(1)
+        }
+    }
+}
+
+fn compare_runs(lists: usize) {
+    let mut r = Random::new();
+    for i in 0..lists {
+        let accounts = 1 + r.below(32) as usize;
+        compare_run(accounts, &mixed(&mut r, accounts, 20 * i));
+    }
+    compare_run(32, &mixed_list());
+    for kind in 0..KINDS.len() {
+        for [accounts, trades] in CONFIGURATIONS {
+            compare_run(accounts, &kind_lists(kind, trades)[1]);
+        }
+    }
+}
+
+fn mixed_list() -> Vec<days::Command> {
+    mixed(&mut Random::new(), 32, 2_000)
+}
+
+/// Accounts and recorded trades when the kinds are counted.
+const CONFIGURATIONS: [[usize; 2]; 3] = [[2, 10], [32, 10], [32, 1_000]];
+
+/// The lists by number: the empty one, the mixed one, then two for each kind and configuration.
+fn list(number: usize) -> (usize, Vec<days::Command>) {
+    match number {
+        0 => (32, Vec::new()),
+        1 => (32, mixed_list()),
+        _ => {
+            let [accounts, trades] = CONFIGURATIONS[(number - 2) / 2 % 3];
+            let [without, with] = kind_lists((number - 2) / 6, trades);
+            (accounts, if number % 2 == 0 { without } else { with })
+        }
+    }
+}
+
+fn exercise_list(number: usize, which: usize) {
+    let (accounts, list) = list(number);
+    let (day, commands, mut memory) = (file(accounts), encode(&list), Memory::new());
+    if which == 0 {
+        black_box(ours::run(&day, &commands, &mut memory, 0, 0));
+    } else {
+        black_box(plain_run(&day, &commands, &mut memory));
+    }
+}
+
+/// Instructions per command of those by which a list is longer than the one before it.
+fn per_command(number: usize, which: usize) -> f64 {
+    let function = ["zelvorm_run", "plain_run"][which];
+    let [less, more] = [number - 1, number].map(|n| counted(function, &["list".into(), n.to_string(), which.to_string()]).1);
+    (more - less) / (list(number).1.len() - list(number - 1).1.len()) as f64
+}
+
+fn engine() {
+    let lists = 50;
+    compare_runs(lists);
+    println!("\nexchange: same results of {lists} random lists of commands and of those counted");
+    head("instructions per command");
+    row("2,000 commands of all kinds", [0, 1].map(|which| per_command(1, which)));
+    let number = |kind: usize, configuration: usize| 6 * kind + 2 * configuration + 3;
+    for (kind, name) in KINDS.iter().enumerate() {
+        row(name, [0, 1].map(|which| per_command(number(kind, 1), which)));
+    }
+    println!("\n{:34} {:>8} {:>8} {:>8}", "ours, with accounts", 2, 32, 32);
+    println!("{:34} {:>8} {:>8} {:>8}", "and trades", 10, 10, "1,000");
+    for (kind, name) in KINDS.iter().enumerate() {
+        let [a, b, c] = [0, 1, 2].map(|configuration| per_command(number(kind, configuration), 0));
+        println!("{name:34} {a:8.0} {b:8.0} {c:8.0}");
+    }
 }
 
 fn main() {
-    let words: Vec<usize> = std::env::args().skip(1).filter_map(|word| word.parse().ok()).collect();
-    if let [operation, which] = words[..] {
-        println!("{}", exercise(operation, BOOKS[which]));
-        return;
-    }
-    let rounds = 50_000;
-    compare(rounds);
-    println!("same results of {rounds} random inserts, cancels and sweeps each");
-    println!("{:27} {:>7} {:>7} {:>6}", "instructions per operation", "ours", "Rust", "ratio");
-    for (operation, name) in OPERATIONS.iter().enumerate() {
-        let [ours, plain] = [0, 1].map(|which| instructions(operation, which));
-        println!("{name:27} {ours:7.0} {plain:7.0} {:6.2}", ours / plain);
+    let words: Vec<String> = std::env::args().skip(1).collect();
+    let numbers: Vec<usize> = words.iter().filter_map(|word| word.parse().ok()).collect();
+    match (words.first().map(String::as_str), &numbers[..]) {
+        (Some("list"), &[number, which]) => exercise_list(number, which),
+        (Some(_), &[operation, which]) => println!("{}", exercise(operation, BOOKS[which])),
+        _ => {
+            book();
+            engine();
+        }
     }
 }

@@ -1,6 +1,7 @@
-//! The calls of `crates/book_exports`, each behind a test of what its contract requires.
+//! The calls of `crates/book_exports` and `crates/exchange_exports`, each behind a test of what its contract requires.
 
 use crate::cases::{Sweeps, Swept, ACCOUNTS, ORDER, QUEUE, TRADE};
+use crate::days::Memory;
 use crate::plain::Order;
 
 // A slice passes as a pointer and a length.
@@ -14,6 +15,11 @@ extern "C" {
         own: *mut u32, own_words: usize, opposite: *mut u32, opposite_words: usize, trades: *mut u32, trade_words: usize,
         order: Sweeps, times: usize,
     ) -> Swept;
+    fn zelvorm_run(
+        day: *const u8, day_bytes: usize, commands: *const u8, command_bytes: usize,
+        buys: *mut u32, buy_words: usize, sells: *mut u32, sell_words: usize, trades: *mut u32, trade_words: usize,
+        account: usize, contract: usize,
+    ) -> Probe;
 }
 
 pub fn insert(area: &mut [u32], contract: usize, count: usize, sell: bool, o: &Order) {
@@ -46,6 +52,36 @@ pub fn sweeps(own: &mut [u32], opposite: &mut [u32], trades: &mut [u32], s: &Swe
     unsafe {
         zelvorm_sweeps(
             own.as_mut_ptr(), own.len(), opposite.as_mut_ptr(), opposite.len(), trades.as_mut_ptr(), trades.len(), *s, times,
+        )
+    }
+}
+
+/// What `zelvorm_run` is asked about the state that it leaves: an account's balance and holding, what changes of a contract, counts.
+#[repr(C)]
+#[derive(Clone, Copy, Debug, PartialEq)]
+pub struct Probe {
+    pub balance: i64,
+    pub bought: usize,
+    pub sold: usize,
+    pub made: usize,
+    pub long: u32,
+    pub short: u32,
+    pub startlong: u32,
+    pub startshort: u32,
+    pub reference: u32,
+    pub phase: u32,
+    pub last: u32,
+    pub next: u32,
+    pub settlements: u32,
+}
+
+/// The day files of `days::file` are sound.
+pub fn run(day: &[u8], commands: &[u8], m: &mut Memory, account: usize, contract: usize) -> Probe {
+    assert!(account < ACCOUNTS && contract < 4);
+    unsafe {
+        zelvorm_run(
+            day.as_ptr(), day.len(), commands.as_ptr(), commands.len(), m.buys.as_mut_ptr(), m.buys.len(),
+            m.sells.as_mut_ptr(), m.sells.len(), m.trades.as_mut_ptr(), m.trades.len(), account, contract,
         )
     }
 }

@@ -2,9 +2,7 @@
 
 use crate::cases::{Sweeps, Swept, ACCOUNTS, ORDER, QUEUE, TRADE};
 
-// Balances and the holdings at the start of the day are carried along: a sweep does not look at them.
-#[allow(dead_code)]
-#[derive(Clone, Copy)]
+#[derive(Clone, Copy, Default)]
 pub struct Holding {
     pub long: u32,
     pub short: u32,
@@ -12,8 +10,7 @@ pub struct Holding {
     pub startshort: u32,
 }
 
-#[allow(dead_code)]
-#[derive(Clone, Copy)]
+#[derive(Clone, Copy, Default)]
 pub struct Account {
     pub balance: i64,
     pub holdings: [Holding; 4],
@@ -31,29 +28,33 @@ pub struct Order {
 }
 
 #[derive(Clone, Copy)]
-enum PriceCondition {
+pub enum PriceCondition {
     Limit(u32),
     Market,
     Best,
 }
 
-struct Taker {
-    account: u32,
-    contract: usize,
-    sell: bool,
-    close: u32,
-    number: u32,
-    condition: PriceCondition,
-    best: u32,
+/// An arriving order. `price` is where a good-for-day remainder rests.
+pub struct Taker {
+    pub account: u32,
+    pub contract: usize,
+    pub sell: bool,
+    pub close: u32,
+    pub number: u32,
+    pub condition: PriceCondition,
+    pub best: u32,
+    pub lots: u32,
+    pub price: u32,
+    pub day: bool,
 }
 
 /// Lots rested; orders in the own and in the opposite queue, trades of the day; the last price.
-struct Entry {
-    rested: u32,
-    own: usize,
-    opposite: usize,
-    made: usize,
-    last: u32,
+pub struct Entry {
+    pub rested: u32,
+    pub own: usize,
+    pub opposite: usize,
+    pub made: usize,
+    pub last: u32,
 }
 
 fn worse(sell: bool, price: u32, other: u32) -> bool {
@@ -85,7 +86,7 @@ pub fn cancel(area: &mut [u32], contract: usize, count: usize, number: u32) -> u
 }
 
 /// Takes the first words out: the others move to the front, and zeros follow.
-fn close_up(part: &mut [u32], words: usize) {
+pub fn close_up(part: &mut [u32], words: usize) {
     part.copy_within(words.., 0);
     let kept = part.len() - words;
     part[kept..].fill(0);
@@ -106,10 +107,13 @@ impl Taker {
             number: s.number,
             condition,
             best: s.best,
+            lots: s.lots,
+            price: s.price,
+            day: s.day,
         }
     }
 
-    fn meets(&self, price: u32) -> bool {
+    pub fn meets(&self, price: u32) -> bool {
         match self.condition {
             PriceCondition::Limit(limit) if self.sell => limit <= price,
             PriceCondition::Limit(limit) => price <= limit,
@@ -145,19 +149,18 @@ impl Holding {
 }
 
 /// Enters an order: it trades with the opposite queue, filled orders leave, and a good-for-day remainder rests.
-fn enter(
+pub fn enter(
     own: &mut [u32],
     opposite: &mut [u32],
     trades: &mut [u32],
     before: &Entry,
     t: &Taker,
-    s: &Sweeps,
     accounts: &mut Accounts,
 ) -> Entry {
     let c = t.contract;
     let queue = &mut opposite[QUEUE * c..][..ORDER * before.opposite];
     let room = &mut trades[TRADE * before.made..];
-    let mut left = s.lots;
+    let mut left = t.lots;
     let mut last = before.last;
     let mut made = before.made;
     let mut filled = 0;
@@ -185,14 +188,14 @@ fn enter(
     }
     close_up(queue, ORDER * filled);
     let mut after = Entry {
-        rested: if s.day { left } else { 0 },
+        rested: if t.day { left } else { 0 },
         own: before.own,
         opposite: before.opposite - filled,
         made,
         last,
     };
     if after.rested > 0 {
-        let o = Order { price: s.price, number: t.number, account: t.account, lots: after.rested, close: t.close };
+        let o = Order { price: t.price, number: t.number, account: t.account, lots: after.rested, close: t.close };
         insert(own, c, before.own, t.sell, &o);
         after.own += 1;
     }
@@ -215,7 +218,7 @@ pub fn sweeps(own: &mut [u32], opposite: &mut [u32], trades: &mut [u32], s: &Swe
     let t = Taker::new(s);
     let (mut e, mut accounts) = start(s);
     for _ in 0..times {
-        e = enter(own, opposite, trades, &e, &t, s, &mut accounts);
+        e = enter(own, opposite, trades, &e, &t, &mut accounts);
     }
     answer(s, &e, &accounts)
 }

@@ -13,15 +13,16 @@ use rules::Account;
 use rules::Order;
 use rules::Taker;
 
-// Lots traded and rested; orders in the own and in the opposite queue, trades of the day; the last price; the accounts.
+// The accounts, first as in `Filled`; lots traded and rested; orders in the own and in the opposite queue, trades of the day; the
+// last price.
 pub struct Entry {
+    pub accounts: [Account; 32],
     pub traded: u32,
     pub rested: u32,
     pub own: usize,
     pub opposite: usize,
     pub made: usize,
     pub last: u32,
-    pub accounts: [Account; 32],
 }
 
 // "A good-for-day remainder rests .. Other remainders vanish."

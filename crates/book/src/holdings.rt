@@ -45,7 +45,9 @@ pub fn book_leg(a: Account, c: usize, sell: bool, close: u32, lots: u32) -> Acco
     ensures { λ r. ⌜ r ≡ withHolding a c (afterLeg (getD (a .holdings) c noHolding) sell close lots) ⌝ }
 {
     let mut b = a;
-    let h = b.holdings[c];
-    b.holdings[c] = after_leg(h, sell, close, lots);
+    let mut holdings = a.holdings;
+    let h = holdings[c];
+    holdings[c] = after_leg(h, sell, close, lots);
+    b.holdings = holdings;
     b
 }

@@ -10,13 +10,14 @@ use crate::trades;
 use rules::Account;
 use rules::Taker;
 
-// Lots traded, resting orders filled, trades of the day, the last price, the accounts.
+// The accounts; lots traded, the last price, resting orders filled, trades of the day. The array stands first, so that nothing
+// pads it and fewer copies of it are made.
 pub struct Filled {
+    pub accounts: [Account; 32],
     pub traded: u32,
+    pub last: u32,
     pub filled: usize,
     pub made: usize,
-    pub last: u32,
-    pub accounts: [Account; 32],
 }
 
 // Trades with the queue's orders in turn. The filled orders still stand in front afterwards: `drop_front` takes them out.

@@ -248,7 +248,8 @@ pub fn code_of<'a>(
         return 3;
     }
     let c = laws::wide(o.contract) - 1;
-    let terms = state.contracts[c];
+    let contracts = state.contracts;
+    let terms = contracts[c];
     let fields = terms_code(terms, o);
     if fields != 0 {
         return fields;

@@ -28,7 +28,8 @@ fn enter(
 {
     let t = orders::taker_of(state.next, &opposite[..], oppositecount, o);
     let c = laws::wide(o.contract) - 1;
-    let terms = state.contracts[c];
+    let contracts = state.contracts;
+    let terms = contracts[c];
     let condition = o.condition;
     let time = o.time;
     let price = orders::limit_of(condition);
@@ -55,17 +56,26 @@ fn with_entry(state: State, c: usize, bought: usize, sold: usize, e: Entry) -> S
     requires { ⌜ (c < 4) × (state .next < 1000000) ⌝ }
     ensures { λ r. ⌜ r ≡ withEntry state c bought sold e ⌝ }
 {
-    let mut next = state;
-    let mut terms = next.contracts[c];
-    terms.last = e.last;
-    next.contracts[c] = terms;
-    next.buys[c] = bought;
-    next.sells[c] = sold;
-    next.tradecount = e.made;
-    next.next = state.next + 1;
+    let mut contracts = state.contracts;
+    let mut bids = state.buys;
+    let mut offers = state.sells;
     let accounts = e.accounts;
-    next.accounts = accounts;
-    next
+    let mut terms = contracts[c];
+    terms.last = e.last;
+    contracts[c] = terms;
+    bids[c] = bought;
+    offers[c] = sold;
+    State {
+        contracts,
+        accounts,
+        buys: bids,
+        sells: offers,
+        contractcount: state.contractcount,
+        accountcount: state.accountcount,
+        tradecount: e.made,
+        next: state.next + 1,
+        settlements: state.settlements,
+    }
 }
 
 pub fn insert(
@@ -83,8 +93,10 @@ pub fn insert(
         return answers::refused(state, refusal);
     }
     let c = laws::wide(o.contract) - 1;
-    let bought = state.buys[c];
-    let sold = state.sells[c];
+    let bids = state.buys;
+    let offers = state.sells;
+    let bought = bids[c];
+    let sold = offers[c];
     if o.sell {
         let e = enter(state, sells, sold, buys, bought, trades, o);
         let next = with_entry(state, c, e.opposite, e.own, e);

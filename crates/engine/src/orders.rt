@@ -84,10 +84,12 @@ pub fn side_count(sell: bool, state: State, c: usize) -> usize
     requires { ⌜ c < 4 ⌝ }
     ensures { λ r. ⌜ r ≡ sideCount sell state c ⌝ }
 {
+    let bids = state.buys;
+    let offers = state.sells;
     if sell {
-        return state.sells[c];
+        return offers[c];
     }
-    state.buys[c]
+    bids[c]
 }
 
 // The best price of a queue, 0 where it is empty.

@@ -31,9 +31,11 @@ fn with_phase(state: State, place: usize, phase: u32) -> State
     ensures { λ r. ⌜ r ≡ withPhaseAt state place phase ⌝ }
 {
     let mut next = state;
-    let mut contract = next.contracts[place];
+    let mut contracts = state.contracts;
+    let mut contract = contracts[place];
     contract.phase = phase;
-    next.contracts[place] = contract;
+    contracts[place] = contract;
+    next.contracts = contracts;
     next
 }
 
@@ -52,7 +54,8 @@ pub fn change(
         return answers::refused(state, 3);
     }
     let place = laws::wide(contract) - 1;
-    let terms = state.contracts[place];
+    let contracts = state.contracts;
+    let terms = contracts[place];
     let from = terms.phase;
     if !is_listed(from, phase) {
         return answers::refused(state, 17);

@@ -40,7 +40,8 @@ fn refusal(state: State, account: u32, contract: u32, operator: bool) -> u32
         return 3;
     }
     let place = laws::wide(contract) - 1;
-    let terms = state.contracts[place];
+    let contracts = state.contracts;
+    let terms = contracts[place];
     if is_refused(terms, operator) {
         return 4;
     }
@@ -53,8 +54,12 @@ fn with_counts(state: State, c: usize, bought: usize, sold: usize) -> State
     ensures { λ r. ⌜ r ≡ withCountsIn state (set (state .buys) c bought) (set (state .sells) c sold) ⌝ }
 {
     let mut next = state;
-    next.buys[c] = bought;
-    next.sells[c] = sold;
+    let mut bids = state.buys;
+    let mut offers = state.sells;
+    bids[c] = bought;
+    offers[c] = sold;
+    next.buys = bids;
+    next.sells = offers;
     next
 }
 
@@ -112,8 +117,10 @@ pub fn cancel(
         return answers::refused(state, code);
     }
     let c = laws::wide(contract) - 1;
-    let bought = state.buys[c];
-    let sold = state.sells[c];
+    let bids = state.buys;
+    let offers = state.sells;
+    let bought = bids[c];
+    let sold = offers[c];
     let bid = cancel_in(buys, c, bought, account - 1, number);
     if bid.code == 0 {
         return answers::accepted(with_counts(state, c, bid.count, sold), number, 0, bid.lots);
@@ -150,8 +157,10 @@ pub fn pull(
         return answers::refused(state, code);
     }
     let c = laws::wide(contract) - 1;
-    let bought = state.buys[c];
-    let sold = state.sells[c];
+    let bids = state.buys;
+    let offers = state.sells;
+    let bought = bids[c];
+    let sold = offers[c];
     let bid = book::removal::pull(buys, c, bought, account - 1);
     let offer = book::removal::pull(sells, c, sold, account - 1);
     let lots = (bid.lots + offer.lots) as u32;

@@ -195,6 +195,18 @@ module _ (area : List ℕ) (count a c : ℕ) (short : Bool) (g : SizedTrades are
   closing-product-fits =
       fits-below {n = 1_000_000_000} tt (leg-value-small a c (not short) true t (sized-at area count g i t lt at) k e k (omega arith))
 
+  -- a trade without such a leg changes nothing
+  pub closing-skip : k ≡ 0 → Closing area count a c short n v (i + 1)
+  closing-skip z =
+      let none : t .price * k ≡ 0 = rw z (omega arith) in
+      record {
+        within = omega arith;
+        lots = omega (arith, z, closing-more .lots);
+        value = omega (arith, none, closing-more .value);
+        few = omega (arith, closing-more .few);
+        small = omega (arith, closing-more .small);
+      }
+
 pub closing-done : (area : List ℕ) (count a c : ℕ) (short : Bool) (n v i : ℕ) → SizedTrades area count → count ≤ i → Closing area count a c short n v i
     → ClosedIs short (legs a c (recordedTrades area count)) (record { lots = n; value = v })
 closing-done area count a c short n v i g h w =
@@ -326,6 +338,27 @@ module _ (area : List ℕ) (count a c : ℕ) (short : Bool) (closed : ℕ) (g : 
 
   pub left-fits : Fits w64 (t .price * (k - m))
   left-fits = fits-below {n = 1_000_000_000} tt left-small
+
+-- a trade without such a leg changes nothing
+pub opening-skip : (area : List ℕ) (count a c : ℕ) (short : Bool) (closed : ℕ) → SizedTrades area count → (skip u n v i : ℕ) → i < count
+    → Opening area count a c short closed skip u n v i → (t : Trade) → t ≡ tradeFrom (drop (9 * i) area)
+    → (k : ℕ) → k ≡ sumOf (lotsIf short false) (legs a c (t ∷ [])) → k ≡ 0
+    → Opening area count a c short closed skip u n v (i + 1)
+opening-skip area count a c short closed g skip u n v i lt w t at k e z =
+    let taken : 0 ≡ min skip k = omega (arith, z) in
+    let o : Opening area count a c short closed (skip - 0) (u + t .price * 0) (n + (k - 0)) (v + t .price * (k - 0)) (i + 1)
+    = opening-more area count a c short closed g skip u n v i lt w t at k e 0 taken in
+    let none : t .price * (k - 0) ≡ 0 = rw z (omega arith) in
+    record {
+      within = omega arith;
+      left = omega (arith, o .left);
+      used = omega (arith, o .used);
+      lots = omega (arith, z, o .lots);
+      value = omega (arith, none, o .value);
+      few = omega (arith, o .few);
+      used-small = omega (arith, o .used-small);
+      value-small = omega (arith, o .value-small);
+    }
 
 pub opening-done : (area : List ℕ) (count a c : ℕ) (short : Bool) (closed skip u n v i : ℕ) → SizedTrades area count → count ≤ i
     → Opening area count a c short closed skip u n v i → OpenedIs short closed (legs a c (recordedTrades area count)) (record { used = u; lots = n; value = v })

@@ -92,6 +92,10 @@ fn closing_legs(area: &[u32], count: usize, a: u32, c: u32, short: bool) -> Clos
     while i < count {
         let t = trades::trade_at(area, i);
         let size = leg_lots(t, a, c, sell, true);
+        if size == 0 {
+            i += 1;
+            continue;
+        }
         let price = t.price as u64;
         lots += size;
         value += price * size as u64;
@@ -113,6 +117,10 @@ fn opening_legs(area: &[u32], count: usize, a: u32, c: u32, short: bool, closed:
     while i < count {
         let t = trades::trade_at(area, i);
         let size = leg_lots(t, a, c, short, false);
+        if size == 0 {
+            i += 1;
+            continue;
+        }
         let taken = laws::smaller(skip, size);
         let left = size - taken;
         let price = t.price as u64;

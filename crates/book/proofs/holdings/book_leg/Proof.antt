@@ -6,17 +6,17 @@ use Rattle.book.proofs.holdings.book_leg.Tie as tie
 mul-h : tie.Need-mul-h
 mul-h c = search needs
 
-element-copy-out-h : tie.Need-element-copy-out-h
-element-copy-out-h c = search needs
+array-copy-out-h : tie.Need-array-copy-out-h
+array-copy-out-h c = search needs
 
 after-leg-requires : tie.Need-after-leg-requires
 after-leg-requires c κs = search needs
 
-mul-t8 : tie.Need-mul-t8
-mul-t8 c = search needs
+mul-holdings : tie.Need-mul-holdings
+mul-holdings c = search needs
 
-element-set-from-b : tie.Need-element-set-from-b
-element-set-from-b c = search needs
+array-set-from-holdings : tie.Need-array-set-from-holdings
+array-set-from-holdings c = search needs
 
 returns : tie.Need-returns
 returns c = rw (c .after-leg .ensures)
@@ -24,4 +24,10 @@ returns c = rw (c .after-leg .ensures)
 pub book-leg-spec : {M : Type 1} → statement M
 book-leg-spec =
     tie.close
-    (tie.spec mul-h element-copy-out-h after-leg-requires mul-t8 element-set-from-b returns)
+    (tie.spec
+    mul-h
+    array-copy-out-h
+    after-leg-requires
+    mul-holdings
+    array-set-from-holdings
+    returns)

@@ -17,8 +17,8 @@ sub-c c = search needs
 mul-terms : tie.Need-mul-terms
 mul-terms c = search needs
 
-element-copy-out-terms : tie.Need-element-copy-out-terms
-element-copy-out-terms c = rw (c .wide .ensures) (c .before .before .before .before .before .before .pre .ready .sweeps .contract)
+array-copy-out-terms : tie.Need-array-copy-out-terms
+array-copy-out-terms c = rw (c .before .wide .ensures) (c .before .before .before .before .before .before .before .pre .ready .sweeps .contract)
 
 limit-of-requires : tie.Need-limit-of-requires
 limit-of-requires c κs = search needs
@@ -27,7 +27,7 @@ is-day-requires : tie.Need-is-day-requires
 is-day-requires c κs = search needs
 
 enter-requires : tie.Need-enter-requires
-enter-requires c κs = rw (c .before .before .before .before .before .before .before .before .taker-of .ensures, c .before .before .before .before .before .limit-of .ensures, c .before .before .before .before .is-day .ensures, c .before .before .before .before .before .before .before .wide .ensures) (c .before .before .before .before .before .before .before .before .before .before .before .before .before .pre .ready)
+enter-requires c κs = rw (c .before .before .before .before .before .before .before .before .before .taker-of .ensures, c .before .before .before .before .before .limit-of .ensures, c .before .before .before .before .is-day .ensures, c .before .before .before .before .before .before .before .before .wide .ensures) (c .before .before .before .before .before .before .before .before .before .before .before .before .before .before .pre .ready)
 
 same-length : tie.Need-same-length
 same-length c = search needs
@@ -39,7 +39,7 @@ same-length-3 : tie.Need-same-length-3
 same-length-3 c = search needs
 
 returns : tie.Need-returns
-returns c = record { entry = rw (c .before .before .before .before .before .before .before .before .before .before .before .before .before .before .before .taker-of .ensures, c .before .before .before .before .before .before .before .before .before .before .before .before .limit-of .ensures, c .before .before .before .before .before .before .before .before .before .before .before .is-day .ensures, c .before .before .before .before .before .before .before .before .before .before .before .before .before .before .wide .ensures) at (c .before .before .before .before .before .before .enter .ensures) }
+returns c = record { entry = rw (c .before .before .before .before .before .before .before .before .before .before .before .before .before .before .before .before .taker-of .ensures, c .before .before .before .before .before .before .before .before .before .before .before .before .limit-of .ensures, c .before .before .before .before .before .before .before .before .before .before .before .is-day .ensures, c .before .before .before .before .before .before .before .before .before .before .before .before .before .before .before .wide .ensures) at (c .before .before .before .before .before .before .enter .ensures) }
 
 pub enter-spec : {M : Type 1} → statement M
 enter-spec =
@@ -49,7 +49,7 @@ enter-spec =
     wide-requires
     sub-c
     mul-terms
-    element-copy-out-terms
+    array-copy-out-terms
     limit-of-requires
     is-day-requires
     enter-requires

@@ -37,14 +37,14 @@ sub-c c = omega (arith, c .wide .ensures, here (c .before .before .before .befor
 mul-bought : tie.Need-mul-bought
 mul-bought c = search needs
 
-element-copy-out-bought : tie.Need-element-copy-out-bought
-element-copy-out-bought c = place-fits (c .before .before .before .before .before .before .before .before .before .pre) (c .before .before .before .before .before .before .before .before .before .args .o) (here (c .before .before .before .before .before .before .before .before .before .pre) (c .before .before .before .before .before .before .before .before .before .args .o) (sym (c .before .before .code-of .ensures) ∙ c .before .if1 .left)) (c .wide .ensures)
+array-read-bought : tie.Need-array-read-bought
+array-read-bought c = place-fits (c .before .before .before .before .before .before .before .before .before .before .before .pre) (c .before .before .before .before .before .before .before .before .before .before .before .args .o) (here (c .before .before .before .before .before .before .before .before .before .before .before .pre) (c .before .before .before .before .before .before .before .before .before .before .before .args .o) (sym (c .before .before .before .before .code-of .ensures) ∙ c .before .before .before .if1 .left)) (c .before .before .wide .ensures)
 
 mul-sold : tie.Need-mul-sold
 mul-sold c = search needs
 
-element-copy-out-sold : tie.Need-element-copy-out-sold
-element-copy-out-sold c = place-fits (c .before .before .before .before .before .before .before .before .before .before .pre) (c .before .before .before .before .before .before .before .before .before .before .args .o) (here (c .before .before .before .before .before .before .before .before .before .before .pre) (c .before .before .before .before .before .before .before .before .before .before .args .o) (sym (c .before .before .before .code-of .ensures) ∙ c .before .before .if1 .left)) (c .before .wide .ensures)
+array-read-sold : tie.Need-array-read-sold
+array-read-sold c = place-fits (c .before .before .before .before .before .before .before .before .before .before .before .pre) (c .before .before .before .before .before .before .before .before .before .before .before .args .o) (here (c .before .before .before .before .before .before .before .before .before .before .before .pre) (c .before .before .before .before .before .before .before .before .before .before .before .args .o) (sym (c .before .before .before .before .code-of .ensures) ∙ c .before .before .before .if1 .left)) (c .before .before .wide .ensures)
 
 enter-requires : tie.Need-enter-requires
 enter-requires c κs = arriving (c .before .before .before .before .before .before .before .before .before .before .before .before .before .before .before .pre) (c .before .before .before .before .before .before .before .before .before .before .before .before .before .before .before .args .o) (sym (c .before .before .before .before .before .before .before .before .code-of .ensures) ∙ c .before .before .before .before .before .before .before .if1 .left) true (c .before .before .before .if2 .taken) (c .before .before .before .before .before .before .wide .ensures)
@@ -101,9 +101,9 @@ insert-spec =
     wide-requires
     sub-c
     mul-bought
-    element-copy-out-bought
+    array-read-bought
     mul-sold
-    element-copy-out-sold
+    array-read-sold
     enter-requires
     with-entry-requires
     accepted-requires

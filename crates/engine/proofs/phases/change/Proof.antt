@@ -9,7 +9,7 @@ use Rattle.engine.proofs.Formed.{contract-low, contract-fits}
 use Rattle.engine.proofs.phases.change.Statement.{statement}
 use Rattle.engine.proofs.phases.change.Tie as tie
 
-present : (c : tie.Else1) → isAbsent (c .before .before .before .before .before .args .contract) (c .before .before .before .before .before .args .t1 .contractcount) ≡ false
+present : (c : tie.Else1) → isAbsent (c .before .before .before .before .before .args .contract) (c .before .before .before .before .before .args .state .contractcount) ≡ false
 present c = sym (c .before .is-absent .ensures) ∙ c .if1 .left
 
 is-absent-requires : tie.Need-is-absent-requires
@@ -30,8 +30,8 @@ sub-place c = contract-low (c .before .before .before .before .before .before .p
 mul-terms : tie.Need-mul-terms
 mul-terms c = search needs
 
-element-copy-out-terms : tie.Need-element-copy-out-terms
-element-copy-out-terms c = contract-fits (c .before .before .before .before .before .before .pre) _ (c .wide .ensures) (present (c .before))
+array-copy-out-terms : tie.Need-array-copy-out-terms
+array-copy-out-terms c = contract-fits (c .before .before .before .before .before .before .before .pre) _ (c .before .wide .ensures) (present (c .before .before))
 
 is-listed-requires : tie.Need-is-listed-requires
 is-listed-requires c κs = search needs
@@ -41,18 +41,18 @@ refused-requires-2 c κs = search needs
 
 returns-2 : tie.Need-returns-2
 returns-2 c =
-    phase-unlisted (c .before .before .before .before .before .before .before .before .before .before .pre) _ _ (present (c .before .before .before .before .before)) (c .before .before .before .before .wide .ensures)
+    phase-unlisted (c .before .before .before .before .before .before .before .before .before .before .before .pre) _ _ (present (c .before .before .before .before .before .before)) (c .before .before .before .before .before .wide .ensures)
     (sym (c .before .before .is-listed .ensures) ∙ not-true _ (c .before .if2 .taken)) (c .refused2 .ensures)
 
 with-phase-requires : tie.Need-with-phase-requires
-with-phase-requires c κs = contract-fits (c .before .before .before .before .before .before .before .before .before .pre) _ (c .before .before .before .wide .ensures) (present (c .before .before .before .before))
+with-phase-requires c κs = contract-fits (c .before .before .before .before .before .before .before .before .before .before .pre) _ (c .before .before .before .before .wide .ensures) (present (c .before .before .before .before .before))
 
 accepted-requires : tie.Need-accepted-requires
 accepted-requires c κs = search needs
 
 returns-3 : tie.Need-returns-3
 returns-3 c =
-    phase-accepted (c .before .before .before .before .before .before .before .before .before .before .before .pre) _ _ (present (c .before .before .before .before .before .before)) (c .before .before .before .before .before .wide .ensures)
+    phase-accepted (c .before .before .before .before .before .before .before .before .before .before .before .before .pre) _ _ (present (c .before .before .before .before .before .before .before)) (c .before .before .before .before .before .before .wide .ensures)
     (sym (c .before .before .before .is-listed .ensures) ∙ not-false _ (c .before .before .if2 .left)) (c .before .with-phase .ensures) (c .accepted .ensures)
 
 pub change-spec : {M : Type 1} → statement M
@@ -65,7 +65,7 @@ change-spec =
     wide-requires
     sub-place
     mul-terms
-    element-copy-out-terms
+    array-copy-out-terms
     is-listed-requires
     refused-requires-2
     returns-2

@@ -10,7 +10,7 @@ use Rattle.engine.proofs.removal.cancel.Tie as tie
 
 -- ---- what the tests have shown
 
-none : (c : tie.Else1) → removalCode (c .before .before .before .before .before .args .t1) (c .before .before .before .before .before .args .account) (c .before .before .before .before .before .args .contract) (c .before .before .before .before .before .args .operator) ≡ 0
+none : (c : tie.Else1) → removalCode (c .before .before .before .before .before .args .state) (c .before .before .before .before .before .args .account) (c .before .before .before .before .before .args .contract) (c .before .before .before .before .before .args .operator) ≡ 0
 none c = sym (c .before .refusal .ensures) ∙ c .if1 .left
 
 place : (c : tie.After-wide) → c .wide .result - 1 < 4
@@ -36,14 +36,14 @@ sub-c c = contract-low (c .before .before .before .before .before .before .pre) 
 mul-bought : tie.Need-mul-bought
 mul-bought c = search needs
 
-element-copy-out-bought : tie.Need-element-copy-out-bought
-element-copy-out-bought c = place c
+array-read-bought : tie.Need-array-read-bought
+array-read-bought c = place (c .before .before)
 
 mul-sold : tie.Need-mul-sold
 mul-sold c = search needs
 
-element-copy-out-sold : tie.Need-element-copy-out-sold
-element-copy-out-sold c = place (c .before)
+array-read-sold : tie.Need-array-read-sold
+array-read-sold c = place (c .before .before)
 
 sub-cancel-in : tie.Need-sub-cancel-in
 sub-cancel-in c = account-low (c .before .before .before .before .before .before .before .before .before .pre) _ _ _ (none (c .before .before .before .before))
@@ -124,9 +124,9 @@ cancel-spec =
     wide-requires
     sub-c
     mul-bought
-    element-copy-out-bought
+    array-read-bought
     mul-sold
-    element-copy-out-sold
+    array-read-sold
     sub-cancel-in
     cancel-in-requires
     with-counts-requires

@@ -13,18 +13,18 @@ use Rattle.engine.proofs.Tests.{place-below}
 use Rattle.engine.proofs.removal.refusal.Statement.{statement}
 use Rattle.engine.proofs.removal.refusal.Tie as tie
 
-account : (c : tie.Else1) → isAbsent (c .before .before .args .account) (c .before .before .args .t1 .accountcount) ≡ false
+account : (c : tie.Else1) → isAbsent (c .before .before .args .account) (c .before .before .args .state .accountcount) ≡ false
 account c = sym (c .before .is-absent .ensures) ∙ c .if1 .left
 
-contract : (c : tie.Else2) → isAbsent (c .before .before .before .before .args .contract) (c .before .before .before .before .args .t1 .contractcount) ≡ false
+contract : (c : tie.Else2) → isAbsent (c .before .before .before .before .args .contract) (c .before .before .before .before .args .state .contractcount) ≡ false
 contract c = sym (c .before .is-absent2 .ensures) ∙ c .if2 .left
 
-place : (c : tie.After-wide) → (1 ≤ c .wide .result) × (c .wide .result - 1 < c .before .before .before .before .before .args .t1 .contractcount)
-place c = rw (c .wide .ensures) (place-below (c .before .before .before .before .before .args .contract) (c .before .before .before .before .before .args .t1 .contractcount) (contract (c .before)))
+place : (c : tie.After-wide) → (1 ≤ c .wide .result) × (c .wide .result - 1 < c .before .before .before .before .before .args .state .contractcount)
+place c = rw (c .wide .ensures) (place-below (c .before .before .before .before .before .args .contract) (c .before .before .before .before .before .args .state .contractcount) (contract (c .before)))
 
 phase : (c : tie.After-is-refused)
-    → c .is-refused .result ≡ removalRefused (getD (c .before .before .before .before .before .before .before .args .t1 .contracts) (c .before .before .before .before .before .before .before .args .contract - 1) noContract) (c .before .before .before .before .before .before .before .args .operator)
-phase c = c .is-refused .ensures ∙ rw (c .before .before .wide .ensures)
+    → c .is-refused .result ≡ removalRefused (getD (c .before .before .before .before .before .before .before .before .args .state .contracts) (c .before .before .before .before .before .before .before .before .args .contract - 1) noContract) (c .before .before .before .before .before .before .before .before .args .operator)
+phase c = c .is-refused .ensures ∙ rw (c .before .before .before .wide .ensures)
 
 is-absent-requires : tie.Need-is-absent-requires
 is-absent-requires c κs = search needs
@@ -49,19 +49,19 @@ sub-place c = place c .0
 mul-terms : tie.Need-mul-terms
 mul-terms c = search needs
 
-element-copy-out-terms : tie.Need-element-copy-out-terms
-element-copy-out-terms c = omega (arith, place c .1, c .before .before .before .before .before .pre)
+array-copy-out-terms : tie.Need-array-copy-out-terms
+array-copy-out-terms c = omega (arith, place (c .before) .1, c .before .before .before .before .before .before .pre)
 
 is-refused-requires : tie.Need-is-refused-requires
 is-refused-requires c κs = search needs
 
 returns-3 : tie.Need-returns-3
 unfolding removalCode firstOf
-returns-3 c = rw (account (c .before .before .before .before .before .before), contract (c .before .before .before .before), sym (phase (c .before)) ∙ c .if3 .taken)
+returns-3 c = rw (account (c .before .before .before .before .before .before .before), contract (c .before .before .before .before .before), sym (phase (c .before)) ∙ c .if3 .taken)
 
 returns-4 : tie.Need-returns-4
 unfolding removalCode firstOf
-returns-4 c = rw (account (c .before .before .before .before .before .before), contract (c .before .before .before .before), sym (phase (c .before)) ∙ c .if3 .left)
+returns-4 c = rw (account (c .before .before .before .before .before .before .before), contract (c .before .before .before .before .before), sym (phase (c .before)) ∙ c .if3 .left)
 
 pub refusal-spec : {M : Type 1} → statement M
 refusal-spec =
@@ -74,7 +74,7 @@ refusal-spec =
     wide-requires
     sub-place
     mul-terms
-    element-copy-out-terms
+    array-copy-out-terms
     is-refused-requires
     returns-3
     returns-4)

@@ -1,0 +1,222 @@
+//! What both exchanges are run on: day files without commands, and lists of commands, the same at every run.
+
+use crate::cases::{Random, ORDER, QUEUE, TRADE};
+use crate::exchange::{Areas, State, RECORD};
+
+pub const CONTRACTS: usize = 4;
+pub const REFERENCE: u32 = 1_000;
+
+/// The three areas.
+#[derive(Clone, PartialEq)]
+pub struct Memory {
+    pub buys: Vec<u32>,
+    pub sells: Vec<u32>,
+    pub trades: Vec<u32>,
+}
+
+impl Memory {
+    pub fn new() -> Memory {
+        Memory { buys: vec![0; 4 * QUEUE], sells: vec![0; 4 * QUEUE], trades: vec![0; 1024 * TRADE] }
+    }
+
+    pub fn areas(&mut self) -> Areas<'_> {
+        Areas { queues: [&mut self.buys, &mut self.sells], trades: &mut self.trades }
+    }
+}
+
+/// Four contracts, and accounts that are rich enough for anything.
+pub fn file(accounts: usize) -> Vec<u8> {
+    let mut bytes = vec![CONTRACTS as u8, 0, 0, 0];
+    for c in 0..CONTRACTS as u16 {
+        bytes.extend((10 + c).to_le_bytes());
+        bytes.extend(1u16.to_le_bytes());
+        bytes.extend(REFERENCE.to_le_bytes());
+        bytes.extend(500u32.to_le_bytes());
+        bytes.extend(100_000u32.to_le_bytes());
+        bytes.extend(1_000u16.to_le_bytes());
+        bytes.extend(0u16.to_le_bytes());
+    }
+    bytes.extend((accounts as u32).to_le_bytes());
+    for _ in 0..accounts {
+        bytes.extend(1_000_000_000_000u64.to_le_bytes());
+    }
+    bytes.extend(0u32.to_le_bytes());
+    bytes
+}
+
+/// A command; fields that its kind does not use stay zero.
+#[derive(Clone, Copy, Default)]
+pub struct Command {
+    pub kind: u8,
+    pub account: u8,
+    pub contract: u8,
+    pub flags: u8,
+    pub lots: u32,
+    pub price: u32,
+    pub number: u32,
+    pub amount: u64,
+}
+
+impl Command {
+    pub fn bytes(&self) -> [u8; RECORD] {
+        let mut b = [self.kind, self.account, self.contract, self.flags].to_vec();
+        for word in [self.lots, self.price, self.number] {
+            b.extend(word.to_le_bytes());
+        }
+        b.extend(self.amount.to_le_bytes());
+        b.try_into().unwrap()
+    }
+}
+
+pub const SELL: u8 = 1;
+pub const CLOSE: u8 = 2;
+pub const MARKET: u8 = 4;
+pub const BEST: u8 = 8;
+pub const IMMEDIATE: u8 = 16;
+pub const KILL: u8 = 32;
+
+pub fn phase(contract: usize, phase: u8) -> Command {
+    Command { kind: 6, contract: contract as u8, flags: phase, ..Command::default() }
+}
+
+pub fn settle() -> Command {
+    Command { kind: 7, ..Command::default() }
+}
+
+pub fn encode(commands: &[Command]) -> Vec<u8> {
+    commands.iter().flat_map(Command::bytes).collect()
+}
+
+fn order(r: &mut Random, state: &State, account: u8, contract: u8) -> Command {
+    let sell = r.coin();
+    let h = &state.accounts[account as usize - 1].holdings[contract as usize - 1];
+    let held = if sell { h.long } else { h.short };
+    let close = held > 0 && r.below(3) == 0;
+    let lots = if close { 1 + r.below(held.min(20)) } else { 1 + r.below(20) };
+    let flags = sell as u8 * SELL + close as u8 * CLOSE;
+    let reference = state.contracts[contract as usize - 1].reference;
+    let price = if sell { reference - 5 + r.below(21) } else { reference + 5 - r.below(21) };
+    let (price, conditions) = match r.below(20) {
+        0 => (0, MARKET + IMMEDIATE),
+        1 => (0, BEST + IMMEDIATE),
+        2 => (price, IMMEDIATE),
+        3 => (price, KILL),
+        _ => (price, 0),
+    };
+    Command { kind: 3, account, contract, flags: flags + conditions, lots, price, ..Command::default() }
+}
+
+/// The account and the number of some resting order of a contract.
+fn some_order(r: &mut Random, state: &State, memory: &Memory, contract: u8) -> Option<(u8, u32)> {
+    let c = contract as usize - 1;
+    let side = r.below(2) as usize;
+    let count = state.resting[side][c];
+    let area = if side == 0 { &memory.buys } else { &memory.sells };
+    (count > 0).then(|| {
+        let o = &area[QUEUE * c + ORDER * r.below(count as u32) as usize..];
+        (o[2] as u8 + 1, o[1])
+    })
+}
+
+fn any_command(r: &mut Random, state: &State, memory: &Memory) -> Command {
+    let account = 1 + r.below(state.accountcount as u32) as u8;
+    let contract = 1 + r.below(CONTRACTS as u32) as u8;
+    let phase_now = state.contracts[contract as usize - 1].phase;
+    match r.below(100) {
+        0..=3 => Command { kind: 1, account, amount: 1 + r.below(1_000_000) as u64, ..Command::default() },
+        4..=6 => Command { kind: 2, account, amount: 1 + r.below(1_000_000) as u64, ..Command::default() },
+        7 => Command { kind: 5, account, contract, ..Command::default() },
+        8..=10 if phase_now == 2 => phase(contract as usize, 1),
+        8 => phase(contract as usize, 2),
+        9..=34 => match some_order(r, state, memory, contract) {
+            Some((account, number)) => Command { kind: 4, account, contract, number, ..Command::default() },
+            None => order(r, state, account, contract),
+        },
+        _ => order(r, state, account, contract),
+    }
+}
+
+/// A mixed list: orders, cancels, money, state changes, and a settlement after each 500 commands. The commands are chosen by the state
+/// that they meet.
+pub fn mixed(r: &mut Random, accounts: usize, count: usize) -> Vec<Command> {
+    let mut state = State::open(&file(accounts));
+    let mut memory = Memory::new();
+    let mut list: Vec<Command> = Vec::new();
+    let all = |p| (1..=CONTRACTS).map(move |c| phase(c, p));
+    let mut due: Vec<Command> = all(1).collect();
+    while list.len() < count {
+        if due.is_empty() && list.len() % 500 > 480 {
+            due = all(3).chain([settle()]).chain(all(1)).rev().collect();
+        }
+        let command = due.pop().unwrap_or_else(|| any_command(r, &state, &memory));
+        state.step(&mut memory.areas(), &command.bytes());
+        list.push(command);
+    }
+    list
+}
+
+/// A list under construction, with the number that the next accepted order gets.
+#[derive(Clone)]
+pub struct Script {
+    pub commands: Vec<Command>,
+    next: u32,
+}
+
+impl Script {
+    /// A good-for-day or immediate limit order that is accepted; its number.
+    pub fn order(&mut self, account: u8, contract: u8, flags: u8, price: u32) -> u32 {
+        self.commands.push(Command { kind: 3, account, contract, flags, lots: 1, price, ..Command::default() });
+        self.next += 1;
+        self.next - 1
+    }
+
+    /// All contracts continuous, so many trades in the first, and 20 orders of two accounts on each side of each.
+    pub fn prepared(trades: usize) -> Script {
+        let mut s = Script { commands: (1..=CONTRACTS).map(|c| phase(c, 1)).collect(), next: 1 };
+        for i in 0..trades {
+            // in turn, so that holdings stay within the limit
+            let (buyer, seller) = if i % 2 == 0 { (1, 2) } else { (2, 1) };
+            s.order(seller, 1, SELL, REFERENCE);
+            s.order(buyer, 1, IMMEDIATE, REFERENCE);
+        }
+        for i in 0..20 {
+            for c in 1..=CONTRACTS as u8 {
+                s.order(1 + i % 2, c, 0, REFERENCE - 10);
+                s.order(1 + i % 2, c, SELL, REFERENCE + 10);
+            }
+        }
+        s
+    }
+}
+
+/// The kinds of command that are counted one by one.
+pub const KINDS: [&str; 8] =
+    ["deposit", "withdraw", "insert that rests", "insert that trades", "cancel", "pull", "state change", "settle"];
+
+/// A list without and with so many commands of one kind at its end.
+pub fn kind_lists(kind: usize, trades: usize) -> [Vec<Command>; 2] {
+    let mut s = Script::prepared(trades);
+    let first = s.next - 160;
+    if kind == 7 {
+        s.commands.extend((1..=CONTRACTS).map(|c| phase(c, 3)));
+    }
+    let without = s.commands.clone();
+    for i in 0..20u32 {
+        let account = 1 + (i % 2) as u8;
+        match kind {
+            0 | 1 => s.commands.push(Command { kind: kind as u8 + 1, account, amount: 1000, ..Command::default() }),
+            2 => {
+                s.order(account, 1, 0, REFERENCE - 5 - i);
+            }
+            3 => {
+                s.order(account, 1, IMMEDIATE, REFERENCE + 10);
+            }
+            4 => s.commands.push(Command { kind: 4, account, contract: 1, number: first + 8 * i, ..Command::default() }),
+            5 if i < 8 => s.commands.push(Command { kind: 5, account, contract: 1 + i as u8 / 2, ..Command::default() }),
+            6 => s.commands.push(phase(4, 2 - (i % 2) as u8)),
+            7 if i == 0 => s.commands.push(settle()),
+            _ => {}
+        }
+    }
+    [without, s.commands]
+}

@@ -1,0 +1,544 @@
+//! The same exchange in plain Rust, after document 01: the state changed where it stands, the same areas of words, the same
+//! refusals in the same order.
+
+use crate::cases::{ACCOUNTS, ORDER, QUEUE, TRADE};
+use crate::plain::{close_up, enter, Account, Entry, Holding, PriceCondition, Taker};
+
+pub const RECORD: usize = 24;
+
+#[derive(Clone, Copy, Default)]
+pub struct Contract {
+    pub multiplier: u32,
+    pub tick: u32,
+    pub reference: u32,
+    pub band: u32,
+    pub limit: u32,
+    pub rate: u32,
+    pub phase: u32,
+    pub last: u32,
+}
+
+/// The state but for the areas; `resting` counts orders by side (0 buy, 1 sell) and contract.
+#[derive(Clone)]
+pub struct State {
+    pub contracts: [Contract; 4],
+    pub accounts: [Account; ACCOUNTS],
+    pub resting: [[usize; 4]; 2],
+    pub contractcount: usize,
+    pub accountcount: usize,
+    pub made: usize,
+    pub next: u32,
+    pub settlements: u32,
+}
+
+/// The queues by side, and the day's trades.
+pub struct Areas<'a> {
+    pub queues: [&'a mut [u32]; 2],
+    pub trades: &'a mut [u32],
+}
+
+/// Code, order number, lots traded, lots rested or removed.
+#[derive(Clone, Copy, Debug, Default, PartialEq)]
+pub struct Answer {
+    pub code: u32,
+    pub number: u32,
+    pub traded: u32,
+    pub lots: u32,
+}
+
+struct Record {
+    kind: u8,
+    account: usize,
+    contract: usize,
+    flags: u8,
+    lots: u32,
+    price: u32,
+    number: u32,
+    amount: u64,
+}
+
+struct NewOrder {
+    account: usize,
+    contract: usize,
+    sell: bool,
+    close: bool,
+    lots: u32,
+    price: u32,
+    condition: PriceCondition,
+    day: bool,
+    kill: bool,
+}
+
+fn word(bytes: &[u8], at: usize) -> u32 {
+    u32::from_le_bytes(bytes[at..at + 4].try_into().unwrap())
+}
+
+fn half(bytes: &[u8], at: usize) -> u32 {
+    u16::from_le_bytes(bytes[at..at + 2].try_into().unwrap()) as u32
+}
+
+fn long(bytes: &[u8], at: usize) -> u64 {
+    u64::from_le_bytes(bytes[at..at + 8].try_into().unwrap())
+}
+
+impl Record {
+    fn read(b: &[u8]) -> Record {
+        Record {
+            kind: b[0],
+            account: b[1] as usize,
+            contract: b[2] as usize,
+            flags: b[3],
+            lots: word(b, 4),
+            price: word(b, 8),
+            number: word(b, 12),
+            amount: long(b, 16),
+        }
+    }
+
+    /// "kind, flag value or unused field is wrong"
+    fn malformed(&self) -> bool {
+        let order_fields = self.lots != 0 || self.price != 0;
+        match self.kind {
+            1 | 2 => self.contract != 0 || self.flags != 0 || order_fields || self.number != 0,
+            3 => {
+                self.number != 0 || self.amount != 0 || self.flags >> 6 != 0
+                    || self.flags >> 2 & 3 == 3 || self.flags >> 4 & 3 == 3
+            }
+            4 => order_fields || self.amount != 0 || self.flags > 1,
+            5 => order_fields || self.number != 0 || self.amount != 0 || self.flags > 1,
+            6 => self.account != 0 || order_fields || self.number != 0 || self.amount != 0 || self.flags > 3,
+            7 => {
+                self.account != 0 || self.contract != 0 || self.flags != 0
+                    || order_fields || self.number != 0 || self.amount != 0
+            }
+            _ => true,
+        }
+    }
+
+    fn order(&self) -> NewOrder {
+        NewOrder {
+            account: self.account,
+            contract: self.contract,
+            sell: self.flags & 1 == 1,
+            close: self.flags >> 1 & 1 == 1,
+            lots: self.lots,
+            price: self.price,
+            condition: match self.flags >> 2 & 3 {
+                0 => PriceCondition::Limit(self.price),
+                1 => PriceCondition::Market,
+                _ => PriceCondition::Best,
+            },
+            day: self.flags >> 4 & 3 == 0,
+            kill: self.flags >> 4 & 3 == 2,
+        }
+    }
+}
+
+impl Contract {
+    /// "multiplier x reference x rate / 10,000, rounded up"
+    fn charge(&self) -> u64 {
+        (self.multiplier as u64 * self.reference as u64 * self.rate as u64).div_ceil(10_000)
+    }
+
+    fn allows(&self, price: u32) -> bool {
+        let low = self.tick.max(self.reference.saturating_sub(self.band));
+        let high = (self.reference + self.band).min(1_000_000 / self.tick * self.tick);
+        price % self.tick == 0 && low <= price && price <= high
+    }
+}
+
+fn refused(code: u32) -> Answer {
+    Answer { code, ..Answer::default() }
+}
+
+fn orders(queue: &[u32]) -> impl Iterator<Item = &[u32]> {
+    queue.chunks_exact(ORDER)
+}
+
+impl State {
+    fn absent(number: usize, count: usize) -> bool {
+        number == 0 || number > count
+    }
+
+    fn queue<'a>(&self, areas: &'a Areas, sell: bool, c: usize) -> &'a [u32] {
+        &areas.queues[sell as usize][QUEUE * c..][..ORDER * self.resting[sell as usize][c]]
+    }
+
+    /// An account's resting opens or closes on a side of a contract.
+    fn resting_lots(&self, areas: &Areas, sell: bool, c: usize, account: usize, close: bool) -> u64 {
+        orders(self.queue(areas, sell, c))
+            .filter(|o| o[2] as usize == account && o[4] == close as u32)
+            .map(|o| o[3] as u64)
+            .sum()
+    }
+
+    /// "charge times all long and short lots and resting opens"
+    fn charged(&self, areas: &Areas, account: usize) -> u64 {
+        (0..self.contractcount)
+            .map(|c| {
+                let h = &self.accounts[account].holdings[c];
+                let opens = self.resting_lots(areas, false, c, account, false) + self.resting_lots(areas, true, c, account, false);
+                self.contracts[c].charge() * (h.long as u64 + h.short as u64 + opens)
+            })
+            .sum()
+    }
+
+    fn available(&self, areas: &Areas, account: usize) -> i64 {
+        self.accounts[account].balance - self.charged(areas, account) as i64
+    }
+
+    fn deposit(&mut self, r: &Record) -> Answer {
+        if State::absent(r.account, self.accountcount) {
+            return refused(2);
+        }
+        let balance = &mut self.accounts[r.account - 1].balance;
+        if r.amount < 1 || r.amount > 1_000_000_000_000_000 || *balance + r.amount as i64 > 1_000_000_000_000_000_000 {
+            return refused(16);
+        }
+        *balance += r.amount as i64;
+        Answer::default()
+    }
+
+    fn withdraw(&mut self, areas: &Areas, r: &Record) -> Answer {
+        if State::absent(r.account, self.accountcount) {
+            return refused(2);
+        }
+        if r.amount < 1 || r.amount > 1_000_000_000_000_000 {
+            return refused(16);
+        }
+        if self.available(areas, r.account - 1) < r.amount as i64 {
+            return refused(9);
+        }
+        self.accounts[r.account - 1].balance -= r.amount as i64;
+        Answer::default()
+    }
+
+    /// "Fillable lots are the counterparts' lots added up."
+    fn fillable(&self, areas: &Areas, t: &Taker) -> u64 {
+        orders(self.queue(areas, !t.sell, t.contract)).take_while(|o| t.meets(o[0])).map(|o| o[3] as u64).sum()
+    }
+
+    fn trades_needed(&self, areas: &Areas, t: &Taker) -> usize {
+        let mut left = t.lots;
+        let mut trades = 0;
+        for o in orders(self.queue(areas, !t.sell, t.contract)) {
+            if left == 0 || !t.meets(o[0]) {
+                break;
+            }
+            left -= left.min(o[3]);
+            trades += 1;
+        }
+        trades
+    }
+
+    /// Codes 2 to 13, or the order as it meets the book.
+    fn arrive(&self, areas: &Areas, o: &NewOrder) -> Result<Taker, u32> {
+        if State::absent(o.account, self.accountcount) {
+            return Err(2);
+        }
+        if State::absent(o.contract, self.contractcount) {
+            return Err(3);
+        }
+        let (a, c) = (o.account - 1, o.contract - 1);
+        let terms = &self.contracts[c];
+        if terms.phase != 1 {
+            return Err(4);
+        }
+        if o.lots < 1 || o.lots > 1_000 {
+            return Err(5);
+        }
+        let limit = matches!(o.condition, PriceCondition::Limit(_));
+        if !limit && o.day {
+            return Err(6);
+        }
+        if if limit { !terms.allows(o.price) } else { o.price != 0 } {
+            return Err(7);
+        }
+        let h = &self.accounts[a].holdings[c];
+        let rested = self.resting_lots(areas, o.sell, c, a, o.close);
+        if o.close {
+            let held = if o.sell { h.long } else { h.short };
+            if rested + o.lots as u64 > held as u64 {
+                return Err(8);
+            }
+        } else {
+            let held = if o.sell { h.short } else { h.long };
+            if held as u64 + rested + o.lots as u64 > terms.limit as u64 {
+                return Err(8);
+            }
+            if self.available(areas, a) < (terms.charge() * o.lots as u64) as i64 {
+                return Err(9);
+            }
+        }
+        if self.next >= 1_000_000 {
+            return Err(10);
+        }
+        let t = Taker {
+            account: a as u32,
+            contract: c,
+            sell: o.sell,
+            close: o.close as u32,
+            number: self.next,
+            condition: o.condition,
+            best: self.queue(areas, !o.sell, c).first().copied().unwrap_or(0),
+            lots: o.lots,
+            price: o.price,
+            day: o.day,
+        };
+        if o.kill && self.fillable(areas, &t) < o.lots as u64 {
+            return Err(11);
+        }
+        if self.made > 960 && self.made + self.trades_needed(areas, &t) > 1_024 {
+            return Err(12);
+        }
+        if o.day && self.resting[o.sell as usize][c] == 64 && self.fillable(areas, &t) < o.lots as u64 {
+            return Err(13);
+        }
+        Ok(t)
+    }
+
+    fn insert(&mut self, areas: &mut Areas, o: &NewOrder) -> Answer {
+        let t = match self.arrive(areas, o) {
+            Ok(t) => t,
+            Err(code) => return refused(code),
+        };
+        let (c, side) = (t.contract, t.sell as usize);
+        let before = Entry {
+            rested: 0,
+            own: self.resting[side][c],
+            opposite: self.resting[1 - side][c],
+            made: self.made,
+            last: self.contracts[c].last,
+        };
+        let [buys, sells] = &mut areas.queues;
+        let (own, opposite) = if t.sell { (sells, buys) } else { (buys, sells) };
+        let after = enter(own, opposite, areas.trades, &before, &t, &mut self.accounts);
+        let traded = areas.trades[TRADE * self.made..TRADE * after.made].chunks_exact(TRADE).map(|trade| trade[2]).sum();
+        self.resting[side][c] = after.own;
+        self.resting[1 - side][c] = after.opposite;
+        self.made = after.made;
+        self.contracts[c].last = after.last;
+        self.next += 1;
+        Answer { code: 0, number: t.number, traded, lots: after.rested }
+    }
+
+    /// Codes 2 to 4 of a cancel or a pull.
+    fn removal_refused(&self, r: &Record) -> Option<u32> {
+        if State::absent(r.account, self.accountcount) {
+            return Some(2);
+        }
+        if State::absent(r.contract, self.contractcount) {
+            return Some(3);
+        }
+        match self.contracts[r.contract - 1].phase {
+            1 => None,
+            2 if r.flags == 1 => None,
+            _ => Some(4),
+        }
+    }
+
+    fn cancel(&mut self, areas: &mut Areas, r: &Record) -> Answer {
+        if let Some(code) = self.removal_refused(r) {
+            return refused(code);
+        }
+        let c = r.contract - 1;
+        for side in [0, 1] {
+            let count = &mut self.resting[side][c];
+            let queue = &mut areas.queues[side][QUEUE * c..][..ORDER * *count];
+            let found = orders(queue).position(|o| o[1] == r.number);
+            if let Some(place) = found {
+                let o = &queue[ORDER * place..];
+                if o[2] as usize != r.account - 1 {
+                    return refused(15);
+                }
+                let lots = o[3];
+                close_up(&mut queue[ORDER * place..], ORDER);
+                *count -= 1;
+                return Answer { code: 0, number: r.number, traded: 0, lots };
+            }
+        }
+        refused(14)
+    }
+
+    fn pull(&mut self, areas: &mut Areas, r: &Record) -> Answer {
+        if let Some(code) = self.removal_refused(r) {
+            return refused(code);
+        }
+        let c = r.contract - 1;
+        let mut lots = 0;
+        for side in [0, 1] {
+            let count = self.resting[side][c];
+            let queue = &mut areas.queues[side][QUEUE * c..][..ORDER * count];
+            let mut kept = 0;
+            for i in 0..count {
+                if queue[ORDER * i + 2] as usize == r.account - 1 {
+                    lots += queue[ORDER * i + 3];
+                } else {
+                    queue.copy_within(ORDER * i..ORDER * (i + 1), ORDER * kept);
+                    kept += 1;
+                }
+            }
+            queue[ORDER * kept..].fill(0);
+            self.resting[side][c] = kept;
+        }
+        Answer { lots, ..Answer::default() }
+    }
+
+    fn change_phase(&mut self, r: &Record) -> Answer {
+        if State::absent(r.contract, self.contractcount) {
+            return refused(3);
+        }
+        let phase = &mut self.contracts[r.contract - 1].phase;
+        match (*phase, r.flags) {
+            (0, 1) | (0, 3) | (1, 2) | (2, 1) | (1, 3) | (2, 3) => *phase = r.flags as u32,
+            _ => return refused(17),
+        }
+        Answer::default()
+    }
+
+    fn settlement_price(&self, areas: &Areas, c: usize) -> u32 {
+        let mut value = 0;
+        let mut lots = 0;
+        for t in areas.trades[..TRADE * self.made].chunks_exact(TRADE).filter(|t| t[0] as usize == c) {
+            value += t[1] as u64 * t[2] as u64;
+            lots += t[2] as u64;
+        }
+        let terms = &self.contracts[c];
+        if lots != 0 {
+            let tick = terms.tick as u64;
+            return (value / lots / tick * tick) as u32;
+        }
+        match (self.queue(areas, false, c).first(), self.queue(areas, true, c).first()) {
+            (Some(&bid), Some(&offer)) => terms.reference.clamp(bid.min(offer), bid.max(offer)),
+            _ => terms.reference,
+        }
+    }
+
+    /// Article 32 for one side of an account's day in a contract: what its closes came to, what the closed lots were opened for,
+    /// the lots open, and what those were opened for. Start-of-day lots go first, then today's in trade order.
+    fn side(&self, areas: &Areas, a: usize, c: usize, short: bool, start: u32) -> [i64; 4] {
+        let trades = || areas.trades[..TRADE * self.made].chunks_exact(TRADE).filter(move |t| t[0] as usize == c);
+        // the leg that opens this side is the buyer's for long lots, the seller's for short ones
+        let leg = |t: &[u32], seller: bool| (t[5 + seller as usize] as usize == a).then(|| t[7 + seller as usize] != 0);
+        let mut closes = 0;
+        let mut closed = 0;
+        for t in trades() {
+            if leg(t, !short) == Some(true) {
+                closes += t[1] as i64 * t[2] as i64;
+                closed += t[2];
+            }
+        }
+        let reference = self.contracts[c].reference as i64;
+        let first = closed.min(start);
+        let mut skip = closed - first;
+        let mut cost = reference * first as i64;
+        let mut lots = start - first;
+        let mut opened = reference * lots as i64;
+        for t in trades() {
+            if leg(t, short) == Some(false) {
+                let taken = skip.min(t[2]);
+                skip -= taken;
+                cost += t[1] as i64 * taken as i64;
+                lots += t[2] - taken;
+                opened += t[1] as i64 * (t[2] - taken) as i64;
+            }
+        }
+        [closes, cost, lots as i64, opened]
+    }
+
+    fn profit(&self, areas: &Areas, a: usize, c: usize, price: u32) -> i64 {
+        let h = &self.accounts[a].holdings[c];
+        let [sold, cost, long, bought] = self.side(areas, a, c, false, h.startlong);
+        let [covered, income, short, shorted] = self.side(areas, a, c, true, h.startshort);
+        let closing = (sold - cost) + (income - covered);
+        let holding = (price as i64 * long - bought) + (shorted - price as i64 * short);
+        (closing + holding) * self.contracts[c].multiplier as i64
+    }
+
+    fn settle(&mut self, areas: &mut Areas) -> Answer {
+        if self.contracts[..self.contractcount].iter().any(|c| c.phase != 3) {
+            return refused(18);
+        }
+        if self.settlements >= 250 {
+            return refused(19);
+        }
+        let mut prices = [0; 4];
+        for c in 0..self.contractcount {
+            prices[c] = self.settlement_price(areas, c);
+        }
+        for a in 0..self.accountcount {
+            let profit: i64 = (0..self.contractcount).map(|c| self.profit(areas, a, c, prices[c])).sum();
+            self.accounts[a].balance += profit;
+        }
+        for a in &mut self.accounts[..self.accountcount] {
+            for h in &mut a.holdings[..self.contractcount] {
+                *h = Holding { startlong: h.long, startshort: h.short, ..*h };
+            }
+        }
+        for c in 0..self.contractcount {
+            for side in [0, 1] {
+                areas.queues[side][QUEUE * c..][..ORDER * self.resting[side][c]].fill(0);
+                self.resting[side][c] = 0;
+            }
+            self.contracts[c].reference = prices[c];
+            self.contracts[c].phase = 0;
+        }
+        areas.trades[..TRADE * self.made].fill(0);
+        self.made = 0;
+        self.next = 1;
+        self.settlements += 1;
+        Answer::default()
+    }
+
+    /// One command.
+    pub fn step(&mut self, areas: &mut Areas, record: &[u8]) -> Answer {
+        let r = Record::read(record);
+        if r.malformed() {
+            return refused(1);
+        }
+        match r.kind {
+            1 => self.deposit(&r),
+            2 => self.withdraw(areas, &r),
+            3 => self.insert(areas, &r.order()),
+            4 => self.cancel(areas, &r),
+            5 => self.pull(areas, &r),
+            6 => self.change_phase(&r),
+            _ => self.settle(areas),
+        }
+    }
+
+    /// The state that a day file opens with.
+    pub fn open(day: &[u8]) -> State {
+        let contractcount = word(day, 0) as usize;
+        let accountcount = word(day, 4 + 20 * contractcount) as usize;
+        let mut contracts = [Contract::default(); 4];
+        for (c, terms) in contracts[..contractcount].iter_mut().enumerate() {
+            let at = 4 + 20 * c;
+            let reference = word(day, at + 4);
+            *terms = Contract {
+                multiplier: half(day, at),
+                tick: half(day, at + 2),
+                reference,
+                band: word(day, at + 8),
+                limit: word(day, at + 12),
+                rate: half(day, at + 16),
+                phase: 0,
+                last: reference,
+            };
+        }
+        let mut accounts = [Account::default(); ACCOUNTS];
+        for (a, account) in accounts[..accountcount].iter_mut().enumerate() {
+            account.balance = long(day, 8 + 20 * contractcount + 8 * a) as i64;
+        }
+        State { contracts, accounts, resting: [[0; 4]; 2], contractcount, accountcount, made: 0, next: 1, settlements: 0 }
+    }
+}
+
+/// Runs the commands on the state that the day file opens with.
+pub fn run(day: &[u8], commands: &[u8], areas: &mut Areas) -> State {
+    let mut state = State::open(day);
+    for record in commands.chunks_exact(RECORD) {
+        state.step(areas, record);
+    }
+    state
+}
