@@ -82,6 +82,9 @@ fn print_broken(fd: i32, file: &[u8]) -> bool
     write_output(fd, file, &out, end)
 }
 
+// Room for one command's longest lines, and for the usual lines of some thousand more, so that a day takes few writes.
+const BUFFER: usize = 200000;
+
 // The day's lines, or `X 20` for a file that is not sound. Answers whether all of it was written.
 pub fn print_file(fd: i32, file: &[u8]) -> bool {
     if !file::sound(file) {
@@ -90,7 +93,7 @@ pub fn print_file(fd: i32, file: &[u8]) -> bool {
     let mut buys = [0u32; 1280];
     let mut sells = [0u32; 1280];
     let mut trades = [0u32; 9216];
-    let mut out = [0u8; 200000];
+    let mut out = [0u8; BUFFER];
     let day = print_day(fd, file, &mut buys, &mut sells, &mut trades, &mut out);
     day.whole
 }
