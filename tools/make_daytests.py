@@ -1,22 +1,41 @@
 #!/usr/bin/env python3
 """make_daytests.py: makes the files of the program `daytests` from `samples/`: the day files with their list in its data
 folder, and what it must write, from the model's outputs."""
-import shutil
 from pathlib import Path
 
-top = Path(__file__).resolve().parent.parent
-samples = top / "samples"
-crate = top / "crates" / "daytests"
-data = crate / "data"
+TOP = Path(__file__).resolve().parent.parent
+SAMPLES = TOP / "samples"
+CRATE = TOP / "crates" / "daytests"
+DATA = CRATE / "data"
 
-shutil.rmtree(data, ignore_errors=True)
-data.mkdir()
-names, wanted = [], b""
-for path in sorted(samples.glob("*.day")) + sorted(samples.glob("broken/*.day")):
-    broken = path.parent != samples
-    name = ("broken-" if broken else "") + path.name
-    shutil.copyfile(path, data / name)
-    names.append(name)
-    wanted += name.encode() + b"\n" + (b"X 20\n" if broken else path.with_suffix(".out").read_bytes())
-(data / "list").write_text("".join(name + "\n" for name in names))
-(crate / "stdout").write_bytes(wanted)
+
+def made_files():
+    """The content of every file that is made, by its path."""
+    files, names, wanted = {}, "", b""
+    for path in sorted(SAMPLES.glob("*.day")) + sorted(SAMPLES.glob("broken/*.day")):
+        is_broken = path.parent != SAMPLES
+        name = ("broken-" if is_broken else "") + path.name
+        files[DATA / name] = path.read_bytes()
+        names += name + "\n"
+        wanted += name.encode() + b"\n" + (b"X 20\n" if is_broken else path.with_suffix(".out").read_bytes())
+    files[DATA / "list"] = names.encode()
+    files[CRATE / "stdout"] = wanted
+    return files
+
+
+def files_present():
+    return set(DATA.glob("*")) | set(CRATE.glob("stdout"))
+
+
+def main():
+    files = made_files()
+    for path in files_present() - set(files):
+        path.unlink()
+    DATA.mkdir(exist_ok=True)
+    for path, content in files.items():
+        path.write_bytes(content)
+    print(f"{len(files)} files made")
+
+
+if __name__ == "__main__":
+    main()

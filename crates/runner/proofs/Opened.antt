@@ -65,7 +65,7 @@ module _ (file : List ℕ) where
               (λ i. refl) refl a (rw length-tabulate (omega arith));
         }
 
-  module _ {buys sells trades out : List ℕ} (ready : Ready file buys sells trades out) where
+  module _ {buys sells trades : List ℕ} (ready : Ready file buys sells trades) where
     abbrev m : Memory
     m = openingOf file buys sells trades
 

@@ -21,6 +21,7 @@ use Rattle.engine.specs.Outcome.{memory}
 use Rattle.exchange.proofs.Runs.{run-declared}
 use Rattle.runner.specs.Day.{Ready, DayIs, openingOf, linesTo}
 use Rattle.runner.specs.Parts.{part, Playable, PlayedIs}
+use Rattle.runner.specs.Turns.{commandMost}
 use Rattle.runner.specs.declared.play.Played.{Played}
 use Rattle.runner.proofs.Opened.{opens-formed, opens-as-told, opens-empty}
 use Rattle.runner.proofs.Playing.{length-commands, lines-append, part-part, run-append}
@@ -52,7 +53,7 @@ broken-is-output file h w = rw h (sym (front w))
 
 -- ---- a day
 
-module _ (file : List ℕ) {buys sells trades out : List ℕ} (ready : Ready file buys sells trades out) where
+module _ (file : List ℕ) {buys sells trades : List ℕ} (ready : Ready file buys sells trades) where
   abbrev m₀ : Memory
   m₀ = openingOf file buys sells trades
 
@@ -75,8 +76,8 @@ module _ (file : List ℕ) {buys sells trades out : List ℕ} (ready : Ready fil
   none-done e = ap (λ (v : State). memory v buys sells trades) e
 
   module _ (k : ℕ) (l : k ≤ commandsIn file) {s : State} {buys′ sells′ trades′ : List ℕ} (e : memory s buys′ sells′ trades′ ≡ run m₀ (part file 0 k)) where
-    pub can-play : (out′ : List ℕ) → length out′ ≡ length out → Playable file k s buys′ sells′ trades′ out′
-    can-play out′ same =
+    pub can-play : (out : List ℕ) → commandMost ≤ length out → Playable file k s buys′ sells′ trades′ out
+    can-play out room =
         record {
           whole = ready .whole;
           within = l;
@@ -85,7 +86,7 @@ module _ (file : List ℕ) {buys sells trades out : List ℕ} (ready : Ready fil
                 declared = subst⁻¹ (λ (v : Memory). Declared (v .state)) e (run-declared m₀ (part file 0 k) (opens-formed file ready .declared));
                 formed = subst⁻¹ (λ (v : Memory). wellFormedMemory v ≡ true) e (run-keeps m₀ (part file 0 k) (opens-formed file ready .formed));
               };
-          room = omega (arith, ready .room);
+          room = room;
         }
 
     pub part-done : {before after : List ℕ} {p : Played} {m′ : Memory} → PlayedIs file k (memory s buys′ sells′ trades′) before p m′ after → m′ ≡ run m₀ (part file 0 (p .next))

@@ -11,17 +11,14 @@ use Rattle.rules.specs.Memory.{Memory}
 use Rattle.dayfile.specs.Opening.{openingState}
 use Rattle.engine.specs.Outcome.{memory}
 use Rattle.runner.specs.Parts.{part}
-use Rattle.runner.specs.Turns.{commandMost}
 use Rattle.runner.specs.declared.day.Day.{Day}
 
--- a sound file, room for the queues of four contracts, for a day's trades and for one command's lines; what stands in that room
--- is of no account
-pub record Ready (file buys sells trades out : List ℕ) : Type 0 where
+-- a sound file, room for the queues of four contracts and for a day's trades; what stands in that room is of no account
+pub record Ready (file buys sells trades : List ℕ) : Type 0 where
   pub whole : sound file ≡ true
   pub buys-room : 1_280 ≤ length buys
   pub sells-room : 1_280 ≤ length sells
   pub trades-room : 9_216 ≤ length trades
-  pub room : commandMost ≤ length out
 
 abbrev pub openingOf : List ℕ → List ℕ → List ℕ → List ℕ → Memory
 openingOf file buys sells trades = memory (openingState file) buys sells trades

@@ -21,6 +21,9 @@ pub struct Day {
     pub whole: bool,
 }
 
+// Room for one command's longest lines, and for the usual lines of some thousand more, so that a day takes few writes.
+const BUFFER: usize = 200000;
+
 // A write of a buffer's front. No promise can tell what a write does with its bytes, so it asks that they are what the commands
 // from place k up to `next` add to the output.
 fn write_part(fd: i32, file: &[u8], k: usize, next: usize, out: &[u8], end: usize) -> bool
@@ -36,26 +39,25 @@ fn write_output(fd: i32, file: &[u8], out: &[u8], end: usize) -> bool
     io::write_all(fd, &out[..end])
 }
 
-// A sound file's commands from its opening state on, in areas with room for four contracts, a day's trades and one command's
-// lines. Where a write fails it stops, and what was played by then is told. For our own crates.
+// A sound file's commands from its opening state on, in areas with room for four contracts and a day's trades. Where a write fails it stops, and what was played by then is told. For our own crates.
 pub fn print_day(
     fd: i32,
     file: &[u8],
     buys: &mut [u32],
     sells: &mut [u32],
     trades: &mut [u32],
-    out: &mut [u8],
 ) -> Day
-    requires { ⌜ Ready (now file) (now buys) (now sells) (now trades) (now out) ⌝ }
+    requires { ⌜ Ready (now file) (now buys) (now sells) (now trades) ⌝ }
     ensures { λ r. ⌜ DayIs (now (file .entry)) (now (buys .entry)) (now (sells .entry)) (now (trades .entry)) r (memory (r .state) (now (buys .exit)) (now (sells .exit)) (now (trades .exit))) ⌝ }
 {
     let n = file::commands_in(file);
+    let mut out = [0u8; BUFFER];
     let mut state = opening_state(file);
     let mut k: usize = 0;
     while k < n {
-        let p = play(file, k, state, buys, sells, trades, out);
+        let p = play(file, k, state, buys, sells, trades, &mut out);
         let next = p.next;
-        let is_written = write_part(fd, file, k, next, &out[..], p.end);
+        let is_written = write_part(fd, file, k, next, &out, p.end);
         state = p.state;
         k = next;
         if !is_written {
@@ -90,7 +92,6 @@ pub fn print_file(fd: i32, file: &[u8]) -> bool {
     let mut buys = [0u32; 1280];
     let mut sells = [0u32; 1280];
     let mut trades = [0u32; 9216];
-    let mut out = [0u8; 200000];
-    let day = print_day(fd, file, &mut buys, &mut sells, &mut trades, &mut out);
+    let day = print_day(fd, file, &mut buys, &mut sells, &mut trades);
     day.whole
 }

@@ -24,17 +24,13 @@ slice-aggregate-print-day-2 c = search needs
 slice-aggregate-print-day-3 : tie.Need-slice-aggregate-print-day-3
 slice-aggregate-print-day-3 c = search needs
 
-slice-aggregate-print-day-4 : tie.Need-slice-aggregate-print-day-4
-slice-aggregate-print-day-4 c = search needs
-
 print-day-requires : tie.Need-print-day-requires
 print-day-requires c κs =
     record {
-      whole = sym (c .before .before .before .before .before .sound .ensures) ∙ not-false (c .before .before .before .before .before .sound .result) (c .before .before .before .before .if1 .left);
+      whole = sym (c .before .before .before .before .sound .ensures) ∙ not-false (c .before .before .before .before .sound .result) (c .before .before .before .if1 .left);
       buys-room = omega arith;
       sells-room = omega arith;
       trades-room = omega arith;
-      room = omega arith;
     }
 
 returns-2 : tie.Need-returns-2
@@ -50,6 +46,5 @@ print-file-spec =
     slice-aggregate-print-day
     slice-aggregate-print-day-2
     slice-aggregate-print-day-3
-    slice-aggregate-print-day-4
     print-day-requires
     returns-2)
