@@ -1,8 +1,6 @@
 pub mod Bookings
-pub mod Entries
 pub mod Pulls
 pub mod Queues
 pub mod Recorded
 pub mod Scans
 pub mod Sides
-pub mod Turns

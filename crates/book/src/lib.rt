@@ -1,10 +1,8 @@
-// The order book of every contract and all that matching does to it, in areas that the caller lends.
-pub mod entry;
+// The order book of every contract, in areas that the caller lends: queues, prices, scans, holdings, recorded trades.
 pub mod holdings;
 pub mod prices;
 pub mod queue;
 pub mod removal;
 pub mod scan;
 pub mod side;
-pub mod sweep;
 pub mod trades;

@@ -3,8 +3,8 @@ use mathlib.Core.List.{List}
 use mathlib.Core.Path.{_≡_, sym, ap, subst, _∙_}
 use Prim.Native.Nat.{ℕ, suc, _+_}
 use native.Mathlib.Numerals.{add-one}
-use Rattle.book.specs.Entry.{EntryReady, EntryIs}
-use Rattle.book.specs.declared.entry.Entry.{Entry}
+use Rattle.matching.specs.Entry.{EntryReady, EntryIs}
+use Rattle.matching.specs.declared.entry.Entry.{Entry}
 use Rattle.rules.specs.Exchange.{holdingAt}
 use Rattle.rules.specs.Matching.{Entered, enter}
 use Rattle.rules.specs.Memory.{queueIn}

@@ -13,7 +13,7 @@ use Rattle.rules.specs.Memory.{queueIn, putQueue, tradeWords}
 use Rattle.rules.specs.declared.Account.{Account}
 use Rattle.rules.specs.declared.Order.{Order}
 use Rattle.rules.specs.declared.Taker.{Taker}
-use Rattle.book.specs.Entry.{EntryReady}
+use Rattle.matching.specs.Entry.{EntryReady}
 use Rattle.book_exports.specs.declared.Sweeps.{Sweeps}
 use Rattle.book_exports.specs.declared.Swept.{Swept}
 

@@ -9,7 +9,7 @@ ghost use Rattle.rules.specs.Matching.{restIn};
 ghost use Rattle.rules.specs.Memory.{queueIn, putQueue};
 ghost use Rattle.rules.specs.Places.{indexOf};
 ghost use Rattle.book_exports.specs.Calls.{orderOf, takerOf, accountsOf, SweepsReady, SweptIs};
-use book::entry;
+use matching::entry;
 use book::queue;
 use book::removal;
 use rules::Account;

@@ -23,8 +23,8 @@ use Rattle.rules.specs.declared.State.{State}
 use Rattle.rules.specs.declared.Trade.{Trade}
 use Rattle.rules.proofs.Codecs.{store-trades}
 use Rattle.rules.proofs.Holdings.{length-bookTrades}
-use Rattle.book.specs.Entry.{EntryIs}
-use Rattle.book.specs.declared.entry.Entry.{Entry}
+use Rattle.matching.specs.Entry.{EntryIs}
+use Rattle.matching.specs.declared.entry.Entry.{Entry}
 use Rattle.invariants.proofs.Accepted.{failed}
 use Rattle.invariants.proofs.Clauses.{Counted, WellFormed, trade-ok}
 use Rattle.invariants.proofs.Insert.{insert-counted, insert-keeps}

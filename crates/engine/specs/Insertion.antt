@@ -24,8 +24,8 @@ use Rattle.rules.specs.declared.PriceCondition.{PriceCondition}
 use Rattle.rules.specs.declared.State.{State}
 use Rattle.rules.specs.declared.Taker.{Taker}
 use Rattle.rules.specs.declared.TimeCondition.{TimeCondition}
-use Rattle.book.specs.Entry.{EntryReady, EntryIs}
-use Rattle.book.specs.declared.entry.Entry.{Entry}
+use Rattle.matching.specs.Entry.{EntryReady, EntryIs}
+use Rattle.matching.specs.declared.entry.Entry.{Entry}
 
 -- ---- the refusals
 

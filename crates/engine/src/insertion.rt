@@ -9,7 +9,7 @@ use crate::answers;
 use crate::answers::Outcome;
 use crate::codes;
 use crate::orders;
-use book::entry::Entry;
+use matching::entry::Entry;
 use rules::NewOrder;
 use rules::State;
 
@@ -35,7 +35,7 @@ fn enter(
     let price = orders::limit_of(condition);
     let day = orders::is_day(time);
     let accounts = state.accounts;
-    book::entry::enter(
+    matching::entry::enter(
         own,
         owncount,
         opposite,

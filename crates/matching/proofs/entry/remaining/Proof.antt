@@ -1,7 +1,7 @@
 -- `book::entry::remaining` meets its contract: one case for each kind of order. Assumes nothing.
 use borrow.Author.Needs.{needs}
-use Rattle.book.proofs.entry.remaining.Statement.{statement}
-use Rattle.book.proofs.entry.remaining.Tie as tie
+use Rattle.matching.proofs.entry.remaining.Statement.{statement}
+use Rattle.matching.proofs.entry.remaining.Tie as tie
 
 sub-result : tie.Need-sub-result
 sub-result c = search needs

@@ -1,9 +1,9 @@
 -- `book::entry::rest` meets its contract: nothing rests and the queue is as it was, or the remainder goes in. Assumes nothing.
 use native.Mathlib.Omega.{arith}
 use borrow.Author.Needs.{needs}
-use Rattle.book.proofs.Entries.{none-rests, rest-room, some-rests}
-use Rattle.book.proofs.entry.rest.Statement.{statement}
-use Rattle.book.proofs.entry.rest.Tie as tie
+use Rattle.matching.proofs.Entries.{none-rests, rest-room, some-rests}
+use Rattle.matching.proofs.entry.rest.Statement.{statement}
+use Rattle.matching.proofs.entry.rest.Tie as tie
 
 returns : tie.Need-returns
 returns c = none-rests _ _ _ _ _ _ (c .if1 .taken) (c .before .before .pre)

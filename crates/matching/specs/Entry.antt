@@ -10,8 +10,8 @@ use Rattle.rules.specs.Matching.{Entered, enter, tradedLots, lastPrice}
 use Rattle.rules.specs.Memory.{queueIn, putQueue, tradeWords}
 use Rattle.rules.specs.declared.Account.{Account}
 use Rattle.rules.specs.declared.Taker.{Taker}
-use Rattle.book.specs.Sweep.{SweepReady}
-use Rattle.book.specs.declared.entry.Entry.{Entry}
+use Rattle.matching.specs.Sweep.{SweepReady}
+use Rattle.matching.specs.declared.entry.Entry.{Entry}
 
 -- all that the sweep asks for, and room for the own queue with what rests
 pub record EntryReady

@@ -16,9 +16,9 @@ use Rattle.rules.specs.declared.Taker.{Taker}
 use Rattle.rules.proofs.Codecs.{length-queue, put-queue, queue-put, putQueue-again}
 use Rattle.rules.proofs.Fillable.{swept-at-most}
 use Rattle.rules.proofs.Queue.{length-restIn}
-use Rattle.book.specs.Entry.{EntryReady, EntryIs}
-use Rattle.book.specs.Sweep.{FilledIs}
-use Rattle.book.specs.declared.sweep.Filled.{Filled}
+use Rattle.matching.specs.Entry.{EntryReady, EntryIs}
+use Rattle.matching.specs.Sweep.{FilledIs}
+use Rattle.matching.specs.declared.sweep.Filled.{Filled}
 
 -- ---- the own queue
 

@@ -1,8 +1,8 @@
 -- `book::entry::enter` meets its contract: the promises of its calls, put together. Assumes nothing.
 use borrow.Author.Needs.{needs}
-use Rattle.book.proofs.Entries.{traded-within, rests-ready, entered}
-use Rattle.book.proofs.entry.enter.Statement.{statement}
-use Rattle.book.proofs.entry.enter.Tie as tie
+use Rattle.matching.proofs.Entries.{traded-within, rests-ready, entered}
+use Rattle.matching.proofs.entry.enter.Statement.{statement}
+use Rattle.matching.proofs.entry.enter.Tie as tie
 
 wide-requires : tie.Need-wide-requires
 wide-requires c κs = search needs

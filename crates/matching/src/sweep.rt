@@ -2,11 +2,11 @@
 // the trades that it makes, and for holdings that are not near their width.
 ghost use Rattle.rules.specs.Matching as matching;
 ghost use Rattle.rules.specs.Memory.{queueIn};
-ghost use Rattle.book.specs.Sweep.{FilledIs, SweepReady};
-use crate::holdings;
-use crate::prices;
-use crate::queue;
-use crate::trades;
+ghost use Rattle.matching.specs.Sweep.{FilledIs, SweepReady};
+use book::holdings;
+use book::prices;
+use book::queue;
+use book::trades;
 use rules::Account;
 use rules::Taker;
 
