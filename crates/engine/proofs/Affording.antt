@@ -15,8 +15,8 @@ use Rattle.rules.specs.Margin.{available, charge}
 use Rattle.rules.specs.Memory.{Memory, exchangeOf}
 use Rattle.rules.specs.declared.NewOrder.{NewOrder}
 use Rattle.rules.specs.declared.State.{State}
-use Rattle.settlement.specs.Charge.{Chargeable, ChargedIs, ChargeTerms}
-use Rattle.settlement.proofs.Charging.{charge-small}
+use Rattle.margin.specs.Charge.{Chargeable, ChargedIs, ChargeTerms}
+use Rattle.margin.proofs.Charging.{charge-small}
 use Rattle.engine.specs.Insertion.{Present}
 use Rattle.engine.specs.Outcome.{memory, WellFormedState}
 use Rattle.engine.proofs.Formed.{Formed, account-at, balance-within, formed}

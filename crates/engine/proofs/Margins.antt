@@ -11,8 +11,8 @@ use Rattle.rules.specs.Memory.{Memory, exchangeOf, listingIn}
 use Rattle.rules.specs.declared.Contract.{Contract}
 use Rattle.rules.proofs.Terms.{Terms, terms, terms-passed}
 use Rattle.invariants.proofs.Clauses.{HoldingOk, ListingOk}
-use Rattle.settlement.specs.Charge.{ChargeTerms, ChargeableIn, Chargeable}
-use Rattle.settlement.proofs.Charging.{chargedAt, charged-more, charged-small}
+use Rattle.margin.specs.Charge.{ChargeTerms, ChargeableIn, Chargeable}
+use Rattle.margin.proofs.Charging.{chargedAt, charged-more, charged-small}
 use Rattle.engine.proofs.Formed.{Formed, contracts-count, accounts-count, listing-at, holding-at}
 
 charge-terms : (c : Contract) → Terms c → ChargeTerms c

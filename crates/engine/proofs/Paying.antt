@@ -20,7 +20,7 @@ use Rattle.rules.specs.Step.{carriedOut, deposited, paid, withBalance, withdraw
 use Rattle.rules.specs.declared.Account.{Account}
 use Rattle.rules.specs.declared.Command.the-variants.{Deposit, Withdraw}
 use Rattle.rules.specs.declared.State.{State}
-use Rattle.settlement.specs.Charge.{Chargeable, ChargedIs}
+use Rattle.margin.specs.Charge.{Chargeable, ChargedIs}
 use Rattle.engine.specs.Outcome.{isAbsent, memory, WellFormedState, OutcomeIs, refusedWith, acceptedWith, withBalanceAt}
 use Rattle.engine.specs.declared.answers.Outcome.{Outcome}
 use Rattle.engine.proofs.Formed.{Formed, formed, no-account, account-at, account-put, balance-within}

@@ -100,9 +100,9 @@ fn money_refused<'a>(
     let a = laws::wide(o.account) - 1;
     let who = state.accounts[a];
     let balance = who.balance;
-    let charged = settlement::margin::charged(state, buys, sells, a);
-    let needed = settlement::margin::charge(terms) * laws::wide32(o.lots);
-    settlement::margin::too_little(balance, charged, needed)
+    let charged = margin::charged(state, buys, sells, a);
+    let needed = margin::charge(terms) * laws::wide32(o.lots);
+    margin::too_little(balance, charged, needed)
 }
 
 // Codes 8 and 9, 0 where neither holds.

@@ -87,8 +87,8 @@ pub fn withdraw<'a>(
     let place = laws::wide(account) - 1;
     let who = state.accounts[place];
     let balance = who.balance;
-    let charged = settlement::margin::charged(state, buys, sells, place);
-    if settlement::margin::too_little(balance, charged, amount) {
+    let charged = margin::charged(state, buys, sells, place);
+    if margin::too_little(balance, charged, amount) {
         return answers::refused(state, 9);
     }
     answers::accepted(with_balance(state, place, balance - amount as i64), 0, 0, 0)

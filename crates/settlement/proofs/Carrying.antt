@@ -17,7 +17,7 @@ use Rattle.rules.specs.declared.Account.{Account}
 use Rattle.rules.specs.declared.Holding.{Holding}
 use Rattle.rules.specs.declared.State.{State}
 use Rattle.settlement.specs.Settling.{accountIn, closingTo, holdingTo, carriedAccount, paidAccount, AllPayable, BooksIs, TotalIs}
-use Rattle.settlement.specs.declared.profit.Profit.{Profit}
+use Rattle.dayprofit.specs.declared.profit.Profit.{Profit}
 use Rattle.settlement.proofs.Places.{Writing, writing-none, writing-more, writing-done, written-mapped, written-accounts, written-padded}
 
 -- ---- the loop over an account's holdings: those in the first c contracts are carried over

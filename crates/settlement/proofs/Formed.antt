@@ -26,8 +26,8 @@ use Rattle.accounting.proofs.PriceBound.{settlement-price-bound}
 use Rattle.accounting.proofs.Replay.{replay-covered}
 use Rattle.invariants.proofs.Clauses.{HoldingOk, WellFormed, well-formed}
 use Rattle.invariants.proofs.MemoryRoom.{MemoryOk, memory-ok}
-use Rattle.settlement.specs.Charge.{ChargeTerms, ChargeableIn, Chargeable}
-use Rattle.settlement.specs.Day.{AllSized, SizedTrades, Quotes, Priceable}
+use Rattle.margin.specs.Charge.{ChargeTerms, ChargeableIn, Chargeable}
+use Rattle.dayprofit.specs.Day.{AllSized, SizedTrades, Quotes, Priceable}
 use Rattle.settlement.specs.Settling.{contractIn, accountIn, holdingIn}
 
 -- the arrays have room for the accounts in use

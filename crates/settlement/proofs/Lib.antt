@@ -1,10 +1,4 @@
--- The laws that the proofs of this crate's functions apply. Assumes nothing.
-pub mod Charging
-pub mod Trading
-pub mod Quoting
-pub mod FirstIn
-pub mod Legs
-pub mod Gains
+-- The laws that the proofs of this crate apply. Assumes nothing.
 pub mod Places
 pub mod Clearing
 pub mod Totals

@@ -30,9 +30,9 @@ use Rattle.rules.proofs.InUse.{contracts-in-use, listing-in-use, account-in-use
 use Rattle.invariants.proofs.Accepted.{failed}
 use Rattle.invariants.proofs.MemoryKeeps.{accepted-read, accepted-keeps}
 use Rattle.invariants.proofs.MemoryRoom.{memory-ok}
-use Rattle.settlement.specs.Charge.{memoryOf}
+use Rattle.margin.specs.Charge.{memoryOf}
 use Rattle.settlement.specs.Settling.{Settleable, SettledIs, contractIn, holdingIn, dayIn, closingTo, holdingTo, AllPayable, paidAccount, BooksIs, AllClearable, ClearedAre, AllChargeable, ChargesAre, nextDay}
-use Rattle.settlement.specs.Sides.{dayOver}
+use Rattle.dayprofit.specs.Sides.{dayOver}
 use Rattle.settlement.proofs.Formed.{accounts-declared, contracts-four, accounts-few, contract-at, price-high, holding-starts, legs-covered, chargeable, sized-trades, balance-within, accounts-counted}
 use Rattle.settlement.proofs.Places.{length-written, written-accounts}
 

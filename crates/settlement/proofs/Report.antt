@@ -12,7 +12,7 @@ use Rattle.rules.specs.Memory.{Memory, exchangeOf, listingIn, queueIn, recorded
 use Rattle.rules.specs.Settlement.{priceFrom, tradesIn, settlementPrice}
 use Rattle.rules.specs.declared.State.{State}
 use Rattle.rules.proofs.InUse.{listing-in-use}
-use Rattle.settlement.specs.Charge.{memoryOf, ChargedIs}
+use Rattle.margin.specs.Charge.{memoryOf, ChargedIs}
 use Rattle.settlement.specs.Settling.{contractIn, AllChargeable, ChargesAre}
 use Rattle.settlement.proofs.Places.{Writing, writing-none, writing-more, writing-done, written-padded}
 

@@ -16,8 +16,8 @@ use Rattle.rules.specs.Memory.{recordedTrades}
 use Rattle.rules.specs.Settlement.{holdingGain}
 use Rattle.rules.specs.declared.State.{State}
 use Rattle.settlement.specs.Settling.{contractIn, holdingIn, dayIn, closingTo, holdingTo, Payable, TotalIs}
-use Rattle.settlement.specs.Sides.{dayOver, ProfitIs}
-use Rattle.settlement.specs.declared.profit.Profit.{Profit}
+use Rattle.dayprofit.specs.Sides.{dayOver, ProfitIs}
+use Rattle.dayprofit.specs.declared.profit.Profit.{Profit}
 
 -- a signed total t, as its bits, of the first c values of f, each of at most 4 x 10^15
 pub record Adding (f : ℕ → ℤ) (t c : ℕ) : Type 0 where

@@ -20,9 +20,9 @@ use Rattle.rules.specs.declared.Command.the-variants.{Settle}
 use Rattle.rules.specs.declared.Contract.{Contract}
 use Rattle.rules.specs.declared.Holding.{Holding}
 use Rattle.rules.specs.declared.State.{State}
-use Rattle.settlement.specs.Charge.{memoryOf, Chargeable}
-use Rattle.settlement.specs.Sides.{dayOver, Profitable}
-use Rattle.settlement.specs.declared.profit.Profit.{Profit}
+use Rattle.margin.specs.Charge.{memoryOf, Chargeable}
+use Rattle.dayprofit.specs.Sides.{dayOver, Profitable}
+use Rattle.dayprofit.specs.declared.profit.Profit.{Profit}
 use Rattle.settlement.specs.declared.balances.Books.{Books}
 use Rattle.settlement.specs.declared.settle.Settled.{Settled}
 

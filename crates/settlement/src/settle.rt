@@ -7,12 +7,11 @@ ghost use Rattle.areas.specs.Lists.{padded};
 ghost use Rattle.rules.specs.Bounds.{maxContracts};
 ghost use Rattle.rules.specs.Memory.{exchangeOf};
 ghost use Rattle.rules.specs.Settlement as settlement;
-ghost use Rattle.settlement.specs.Charge.{memoryOf};
+ghost use Rattle.margin.specs.Charge.{memoryOf};
 ghost use Rattle.settlement.specs.Settling.{Settleable, SettledIs, AllChargeable, ChargesAre, nextDay};
 use crate::balances;
-use crate::margin;
-use crate::price;
 use crate::reopen;
+use dayprofit::price;
 use rules::Account;
 use rules::State;
 

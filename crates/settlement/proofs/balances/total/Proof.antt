@@ -7,7 +7,7 @@ use Rattle.settlement.proofs.balances.total.Tie as tie
 use Rattle.settlement.proofs.balances.total.Reads as reads
 use Rattle.settlement.proofs.balances.total.Lts as lts
 use Rattle.settlement.proofs.balances.multiplied.Reads as multiplied-reads
-use Rattle.settlement.proofs.profit.profit_of.Reads as profit-of-reads
+use Rattle.dayprofit.proofs.profit.profit_of.Reads as profit-of-reads
 
 abbrev Inv-loop : tie.InvT-loop
 Inv-loop trades a state prices account holder contracts count closing₀ holding₀ c₀ closing holding c = Totalling state trades prices a closing holding c

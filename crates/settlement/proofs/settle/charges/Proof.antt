@@ -5,7 +5,7 @@ use Rattle.settlement.proofs.settle.charges.Statement.{statement}
 use Rattle.settlement.proofs.settle.charges.Tie as tie
 use Rattle.settlement.proofs.settle.charges.Reads as reads
 use Rattle.settlement.proofs.settle.charges.Lts as lts
-use Rattle.settlement.proofs.margin.charged.Reads as charged-reads
+use Rattle.margin.proofs.charged.Reads as charged-reads
 
 abbrev Inv-loop : tie.InvT-loop
 Inv-loop state buys sells accounts charged₀ a₀ charged a = ChargesSoFar state buys sells a charged

@@ -1,6 +1,6 @@
 use Prim.Native.Nat.{_-_, _≤_}
 use native.Mathlib.Omega.{arith}
-use Rattle.settlement.specs.Charge.{memoryOf}
+use Rattle.margin.specs.Charge.{memoryOf}
 use Rattle.settlement.proofs.Formed.{accounts-declared, contracts-four, priceable}
 use Rattle.settlement.proofs.Places.{writing-none, writing-more}
 use Rattle.settlement.proofs.Report.{PricesSoFar, price-in-use, prices-done}
@@ -8,7 +8,7 @@ use Rattle.settlement.proofs.settle.prices.Statement.{statement}
 use Rattle.settlement.proofs.settle.prices.Tie as tie
 use Rattle.settlement.proofs.settle.prices.Reads as reads
 use Rattle.settlement.proofs.settle.prices.Lts as lts
-use Rattle.settlement.proofs.price.settlement_price.Reads as settlement-price-reads
+use Rattle.dayprofit.proofs.price.settlement_price.Reads as settlement-price-reads
 
 abbrev Inv-loop : tie.InvT-loop
 Inv-loop buys sells trades state contracts count prices₀ c₀ prices c = PricesSoFar (memoryOf state buys sells trades) c prices

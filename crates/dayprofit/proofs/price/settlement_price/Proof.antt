@@ -1,0 +1,39 @@
+use native.Mathlib.Omega.{arith}
+use Rattle.dayprofit.proofs.Trading.{contract-sized}
+use Rattle.dayprofit.proofs.Quoting.{price-quoted, price-weighted, turnover-low}
+use Rattle.dayprofit.proofs.price.settlement_price.Statement.{statement}
+use Rattle.dayprofit.proofs.price.settlement_price.Tie as tie
+use Rattle.dayprofit.proofs.price.settlement_price.Reads as reads
+use Rattle.dayprofit.proofs.price.settlement_price.Lts as lts
+use Rattle.dayprofit.proofs.price.quoted.Reads as quoted-reads
+use Rattle.dayprofit.proofs.price.traded.Reads as traded-reads
+use Rattle.dayprofit.proofs.price.weighted.Reads as weighted-reads
+
+-- src/price.rt:98:35
+cast-traded : tie.Need-cast-traded
+cast-traded c = omega arith
+
+-- src/price.rt:98:9
+traded-requires : tie.Need-traded-requires
+traded-requires c κs = c .before .before .before .pre .trades
+
+-- src/price.rt:102:9
+quoted-requires : tie.Need-quoted-requires
+quoted-requires c κs = c .before .before .before .before .before .pre .quotes
+
+-- src/price.rt:102:9
+returns : tie.Need-returns
+returns c = price-quoted _ _ _ _ _ _ _ (contract-sized _ _ _ (c .before .before .before .before .before .before .pre .trades)) (c .before .before .traded .ensures) (c .before .if1 .taken) (c .quoted .ensures)
+
+-- src/price.rt:104:5
+weighted-requires : tie.Need-weighted-requires
+weighted-requires c κs = (omega arith, omega arith, turnover-low _ _ (contract-sized _ _ _ (c .before .before .before .before .before .pre .trades)) (c .before .traded .ensures))
+
+-- src/price.rt:85:1
+returns-2 : tie.Need-returns-2
+returns-2 c = price-weighted _ _ _ _ _ _ _ (c .before .before .traded .ensures) (c .before .if1 .left) (c .weighted .ensures)
+
+pub settlement-price-spec : {M : Type 1} → statement M
+settlement-price-spec =
+    tie.close
+    (tie.spec cast-traded traded-requires quoted-requires returns weighted-requires returns-2)

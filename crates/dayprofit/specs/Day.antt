@@ -1,0 +1,44 @@
+-- What the functions that read the day's trades and quotes ask for, in the ranges of a well-formed state, and what they give
+-- back. Assumes nothing.
+use mathlib.Core.List.{List, [], _∷_}
+use mathlib.Core.Path.{_≡_}
+use Prim.Native.Nat.{ℕ, _+_, _*_, _<_, _≤_}
+use lib.ListN.{length}
+use Rattle.rules.specs.Bounds.{maxPrice, maxLots, maxTrades}
+use Rattle.rules.specs.Matching.{tradedLots}
+use Rattle.rules.specs.Memory.{recordedTrades}
+use Rattle.rules.specs.Settlement.{tradedValue}
+use Rattle.rules.specs.declared.Contract.{Contract}
+use Rattle.rules.specs.declared.Trade.{Trade}
+use Rattle.dayprofit.specs.declared.price.Turnover.{Turnover}
+
+pub record Sized (t : Trade) : Type 0 where
+  pub price : t .price ≤ maxPrice
+  pub some : 1 ≤ t .lots
+  pub lots : t .lots ≤ maxLots
+
+unfoldable pub AllSized : List Trade → Type 0
+AllSized [] = Unit {0}
+AllSized (t ∷ ts) = Sized t × AllSized ts
+
+-- the trades recorded in an area
+pub record SizedTrades (area : List ℕ) (count : ℕ) : Type 0 where
+  pub few : count ≤ maxTrades
+  pub room : 9 * count ≤ length area
+  pub sized : AllSized (recordedTrades area count)
+
+pub record TurnoverIs (ts : List Trade) (r : Turnover) : Type 0 where
+  pub value : r .value ≡ tradedValue ts
+  pub lots : r .lots ≡ tradedLots ts
+
+-- room for the first order of each queue that has one
+pub record Quotes (buys : List ℕ) (buycount : ℕ) (sells : List ℕ) (sellcount c : ℕ) : Type 0 where
+  pub buyroom : 320 * c + 5 * buycount ≤ length buys
+  pub sellroom : 320 * c + 5 * sellcount ≤ length sells
+
+-- all that the settlement price of contract c is worked out from
+pub record Priceable (contract : Contract) (buys : List ℕ) (buycount : ℕ) (sells : List ℕ) (sellcount : ℕ) (area : List ℕ) (count c : ℕ) : Type 0 where
+  pub tick : 0 < contract .tick
+  pub place : c < 4
+  pub trades : SizedTrades area count
+  pub quotes : Quotes buys buycount sells sellcount c
