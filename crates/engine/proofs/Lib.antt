@@ -1,16 +1,11 @@
 pub mod Accounts
-pub mod Affording
-pub mod Arrivals
 pub mod Changes
 pub mod Declared
-pub mod Entering
 pub mod Formed
-pub mod Inserting
 pub mod Margins
 pub mod Outcomes
 pub mod Paying
 pub mod Puts
 pub mod Refusals
 pub mod Removals
-pub mod Sides
 pub mod Tests

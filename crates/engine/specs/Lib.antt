@@ -1,3 +1,2 @@
-pub mod Insertion
 pub mod Outcome
 pub mod Removal

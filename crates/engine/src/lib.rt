@@ -1,8 +1,5 @@
-// The engine: one command on a state and the areas lent with it, exactly as document 01 says.
+// The commands but insert and settle, each on a well-formed state and the areas lent with it, exactly as document 01 says.
 pub mod answers;
-pub mod codes;
-pub mod insertion;
-pub mod orders;
 pub mod payments;
 pub mod phases;
 pub mod removal;

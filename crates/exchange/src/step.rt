@@ -9,7 +9,6 @@ ghost use Rattle.exchange.specs.Response.{ResponseIs};
 use crate::settling;
 use crate::settling::Response;
 use engine::answers;
-use engine::insertion;
 use engine::payments;
 use engine::phases;
 use engine::removal;

@@ -9,7 +9,7 @@ use Rattle.exchange.proofs.step.step.Tie as tie
 use Rattle.exchange.proofs.step.step.Reads as reads
 use Rattle.exchange.proofs.step.step.Lts as lts
 use Rattle.engine.proofs.answers.refused.Reads as refused-reads
-use Rattle.engine.proofs.insertion.insert.Reads as insert-reads
+use Rattle.insertion.proofs.insert.Reads as insert-reads
 use Rattle.engine.proofs.payments.deposit.Reads as deposit-reads
 use Rattle.engine.proofs.payments.withdraw.Reads as withdraw-reads
 use Rattle.engine.proofs.phases.change.Reads as change-reads

@@ -1,0 +1,5 @@
+pub mod Affording
+pub mod Arrivals
+pub mod Entering
+pub mod Inserting
+pub mod Sides

@@ -1,0 +1,109 @@
+// Insert. For our own crates: it asks for a well-formed state.
+ghost use Prim.Native.Nat.{_<_};
+ghost use mathlib.Core.Path.{_≡_};
+ghost use Rattle.rules.specs.Memory.{stepIn};
+ghost use Rattle.rules.specs.declared.Command.the-variants.{Insert};
+ghost use Rattle.insertion.specs.Insertion.{Arriving, Arrived, withEntry};
+ghost use Rattle.engine.specs.Outcome.{memory, OutcomeIs, WellFormedState};
+use engine::answers;
+use engine::answers::Outcome;
+use matching::entry::Entry;
+use rules::NewOrder;
+use rules::State;
+
+pub mod codes;
+pub mod orders;
+
+// The order enters on its own side, against the opposite one.
+fn enter(
+    state: State,
+    own: &mut [u32],
+    owncount: usize,
+    opposite: &mut [u32],
+    oppositecount: usize,
+    trades: &mut [u32],
+    o: NewOrder,
+) -> Entry
+    requires { ⌜ Arriving state (now own) owncount (now opposite) oppositecount (now trades) o ⌝ }
+    ensures { λ r. ⌜ Arrived state (now (own .entry)) owncount (now (opposite .entry)) oppositecount (now (trades .entry)) o r (now (own .exit)) (now (opposite .exit)) (now (trades .exit)) ⌝ }
+{
+    let t = orders::taker_of(state.next, &opposite[..], oppositecount, o);
+    let c = laws::wide(o.contract) - 1;
+    let contracts = state.contracts;
+    let terms = contracts[c];
+    let condition = o.condition;
+    let time = o.time;
+    let price = orders::limit_of(condition);
+    let day = orders::is_day(time);
+    let accounts = state.accounts;
+    matching::entry::enter(
+        own,
+        owncount,
+        opposite,
+        oppositecount,
+        trades,
+        state.tradecount,
+        t,
+        o.lots,
+        price,
+        day,
+        terms.last,
+        accounts,
+    )
+}
+
+// The state after it: one number more is used.
+fn with_entry(state: State, c: usize, bought: usize, sold: usize, e: Entry) -> State
+    requires { ⌜ (c < 4) × (state .next < 1000000) ⌝ }
+    ensures { λ r. ⌜ r ≡ withEntry state c bought sold e ⌝ }
+{
+    let mut contracts = state.contracts;
+    let mut bids = state.buys;
+    let mut offers = state.sells;
+    let accounts = e.accounts;
+    let mut terms = contracts[c];
+    terms.last = e.last;
+    contracts[c] = terms;
+    bids[c] = bought;
+    offers[c] = sold;
+    State {
+        contracts,
+        accounts,
+        buys: bids,
+        sells: offers,
+        contractcount: state.contractcount,
+        accountcount: state.accountcount,
+        tradecount: e.made,
+        next: state.next + 1,
+        settlements: state.settlements,
+    }
+}
+
+pub fn insert(
+    state: State,
+    buys: &mut [u32],
+    sells: &mut [u32],
+    trades: &mut [u32],
+    o: NewOrder,
+) -> Outcome
+    requires { ⌜ WellFormedState state (now buys) (now sells) (now trades) ⌝ }
+    ensures { λ r. ⌜ OutcomeIs (stepIn (memory state (now (buys .entry)) (now (sells .entry)) (now (trades .entry))) (Insert o)) r (now (buys .exit)) (now (sells .exit)) (now (trades .exit)) ⌝ }
+{
+    let refusal = codes::code_of(state, &buys[..], &sells[..], &trades[..], o);
+    if refusal != 0 {
+        return answers::refused(state, refusal);
+    }
+    let c = laws::wide(o.contract) - 1;
+    let bids = state.buys;
+    let offers = state.sells;
+    let bought = bids[c];
+    let sold = offers[c];
+    if o.sell {
+        let e = enter(state, sells, sold, buys, bought, trades, o);
+        let next = with_entry(state, c, e.opposite, e.own, e);
+        return answers::accepted(next, state.next, e.traded, e.rested);
+    }
+    let e = enter(state, buys, bought, sells, sold, trades, o);
+    let next = with_entry(state, c, e.own, e.opposite, e);
+    answers::accepted(next, state.next, e.traded, e.rested)
+}
