@@ -83,13 +83,22 @@ module _ (c : Contract) where
   pub terms-test : Terms c → termsInRange c ≡ true
   unfolding termsInRange
   terms-test t =
-      join (within 1 1_000 (c .multiplier)) termTests
-      (within-test 1 1_000 (c .multiplier) (t .multiplier-low) (t .multiplier-high),
-      (within-test 1 1_000 (c .tick) (t .tick-low) (t .tick-high),
-      (multiple-test (c .tick) (c .reference) (t .reference),
-      (multiple-test (c .tick) (c .band) (t .band),
-      (within-test 1 100_000 (c .limit) (t .limit-low) (t .limit-high),
-      within-test 1 10_000 (c .rate) (t .rate-low) (t .rate-high))))))
+      join (within 1 1_000 (c .multiplier)) termTests (
+        within-test 1 1_000 (c .multiplier) (t .multiplier-low) (t .multiplier-high),
+        (
+          within-test 1 1_000 (c .tick) (t .tick-low) (t .tick-high),
+          (
+            multiple-test (c .tick) (c .reference) (t .reference),
+            (
+              multiple-test (c .tick) (c .band) (t .band),
+              (
+                within-test 1 100_000 (c .limit) (t .limit-low) (t .limit-high),
+                within-test 1 10_000 (c .rate) (t .rate-low) (t .rate-high),
+              ),
+            ),
+          ),
+        ),
+      )
 
   -- a contract of a well-formed state has its terms in range
   pub terms-passed : contractInRange c ≡ true → termsInRange c ≡ true
