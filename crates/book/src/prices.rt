@@ -6,10 +6,27 @@ use rules::PriceCondition;
 use rules::Taker;
 use rules::Trade;
 
+// One branch for each ordering of the three prices, lowest first; of equal prices any order gives the same middle.
 pub fn middle(a: u32, b: u32, c: u32) -> u32
     ensures { λ r. ⌜ r ≡ matching.middle a b c ⌝ }
 {
-    laws::larger(laws::smaller(a, b), laws::smaller(laws::larger(a, b), c))
+    if a <= b {
+        if b <= c {
+            b // a, b, c
+        } else if a <= c {
+            c // a, c, b
+        } else {
+            a // c, a, b
+        }
+    } else {
+        if a <= c {
+            a // b, a, c
+        } else if b <= c {
+            c // b, c, a
+        } else {
+            b // c, b, a
+        }
+    }
 }
 
 // A match on the price condition picks the counterparts.

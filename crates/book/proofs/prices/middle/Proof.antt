@@ -1,27 +1,32 @@
--- `book::prices::middle` meets its contract: it is the definition, call by call. Assumes nothing.
-use borrow.Author.Needs.{needs}
+-- `book::prices::middle` meets its contract: in each of the six orderings the price between the other two. Assumes nothing.
+use native.Mathlib.Omega.{arith}
 use Rattle.rules.specs.Matching.{middle}
 use Rattle.book.proofs.prices.middle.Statement.{statement}
 use Rattle.book.proofs.prices.middle.Tie as tie
 
-smaller-requires : tie.Need-smaller-requires
-smaller-requires c κs = search needs
-
-larger-requires : tie.Need-larger-requires
-larger-requires c κs = search needs
-
-smaller-requires-2 : tie.Need-smaller-requires-2
-smaller-requires-2 c κs = search needs
-
-larger-requires-2 : tie.Need-larger-requires-2
-larger-requires-2 c κs = search needs
-
 returns : tie.Need-returns
 unfolding middle
-returns c =
-    rw (c .larger2 .ensures, c .before .smaller2 .ensures, c .before .before .larger .ensures, c .before .before .before .smaller .ensures)
+returns c = omega arith
+
+returns-2 : tie.Need-returns-2
+unfolding middle
+returns-2 c = omega arith
+
+returns-3 : tie.Need-returns-3
+unfolding middle
+returns-3 c = omega arith
+
+returns-4 : tie.Need-returns-4
+unfolding middle
+returns-4 c = omega arith
+
+returns-5 : tie.Need-returns-5
+unfolding middle
+returns-5 c = omega arith
+
+returns-6 : tie.Need-returns-6
+unfolding middle
+returns-6 c = omega arith
 
 pub middle-spec : {M : Type 1} → statement M
-middle-spec =
-    tie.close
-    (tie.spec smaller-requires larger-requires smaller-requires-2 larger-requires-2 returns)
+middle-spec = tie.close (tie.spec returns returns-2 returns-3 returns-4 returns-5 returns-6)
