@@ -1,4 +1,5 @@
 pub mod Article32
+pub mod Pairing
 pub mod Shape
 pub mod Money
 pub mod Books
