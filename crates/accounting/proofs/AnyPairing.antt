@@ -151,9 +151,11 @@ module _ (s : ℕ) where
       turn a b c d a′ b′ c′ d′ f k f′ k′ e h =
           rw (split a, split b, split c, split d, split a′, split b′, split c′, split d′, split f, split k, split f′, split k′)
           (simp ring (d-eq _ _ _ _
-          (omega (arith,
-          d-inj _ _ _ _ (simp ring at (rw (split a, split b, split c, split d, split f, split k) at e)),
-          d-inj _ _ _ _ (simp ring at (rw (split a′, split b′, split c′, split d′, split f′, split k′) at h))))))
+          (omega (
+            arith,
+            d-inj _ _ _ _ (simp ring at (rw (split a, split b, split c, split d, split f, split k) at e)),
+            d-inj _ _ _ _ (simp ring at (rw (split a′, split b′, split c′, split d′, split f′, split k′) at h)),
+          ))))
 
   parts-are : (t : ℕ) (ls : List Leg) → parts t ls ≡ flow ls +ℤ pos s *ℤ net ls
   unfolding parts closedPart openPart closedShare openShare flow net opens closes gained lotsOfLegs priced
@@ -212,10 +214,12 @@ module _ (reference s heldLong heldShort : ℕ) (ls : List Leg) (of : Side → �
       at cl cs hl hs a b c d f n u v w =
           rw (split cl, split cs, split hl, split hs, split f, split n)
           (simp ring (d-eq _ _ _ _
-          (omega (arith,
-          d-inj _ _ _ _ (simp ring at (rw (split cl, split hl, split a, split b) at u)),
-          d-inj _ _ _ _ (simp ring at (rw (split cs, split hs, split c, split d) at v)),
-          d-inj _ _ _ _ (simp ring at (rw (split a, split b, split c, split d, split f, split n) at w))))))
+          (omega (
+            arith,
+            d-inj _ _ _ _ (simp ring at (rw (split cl, split hl, split a, split b) at u)),
+            d-inj _ _ _ _ (simp ring at (rw (split cs, split hs, split c, split d) at v)),
+            d-inj _ _ _ _ (simp ring at (rw (split a, split b, split c, split d, split f, split n) at w)),
+          ))))
 
 -- ---- in a well-formed state
 

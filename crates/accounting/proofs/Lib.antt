@@ -5,6 +5,7 @@ pub mod Replay
 pub mod Facts
 pub mod Identity
 pub mod AnyPairing
+pub mod FirstIn
 pub mod Reach
 pub mod PriceBound
 pub mod ProfitBound

@@ -62,6 +62,10 @@ pub record Pairing (open′ closed : List Lot) (of : ℕ → ℕ) : Type 0 where
   -- "no lot is used twice"
   pub once : (i j : ℕ) → i < length closed → j < length closed → of i ≡ of j → i ≡ j
 
+-- the house rule's: "Closes use start-of-day lots first, then today's in trade order", which is the order of the open lots
+abbrev pub inOrder : Side → ℕ → ℕ
+inOrder side i = i
+
 -- ---- profit by Article 32 under a pairing
 
 -- what one lot gains from its price to another: a long lot by a rise, a short lot by a fall
