@@ -7,7 +7,7 @@ use mathlib.Core.List.{List, [], _∷_, _++_}
 use mathlib.Core.Path.{_≡_, refl, sym, ap, ap₂, _∙_}
 use Prim.Native.Nat.{ℕ, zero, suc, _*_, _<_}
 use native.Mathlib.Omega.{arith}
-use borrow.Author.Tests.{eqb-true, eqb-false, ne-eqb}
+use borrow.Author.Tests.{eqb-true, ne-eqb}
 use lib.Dec.{eqb}
 use lib.IntN.{ℤ, pos, negℤ, _+ℤ_, _-ℤ_, _*ℤ_, +ℤ-assoc, +ℤ-idl, +ℤ-idr}
 use lib.ListN.{length, getD, replicate}
@@ -18,7 +18,7 @@ use Rattle.rules.specs.Exchange.{Exchange, listingAt, holdingAt}
 use Rattle.rules.specs.Settlement.{Leg, leg, legs, dayOf, holdingGain, settlementPrice, closingProfit, holdingProfit}
 use Rattle.rules.specs.WellFormed.{wellFormedContents}
 use Rattle.accounting.specs.Article32.{flow, net}
-use Rattle.accounting.specs.Pairing.{Side, long, short, opens, closes, Lot, noLot, lotsOfLegs, openLots, closedLots, Pairing, gained, closingBy, unpaired, holdingBy, heldAtStart, openOf, closedOf, PairsDay, dayClosing, dayHolding, pairedClosing, pairedHolding}
+use Rattle.accounting.specs.Pairing.{Side, long, short, opens, closes, Lot, noLot, lotsOfLegs, openLots, closedLots, Pairing, gained, closingBy, unpaired, holdingBy, heldAtStart, openOf, closedOf, PairsDay, dayClosing, dayHolding, pairedClosing, pairedHolding, SameDayProfit}
 use Rattle.accounting.proofs.DayProfit.{day-profit}
 use Rattle.accounting.proofs.Facts.{facts}
 use Rattle.accounting.proofs.Replay.{day-covered}
@@ -98,7 +98,7 @@ side-total side s open′ closed of m =
     ∙ +ℤ-assoc (sumTo (length closed) (λ i. gained side s (getD closed i noLot .price))) (sumTo (length closed) (λ i. toSettlement (of i)))
     (holdingBy side s open′ closed of)
     ∙ ap₂ (λ (y z : ℤ). y +ℤ z) (priced-sumTo (gained side s) closed)
-    (met-and-others (length open′) of toSettlement (length closed) (m .among) (m .once) ∙ priced-sumTo (λ p. gained side p s) open′)
+    (met-and-others (length open′) of toSettlement (length closed) (m .among) (λ i j h k e. omega (arith, m .once i j h k e)) ∙ priced-sumTo (λ p. gained side p s) open′)
   where
     toSettlement : ℕ → ℤ
     toSettlement j = gained side (getD open′ j noLot .price) s
@@ -236,9 +236,8 @@ module _ (x : Exchange) (w : wellFormedContents x ≡ true) (a : ℕ) where
       (day-covered x (facts x w .replay) a c))
 
   -- and of the account, over all contracts, with any pairing of each
-  pub any-pairing-profit : (of : ℕ → Side → ℕ → ℕ) → ((c : ℕ) → c < length (x .listings) → PairsDay x a c (of c)) →
-      pairedClosing x a of +ℤ pairedHolding x a of ≡ closingProfit x a +ℤ holdingProfit x a
-  unfolding pairedClosing pairedHolding closingProfit holdingProfit
+  pub any-pairing-profit : SameDayProfit x a
+  unfolding SameDayProfit pairedClosing pairedHolding closingProfit holdingProfit
   any-pairing-profit of m =
       sym (sumTo-add (length (x .listings)) (λ c. multiplier c *ℤ dayClosing x a c (of c)) (λ c. multiplier c *ℤ dayHolding x a c (of c)))
       ∙ sumTo-ext (length (x .listings)) _ _

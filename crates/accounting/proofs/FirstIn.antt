@@ -46,7 +46,7 @@ before-at (o ∷ os) (c ∷ cs) b (suc i) h = before-at os cs (b .1) i (le-of-su
 
 before-pairing : (os cs : List Lot) → Before os cs → Pairing os cs (λ i. i)
 before-pairing os cs b =
-    record { among = λ i h. let l = before-length os cs b in omega arith; earlier = before-at os cs b; once = λ i j h k e. e }
+    record { among = λ i h. let l = before-length os cs b in omega arith; earlier = before-at os cs b; once = λ i j h k e. omega arith }
 
 -- ---- a side's replay: each leg closes no more lots than are open
 

@@ -1,7 +1,7 @@
 -- Ticket 12: every way to pair the lots that an account closes in a day with lots that it held or opened before, and profit by
 -- Article 32 under such a pairing. Lots are single: a trade of three lots has three of them, each paired on its own.
 -- Assumes nothing.
-use mathlib.Core.Bool.{Bool, true, false, not, _&&_}
+use mathlib.Core.Bool.{Bool, not, _&&_}
 use mathlib.Core.List.{List, [], _∷_, _++_}
 use mathlib.Core.Path.{_≡_}
 use Prim.Native.Nat.{ℕ, suc, _<_}
@@ -11,7 +11,7 @@ use lib.ListN.{length, getD, replicate}
 use Rattle.laws.specs.Choice.{pick, all}
 use Rattle.laws.specs.Sums.{sumTo}
 use Rattle.rules.specs.Exchange.{Exchange, listingAt, holdingAt}
-use Rattle.rules.specs.Settlement.{Leg, leg, legs, settlementPrice}
+use Rattle.rules.specs.Settlement.{Leg, leg, legs, settlementPrice, closingProfit, holdingProfit}
 
 -- ---- an account's single lots
 
@@ -120,3 +120,9 @@ pairedClosing x a of = sumTo (length (x .listings)) (λ c. pos (listingAt x c .c
 
 unfoldable pub pairedHolding : Exchange → ℕ → (ℕ → Side → ℕ → ℕ) → ℤ
 pairedHolding x a of = sumTo (length (x .listings)) (λ c. pos (listingAt x c .contract .multiplier) *ℤ dayHolding x a c (of c))
+
+-- "closing plus holding profit by Article 32 is the same as by document 01's rule", whatever the pairings
+unfoldable pub SameDayProfit : Exchange → ℕ → Type 0
+SameDayProfit x a =
+    (of : ℕ → Side → ℕ → ℕ) → ((c : ℕ) → c < length (x .listings) → PairsDay x a c (of c)) →
+    pairedClosing x a of +ℤ pairedHolding x a of ≡ closingProfit x a +ℤ holdingProfit x a
