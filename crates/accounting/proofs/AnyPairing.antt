@@ -48,7 +48,7 @@ module _ (n : ℕ) (of : ℕ → ℕ) (f : ℕ → ℤ) where
       by j true e = rw (e, free j (eqb-true (of k) j e), eqb-true (of k) j e) (sym (+ℤ-idl (f j)))
       by j false e = rw e (kept (all (λ i. not (eqb (of i) j)) k) (f j))
 
-  pub met-and-others : (k : ℕ) → ((i : ℕ) → i < k → of i < n) → ((i j : ℕ) → i < k → j < k → of i ≡ of j → i ≡ j) →
+  met-and-others : (k : ℕ) → ((i : ℕ) → i < k → of i < n) → ((i j : ℕ) → i < k → j < k → of i ≡ of j → i ≡ j) →
       sumTo k (λ i. f (of i)) +ℤ sumTo n (λ j. pick (unpaired of k j) (f j) (pos 0)) ≡ sumTo n f
   unfolding others unpaired all sumTo
   met-and-others zero m o = +ℤ-idl (sumTo n f)
@@ -85,7 +85,7 @@ priced-replicate f zero l ls = rw (split (f (l .price)), split (priced f ls)) (s
 priced-replicate f (suc n) l ls =
     rw (priced-replicate f n l ls) (rw (split (f (l .price)), split (priced f ls)) (simp ring (d-eq _ _ _ _ (omega arith))))
 
--- all lots to the settlement price, and the closed ones on to their own: of is gone
+-- all lots to the settlement price, and the closed ones from there to their own: no pair is left in it
 side-total : (side : Side) (s : ℕ) (open′ closed : List Lot) (of : ℕ → ℕ) → Pairing open′ closed of →
     closingBy side open′ closed of +ℤ holdingBy side s open′ closed of
     ≡ priced (gained side s) closed +ℤ priced (λ p. gained side p s) open′
@@ -193,7 +193,7 @@ module _ (reference s heldLong heldShort : ℕ) (ls : List Leg) (of : Side → �
       ∙ ap (λ (z : ℤ). closedPart s side 1 ls +ℤ z)
       (priced-replicate (λ p. gained side p s) (held side) (record { price = reference; time = 0 }) (lotsOfLegs (opens side) 1 ls))
 
-  pub paired-profit :
+  paired-profit :
       closingBy long (openLots long reference heldLong ls) (closedLots long ls) (of long)
       +ℤ closingBy short (openLots short reference heldShort ls) (closedLots short ls) (of short)
       +ℤ (holdingBy long s (openLots long reference heldLong ls) (closedLots long ls) (of long)
