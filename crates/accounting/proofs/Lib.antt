@@ -4,6 +4,8 @@ pub mod Booking
 pub mod Replay
 pub mod Facts
 pub mod Identity
+pub mod AnyPairing
+pub mod FirstIn
 pub mod Reach
 pub mod PriceBound
 pub mod ProfitBound
