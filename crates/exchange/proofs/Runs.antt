@@ -24,7 +24,7 @@ unfolding run
 run-snoc m [] r = refl
 run-snoc m (q ∷ rs) r = run-snoc (respond m q .memory) rs r
 
-run-declared : (m : Memory) (rs : List Record) → Declared (m .state) → Declared (run m rs .state)
+pub run-declared : (m : Memory) (rs : List Record) → Declared (m .state) → Declared (run m rs .state)
 unfolding run
 run-declared m [] d = d
 run-declared m (r ∷ rs) d = run-declared (respond m r .memory) rs (declared-kept m r d)

@@ -1,0 +1,50 @@
+// A test of the day runner: for each file that `list` names in the data folder, the name and then all that the runner prints.
+// What must come out was made by the model (`tools/make_daytests.py`).
+ghost use Prim.Native.Nat.{_≤_};
+ghost use lib.ListN.{length};
+use libc::STDOUT_FILENO;
+
+fn run_case(name: &[u8]) {
+    io::write_all(STDOUT_FILENO, name);
+    io::write_all(STDOUT_FILENO, b"\n");
+    let fd = os::open_read(name);
+    let mut file = [0u8; 48349];
+    let n = io::read_full(fd, &mut file);
+    libc::close(fd);
+    runner::day::print_file(STDOUT_FILENO, &file[..n]);
+}
+
+// The end of the line that begins at `start`.
+fn line_end(list: &[u8], start: usize) -> usize
+    requires { ⌜ start ≤ length (now list) ⌝ }
+    ensures { λ r. ⌜ (start ≤ r) × (r ≤ length (now (list .entry))) ⌝ }
+{
+    let mut end = start;
+    while end < list.len() {
+        if list[end] == b'\n' {
+            return end;
+        }
+        end += 1;
+    }
+    end
+}
+
+fn run_cases(list: &[u8]) {
+    let mut start: usize = 0;
+    while start < list.len() {
+        let end = line_end(list, start);
+        run_case(&list[start..end]);
+        if end == list.len() {
+            return;
+        }
+        start = end + 1;
+    }
+}
+
+fn main() {
+    let fd = os::open_read(b"list");
+    let mut list = [0u8; 4096];
+    let n = io::read_full(fd, &mut list);
+    libc::close(fd);
+    run_cases(&list[..n]);
+}

@@ -1,0 +1,6 @@
+pub mod Opened
+pub mod Playing
+pub mod Recorded
+pub mod Responded
+pub mod Tables
+pub mod WholeDay

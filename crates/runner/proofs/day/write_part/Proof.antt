@@ -1,0 +1,18 @@
+-- `day::write_part` is safe and ends. Assumes nothing.
+use native.Mathlib.Omega.{arith}
+use lib.ListN.{length-take}
+use borrow.Author.Needs.{needs}
+use Rattle.runner.proofs.day.write_part.Statement.{statement}
+use Rattle.runner.proofs.day.write_part.Tie as tie
+
+slice-aggregate-write-all : tie.Need-slice-aggregate-write-all
+slice-aggregate-write-all c = simp length-take (omega arith)
+
+write-all-requires : tie.Need-write-all-requires
+write-all-requires c κs = search needs
+
+returns : tie.Need-returns
+returns c = search needs
+
+pub write-part-spec : {M : Type 1} → statement M
+write-part-spec = tie.close (tie.spec slice-aggregate-write-all write-all-requires returns)

@@ -1,0 +1,129 @@
+-- `play::play` meets its contract: what is played from k up to i is the rules' run and its lines. Assumes nothing.
+use mathlib.Core.Path.{_≡_, refl, _∙_}
+use Prim.Native.Nat.{_+_, _-_, _<_, _≤_}
+use native.Mathlib.Omega.{arith}
+use lib.ListN.{length}
+use Rattle.rules.specs.Condition3.{run}
+use Rattle.rules.specs.DayFile.{commandsIn}
+use Rattle.rules.specs.Lines.{runLines}
+use Rattle.rules.specs.Memory.{exchangeOf}
+use Rattle.engine.specs.Outcome.{memory}
+use Rattle.dayfile.proofs.Places.{sound-layout}
+use Rattle.lines.specs.Written.{Written}
+use Rattle.runner.specs.Parts.{part}
+use Rattle.runner.proofs.Playing.{none-played, none-printed, still-formed, one-played, one-printed, all-played, room-played}
+use Rattle.runner.proofs.play.play.Statement.{statement}
+use Rattle.runner.proofs.play.play.Tie as tie
+
+abbrev Inv-loop : tie.InvT-loop
+Inv-loop file k buys₀ sells₀ trades₀ out₀ n first current₀ i₀ at₀ buys sells trades out current i at =
+    (k ≤ i)
+    × ((i ≤ n)
+    × ((memory current buys sells trades ≡ run (memory current₀ buys₀ sells₀ trades₀) (part file k i))
+    × (Written (length out₀) out₀ 0 (runLines (k + 1) (exchangeOf (memory current₀ buys₀ sells₀ trades₀)) (part file k i)) out at
+    × ((length buys ≡ length buys₀) × ((length sells ≡ length sells₀) × (length trades ≡ length trades₀))))))
+
+abbrev μ-loop : tie.MeasureT-loop
+μ-loop file k buys₀ sells₀ trades₀ out₀ n first current₀ i₀ at₀ buys sells trades out current i at = n - i
+
+few : (c : tie.After-current Inv-loop μ-loop) → c .before .before .before .before .before .before .before .before .before .before .before .before .before .before .before .before .before .loop .i < commandsIn (c .before .before .before .before .before .before .before .before .before .before .before .before .before .before .before .before .before .before .before .before .before .before .before .before .before .args .file .now)
+few c = omega (arith, c .before .before .before .before .before .before .before .before .before .before .before .before .before .before .before .before .loop-test .taken, c .before .before .before .before .before .before .before .before .before .before .before .before .before .before .before .before .before .before .before .commands-in .ensures)
+
+commands-in-requires : tie.Need-commands-in-requires Inv-loop μ-loop
+commands-in-requires c κs = c .before .before .before .before .before .pre .whole
+
+first-command-requires : tie.Need-first-command-requires Inv-loop μ-loop
+first-command-requires c κs = c .before .before .before .before .before .before .pre .whole
+
+loop-holds : tie.Need-loop-holds Inv-loop μ-loop
+loop-holds c = (omega arith, (omega (arith, c .before .commands-in .ensures, c .before .before .before .before .before .before .before .pre .within), (none-played _ _ (c .before .before .before .before .before .before .before .pre), (none-printed _ _ (c .before .before .before .before .before .before .before .pre), (refl, (refl, refl))))))
+
+sub-if1 : tie.Need-sub-if1 Inv-loop μ-loop
+sub-if1 c = omega (arith, c .before .loop .inv .1 .1 .1 .0 .inside, c .before .loop .inv .1 .1 .1 .0 .kept)
+
+same-length : tie.Need-same-length Inv-loop μ-loop
+same-length c = c .before .before .loop .inv .1 .1 .1 .1 .0
+
+same-length-2 : tie.Need-same-length-2 Inv-loop μ-loop
+same-length-2 c = c .before .before .loop .inv .1 .1 .1 .1 .1 .0
+
+same-length-3 : tie.Need-same-length-3 Inv-loop μ-loop
+same-length-3 c = c .before .before .loop .inv .1 .1 .1 .1 .1 .1
+
+same-length-4 : tie.Need-same-length-4 Inv-loop μ-loop
+same-length-4 c = c .before .before .loop .inv .1 .1 .1 .0 .kept
+
+returns : tie.Need-returns Inv-loop μ-loop
+returns c = room-played _ _ (c .before .before .before .before .before .before .before .before .before .before .pre) (c .before .before .loop .i) (c .before .before .loop .inv .0) (omega (arith, c .before .before .before .before .commands-in .ensures, c .before .before .loop .inv .1 .0)) (c .before .before .loop .current) (c .before .before .loop .inv .1 .1 .0) (c .before .before .loop .inv .1 .1 .1 .0) (omega (arith, c .if1 .taken))
+
+record-of-requires : tie.Need-record-of-requires Inv-loop μ-loop
+record-of-requires c κs = (c .before .before .before .before .before .before .before .before .before .before .pre .whole, c .before .before .before .first-command .ensures, omega (arith, c .before .before .before .before .commands-in .ensures))
+
+add-play-record : tie.Need-add-play-record Inv-loop μ-loop
+add-play-record c = omega (arith, c .before .before .before .before .before .before .before .before .commands-in .ensures, sound-layout _ (c .before .before .before .before .before .before .before .before .before .before .before .before .before .before .pre .whole) .commands)
+
+play-record-requires : tie.Need-play-record-requires Inv-loop μ-loop
+play-record-requires c κs = (still-formed _ _ (c .before .before .before .before .before .before .before .before .before .before .before .before .before .before .before .pre) (c .before .before .before .before .before .before .before .loop .i) (c .before .before .before .before .before .before .before .loop .inv .1 .1 .0), omega (arith, c .before .before .before .before .before .if1 .left, c .before .before .before .before .before .before .before .loop .inv .1 .1 .1 .0 .inside, c .before .before .before .before .before .before .before .loop .inv .1 .1 .1 .0 .kept))
+
+add-i : tie.Need-add-i Inv-loop μ-loop
+add-i c = omega (arith, c .before .before .before .before .before .before .before .before .before .before .before .before .before .before .before .before .loop-test .taken)
+
+loop-less : tie.Need-loop-less Inv-loop μ-loop
+loop-less c = omega (arith, c .before .before .before .before .before .before .before .before .before .before .before .before .before .before .before .before .loop-test .taken)
+
+loop-again : tie.Need-loop-again Inv-loop μ-loop
+loop-again c = (
+  omega (arith, c .before .before .before .before .before .before .before .before .before .before .before .before .before .before .before .before .before .loop .inv .0),
+  (
+    omega (arith, c .before .before .before .before .before .before .before .before .before .before .before .before .before .before .before .before .loop-test .taken),
+    (
+      one-played _ _ (c .before .before .before .before .before .before .before .before .before .before .before .before .before .before .before .before .before .before .before .before .before .before .before .before .before .pre) (c .before .before .before .before .before .before .before .before .before .before .before .before .before .before .before .before .before .loop .i) (c .before .before .before .before .before .before .before .before .before .before .before .before .before .before .before .before .before .loop .inv .0) (few c) (c .before .before .before .before .before .before .before .before .before .before .before .before .before .before .before .before .before .loop .inv .1 .1 .0) (c .before .before .before .before .before .before .before .before .before .before .before .before .before .before .record-of .ensures) (c .before .before .before .before .before .before .before .before .before .play-record .ensures),
+      (
+        one-printed _ _ (c .before .before .before .before .before .before .before .before .before .before .before .before .before .before .before .before .before .before .before .before .before .before .before .before .before .pre) (c .before .before .before .before .before .before .before .before .before .before .before .before .before .before .before .before .before .loop .i) (c .before .before .before .before .before .before .before .before .before .before .before .before .before .before .before .before .before .loop .inv .0) (few c) (c .before .before .before .before .before .before .before .before .before .before .before .before .before .before .before .before .before .loop .inv .1 .1 .0) (c .before .before .before .before .before .before .before .before .before .before .before .before .before .before .record-of .ensures) (c .before .before .before .before .before .before .before .before .before .play-record .ensures) (c .before .before .before .before .before .before .before .before .before .before .before .before .before .before .before .before .before .loop .inv .1 .1 .1 .0),
+        (c .before .before .before .before .before .before .before .before .before .play-record .kept .1 .0 ∙ c .before .before .before .before .before .before .before .before .before .before .before .before .before .before .before .before .before .loop .inv .1 .1 .1 .1 .0, (c .before .before .before .before .before .before .before .before .before .play-record .kept .1 .1 .0 ∙ c .before .before .before .before .before .before .before .before .before .before .before .before .before .before .before .before .before .loop .inv .1 .1 .1 .1 .1 .0, c .before .before .before .before .before .before .before .before .before .play-record .kept .1 .1 .1 .0 ∙ c .before .before .before .before .before .before .before .before .before .before .before .before .before .before .before .before .before .loop .inv .1 .1 .1 .1 .1 .1)),
+      ),
+    ),
+  ),
+)
+
+same-length-5 : tie.Need-same-length-5 Inv-loop μ-loop
+same-length-5 c = c .before .loop .inv .1 .1 .1 .1 .0
+
+same-length-6 : tie.Need-same-length-6 Inv-loop μ-loop
+same-length-6 c = c .before .loop .inv .1 .1 .1 .1 .1 .0
+
+same-length-7 : tie.Need-same-length-7 Inv-loop μ-loop
+same-length-7 c = c .before .loop .inv .1 .1 .1 .1 .1 .1
+
+same-length-8 : tie.Need-same-length-8 Inv-loop μ-loop
+same-length-8 c = c .before .loop .inv .1 .1 .1 .0 .kept
+
+returns-2 : tie.Need-returns-2 Inv-loop μ-loop
+returns-2 c = all-played _ _ (c .before .before .before .before .before .before .before .before .before .pre) (c .before .loop .i) (c .before .loop .inv .0) (omega (arith, c .before .before .before .commands-in .ensures, c .before .loop .inv .1 .0)) (c .before .loop .current) (c .before .loop .inv .1 .1 .0) (c .before .loop .inv .1 .1 .1 .0) (omega (arith, c .before .before .before .commands-in .ensures, c .loop-test .left))
+
+pub play-spec : {M : Type 1} → statement M
+play-spec =
+    tie.close
+    (tie.spec
+    Inv-loop
+    μ-loop
+    commands-in-requires
+    first-command-requires
+    loop-holds
+    sub-if1
+    same-length
+    same-length-2
+    same-length-3
+    same-length-4
+    returns
+    record-of-requires
+    add-play-record
+    play-record-requires
+    add-i
+    loop-less
+    loop-again
+    same-length-5
+    same-length-6
+    same-length-7
+    same-length-8
+    returns-2)

@@ -1,0 +1,62 @@
+-- `printing::put_trades` meets its contract: a trade a turn. Assumes nothing.
+use Prim.Native.Nat.{_+_, _-_, _*_, _≤_, max}
+use native.Mathlib.Omega.{arith}
+use borrow.Author.Needs.{needs}
+use lib.ListN.{drop}
+use Rattle.rules.specs.Lines.{tradeLines}
+use Rattle.rules.specs.Memory.{recordedTrades}
+use Rattle.lines.specs.Written.{Written}
+use Rattle.lines.proofs.Text.{looser}
+use Rattle.runner.proofs.Recorded.{trades-none, trades-more, trades-done}
+use Rattle.runner.proofs.printing.put_trades.Statement.{statement}
+use Rattle.runner.proofs.printing.put_trades.Tie as tie
+
+abbrev Inv-loop : tie.InvT-loop
+Inv-loop out₀ at area first count next₀ i₀ out next i =
+    (first ≤ i) × ((i ≤ max first count) × Written (128 * (i - first)) out₀ at (tradeLines (first + 1) (drop first (recordedTrades area i))) out next)
+
+abbrev μ-loop : tie.MeasureT-loop
+μ-loop out₀ at area first count next₀ i₀ out next i = count - i
+
+loop-holds : tie.Need-loop-holds Inv-loop μ-loop
+loop-holds c = (omega arith, (omega arith, looser (trades-none (c .before .before .args .area .now) (c .before .before .args .first) (omega arith)) _ (omega arith)))
+
+trade-at-requires : tie.Need-trade-at-requires Inv-loop μ-loop
+trade-at-requires c κs = omega arith
+
+add-put-trade : tie.Need-add-put-trade Inv-loop μ-loop
+add-put-trade c = search needs
+
+put-trade-requires : tie.Need-put-trade-requires Inv-loop μ-loop
+put-trade-requires c κs = omega (arith, c .before .before .before .loop .inv .1 .1 .ends, c .before .before .before .loop .inv .1 .1 .short, c .before .before .before .loop .inv .1 .1 .kept)
+
+add-i : tie.Need-add-i Inv-loop μ-loop
+add-i c = omega arith
+
+loop-less : tie.Need-loop-less Inv-loop μ-loop
+loop-less c = omega arith
+
+loop-again : tie.Need-loop-again Inv-loop μ-loop
+loop-again c = (omega arith, (omega arith, trades-more (c .before .before .before .before .before .before .before .before .before .args .area .now) (c .before .before .before .before .before .before .before .before .before .args .first) (c .before .before .before .before .before .before .loop .i) _ _ _ (c .before .before .before .before .before .before .loop .inv .0) (omega (arith, c .before .before .before .before .before .before .loop .inv .0)) (c .before .before .before .before .trade-at .ensures) (c .before .before .before .before .before .before .loop .inv .1 .1) (c .before .before .put-trade .ensures)))
+
+same-length : tie.Need-same-length Inv-loop μ-loop
+same-length c = c .before .loop .inv .1 .1 .kept
+
+returns : tie.Need-returns Inv-loop μ-loop
+returns c = rw (← trades-done (c .before .before .before .before .args .area .now) (c .before .before .before .before .args .first) (c .before .loop .i) (c .before .before .before .before .args .count) (c .before .loop .inv .0) (omega arith) (c .before .loop .inv .1 .0)) (looser (c .before .loop .inv .1 .1) _ (omega arith))
+
+pub put-trades-spec : {M : Type 1} → statement M
+put-trades-spec =
+    tie.close
+    (tie.spec
+    Inv-loop
+    μ-loop
+    loop-holds
+    trade-at-requires
+    add-put-trade
+    put-trade-requires
+    add-i
+    loop-less
+    loop-again
+    same-length
+    returns)

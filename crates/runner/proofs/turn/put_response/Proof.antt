@@ -1,0 +1,28 @@
+-- `turn::put_response` meets its contract: its parts in turn. Assumes nothing.
+use native.Mathlib.Omega.{arith}
+use borrow.Author.Needs.{needs}
+use Rattle.lines.proofs.Text.{looser, then}
+use Rattle.runner.specs.Rows.{responseRows}
+use Rattle.runner.proofs.turn.put_response.Statement.{statement}
+use Rattle.runner.proofs.turn.put_response.Tie as tie
+
+put-answer-requires : tie.Need-put-answer-requires
+put-answer-requires c κs = search needs
+
+put-trades-requires : tie.Need-put-trades-requires
+put-trades-requires c κs = let p = c .before .before .before .before .before .before .before .before .before .pre .0 in omega (arith, c .before .before .before .before .before .before .before .before .before .pre .1, p .count, p .room, c .before .before .before .put-answer .ensures .ends, c .before .before .before .put-answer .ensures .short, c .before .before .before .put-answer .ensures .kept)
+
+put-report-requires : tie.Need-put-report-requires
+put-report-requires c κs = let p = c .before .before .before .before .before .before .before .before .before .before .before .before .before .pre .0 in omega (arith, c .before .before .before .before .before .before .before .before .before .before .before .before .before .pre .1, p .count, p .contracts, p .accounts, c .before .before .before .before .before .before .before .put-answer .ensures .ends, c .before .before .before .before .before .before .before .put-answer .ensures .short, c .before .before .before .before .before .before .before .put-answer .ensures .kept, c .before .before .before .put-trades .ensures .ends, c .before .before .before .put-trades .ensures .short, c .before .before .before .put-trades .ensures .kept)
+
+same-length : tie.Need-same-length
+same-length c = search needs
+
+returns : tie.Need-returns
+unfolding responseRows
+returns c = looser (then (c .before .before .before .before .before .before .before .before .before .before .put-answer .ensures) (then (c .before .before .before .before .before .before .put-trades .ensures) (c .before .before .put-report .ensures))) 134_875 (omega (arith, c .before .before .before .before .before .before .before .before .before .before .before .before .before .before .before .before .pre .0 .count))
+
+pub put-response-spec : {M : Type 1} → statement M
+put-response-spec =
+    tie.close
+    (tie.spec put-answer-requires put-trades-requires put-report-requires same-length returns)

@@ -1,0 +1,39 @@
+-- What printing a day asks for and leaves, and the lines of a day's first commands. Assumes nothing.
+use mathlib.Core.Bool.{true}
+use mathlib.Core.List.{List}
+use mathlib.Core.Path.{_≡_}
+use Prim.Native.Nat.{ℕ, _≤_}
+use lib.ListN.{length}
+use Rattle.rules.specs.Condition3.{Condition3, run}
+use Rattle.rules.specs.DayFile.{sound, commandsIn, opening, recordsOf}
+use Rattle.rules.specs.Lines.{runLines}
+use Rattle.rules.specs.Memory.{Memory}
+use Rattle.dayfile.specs.Opening.{openingState}
+use Rattle.engine.specs.Outcome.{memory}
+use Rattle.runner.specs.Parts.{part}
+use Rattle.runner.specs.Turns.{commandMost}
+use Rattle.runner.specs.declared.day.Day.{Day}
+
+-- a sound file, room for the queues of four contracts, for a day's trades and for one command's lines; what stands in that room
+-- is of no account
+pub record Ready (file buys sells trades out : List ℕ) : Type 0 where
+  pub whole : sound file ≡ true
+  pub buys-room : 1_280 ≤ length buys
+  pub sells-room : 1_280 ≤ length sells
+  pub trades-room : 9_216 ≤ length trades
+  pub room : commandMost ≤ length out
+
+abbrev pub openingOf : List ℕ → List ℕ → List ℕ → List ℕ → Memory
+openingOf file buys sells trades = memory (openingState file) buys sells trades
+
+-- The memory is the rules' run of the commands played, from the file's opening state, and condition 3 holds of it. They are all
+-- the file's commands, where all was written.
+pub record DayIs (file buys sells trades : List ℕ) (day : Day) (m′ : Memory) : Type 0 where
+  pub within : day .played ≤ commandsIn file
+  pub all : day .whole ≡ true → part file 0 (day .played) ≡ recordsOf file
+  pub memory : m′ ≡ run (openingOf file buys sells trades) (part file 0 (day .played))
+  pub money : Condition3 (openingOf file buys sells trades) (part file 0 (day .played))
+
+-- ---- what the first n commands print: nothing at first, and the whole output once all are played
+unfoldable pub linesTo : List ℕ → ℕ → List ℕ
+linesTo file n = runLines 1 (opening file) (part file 0 n)

@@ -1,0 +1,96 @@
+// A whole day printed to a file descriptor, part by part.
+ghost use mathlib.Core.Path.{_≡_};
+ghost use mathlib.Core.Bool.{false};
+ghost use mathlib.Core.List.{_++_};
+ghost use Prim.Native.Nat.{_≤_};
+ghost use lib.ListN.{length, take};
+ghost use Rattle.rules.specs.DayFile.{sound};
+ghost use Rattle.rules.specs.Lines.{output};
+ghost use Rattle.engine.specs.Outcome.{memory};
+ghost use Rattle.runner.specs.Day.{Ready, DayIs, linesTo};
+use crate::play::play;
+use dayfile::file;
+use dayfile::opening::opening_state;
+use lines::line::put_broken;
+use rules::State;
+
+// The state at the end, how many commands were played, and whether all that they printed was written.
+pub struct Day {
+    pub state: State,
+    pub played: usize,
+    pub whole: bool,
+}
+
+// A write of a buffer's front. No promise can tell what a write does with its bytes, so it asks that they are what the commands
+// from place k up to `next` add to the output.
+fn write_part(fd: i32, file: &[u8], k: usize, next: usize, out: &[u8], end: usize) -> bool
+    requires { ⌜ (end ≤ length (now out)) × (linesTo (now file) next ≡ linesTo (now file) k ++ take end (now out)) ⌝ }
+{
+    io::write_all(fd, &out[..end])
+}
+
+// The same of all that a file prints.
+fn write_output(fd: i32, file: &[u8], out: &[u8], end: usize) -> bool
+    requires { ⌜ (end ≤ length (now out)) × (output (now file) ≡ take end (now out)) ⌝ }
+{
+    io::write_all(fd, &out[..end])
+}
+
+// A sound file's commands from its opening state on, in areas with room for four contracts, a day's trades and one command's
+// lines. Where a write fails it stops, and what was played by then is told. For our own crates.
+pub fn print_day(
+    fd: i32,
+    file: &[u8],
+    buys: &mut [u32],
+    sells: &mut [u32],
+    trades: &mut [u32],
+    out: &mut [u8],
+) -> Day
+    requires { ⌜ Ready (now file) (now buys) (now sells) (now trades) (now out) ⌝ }
+    ensures { λ r. ⌜ DayIs (now (file .entry)) (now (buys .entry)) (now (sells .entry)) (now (trades .entry)) r (memory (r .state) (now (buys .exit)) (now (sells .exit)) (now (trades .exit))) ⌝ }
+{
+    let n = file::commands_in(file);
+    let mut state = opening_state(file);
+    let mut k: usize = 0;
+    while k < n {
+        let p = play(file, k, state, buys, sells, trades, out);
+        let next = p.next;
+        let is_written = write_part(fd, file, k, next, &out[..], p.end);
+        state = p.state;
+        k = next;
+        if !is_written {
+            return Day {
+                state,
+                played: k,
+                whole: false,
+            };
+        }
+    }
+    Day {
+        state,
+        played: k,
+        whole: true,
+    }
+}
+
+// "A broken file prints `X 20`."
+fn print_broken(fd: i32, file: &[u8]) -> bool
+    requires { ⌜ sound (now file) ≡ false ⌝ }
+{
+    let mut out = [0u8; 23];
+    let end = put_broken(&mut out, 0);
+    write_output(fd, file, &out, end)
+}
+
+// The day's lines, or `X 20` for a file that is not sound. Answers whether all of it was written.
+pub fn print_file(fd: i32, file: &[u8]) -> bool {
+    if !file::sound(file) {
+        return print_broken(fd, file);
+    }
+    let mut buys = [0u32; 1280];
+    let mut sells = [0u32; 1280];
+    let mut trades = [0u32; 9216];
+    let mut out = [0u8; 200000];
+    let day = print_day(fd, file, &mut buys, &mut sells, &mut trades, &mut out);
+    day.whole
+}
