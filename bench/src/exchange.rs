@@ -18,7 +18,8 @@ pub struct Contract {
     pub last: u32,
 }
 
-/// The state but for the areas; `resting` counts orders by side (0 buy, 1 sell) and contract.
+/// The state but for the areas; `resting` counts orders by side (0 buy, 1 sell) and contract, `profits` has each account's
+/// closing and holding profit of the last settlement, to be printed.
 #[derive(Clone)]
 pub struct State {
     pub contracts: [Contract; 4],
@@ -29,6 +30,7 @@ pub struct State {
     pub made: usize,
     pub next: u32,
     pub settlements: u32,
+    pub profits: [[i64; 2]; ACCOUNTS],
 }
 
 /// The queues by side, and the day's trades.
@@ -173,7 +175,7 @@ impl State {
     }
 
     /// "charge times all long and short lots and resting opens"
-    fn charged(&self, areas: &Areas, account: usize) -> u64 {
+    pub fn charged(&self, areas: &Areas, account: usize) -> u64 {
         (0..self.contractcount)
             .map(|c| {
                 let h = &self.accounts[account].holdings[c];
@@ -446,13 +448,14 @@ impl State {
         [closes, cost, lots as i64, opened]
     }
 
-    fn profit(&self, areas: &Areas, a: usize, c: usize, price: u32) -> i64 {
+    /// An account's closing and holding profit in a contract.
+    fn profit(&self, areas: &Areas, a: usize, c: usize, price: u32) -> [i64; 2] {
         let h = &self.accounts[a].holdings[c];
         let [sold, cost, long, bought] = self.side(areas, a, c, false, h.startlong);
         let [covered, income, short, shorted] = self.side(areas, a, c, true, h.startshort);
         let closing = (sold - cost) + (income - covered);
         let holding = (price as i64 * long - bought) + (shorted - price as i64 * short);
-        (closing + holding) * self.contracts[c].multiplier as i64
+        [closing, holding].map(|gain| gain * self.contracts[c].multiplier as i64)
     }
 
     fn settle(&mut self, areas: &mut Areas) -> Answer {
@@ -466,9 +469,14 @@ impl State {
         for c in 0..self.contractcount {
             prices[c] = self.settlement_price(areas, c);
         }
+        self.profits = [[0; 2]; ACCOUNTS];
         for a in 0..self.accountcount {
-            let profit: i64 = (0..self.contractcount).map(|c| self.profit(areas, a, c, prices[c])).sum();
-            self.accounts[a].balance += profit;
+            for c in 0..self.contractcount {
+                let [closing, holding] = self.profit(areas, a, c, prices[c]);
+                self.profits[a][0] += closing;
+                self.profits[a][1] += holding;
+            }
+            self.accounts[a].balance += self.profits[a][0] + self.profits[a][1];
         }
         for a in &mut self.accounts[..self.accountcount] {
             for h in &mut a.holdings[..self.contractcount] {
@@ -530,7 +538,7 @@ impl State {
         for (a, account) in accounts[..accountcount].iter_mut().enumerate() {
             account.balance = long(day, 8 + 20 * contractcount + 8 * a) as i64;
         }
-        State { contracts, accounts, resting: [[0; 4]; 2], contractcount, accountcount, made: 0, next: 1, settlements: 0 }
+        State { contracts, accounts, resting: [[0; 4]; 2], contractcount, accountcount, made: 0, next: 1, settlements: 0, profits: [[0; 2]; ACCOUNTS] }
     }
 }
 

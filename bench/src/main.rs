@@ -1,18 +1,21 @@
-//! Instructions per operation of the order book and per command of the exchange, beside plain Rust versions of both. `bench/run` builds
-//! and starts it.
+//! Instructions per operation of the order book, per command of the exchange and of the day runner, beside plain Rust versions of
+//! each. `bench/run` builds and starts it.
 
 mod cases;
 mod days;
 mod exchange;
 mod ours;
 mod plain;
+mod runner;
 
 use cases::{any_sweeps, queue_case, whole_sweeps, Random, Sweeps, SweepsCase, Swept};
 use days::{encode, file, kind_lists, mixed, Memory, KINDS};
 use ours::Probe;
 use plain::Order;
 use std::hint::black_box;
-use std::process::{exit, Command};
+use std::io::Write;
+use std::path::Path;
+use std::process::{exit, Command, Stdio};
 
 // What is counted of the Rust version, under names that valgrind is given.
 
@@ -136,14 +139,19 @@ fn exercise(operation: usize, book: &Book) -> usize {
 
 /// What this program prints and the instructions it takes within one function alone, run again with some words under valgrind.
 fn counted(function: &str, words: &[String]) -> (String, f64) {
-    let program = std::env::current_exe().unwrap();
-    let out = program.with_extension("callgrind");
+    counted_of(&std::env::current_exe().unwrap(), function, words, Stdio::null())
+}
+
+/// The same of any program on some input.
+fn counted_of(program: &Path, function: &str, words: &[String], input: Stdio) -> (String, f64) {
+    let out = std::env::current_exe().unwrap().with_extension("callgrind");
     let said = Command::new("valgrind")
         .arg("--tool=callgrind")
         .arg(format!("--toggle-collect={function}"))
         .arg(format!("--callgrind-out-file={}", out.display()))
-        .arg(&program)
+        .arg(program)
         .args(words)
+        .stdin(input)
         .output();
     let (Ok(said), Ok(profile)) = (said, std::fs::read_to_string(&out)) else {
         eprintln!("bench: valgrind did not run");
@@ -296,15 +304,49 @@ fn engine() {
     }
 }
 
+#[no_mangle]
+#[inline(never)]
+fn plain_day(file: &[u8]) {
+    std::io::stdout().write_all(&runner::lines(file)).unwrap();
+}
+
+/// The days that both runners are given, and what they have to print.
+const DAYS: [&str; 3] = ["largest-file", "full-day", "every-code"];
+
+fn sample(day: usize, kind: &str) -> Vec<u8> {
+    std::fs::read(format!("samples/{}.{kind}", DAYS[day])).unwrap()
+}
+
+fn runners() {
+    println!("\nday runner: both print the lines of the samples");
+    head("instructions per command");
+    for (day, name) in DAYS.iter().enumerate() {
+        let file = sample(day, "day");
+        let input = std::fs::File::open(format!("samples/{name}.day")).unwrap();
+        let ours = counted_of(Path::new("target/bin/dayrun"), "main", &[], input.into());
+        let plain = counted("plain_day", &["day".into(), day.to_string(), "1".into()]);
+        let lines = String::from_utf8(sample(day, "out")).unwrap();
+        if ours.0 != lines.trim() || plain.0 != lines.trim() {
+            eprintln!("bench: a runner does not print the lines of {name}");
+            exit(1)
+        }
+        let state = exchange::State::open(&file);
+        let commands = (file.len() - 12 - 20 * state.contractcount - 8 * state.accountcount) / exchange::RECORD;
+        row(&format!("{name}, {commands} commands"), [ours.1, plain.1].map(|total| total / commands as f64));
+    }
+}
+
 fn main() {
     let words: Vec<String> = std::env::args().skip(1).collect();
     let numbers: Vec<usize> = words.iter().filter_map(|word| word.parse().ok()).collect();
     match (words.first().map(String::as_str), &numbers[..]) {
         (Some("list"), &[number, which]) => exercise_list(number, which),
+        (Some("day"), &[day, _]) => plain_day(&sample(day, "day")),
         (Some(_), &[operation, which]) => println!("{}", exercise(operation, BOOKS[which])),
         _ => {
             book();
             engine();
+            runners();
         }
     }
 }
