@@ -1,0 +1,149 @@
+-- From the tests as the code makes them to the answer of the rules: an order on a well-formed state, and 24 bytes on any. Assumes
+-- nothing.
+use mathlib.Core.Bool.{Bool, true, false, not}
+use mathlib.Core.List.{List}
+use mathlib.Core.Path.{_≡_, refl, sym, ap, _∙_}
+use Prim.Native.Nat.{ℕ, _-_, _<_}
+use borrow.Author.Tests.{ne-eqb}
+use lib.Dec.{eqb}
+use lib.ListN.{getD}
+use Rattle.laws.specs.Choice.{ap-pick, pick, pick-same}
+use Rattle.rules.specs.Answers.{fillableLots, firstOf, listingOf, takerOf}
+use Rattle.rules.specs.Bounds.{termsInRange}
+use Rattle.rules.specs.Command.{commandOf, cancelOf, depositOf, insertOf, newOrder, phaseOf, pullOf, settleOf, withdrawOf}
+use Rattle.rules.specs.Exchange.{Exchange, noContract, placeOf}
+use Rattle.rules.specs.Memory.{Memory, exchangeOf, queueIn, wellFormedMemory}
+use Rattle.rules.specs.declared.Command.{Command}
+use Rattle.rules.specs.declared.Command.the-variants.{Malformed, Deposit, Withdraw, Insert, Cancel, Pull, Phase, Settle}
+use Rattle.rules.specs.declared.NewOrder.{NewOrder}
+use Rattle.rules.specs.declared.Record.{Record}
+use Rattle.rules.specs.declared.State.{State}
+use Rattle.rules.specs.declared.Taker.{Taker}
+use Rattle.engine.specs.Outcome.{isAbsent, memory, WellFormedState}
+use Rattle.engine.proofs.Formed.{Formed, formed, no-account, no-contract}
+use Rattle.insertion.specs.Insertion.{Facing, Present, QueueRoom, fieldsRefusals, sideArea, sideCount, takerFor}
+use Rattle.insertion.proofs.Sides.{contract-is, opposite-facing, opposite-is}
+use Rattle.query.specs.Gettable.{GatheredIs, askRefusals, gettableNow, isInsert, lotsNow, orderReading, orderRefusals, readNow, readingWith, refusedReading}
+use Rattle.query.specs.declared.Reading.{Reading}
+use Rattle.query.specs.declared.scan.Gathered.{Gathered}
+
+-- ---- an order on a well-formed state
+
+module _ {s : State} {buys sells trades : List ℕ} (w : WellFormedState s buys sells trades) (o : NewOrder) where
+  abbrev m : Memory
+  m = memory s buys sells trades
+
+  abbrev x : Exchange
+  x = exchangeOf m
+
+  f : Formed m
+  f = formed w
+
+  abbrev c : ℕ
+  c = placeOf (o .contract)
+
+  in-parts : firstOf (orderRefusals x o) ≡ pick (isAbsent (o .account) (s .accountcount)) 2 (pick (isAbsent (o .contract) (s .contractcount)) 3 (firstOf (fieldsRefusals (listingOf x o .contract) o)))
+  unfolding firstOf orderRefusals
+  in-parts = rw (no-account m f (o .account), no-contract m f (o .contract))
+
+  pub no-such-account : isAbsent (o .account) (s .accountcount) ≡ true → refusedReading 2 ≡ orderReading x o
+  unfolding orderReading readingWith
+  no-such-account e = sym (rw (in-parts, e))
+
+  module _ (e : isAbsent (o .account) (s .accountcount) ≡ false) where
+    pub no-such-contract : isAbsent (o .contract) (s .contractcount) ≡ true → refusedReading 3 ≡ orderReading x o
+    unfolding orderReading readingWith
+    no-such-contract g = sym (rw (in-parts, e, g))
+
+    -- k is the contract's number as the code widens it
+    module _ (g : isAbsent (o .contract) (s .contractcount) ≡ false) (p : Present s o) {k : ℕ} (is : k ≡ o .contract) {fields : ℕ}
+        (ef : fields ≡ firstOf (fieldsRefusals (getD (s .contracts) (k - 1) noContract) o)) where
+      code-is : firstOf (orderRefusals x o) ≡ fields
+      unfolding listingOf
+      code-is = in-parts ∙ rw (e, g, ef, is, contract-is m f c (p .contract))
+
+      pub refused-fields : (fields ≡ 0 → ⊥) → refusedReading fields ≡ orderReading x o
+      unfolding orderReading readingWith
+      refused-fields some = sym (rw (code-is, ne-eqb fields 0 some))
+
+      module _ {area : List ℕ} {count : ℕ} (ea : area ≡ sideArea (not (o .sell)) buys sells) (ec : count ≡ sideCount (not (o .sell)) s (k - 1)) where
+        pub room : QueueRoom area (o .contract - 1) count
+        room = rw (ec, ea, is) (opposite-facing m f c (p .contract) (s .next) o .queue)
+
+        module _ {t : Taker} (et : t ≡ takerFor (s .next) (queueIn area (o .contract - 1) count) o) where
+          pub facing : Facing t area (k - 1) count
+          facing = rw (et, ec, ea, is) (opposite-facing m f c (p .contract) (s .next) o)
+
+          pub answered : fields ≡ 0 → {r : Gathered} → GatheredIs t (o .lots) (queueIn area (k - 1) count) r
+              → record { code = 0; lots = r .lots; read = r .read } ≡ orderReading x o
+          unfolding orderReading readingWith lotsNow readNow fillableLots takerOf listingOf exchangeOf
+          answered passed {r} gathered =
+              rw (gathered .lots-are, gathered .read, et, ec, ea, is) (sym (rw (code-is, passed, opposite-is m f c (p .contract) (o .sell))))
+
+-- ---- 24 bytes on any state
+
+-- an insert's order is the one that its bytes hold
+unfoldable orderIn : NewOrder → Command → NewOrder
+orderIn o Malformed = o
+orderIn o (Deposit account amount) = o
+orderIn o (Withdraw account amount) = o
+orderIn o (Insert p) = p
+orderIn o (Cancel account contract operator number) = o
+orderIn o (Pull account contract operator) = o
+orderIn o (Phase contract phase) = o
+orderIn o Settle = o
+
+either-order : (o : NewOrder) (test : Bool) (d e : Command) → orderIn o (pick test d e) ≡ pick test (orderIn o d) (orderIn o e)
+either-order o test d e = ap-pick (orderIn o) test d e
+
+on-malformed : (o : NewOrder) → orderIn o Malformed ≡ o
+unfolding orderIn
+on-malformed o = refl
+
+on-deposit : (o : NewOrder) (account amount : ℕ) → orderIn o (Deposit account amount) ≡ o
+unfolding orderIn
+on-deposit o account amount = refl
+
+on-withdraw : (o : NewOrder) (account amount : ℕ) → orderIn o (Withdraw account amount) ≡ o
+unfolding orderIn
+on-withdraw o account amount = refl
+
+on-insert : (o p : NewOrder) → orderIn o (Insert p) ≡ p
+unfolding orderIn
+on-insert o p = refl
+
+on-cancel : (o : NewOrder) (account contract : ℕ) (operator : Bool) (number : ℕ) → orderIn o (Cancel account contract operator number) ≡ o
+unfolding orderIn
+on-cancel o account contract operator number = refl
+
+on-pull : (o : NewOrder) (account contract : ℕ) (operator : Bool) → orderIn o (Pull account contract operator) ≡ o
+unfolding orderIn
+on-pull o account contract operator = refl
+
+on-phase : (o : NewOrder) (contract phase : ℕ) → orderIn o (Phase contract phase) ≡ o
+unfolding orderIn
+on-phase o contract phase = refl
+
+on-settle : (o : NewOrder) → orderIn o Settle ≡ o
+unfolding orderIn
+on-settle o = refl
+
+order-in-bytes : (r : Record) → orderIn (newOrder r) (commandOf r) ≡ newOrder r
+unfolding commandOf depositOf withdrawOf insertOf cancelOf pullOf phaseOf settleOf
+order-in-bytes r = simp (either-order, pick-same, on-malformed, on-deposit, on-withdraw, on-insert, on-cancel, on-pull, on-phase, on-settle)
+
+module _ (m : Memory) (r : Record) where
+  pub not-formed : wellFormedMemory m ≡ false → refusedReading 21 ≡ gettableNow m r
+  unfolding gettableNow readingWith askRefusals firstOf
+  not-formed e = sym (rw e)
+
+  module _ (e : wellFormedMemory m ≡ true) where
+    pub no-insert : isInsert (commandOf r) ≡ false → refusedReading 1 ≡ gettableNow m r
+    unfolding gettableNow readingWith askRefusals firstOf
+    no-insert i = sym (rw (e, i))
+
+    pub an-insert : {o : NewOrder} → commandOf r ≡ Insert o → {a : Reading} → a ≡ orderReading (exchangeOf m) o → a ≡ gettableNow m r
+    unfolding gettableNow askRefusals orderReading firstOf
+    an-insert {o} i {a} q =
+        let same : o ≡ newOrder r = sym (on-insert (newOrder r) o) ∙ ap (orderIn (newOrder r)) (sym i) ∙ order-in-bytes r in
+        q ∙ ap (orderReading (exchangeOf m)) same ∙ sym (rw (e, i))
