@@ -1,12 +1,16 @@
 -- From the tests as the code makes them to the answer of the rules: an order on a well-formed state, and 24 bytes on any. Assumes
 -- nothing.
 use mathlib.Core.Bool.{Bool, true, false, not}
-use mathlib.Core.List.{List}
+use mathlib.Core.List.{List, [], _∷_}
+use mathlib.Core.Logic.{inl, inr}
 use mathlib.Core.Path.{_≡_, refl, sym, ap, _∙_}
 use Prim.Native.Nat.{ℕ, _-_, _<_}
+use native.Mathlib.Omega.{arith}
 use borrow.Author.Tests.{ne-eqb}
+use denote.Enum.Declared.{tagOf}
 use lib.Dec.{eqb}
 use lib.ListN.{getD}
+use types.Run.{OneOf}
 use Rattle.laws.specs.Choice.{ap-pick, pick, pick-same}
 use Rattle.rules.specs.Answers.{fillableLots, firstOf, listingOf, takerOf}
 use Rattle.rules.specs.Bounds.{termsInRange}
@@ -19,6 +23,7 @@ use Rattle.rules.specs.declared.NewOrder.{NewOrder}
 use Rattle.rules.specs.declared.Record.{Record}
 use Rattle.rules.specs.declared.State.{State}
 use Rattle.rules.specs.declared.Taker.{Taker}
+use Rattle.rules.proofs.Command.{the-type}
 use Rattle.engine.specs.Outcome.{isAbsent, memory, WellFormedState}
 use Rattle.engine.proofs.Formed.{Formed, formed, no-account, no-contract}
 use Rattle.insertion.specs.Insertion.{Facing, Present, QueueRoom, fieldsRefusals, sideArea, sideCount, takerFor}
@@ -131,6 +136,26 @@ on-settle o = refl
 order-in-bytes : (r : Record) → orderIn (newOrder r) (commandOf r) ≡ newOrder r
 unfolding commandOf depositOf withdrawOf insertOf cancelOf pullOf phaseOf settleOf
 order-in-bytes r = simp (either-order, pick-same, on-malformed, on-deposit, on-withdraw, on-insert, on-cancel, on-pull, on-phase, on-settle)
+
+-- a command by its tag: an insert has 3
+not-three : OneOf (0 ∷ 1 ∷ 2 ∷ 4 ∷ 5 ∷ 6 ∷ 7 ∷ []) 3 → ⊥
+not-three (inl e) = omega arith
+not-three (inr (inl e)) = omega arith
+not-three (inr (inr (inl e))) = omega arith
+not-three (inr (inr (inr (inl e)))) = omega arith
+not-three (inr (inr (inr (inr (inl e))))) = omega arith
+not-three (inr (inr (inr (inr (inr (inl e)))))) = omega arith
+not-three (inr (inr (inr (inr (inr (inr e)))))) = omega arith
+
+pub other-kind : (d : Command) → OneOf (0 ∷ 1 ∷ 2 ∷ 4 ∷ 5 ∷ 6 ∷ 7 ∷ []) (tagOf the-type d) → isInsert d ≡ false
+other-kind Malformed h = refl
+other-kind (Deposit account amount) h = refl
+other-kind (Withdraw account amount) h = refl
+other-kind (Insert o) h = absurd (not-three h)
+other-kind (Cancel account contract operator number) h = refl
+other-kind (Pull account contract operator) h = refl
+other-kind (Phase contract phase) h = refl
+other-kind Settle h = refl
 
 module _ (m : Memory) (r : Record) where
   pub not-formed : wellFormedMemory m ≡ false → refusedReading 21 ≡ gettableNow m r

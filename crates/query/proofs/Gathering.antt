@@ -75,10 +75,10 @@ module _ (t : Taker) (lots : ℕ) (area : List ℕ) (c count : ℕ) {left i : �
         record {
           uncovered = still-few left lots size (g .uncovered);
           gathered = ap (λ (k : ℕ). k + min (left - size) (fillableFront t (drop (i + 1) (queueIn area c count)))) (regrouped left lots size (g .uncovered) within)
-          ∙ tally-on (λ os. min left (fillableFront t os)) area c count i (lots - left) _ (g .gathered) o h e (λ os. min (left - size) (fillableFront t os)) size
-          (λ os. ap (min left) (front-met t o os met) ∙ taken left (o .lots) (fillableFront t os) size es);
+              ∙ tally-on (λ os. min left (fillableFront t os)) area c count i (lots - left) _ (g .gathered) o h e (λ os. min (left - size) (fillableFront t os)) size
+              (λ os. ap (min left) (front-met t o os met) ∙ taken left (o .lots) (fillableFront t os) size es);
           read = tally-on (ordersRead t left) area c count i i _ (g .read) o h e (ordersRead t (left - size)) 1
-          (λ os. read-met t left some o met os ∙ ap (λ (k : ℕ). 1 + ordersRead t k os) (rest-is left (o .lots) size es));
+              (λ os. read-met t left some o met os ∙ ap (λ (k : ℕ). 1 + ordersRead t k os) (rest-is left (o .lots) size es));
         }
 
     -- "that last one counted"
@@ -86,7 +86,7 @@ module _ (t : Taker) (lots : ℕ) (area : List ℕ) (c count : ℕ) {left i : �
     gather-last f unmet =
         record {
           lots-are = tally-stop (λ os. min left (fillableFront t os)) area c count i (lots - left) _ (g .gathered) o h e (λ os. omega (arith, front-unmet t o os unmet))
-          ∙ ap (min lots) (facing-fillable f);
+              ∙ ap (min lots) (facing-fillable f);
           read = tally-none (i + 1) 0 _ (tally-on (ordersRead t left) area c count i i _ (g .read) o h e (λ os. 0) 1 (read-unmet t left some o unmet)) refl;
         }
 
@@ -103,6 +103,6 @@ module _ (t : Taker) (lots : ℕ) (area : List ℕ) (c count : ℕ) {left i : �
   gather-end f h =
       record {
         lots-are = tally-end (λ os. min left (fillableFront t os)) area c count i (lots - left) _ (g .gathered) h (omega (arith, front-end t))
-        ∙ ap (min lots) (facing-fillable f);
+            ∙ ap (min lots) (facing-fillable f);
         read = tally-end (ordersRead t left) area c count i i _ (g .read) h (read-end t left);
       }

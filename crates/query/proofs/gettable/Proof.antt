@@ -9,16 +9,10 @@ use Rattle.rules.specs.Command.{commandOf}
 use Rattle.rules.specs.Memory.{wellFormedMemory}
 use Rattle.engine.specs.Outcome.{memory}
 use Rattle.engine.proofs.Declared.{declared}
-use Rattle.query.proofs.Asking.{an-insert, no-insert, not-formed}
+use Rattle.query.specs.Gettable.{isInsert}
+use Rattle.query.proofs.Asking.{an-insert, no-insert, not-formed, other-kind}
 use Rattle.query.proofs.gettable.Statement.{statement}
 use Rattle.query.proofs.gettable.Tie as tie
-use Rattle.query.proofs.gettable.Reads as reads
-use Rattle.query.proofs.gettable.Lts as lts
-use Rattle.audit.proofs.well_formed.Reads as well-formed-reads
-use Rattle.commands.proofs.command_of.Reads as command-of-reads
-use Rattle.dayfile.proofs.bytes.record_at.Reads as record-at-reads
-use Rattle.query.proofs.reading_of.Reads as reading-of-reads
-use Rattle.query.proofs.refused.Reads as refused-reads
 
 -- the test passed
 sound : (c : tie.Else1) → wellFormedMemory (memory (c .before .before .before .before .before .args .state) (now (c .before .before .before .before .before .args .buys)) (now (c .before .before .before .before .before .args .sells)) (now (c .before .before .before .before .before .args .trades))) ≡ true
@@ -49,7 +43,7 @@ refused-requires-2 : tie.Need-refused-requires-2
 refused-requires-2 c κs = search needs
 
 returns-2 : tie.Need-returns-2
-returns-2 c = let k = c .before .match in c .refused2 .ensures ∙ ?
+returns-2 c = c .refused2 .ensures ∙ no-insert _ _ (sound (c .before .before .before .before .before)) (ap isInsert (sym (c .before .before .command-of .ensures ∙ ap commandOf (c .before .before .before .record-at .ensures))) ∙ other-kind (c .before .before .command-of .result) (c .before .match .keys2))
 
 reading-of-requires : tie.Need-reading-of-requires
 reading-of-requires c κs = record { declared = declared (c .before .before .before .before .before .before .before .before .before .before .before .good .0); formed = sound (c .before .before .before .before .before .before) }

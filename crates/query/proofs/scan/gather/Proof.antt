@@ -8,11 +8,6 @@ use Rattle.book.proofs.Scans.{test-failed, test-passed}
 use Rattle.query.proofs.Gathering.{Gathering, gather-start, gather-on, gather-covered, gather-last, gather-end}
 use Rattle.query.proofs.scan.gather.Statement.{statement}
 use Rattle.query.proofs.scan.gather.Tie as tie
-use Rattle.query.proofs.scan.gather.Reads as reads
-use Rattle.query.proofs.scan.gather.Lts as lts
-use Rattle.book.proofs.prices.meets.Reads as meets-reads
-use Rattle.book.proofs.queue.order_at.Reads as order-at-reads
-use Rattle.laws.proofs.smaller.Reads as smaller-reads
 
 abbrev Inv-loop : tie.InvT-loop
 Inv-loop area c count t lots condition left₀ i₀ left i = (i ≤ count) × Gathering t lots (queueIn area c count) left i
