@@ -4,18 +4,17 @@ use mathlib.Core.Bool.{Bool, true, false, not}
 use mathlib.Core.List.{List, [], _∷_}
 use mathlib.Core.Logic.{inl, inr}
 use mathlib.Core.Path.{_≡_, refl, sym, ap, _∙_}
-use Prim.Native.Nat.{ℕ, _-_, _<_}
+use Prim.Native.Nat.{ℕ, _-_}
 use native.Mathlib.Omega.{arith}
 use borrow.Author.Tests.{ne-eqb}
 use denote.Enum.Declared.{tagOf}
-use lib.Dec.{eqb}
 use lib.ListN.{getD}
 use types.Run.{OneOf}
 use Rattle.laws.specs.Choice.{ap-pick, pick, pick-same}
 use Rattle.rules.specs.Answers.{fillableLots, firstOf, listingOf, takerOf}
-use Rattle.rules.specs.Bounds.{termsInRange}
 use Rattle.rules.specs.Command.{commandOf, cancelOf, depositOf, insertOf, newOrder, phaseOf, pullOf, settleOf, withdrawOf}
-use Rattle.rules.specs.Exchange.{Exchange, noContract, placeOf}
+use Rattle.rules.specs.Exchange.{Exchange, noContract, opposite, placeOf}
+use Rattle.rules.specs.Matching.{sweep, tradedLots}
 use Rattle.rules.specs.Memory.{Memory, exchangeOf, queueIn, wellFormedMemory}
 use Rattle.rules.specs.declared.Command.{Command}
 use Rattle.rules.specs.declared.Command.the-variants.{Malformed, Deposit, Withdraw, Insert, Cancel, Pull, Phase, Settle}
@@ -24,6 +23,7 @@ use Rattle.rules.specs.declared.Record.{Record}
 use Rattle.rules.specs.declared.State.{State}
 use Rattle.rules.specs.declared.Taker.{Taker}
 use Rattle.rules.proofs.Command.{the-type}
+use Rattle.rules.proofs.Fillable.{swept-fillable}
 use Rattle.engine.specs.Outcome.{isAbsent, memory, WellFormedState}
 use Rattle.engine.proofs.Formed.{Formed, formed, no-account, no-contract}
 use Rattle.insertion.specs.Insertion.{Facing, Present, QueueRoom, fieldsRefusals, sideArea, sideCount, takerFor}
@@ -83,7 +83,14 @@ module _ {s : State} {buys sells trades : List ℕ} (w : WellFormedState s buys 
               → record { code = 0; lots = r .lots; read = r .read } ≡ orderReading x o
           unfolding orderReading readingWith lotsNow readNow fillableLots takerOf listingOf exchangeOf
           answered passed {r} gathered =
-              rw (gathered .lots-are, gathered .read, et, ec, ea, is) (sym (rw (code-is, passed, opposite-is m f c (p .contract) (o .sell))))
+              rw (gathered .lots, gathered .read, et, ec, ea, is) (sym (rw (code-is, passed, opposite-is m f c (p .contract) (o .sell))))
+
+  -- the lots to be had are those that the sweep would trade, whatever the last price
+  pub would-trade : Present s o → (last : ℕ) → tradedLots (sweep (takerOf x o) (o .lots) last (opposite (o .sell) (listingOf x o)) .trades) ≡ lotsNow x o
+  unfolding lotsNow fillableLots takerOf listingOf
+  would-trade p last =
+      let met = opposite-facing m f c (p .contract) (x .next) o in
+      rw (opposite-is m f c (p .contract) (o .sell)) (swept-fillable _ (o .lots) last _ (met .order) (met .best))
 
 -- ---- 24 bytes on any state
 

@@ -2,14 +2,14 @@
 -- nothing.
 use mathlib.Core.Bool.{true, false}
 use mathlib.Core.List.{List, [], _∷_}
-use mathlib.Core.Path.{_≡_, refl, sym, ap, _∙_}
+use mathlib.Core.Path.{_≡_, refl, ap, _∙_}
 use Prim.Native.Nat.{ℕ, _+_, _-_, _*_, _<_, _≤_, min}
 use native.Mathlib.Nat.{zero-add}
 use native.Mathlib.Omega.{arith}
 use borrow.Author.Tests.{lt-ltb}
 use lib.Dec.{ltb}
 use lib.ListN.{drop}
-use Rattle.laws.specs.Choice.{pick, pick-true}
+use Rattle.laws.specs.Choice.{pick-true}
 use Rattle.rules.specs.EarlyStop.{fillableFront}
 use Rattle.rules.specs.Matching.{counterpart}
 use Rattle.rules.specs.Memory.{orderFrom, queueIn}
@@ -85,7 +85,7 @@ module _ (t : Taker) (lots : ℕ) (area : List ℕ) (c count : ℕ) {left i : �
     pub gather-last : Facing t area c count → counterpart t o ≡ false → GatheredIs t lots (queueIn area c count) (record { lots = lots - left; read = i + 1 })
     gather-last f unmet =
         record {
-          lots-are = tally-stop (λ os. min left (fillableFront t os)) area c count i (lots - left) _ (g .gathered) o h e (λ os. omega (arith, front-unmet t o os unmet))
+          lots = tally-stop (λ os. min left (fillableFront t os)) area c count i (lots - left) _ (g .gathered) o h e (λ os. omega (arith, front-unmet t o os unmet))
               ∙ ap (min lots) (facing-fillable f);
           read = tally-none (i + 1) 0 _ (tally-on (ordersRead t left) area c count i i _ (g .read) o h e (λ os. 0) 1 (read-unmet t left some o unmet)) refl;
         }
@@ -94,7 +94,7 @@ module _ (t : Taker) (lots : ℕ) (area : List ℕ) (c count : ℕ) {left i : �
   pub gather-covered : Facing t area c count → left ≡ 0 → GatheredIs t lots (queueIn area c count) (record { lots = lots; read = i })
   gather-covered f z =
       record {
-        lots-are = omega (arith, g .gathered) ∙ ap (min lots) (facing-fillable f);
+        lots = omega (arith, g .gathered) ∙ ap (min lots) (facing-fillable f);
         read = tally-none i _ _ (g .read) (rw z (read-covered t _));
       }
 
@@ -102,7 +102,7 @@ module _ (t : Taker) (lots : ℕ) (area : List ℕ) (c count : ℕ) {left i : �
   pub gather-end : Facing t area c count → count ≤ i → GatheredIs t lots (queueIn area c count) (record { lots = lots - left; read = i })
   gather-end f h =
       record {
-        lots-are = tally-end (λ os. min left (fillableFront t os)) area c count i (lots - left) _ (g .gathered) h (omega (arith, front-end t))
+        lots = tally-end (λ os. min left (fillableFront t os)) area c count i (lots - left) _ (g .gathered) h (omega (arith, front-end t))
             ∙ ap (min lots) (facing-fillable f);
         read = tally-end (ordersRead t left) area c count i i _ (g .read) h (read-end t left);
       }

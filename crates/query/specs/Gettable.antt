@@ -89,6 +89,6 @@ unfoldable pub gettableNow : Memory → Record → Reading
 gettableNow m r = readingWith (firstOf (askRefusals m r)) (exchangeOf m) (newOrder r)
 
 -- ---- what a reader of the opposite queue gathers for an order of so many lots
-pub record GatheredIs (t : Taker) (lots : ℕ) (queue : List Order) (r : Gathered) : Type 0 where
-  pub lots-are : r .lots ≡ min lots (fillable t queue)
-  pub read : r .read ≡ ordersRead t lots queue
+pub record GatheredIs (t : Taker) (wanted : ℕ) (queue : List Order) (r : Gathered) : Type 0 where
+  pub lots : r .lots ≡ min wanted (fillable t queue)
+  pub read : r .read ≡ ordersRead t wanted queue

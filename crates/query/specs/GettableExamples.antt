@@ -6,19 +6,27 @@ use mathlib.Core.Path.{_≡_, refl}
 use Prim.Native.Nat.{ℕ}
 use lib.Dec.{eqb}
 use lib.IntN.{pos}
-use Rattle.laws.specs.Choice.{all}
+use lib.ListN.{replicate}
+use Rattle.laws.specs.Choice.{all, allOf}
 use Rattle.laws.specs.Sums.{sumOf}
+use Rattle.laws.specs.Tabulate.{tabulate}
+use Rattle.areas.specs.Records.{decode, records}
 use Rattle.rules.specs.Answers.{fillableLots, firstOf, listingOf, priceRefusedBy, takerOf}
-use Rattle.rules.specs.Bounds.{allowedToday, dayHigh, dayLow, onTick}
-use Rattle.rules.specs.Exchange.{Exchange, absent, bestPrice, listingAt, lotsWhere, noHolding}
+use Rattle.rules.specs.Bounds.{allowedToday, dayHigh, dayLow, onTick, termsInRange, tickMultiple}
+use Rattle.rules.specs.Exchange.{Exchange, absent, accountAt, bestPrice, holdingAt, listingAt, lotsWhere, noHolding, resting}
+use Rattle.rules.specs.Command.{bits, commandOf, insertFlags, insertOf, newOrder, priceCondition, pullOf, timeCondition, zeros}
+use Rattle.rules.specs.Holdings.{afterLeg, bookLeg, bookTrade, bookTrades, legCovered, neverBelowZero, sameHoldings, sameLots, startOfDay}
 use Rattle.rules.specs.Matching.{fillable, meets}
+use Rattle.rules.specs.Memory.{Memory, countsInRange, exchangeOf, hasRoom, listingIn, queueIn, recordedTrades, wellFormedMemory}
+use Rattle.rules.specs.WellFormed.{ahead, aheadOfFirst, allNumbers, balanceInRange, contractInRange, countersInRange, holdingInRange, holdingsInRange, listingInRange, numbers, orderInRange, replays, sorted, tradeInRange, uncrossed, usedOnce, wellFormedContents}
 use Rattle.rules.specs.declared.NewOrder.{NewOrder}
 use Rattle.rules.specs.declared.Order.{Order}
 use Rattle.rules.specs.declared.PriceCondition.{PriceCondition}
 use Rattle.rules.specs.declared.PriceCondition.the-variants.{Limit, Market, Best}
+use Rattle.rules.specs.declared.Record.{Record}
 use Rattle.rules.specs.declared.TimeCondition.{TimeCondition}
 use Rattle.rules.specs.declared.TimeCondition.the-variants.{GoodForDay, ImmediateOrCancel, FillOrKill}
-use Rattle.query.specs.Gettable.{lotsNow, orderReading, orderRefusals, ordersRead, readNow, readingWith}
+use Rattle.query.specs.Gettable.{askRefusals, gettableNow, lotsNow, orderReading, orderRefusals, ordersRead, readNow, readingWith}
 use Rattle.query.specs.declared.Reading.{Reading}
 
 order : ℕ → ℕ → ℕ → Order
@@ -66,6 +74,30 @@ from account contract =
 -- the answer in continuous
 now′ : NewOrder → Reading
 now′ o = orderReading (book 1 sells) o
+
+-- ---- a state in memory with one contract and one account, its arrays and areas empty but for these; so many contracts in use
+memoryOf : ℕ → Memory
+memoryOf contracts =
+    record {
+      state = record {
+        contracts = record { multiplier = 10; tick = 1; reference = 110; band = 10; limit = 1_000; rate = 1_000; phase = 0; last = 110 } ∷ [];
+        accounts = record { balance = pos 0; holdings = noHolding ∷ [] } ∷ [];
+        buys = 0 ∷ [];
+        sells = 0 ∷ [];
+        contractcount = contracts;
+        accountcount = 1;
+        tradecount = 0;
+        next = 1;
+        settlements = 0;
+      };
+      buys = replicate 320 0;
+      sells = replicate 320 0;
+      trades = replicate 9_216 0;
+    }
+
+-- 24 bytes of a kind, an account, flags and lots, for contract 1 and no price
+bytes : ℕ → ℕ → ℕ → ℕ → Record
+bytes kind account flags lots = record { kind = kind; account = account; contract = 1; flags = flags; lots = lots; price = 0; number = 0; amount = 0 }
 
 -- an answer beside the code, the lots and the orders read that it must have
 pub data Case : Type 0 where
@@ -124,8 +156,17 @@ table =
     ∷ case (now′ (buyAt 121 1)) 7 0 0
     ∷ case (now′ (buyAt 100 1)) 0 0 1
     ∷ case (now′ (buyAt 99 1)) 7 0 0
+    -- any state and any bytes: 21 before 1, 1 before 2; a kind that does not exist, a pull and an unknown flag give 1
+    ∷ case (gettableNow (memoryOf 0) (bytes 9 0 0 0)) 21 0 0
+    ∷ case (gettableNow (memoryOf 1) (bytes 9 0 0 0)) 1 0 0
+    ∷ case (gettableNow (memoryOf 1) (bytes 5 1 0 0)) 1 0 0
+    ∷ case (gettableNow (memoryOf 1) (bytes 3 0 64 0)) 1 0 0
+    ∷ case (gettableNow (memoryOf 1) (bytes 3 0 0 0)) 2 0 0
+    -- market, immediate or cancel
+    ∷ case (gettableNow (memoryOf 1) (bytes 3 1 20 0)) 5 0 0
+    ∷ case (gettableNow (memoryOf 1) (bytes 3 1 20 5)) 0 0 0
     ∷ []
 
 pub gettable-examples : allRight table ≡ true
-unfolding allRight table order book sells asking buyAt sellAt market best from now′ absent all allowedToday bestPrice dayHigh dayLow fillable fillableLots firstOf listingAt listingOf lotsNow lotsWhere meets onTick orderReading orderRefusals ordersRead priceRefusedBy readNow readingWith sumOf takerOf
+unfolding allRight table order book sells asking buyAt sellAt market best from now′ memoryOf bytes absent accountAt afterLeg ahead aheadOfFirst all allNumbers allOf allowedToday askRefusals balanceInRange bestPrice bits bookLeg bookTrade bookTrades commandOf contractInRange countersInRange countsInRange dayHigh dayLow decode exchangeOf fillable fillableLots firstOf gettableNow hasRoom holdingAt holdingInRange holdingsInRange insertFlags insertOf legCovered listingAt listingIn listingInRange listingOf lotsNow lotsWhere meets neverBelowZero newOrder numbers onTick orderInRange orderReading orderRefusals ordersRead priceCondition priceRefusedBy pullOf queueIn readNow readingWith recordedTrades records replays resting sameHoldings sameLots sorted startOfDay sumOf tabulate takerOf termsInRange tickMultiple timeCondition tradeInRange uncrossed usedOnce wellFormedContents wellFormedMemory zeros
 gettable-examples = refl
