@@ -95,7 +95,7 @@ module _ {s : State} {buys sells trades : List ℕ} (w : WellFormedState s buys 
 -- ---- 24 bytes on any state
 
 -- an insert's order is the one that its bytes hold
-unfoldable orderIn : NewOrder → Command → NewOrder
+abbrev orderIn : NewOrder → Command → NewOrder
 orderIn o Malformed = o
 orderIn o (Deposit account amount) = o
 orderIn o (Withdraw account amount) = o
@@ -108,41 +108,9 @@ orderIn o Settle = o
 either-order : (o : NewOrder) (test : Bool) (d e : Command) → orderIn o (pick test d e) ≡ pick test (orderIn o d) (orderIn o e)
 either-order o test d e = ap-pick (orderIn o) test d e
 
-on-malformed : (o : NewOrder) → orderIn o Malformed ≡ o
-unfolding orderIn
-on-malformed o = refl
-
-on-deposit : (o : NewOrder) (account amount : ℕ) → orderIn o (Deposit account amount) ≡ o
-unfolding orderIn
-on-deposit o account amount = refl
-
-on-withdraw : (o : NewOrder) (account amount : ℕ) → orderIn o (Withdraw account amount) ≡ o
-unfolding orderIn
-on-withdraw o account amount = refl
-
-on-insert : (o p : NewOrder) → orderIn o (Insert p) ≡ p
-unfolding orderIn
-on-insert o p = refl
-
-on-cancel : (o : NewOrder) (account contract : ℕ) (operator : Bool) (number : ℕ) → orderIn o (Cancel account contract operator number) ≡ o
-unfolding orderIn
-on-cancel o account contract operator number = refl
-
-on-pull : (o : NewOrder) (account contract : ℕ) (operator : Bool) → orderIn o (Pull account contract operator) ≡ o
-unfolding orderIn
-on-pull o account contract operator = refl
-
-on-phase : (o : NewOrder) (contract phase : ℕ) → orderIn o (Phase contract phase) ≡ o
-unfolding orderIn
-on-phase o contract phase = refl
-
-on-settle : (o : NewOrder) → orderIn o Settle ≡ o
-unfolding orderIn
-on-settle o = refl
-
 order-in-bytes : (r : Record) → orderIn (newOrder r) (commandOf r) ≡ newOrder r
 unfolding commandOf depositOf withdrawOf insertOf cancelOf pullOf phaseOf settleOf
-order-in-bytes r = simp (either-order, pick-same, on-malformed, on-deposit, on-withdraw, on-insert, on-cancel, on-pull, on-phase, on-settle)
+order-in-bytes r = simp (either-order, pick-same)
 
 -- a command by its tag: an insert has 3
 not-three : OneOf (0 ∷ 1 ∷ 2 ∷ 4 ∷ 5 ∷ 6 ∷ 7 ∷ []) 3 → ⊥
@@ -177,5 +145,5 @@ module _ (m : Memory) (r : Record) where
     pub an-insert : {o : NewOrder} → commandOf r ≡ Insert o → {a : Reading} → a ≡ orderReading (exchangeOf m) o → a ≡ gettableNow m r
     unfolding gettableNow askRefusals orderReading firstOf
     an-insert {o} i {a} q =
-        let same : o ≡ newOrder r = sym (on-insert (newOrder r) o) ∙ ap (orderIn (newOrder r)) (sym i) ∙ order-in-bytes r in
+        let same : o ≡ newOrder r = ap (orderIn (newOrder r)) (sym i) ∙ order-in-bytes r in
         q ∙ ap (orderReading (exchangeOf m)) same ∙ sym (rw (e, i))

@@ -48,6 +48,7 @@ orderRefusals x o =
     ∷ (5 when not (within 1 maxLots (o .lots)))
     -- "market or best with good for day"
     ∷ (6 when (not (isLimit (o .condition)) && isGoodForDay (o .time)))
+    -- "limit price off tick or outside low to high; market or best with a price not 0"
     ∷ (7 when priceRefused (listingOf x o .contract) o)
     ∷ []
 
