@@ -25,7 +25,7 @@ use Rattle.engine.specs.Outcome.{isAbsent, memory, WellFormedState}
 use Rattle.engine.proofs.Formed.{Formed, formed, holding-at, no-account, no-contract}
 use Rattle.engine.proofs.Puts.{trades-count}
 use Rattle.engine.proofs.Refusals.{first-append}
-use Rattle.insertion.proofs.Sides.{contract-is, contract-terms, opposite-is, resting-low, side-is, side-room, side-sorted}
+use Rattle.insertion.proofs.Sides.{contract-is, contract-terms, opposite-facing, opposite-is, resting-low, side-is, side-room}
 use Rattle.engine.proofs.Tests.{place-below}
 
 -- an account's resting lots of the order's own kind serve for both cases of code 8
@@ -170,9 +170,7 @@ module _ {s : State} {buys sells trades : List ℕ} (w : WellFormedState s buys 
 
             module _ {t : Taker} (er : t ≡ takerFor (s .next) (queueIn area (o .contract - 1) count) o) where
               pub facing : Facing t area (k - 1) count
-              facing =
-                  rw (er, ec, ea, is)
-                  (record { queue = side-room m f c (p .contract) (not (o .sell)); order = side-sorted m f c (p .contract) (not (o .sell)); best = refl })
+              facing = rw (er, ec, ea, is) (opposite-facing m f c (p .contract) (s .next) o)
 
               pub recorded-few : s .tradecount ≤ 1_024
               recorded-few = f .trades-high

@@ -2,7 +2,7 @@
 -- accounts in use, and what these accounts hold and have resting is small. Assumes nothing.
 use mathlib.Core.Bool.{Bool, true, false, not}
 use mathlib.Core.List.{List}
-use mathlib.Core.Path.{_≡_, ap}
+use mathlib.Core.Path.{_≡_, refl, ap}
 use Prim.Native.Nat.{ℕ, _+_, _*_, _<_, _≤_}
 use native.Mathlib.Omega.{arith}
 use lib.ListN.{length, getD}
@@ -12,12 +12,13 @@ use Rattle.rules.specs.Bounds.{termsInRange}
 use Rattle.rules.specs.Exchange.{Exchange, Listing, holdingAt, listingAt, noContract, noOrder, opposite, own, resting}
 use Rattle.rules.specs.Memory.{Memory, exchangeOf, listingIn, queueIn}
 use Rattle.rules.specs.WellFormed.{orderInRange, sorted}
+use Rattle.rules.specs.declared.NewOrder.{NewOrder}
 use Rattle.rules.specs.declared.Order.{Order}
 use Rattle.rules.proofs.Codecs.{length-queue}
 use Rattle.rules.proofs.Terms.{terms, terms-passed}
 use Rattle.book.specs.Bounds.{HoldingWithin}
 use Rattle.invariants.proofs.Clauses.{HoldingOk, ListingOk, order-ok}
-use Rattle.insertion.specs.Insertion.{QueueRoom, sideArea, sideCount}
+use Rattle.insertion.specs.Insertion.{Facing, QueueRoom, sideArea, sideCount, takerFor}
 use Rattle.engine.proofs.Formed.{Formed, accounts-count, contracts-count, holding-at, listing-at}
 
 module _ (m : Memory) (f : Formed m) (c : ℕ) (h : c < m .state .contractcount) where
@@ -55,6 +56,10 @@ module _ (m : Memory) (f : Formed m) (c : ℕ) (h : c < m .state .contractcount)
 
   pub side-sorted : (side : Bool) → sorted side (queueOf side) ≡ true
   side-sorted side = rw (← side-is side) (listing .order side)
+
+  -- an order meets the queue opposite it, best price first
+  pub opposite-facing : (next : ℕ) (o : NewOrder) → Facing (takerFor next (queueOf (not (o .sell))) o) (sideArea (not (o .sell)) (m .buys) (m .sells)) c (sideCount (not (o .sell)) (m .state) c)
+  opposite-facing next o = record { queue = side-room (not (o .sell)); order = side-sorted (not (o .sell)); best = refl }
 
   pub side-account : (side : Bool) (i : ℕ) → i < sideCount side (m .state) c → getD (queueOf side) i noOrder .account < m .state .accountcount
   side-account side i l =

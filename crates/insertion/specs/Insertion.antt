@@ -33,14 +33,17 @@ use Rattle.matching.specs.declared.entry.Entry.{Entry}
 abbrev pub dayWithoutLimit : PriceCondition → TimeCondition → Bool
 dayWithoutLimit condition time = not (isLimit condition) && isGoodForDay time
 
--- 4 to 7: the contract's phase and terms, and the order's own fields
-unfoldable pub termsRefusals : Contract → NewOrder → List Refusal
-termsRefusals c o =
-    (4 when not (eqb (c .phase) 1))
-    ∷ (5 when not (within 1 maxLots (o .lots)))
+-- 5 to 7: the order's own fields, by the contract's terms
+abbrev pub fieldsRefusals : Contract → NewOrder → List Refusal
+fieldsRefusals c o =
+    (5 when not (within 1 maxLots (o .lots)))
     ∷ (6 when dayWithoutLimit (o .condition) (o .time))
     ∷ (7 when priceRefused c o)
     ∷ []
+
+-- 4 to 7: the contract's phase, then the fields
+unfoldable pub termsRefusals : Contract → NewOrder → List Refusal
+termsRefusals c o = (4 when not (eqb (c .phase) 1)) ∷ fieldsRefusals c o
 
 -- 8, with the account's resting lots on the order's own side: opens of an open, closes of a close
 unfoldable pub lotsRefused : Contract → Holding → ℕ → NewOrder → Bool

@@ -9,7 +9,7 @@ ghost use Rattle.rules.specs.Bounds.{termsInRange};
 ghost use Rattle.rules.specs.Matching as matching;
 ghost use Rattle.rules.specs.Memory.{exchangeOf, queueIn};
 ghost use Rattle.rules.specs.declared.Command.the-variants.{Insert};
-ghost use Rattle.insertion.specs.Insertion.{dayWithoutLimit, termsRefusals, lotsRefused, killRefused, tradesRefused, fullRefused, accountRefusals, bookRefusals, Present, QueueRoom, Facing};
+ghost use Rattle.insertion.specs.Insertion.{dayWithoutLimit, fieldsRefusals, termsRefusals, lotsRefused, killRefused, tradesRefused, fullRefused, accountRefusals, bookRefusals, Present, QueueRoom, Facing};
 ghost use Rattle.engine.specs.Outcome.{memory, WellFormedState};
 use crate::orders;
 use engine::answers;
@@ -43,16 +43,14 @@ fn price_refused(terms: Contract, condition: PriceCondition, price: u32) -> bool
     }
 }
 
-// Codes 4 to 7, 0 where none holds.
-fn terms_code(terms: Contract, o: NewOrder) -> u32
+// Codes 5 to 7, 0 where none holds: what an order's own fields are refused for, whatever its contract's state. Another crate asks
+// for it too.
+pub fn fields_code(terms: Contract, o: NewOrder) -> u32
     requires { ⌜ termsInRange terms ≡ true ⌝ }
-    ensures { λ r. ⌜ r ≡ answer.firstOf (termsRefusals terms o) ⌝ }
+    ensures { λ r. ⌜ r ≡ answer.firstOf (fieldsRefusals terms o) ⌝ }
 {
     let condition = o.condition;
     let time = o.time;
-    if terms.phase != 1 {
-        return 4;
-    }
     if !terms::within(1, 1000, o.lots) {
         return 5;
     }
@@ -63,6 +61,17 @@ fn terms_code(terms: Contract, o: NewOrder) -> u32
         return 7;
     }
     0
+}
+
+// Codes 4 to 7, 0 where none holds.
+fn terms_code(terms: Contract, o: NewOrder) -> u32
+    requires { ⌜ termsInRange terms ≡ true ⌝ }
+    ensures { λ r. ⌜ r ≡ answer.firstOf (termsRefusals terms o) ⌝ }
+{
+    if terms.phase != 1 {
+        return 4;
+    }
+    fields_code(terms, o)
 }
 
 // 8: an open may not lift holding and resting opens above the limit, a close may not exceed what is held less resting closes.

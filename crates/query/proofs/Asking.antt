@@ -1,0 +1,149 @@
+-- From the tests as the code makes them to the answer of the rules: an order on a well-formed state, and 24 bytes on any. Assumes
+-- nothing.
+use mathlib.Core.Bool.{Bool, true, false, not}
+use mathlib.Core.List.{List, [], _∷_}
+use mathlib.Core.Logic.{inl, inr}
+use mathlib.Core.Path.{_≡_, refl, sym, ap, _∙_}
+use Prim.Native.Nat.{ℕ, _-_}
+use native.Mathlib.Omega.{arith}
+use borrow.Author.Tests.{ne-eqb}
+use denote.Enum.Declared.{tagOf}
+use lib.ListN.{getD}
+use types.Run.{OneOf}
+use Rattle.laws.specs.Choice.{ap-pick, pick, pick-same}
+use Rattle.rules.specs.Answers.{fillableLots, firstOf, listingOf, takerOf}
+use Rattle.rules.specs.Command.{commandOf, cancelOf, depositOf, insertOf, newOrder, phaseOf, pullOf, settleOf, withdrawOf}
+use Rattle.rules.specs.Exchange.{Exchange, noContract, opposite, placeOf}
+use Rattle.rules.specs.Matching.{sweep, tradedLots}
+use Rattle.rules.specs.Memory.{Memory, exchangeOf, queueIn, wellFormedMemory}
+use Rattle.rules.specs.declared.Command.{Command}
+use Rattle.rules.specs.declared.Command.the-variants.{Malformed, Deposit, Withdraw, Insert, Cancel, Pull, Phase, Settle}
+use Rattle.rules.specs.declared.NewOrder.{NewOrder}
+use Rattle.rules.specs.declared.Record.{Record}
+use Rattle.rules.specs.declared.State.{State}
+use Rattle.rules.specs.declared.Taker.{Taker}
+use Rattle.rules.proofs.Command.{the-type}
+use Rattle.rules.proofs.Fillable.{swept-fillable}
+use Rattle.engine.specs.Outcome.{isAbsent, memory, WellFormedState}
+use Rattle.engine.proofs.Formed.{Formed, formed, no-account, no-contract}
+use Rattle.insertion.specs.Insertion.{Facing, Present, QueueRoom, fieldsRefusals, sideArea, sideCount, takerFor}
+use Rattle.insertion.proofs.Sides.{contract-is, opposite-facing, opposite-is}
+use Rattle.query.specs.Gettable.{GatheredIs, askRefusals, gettableNow, isInsert, lotsNow, orderReading, orderRefusals, readNow, readingWith, refusedReading}
+use Rattle.query.specs.declared.Reading.{Reading}
+use Rattle.query.specs.declared.scan.Gathered.{Gathered}
+
+-- ---- an order on a well-formed state
+
+module _ {s : State} {buys sells trades : List ℕ} (w : WellFormedState s buys sells trades) (o : NewOrder) where
+  abbrev m : Memory
+  m = memory s buys sells trades
+
+  abbrev x : Exchange
+  x = exchangeOf m
+
+  f : Formed m
+  f = formed w
+
+  abbrev c : ℕ
+  c = placeOf (o .contract)
+
+  in-parts : firstOf (orderRefusals x o) ≡ pick (isAbsent (o .account) (s .accountcount)) 2 (pick (isAbsent (o .contract) (s .contractcount)) 3 (firstOf (fieldsRefusals (listingOf x o .contract) o)))
+  unfolding firstOf orderRefusals
+  in-parts = rw (no-account m f (o .account), no-contract m f (o .contract))
+
+  pub no-such-account : isAbsent (o .account) (s .accountcount) ≡ true → refusedReading 2 ≡ orderReading x o
+  unfolding orderReading readingWith
+  no-such-account e = sym (rw (in-parts, e))
+
+  module _ (e : isAbsent (o .account) (s .accountcount) ≡ false) where
+    pub no-such-contract : isAbsent (o .contract) (s .contractcount) ≡ true → refusedReading 3 ≡ orderReading x o
+    unfolding orderReading readingWith
+    no-such-contract g = sym (rw (in-parts, e, g))
+
+    -- k is the contract's number as the code widens it
+    module _ (g : isAbsent (o .contract) (s .contractcount) ≡ false) (p : Present s o) {k : ℕ} (is : k ≡ o .contract) {fields : ℕ}
+        (ef : fields ≡ firstOf (fieldsRefusals (getD (s .contracts) (k - 1) noContract) o)) where
+      code-is : firstOf (orderRefusals x o) ≡ fields
+      unfolding listingOf
+      code-is = in-parts ∙ rw (e, g, ef, is, contract-is m f c (p .contract))
+
+      pub refused-fields : (fields ≡ 0 → ⊥) → refusedReading fields ≡ orderReading x o
+      unfolding orderReading readingWith
+      refused-fields some = sym (rw (code-is, ne-eqb fields 0 some))
+
+      module _ {area : List ℕ} {count : ℕ} (ea : area ≡ sideArea (not (o .sell)) buys sells) (ec : count ≡ sideCount (not (o .sell)) s (k - 1)) where
+        pub room : QueueRoom area (o .contract - 1) count
+        room = rw (ec, ea, is) (opposite-facing m f c (p .contract) (s .next) o .queue)
+
+        module _ {t : Taker} (et : t ≡ takerFor (s .next) (queueIn area (o .contract - 1) count) o) where
+          pub facing : Facing t area (k - 1) count
+          facing = rw (et, ec, ea, is) (opposite-facing m f c (p .contract) (s .next) o)
+
+          pub answered : fields ≡ 0 → {r : Gathered} → GatheredIs t (o .lots) (queueIn area (k - 1) count) r
+              → record { code = 0; lots = r .lots; read = r .read } ≡ orderReading x o
+          unfolding orderReading readingWith lotsNow readNow fillableLots takerOf listingOf exchangeOf
+          answered passed {r} gathered =
+              rw (gathered .lots, gathered .read, et, ec, ea, is) (sym (rw (code-is, passed, opposite-is m f c (p .contract) (o .sell))))
+
+  -- the lots to be had are those that the sweep would trade, whatever the last price
+  pub would-trade : Present s o → (last : ℕ) → tradedLots (sweep (takerOf x o) (o .lots) last (opposite (o .sell) (listingOf x o)) .trades) ≡ lotsNow x o
+  unfolding lotsNow fillableLots takerOf listingOf
+  would-trade p last =
+      let met = opposite-facing m f c (p .contract) (x .next) o in
+      rw (opposite-is m f c (p .contract) (o .sell)) (swept-fillable _ (o .lots) last _ (met .order) (met .best))
+
+-- ---- 24 bytes on any state
+
+-- an insert's order is the one that its bytes hold
+abbrev orderIn : NewOrder → Command → NewOrder
+orderIn o Malformed = o
+orderIn o (Deposit account amount) = o
+orderIn o (Withdraw account amount) = o
+orderIn o (Insert p) = p
+orderIn o (Cancel account contract operator number) = o
+orderIn o (Pull account contract operator) = o
+orderIn o (Phase contract phase) = o
+orderIn o Settle = o
+
+either-order : (o : NewOrder) (test : Bool) (d e : Command) → orderIn o (pick test d e) ≡ pick test (orderIn o d) (orderIn o e)
+either-order o test d e = ap-pick (orderIn o) test d e
+
+order-in-bytes : (r : Record) → orderIn (newOrder r) (commandOf r) ≡ newOrder r
+unfolding commandOf depositOf withdrawOf insertOf cancelOf pullOf phaseOf settleOf
+order-in-bytes r = simp (either-order, pick-same)
+
+-- a command by its tag: an insert has 3
+not-three : OneOf (0 ∷ 1 ∷ 2 ∷ 4 ∷ 5 ∷ 6 ∷ 7 ∷ []) 3 → ⊥
+not-three (inl e) = omega arith
+not-three (inr (inl e)) = omega arith
+not-three (inr (inr (inl e))) = omega arith
+not-three (inr (inr (inr (inl e)))) = omega arith
+not-three (inr (inr (inr (inr (inl e))))) = omega arith
+not-three (inr (inr (inr (inr (inr (inl e)))))) = omega arith
+not-three (inr (inr (inr (inr (inr (inr e)))))) = omega arith
+
+pub other-kind : (d : Command) → OneOf (0 ∷ 1 ∷ 2 ∷ 4 ∷ 5 ∷ 6 ∷ 7 ∷ []) (tagOf the-type d) → isInsert d ≡ false
+other-kind Malformed h = refl
+other-kind (Deposit account amount) h = refl
+other-kind (Withdraw account amount) h = refl
+other-kind (Insert o) h = absurd (not-three h)
+other-kind (Cancel account contract operator number) h = refl
+other-kind (Pull account contract operator) h = refl
+other-kind (Phase contract phase) h = refl
+other-kind Settle h = refl
+
+module _ (m : Memory) (r : Record) where
+  pub not-formed : wellFormedMemory m ≡ false → refusedReading 21 ≡ gettableNow m r
+  unfolding gettableNow readingWith askRefusals firstOf
+  not-formed e = sym (rw e)
+
+  module _ (e : wellFormedMemory m ≡ true) where
+    pub no-insert : isInsert (commandOf r) ≡ false → refusedReading 1 ≡ gettableNow m r
+    unfolding gettableNow readingWith askRefusals firstOf
+    no-insert i = sym (rw (e, i))
+
+    pub an-insert : {o : NewOrder} → commandOf r ≡ Insert o → {a : Reading} → a ≡ orderReading (exchangeOf m) o → a ≡ gettableNow m r
+    unfolding gettableNow askRefusals orderReading firstOf
+    an-insert {o} i {a} q =
+        let same : o ≡ newOrder r = ap (orderIn (newOrder r)) (sym i) ∙ order-in-bytes r in
+        q ∙ ap (orderReading (exchangeOf m)) same ∙ sym (rw (e, i))

@@ -1,0 +1,2 @@
+pub mod Gettable
+pub mod GettableExamples

@@ -1,0 +1,89 @@
+// How much could I get? What an order would trade now, asked without sending it: the areas are lent for reading only, and nothing is
+// changed.
+ghost use mathlib.Core.Path.{_≡_};
+ghost use Rattle.rules.specs.DayFile.{recordFrom};
+ghost use Rattle.rules.specs.Memory.{exchangeOf};
+ghost use Rattle.engine.specs.Outcome.{memory, WellFormedState};
+ghost use Rattle.query.specs.Gettable.{gettableNow, orderReading, refusedReading};
+use engine::answers;
+use insertion::codes;
+use insertion::orders;
+use rules::Command;
+use rules::NewOrder;
+use rules::State;
+
+pub mod scan;
+
+// The code, the lots that would trade, and the number of resting orders read to know it.
+pub struct Reading {
+    pub code: u32,
+    pub lots: u32,
+    pub read: usize,
+}
+
+// "both numbers are then 0"
+fn refused(code: u32) -> Reading
+    ensures { λ r. ⌜ r ≡ refusedReading code ⌝ }
+{
+    Reading {
+        code,
+        lots: 0,
+        read: 0,
+    }
+}
+
+// An order on a well-formed state. Its contract's state and its time condition are not looked at beyond code 6.
+fn reading_of<'a>(
+    state: State,
+    buys: &'a [u32],
+    sells: &'a [u32],
+    trades: &'a [u32],
+    o: NewOrder,
+) -> Reading
+    requires { ⌜ WellFormedState state (now buys) (now sells) (now trades) ⌝ }
+    ensures { λ r. ⌜ r ≡ orderReading (exchangeOf (memory state (now (buys .entry)) (now (sells .entry)) (now (trades .entry)))) o ⌝ }
+{
+    if answers::is_absent(o.account, state.accountcount) {
+        return refused(2);
+    }
+    if answers::is_absent(o.contract, state.contractcount) {
+        return refused(3);
+    }
+    let c = laws::wide(o.contract) - 1;
+    let contracts = state.contracts;
+    let terms = contracts[c];
+    let fields = codes::fields_code(terms, o);
+    if fields != 0 {
+        return refused(fields);
+    }
+    let area = orders::side_area(!o.sell, buys, sells);
+    let count = orders::side_count(!o.sell, state, c);
+    let t = orders::taker_of(state.next, area, count, o);
+    let g = scan::gather(area, c, count, t, o.lots);
+    Reading {
+        code: 0,
+        lots: g.lots,
+        read: g.read,
+    }
+}
+
+// A call for users: it answers on anything. The order is asked for by the 24 bytes that would insert it.
+pub fn gettable<'a>(
+    state: State,
+    buys: &'a [u32],
+    sells: &'a [u32],
+    trades: &'a [u32],
+    bytes: [u8; 24],
+) -> Reading
+    ensures { λ r. ⌜ r ≡ gettableNow (memory state (now (buys .entry)) (now (sells .entry)) (now (trades .entry))) (recordFrom bytes 0) ⌝ }
+{
+    if !audit::well_formed(state, buys, sells, trades) {
+        return refused(21);
+    }
+    let record = dayfile::bytes::record_at(&bytes[..], 0);
+    let command = commands::command_of(record);
+    let Command::Insert(o) = command else {
+        return refused(1);
+    };
+    reading_of(state, buys, sells, trades, o)
+}
