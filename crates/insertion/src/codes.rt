@@ -273,13 +273,14 @@ pub fn code_of<'a>(
     if fields != 0 {
         return fields;
     }
+    // read before margin is charged, as in `insert`
+    let own = orders::side_count(o.sell, state, c);
+    let count = orders::side_count(!o.sell, state, c);
     let account = account_code(state, buys, sells, trades, o);
     if account != 0 {
         return account;
     }
-    let own = orders::side_count(o.sell, state, c);
     let area = orders::side_area(!o.sell, buys, sells);
-    let count = orders::side_count(!o.sell, state, c);
     let t = orders::taker_of(state.next, area, count, o);
     book_code(state, own, area, c, count, t, o)
 }
