@@ -1,6 +1,6 @@
 -- The legs of the day's trades on one side of a holding, trade by trade, as the two passes of the profit add them up, and the
 -- bounds of those sums. Assumes nothing.
-use mathlib.Core.Bool.{Bool, true, false, not, _&&_}
+use mathlib.Core.Bool.{Bool, true, false, not, _&&_, true≢false, false≢true}
 use mathlib.Core.List.{List, [], _∷_, _++_, append-nil, append-assoc}
 use mathlib.Core.Path.{_≡_, refl, sym, ap, _∙_}
 use Prim.Native.Nat.{ℕ, _+_, _-_, _*_, _<_, _≤_, min}
@@ -52,6 +52,10 @@ module _ (f : Leg → ℕ) where
 pick-both : {A : Type 0} (a b : Bool) (x y : A) → pick a (pick b x y) y ≡ pick (a && b) x y
 pick-both true b x y = refl
 pick-both false b x y = refl
+
+pick-none : (a b : Bool) (n : ℕ) → pick (a && false && b) n 0 ≡ 0
+pick-none true b n = refl
+pick-none false b n = refl
 
 pick-times : (a : Bool) (p n : ℕ) → pick a (p * n) 0 ≡ p * pick a n 0
 pick-times true p n = refl
@@ -113,7 +117,7 @@ module _ (a c : ℕ) (t : Trade) where
       opened-only true buys (buyLeg t) (only sells (sellLeg t) ++ [])
       ∙ rw (opened-only true sells (sellLeg t) [], pick-same {A = List Batch} buys [], pick-both {A = List Batch} sells (same false (closeOf true t)), append-nil)
 
-  -- as the code tests it: contract, account, open or close
+  -- as the code tests it: account, contract, open or close
   module _ (sell close : Bool) where
     abbrev pub legLots : ℕ
     legLots = sumOf (lotsIf sell close) (legs a c (t ∷ []))
@@ -121,11 +125,13 @@ module _ (a c : ℕ) (t : Trade) where
     tests : (x y z : Bool) → eqb (t .contract) c ≡ x → eqb (partyOf sell t) a ≡ y → same close (closeOf sell t) ≡ z → pick (x && y && z) (t .lots) 0 ≡ legLots
     tests x y z e f g = sym (lots-one sell close ∙ rw (e, f, g))
 
+    pub other-party : (p : ℕ) → p ≡ partyOf sell t → (p ≡ a → ⊥) → 0 ≡ legLots
+    other-party p e apart =
+        sym (pick-none (eqb (t .contract) c) (same close (closeOf sell t)) (t .lots))
+        ∙ tests _ false _ refl (ne-eqb (partyOf sell t) a (λ q. apart (e ∙ q))) refl
+
     pub other-contract : (t .contract ≡ c → ⊥) → 0 ≡ legLots
     other-contract apart = tests false _ _ (ne-eqb (t .contract) c apart) refl refl
-
-    pub other-party : (p : ℕ) → t .contract ≡ c → p ≡ partyOf sell t → (p ≡ a → ⊥) → 0 ≡ legLots
-    other-party p here e apart = tests true false _ (eq-eqb (t .contract) c here) (ne-eqb (partyOf sell t) a (λ q. apart (e ∙ q))) refl
 
     module _ (p m : ℕ) (k : Bool) (here : t .contract ≡ c) (e : p ≡ partyOf sell t) (whose : p ≡ a) (f : m ≡ pick sell (t .sellclose) (t .buyclose))
         (g : k ≡ same close (not (eqb m 0))) where
@@ -137,6 +143,15 @@ module _ (a c : ℕ) (t : Trade) where
 
       pub this-leg : not k ≡ false → t .lots ≡ legLots
       this-leg h = tests true true true (eq-eqb (t .contract) c here) (eq-eqb (partyOf sell t) a (sym e ∙ whose)) (kind ∙ says-open k ∙ ap not h)
+
+-- what the test says of the lots
+pub leg-counts : (r : Bool) (n m : ℕ) → pick r n 0 ≡ m → not r ≡ false → n ≡ m
+leg-counts true n m e h = e
+leg-counts false n m e h = absurd (true≢false h)
+
+pub leg-skipped : (r : Bool) (n m : ℕ) → pick r n 0 ≡ m → not r ≡ true → 0 ≡ m
+leg-skipped true n m e h = absurd (false≢true h)
+leg-skipped false n m e h = e
 
 -- ---- one trade more
 

@@ -64,20 +64,21 @@ fn is_kind(mark: u32, close: bool) -> bool
     if close { mark != 0 } else { mark == 0 }
 }
 
-// The lots of a trade's buy or sell leg, where it is this account's in this contract and opens or closes as asked.
-fn leg_lots(t: Trade, a: u32, c: u32, sell: bool, close: bool) -> u32
-    ensures { λ r. ⌜ r ≡ sumOf (lotsIf sell close) (legs a c (t ∷ [])) ⌝ }
+// Whether a trade's buy or sell leg is this account's in this contract and opens or closes as asked. Few legs are the account's, so
+// that is tested first.
+fn is_leg(t: Trade, a: u32, c: u32, sell: bool, close: bool) -> bool
+    ensures { λ r. ⌜ pick r (t .lots) 0 ≡ sumOf (lotsIf sell close) (legs a c (t ∷ [])) ⌝ }
 {
-    if t.contract != c {
-        return 0;
-    }
     if party(t, sell) != a {
-        return 0;
+        return false;
+    }
+    if t.contract != c {
+        return false;
     }
     if !is_kind(mark(t, sell), close) {
-        return 0;
+        return false;
     }
-    t.lots
+    true
 }
 
 // First pass: the closing legs.
@@ -91,11 +92,11 @@ fn closing_legs(area: &[u32], count: usize, a: u32, c: u32, short: bool) -> Clos
     let mut i: usize = 0;
     while i < count {
         let t = trades::trade_at(area, i);
-        let size = leg_lots(t, a, c, sell, true);
-        if size == 0 {
+        if !is_leg(t, a, c, sell, true) {
             i += 1;
             continue;
         }
+        let size = t.lots;
         let price = t.price as u64;
         lots += size;
         value += price * size as u64;
@@ -116,11 +117,11 @@ fn opening_legs(area: &[u32], count: usize, a: u32, c: u32, short: bool, closed:
     let mut i: usize = 0;
     while i < count {
         let t = trades::trade_at(area, i);
-        let size = leg_lots(t, a, c, short, false);
-        if size == 0 {
+        if !is_leg(t, a, c, short, false) {
             i += 1;
             continue;
         }
+        let size = t.lots;
         let taken = laws::smaller(skip, size);
         let left = size - taken;
         let price = t.price as u64;

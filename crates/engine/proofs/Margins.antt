@@ -11,7 +11,7 @@ use Rattle.rules.specs.Memory.{Memory, exchangeOf, listingIn}
 use Rattle.rules.specs.declared.Contract.{Contract}
 use Rattle.rules.proofs.Terms.{Terms, terms, terms-passed}
 use Rattle.invariants.proofs.Clauses.{HoldingOk, ListingOk}
-use Rattle.margin.specs.Charge.{ChargeTerms, ChargeableIn, Chargeable}
+use Rattle.margin.specs.Charge.{ChargeTerms, ChargeableIn, ChargeableAt}
 use Rattle.margin.proofs.Charging.{chargedAt, charged-more, charged-small}
 use Rattle.engine.proofs.Formed.{Formed, contracts-count, accounts-count, listing-at, holding-at}
 
@@ -50,8 +50,8 @@ module _ (m : Memory) (f : Formed m) where
           short = omega (arith, k .opens true, t .limit-high);
         }
 
-    pub chargeable : Chargeable (m .state) (m .buys) (m .sells) a
-    chargeable = record { account = here; accounts = f .accounts-high; contracts = f .contracts-high; each = in-contract }
+    pub chargeable : ChargeableAt (m .state) (m .buys) (m .sells) a
+    chargeable = record { account = omega (arith, here, f .accounts-high); few = f .contracts-high; each = in-contract }
 
     charged-to : (n : ℕ) → n ≤ m .state .contractcount → chargedTo (exchangeOf m) a n ≤ 200_000_000_000_000 * n
     charged-to zero h = unfold chargedTo in omega arith

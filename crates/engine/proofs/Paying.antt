@@ -14,13 +14,14 @@ use Rattle.laws.specs.Choice.{both-true, pick}
 use Rattle.rules.specs.Answers.{amountRefused, codeOf, depositRefusals, firstOf, liftsTooHigh, refusals, withdrawRefusals}
 use Rattle.rules.specs.Bounds.{within, maxAmount}
 use Rattle.rules.specs.Exchange.{accountAt, noAccount}
-use Rattle.rules.specs.Margin.{available}
+use Rattle.rules.specs.Margin.{available, charged}
 use Rattle.rules.specs.Memory.{Memory, exchangeOf, inUse, put, stepIn}
 use Rattle.rules.specs.Step.{carriedOut, deposited, paid, withBalance, withdrawn}
 use Rattle.rules.specs.declared.Account.{Account}
 use Rattle.rules.specs.declared.Command.the-variants.{Deposit, Withdraw}
 use Rattle.rules.specs.declared.State.{State}
-use Rattle.margin.specs.Charge.{Chargeable, ChargedIs}
+use Rattle.margin.specs.Charge.{ChargeableAt, ChargedAt}
+use Rattle.margin.proofs.Charging.{charged-at}
 use Rattle.engine.specs.Outcome.{isAbsent, memory, WellFormedState, OutcomeIs, refusedWith, acceptedWith, withBalanceAt}
 use Rattle.engine.specs.declared.answers.Outcome.{Outcome}
 use Rattle.engine.proofs.Formed.{Formed, formed, no-account, account-at, account-put, balance-within}
@@ -67,11 +68,14 @@ module _ {s : State} {buys sells trades : List ℕ} (w : WellFormedState s buys 
       balance-fits = rw is (balance-within m f (account - 1) here)
 
       -- the account can be charged, and what is charged is small
-      pub account-chargeable : Chargeable s buys sells (k - 1)
+      pub account-chargeable : ChargeableAt s buys sells (k - 1)
       account-chargeable = rw is (chargeable m f (account - 1) here)
 
-      pub charged-fits : {charged : ℕ} → ChargedIs s buys sells (k - 1) charged → charged ≤ 10 ^ 15
-      charged-fits c = rw (c .charged trades, is) (charged-high m f (account - 1) here)
+      charged-is : {total : ℕ} → ChargedAt s buys sells (k - 1) total → total ≡ charged (exchangeOf m) (account - 1)
+      charged-is c = charged-at s buys sells (k - 1) _ (rw is here) c trades ∙ rw is
+
+      pub charged-fits : {total : ℕ} → ChargedAt s buys sells (k - 1) total → total ≤ 10 ^ 15
+      charged-fits c = rw (charged-is c) (charged-high m f (account - 1) here)
 
   -- ---- deposit
 
@@ -133,13 +137,13 @@ module _ {s : State} {buys sells trades : List ℕ} (w : WellFormedState s buys 
       withdraw-amount a = withdraw-refused 16 (omega arith) (rw (withdraw-code, present, a))
 
       module _ (right : amountRefused amount ≡ false) {k : ℕ} (is : k ≡ account) where
-        module _ {charged : ℕ} (c : ChargedIs s buys sells (k - 1) charged) where
+        module _ {total : ℕ} (c : ChargedAt s buys sells (k - 1) total) where
           abbrev left : ℤ
-          left = getD (s .accounts) (k - 1) noAccount .balance -ℤ pos charged
+          left = getD (s .accounts) (k - 1) noAccount .balance -ℤ pos total
 
           available-is : available (exchangeOf m) (account - 1) ≡ left
           unfolding available
-          available-is = rw (c .charged trades, is, balance-is present)
+          available-is = rw (charged-is present is c, is, balance-is present)
 
           pub withdraw-short : {r : Outcome} → ltZ left (pos amount) ≡ true → r ≡ refusedWith s 9 → WithdrawIs r
           withdraw-short h = withdraw-refused 9 (omega arith) (rw (withdraw-code, present, right, available-is, h))

@@ -87,7 +87,20 @@ pub fn withdraw<'a>(
     let place = laws::wide(account) - 1;
     let who = state.accounts[place];
     let balance = who.balance;
-    let charged = margin::charged(state, buys, sells, place);
+    let holdings = who.holdings;
+    let terms = state.contracts;
+    let bids = state.buys;
+    let offers = state.sells;
+    let charged = margin::charged(
+        holdings,
+        terms,
+        state.contractcount,
+        buys,
+        bids,
+        sells,
+        offers,
+        place,
+    );
     if margin::too_little(balance, charged, amount) {
         return answers::refused(state, 9);
     }

@@ -2,10 +2,12 @@
 // for what they read of it.
 ghost use mathlib.Core.Bool.{true};
 ghost use mathlib.Core.Path.{_≡_};
-ghost use Prim.Native.Nat.{_≤_};
+ghost use Prim.Native.Nat.{_-_, _≤_};
 ghost use lib.Dec.{ltb};
+ghost use lib.ListN.{getD};
 ghost use Rattle.rules.specs.Answers as answer;
 ghost use Rattle.rules.specs.Bounds.{termsInRange};
+ghost use Rattle.rules.specs.Exchange.{noAccount};
 ghost use Rattle.rules.specs.Matching as matching;
 ghost use Rattle.rules.specs.Memory.{exchangeOf, queueIn};
 ghost use Rattle.rules.specs.declared.Command.the-variants.{Insert};
@@ -13,6 +15,7 @@ ghost use Rattle.insertion.specs.Insertion.{dayWithoutLimit, fieldsRefus
 ghost use Rattle.engine.specs.Outcome.{memory, WellFormedState};
 use crate::orders;
 use engine::answers;
+use rules::Account;
 use rules::Contract;
 use rules::Holding;
 use rules::NewOrder;
@@ -90,26 +93,40 @@ fn lots_refused(terms: Contract, h: Holding, rested: u64, o: NewOrder) -> bool
     laws::wide32(terms.limit) < laws::wide32(held) + rested + lots
 }
 
-// 9: "open .. too little available": an open needs the charge times its lots. A close is never refused for money.
+// 9: "open .. too little available": an open needs the charge times its lots. A close is never refused for money. `who` is the
+// order's account.
 fn money_refused<'a>(
     state: State,
+    who: Account,
     buys: &'a [u32],
     sells: &'a [u32],
     trades: &'a [u32],
     o: NewOrder,
 ) -> bool
-    requires { ⌜ WellFormedState state (now buys) (now sells) (now trades) × Present state o × (o .lots ≤ 1000) ⌝ }
+    requires { ⌜ WellFormedState state (now buys) (now sells) (now trades) × Present state o × (o .lots ≤ 1000) × (getD (state .accounts) (o .account - 1) noAccount ≡ who) ⌝ }
     ensures { λ r. ⌜ r ≡ answer.moneyRefused (exchangeOf (memory state (now (buys .entry)) (now (sells .entry)) (now (trades .entry)))) o ⌝ }
 {
     if o.close {
         return false;
     }
     let c = laws::wide(o.contract) - 1;
-    let terms = state.contracts[c];
+    let contracts = state.contracts;
+    let terms = contracts[c];
     let a = laws::wide(o.account) - 1;
-    let who = state.accounts[a];
     let balance = who.balance;
-    let charged = margin::charged(state, buys, sells, a);
+    let holdings = who.holdings;
+    let bids = state.buys;
+    let offers = state.sells;
+    let charged = margin::charged(
+        holdings,
+        contracts,
+        state.contractcount,
+        buys,
+        bids,
+        sells,
+        offers,
+        a,
+    );
     let needed = margin::charge(terms) * laws::wide32(o.lots);
     margin::too_little(balance, charged, needed)
 }
@@ -126,9 +143,11 @@ fn account_code<'a>(
     ensures { λ r. ⌜ r ≡ answer.firstOf (accountRefusals (exchangeOf (memory state (now (buys .entry)) (now (sells .entry)) (now (trades .entry)))) o) ⌝ }
 {
     let c = laws::wide(o.contract) - 1;
-    let terms = state.contracts[c];
+    let contracts = state.contracts;
+    let terms = contracts[c];
     let a = laws::wide(o.account) - 1;
-    let who = state.accounts[a];
+    let accounts = state.accounts;
+    let who = accounts[a];
     let h = who.holdings[c];
     let own = orders::side_area(o.sell, buys, sells);
     let count = orders::side_count(o.sell, state, c);
@@ -136,7 +155,7 @@ fn account_code<'a>(
     if lots_refused(terms, h, rested, o) {
         return 8;
     }
-    if money_refused(state, buys, sells, trades, o) {
+    if money_refused(state, who, buys, sells, trades, o) {
         return 9;
     }
     0
@@ -263,13 +282,14 @@ pub fn code_of<'a>(
     if fields != 0 {
         return fields;
     }
+    // read before margin is charged, as in `insert`
+    let own = orders::side_count(o.sell, state, c);
+    let count = orders::side_count(!o.sell, state, c);
     let account = account_code(state, buys, sells, trades, o);
     if account != 0 {
         return account;
     }
-    let own = orders::side_count(o.sell, state, c);
     let area = orders::side_area(!o.sell, buys, sells);
-    let count = orders::side_count(!o.sell, state, c);
     let t = orders::taker_of(state.next, area, count, o);
     book_code(state, own, area, c, count, t, o)
 }

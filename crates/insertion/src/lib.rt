@@ -89,13 +89,14 @@ pub fn insert(
     requires { ⌜ WellFormedState state (now buys) (now sells) (now trades) ⌝ }
     ensures { λ r. ⌜ OutcomeIs (stepIn (memory state (now (buys .entry)) (now (sells .entry)) (now (trades .entry))) (Insert o)) r (now (buys .exit)) (now (sells .exit)) (now (trades .exit)) ⌝ }
 {
+    // read before the first call: for what is read of the state after one, the compiler keeps a copy of the state
+    let bids = state.buys;
+    let offers = state.sells;
     let refusal = codes::code_of(state, &buys[..], &sells[..], &trades[..], o);
     if refusal != 0 {
         return answers::refused(state, refusal);
     }
     let c = laws::wide(o.contract) - 1;
-    let bids = state.buys;
-    let offers = state.sells;
     let bought = bids[c];
     let sold = offers[c];
     if o.sell {

@@ -1,6 +1,6 @@
 -- Charged margin contract by contract, as a loop adds it up, and its bounds. Assumes nothing.
-use mathlib.Core.List.{List, []}
-use mathlib.Core.Path.{_≡_, refl, ap, _∙_}
+use mathlib.Core.List.{List}
+use mathlib.Core.Path.{_≡_, refl, sym, ap, _∙_}
 use Prim.Native.Nat.{ℕ, zero, suc, _+_, _*_, _<_, _≤_}
 use native.Mathlib.Nat.{mul-le-mul-left, mul-le-mul-right, le-trans, le-of-eq}
 use native.Mathlib.Numerals.{add-one}
@@ -20,7 +20,7 @@ use Rattle.rules.specs.declared.Contract.{Contract}
 use Rattle.rules.specs.declared.Holding.{Holding}
 use Rattle.rules.specs.declared.State.{State}
 use Rattle.rules.proofs.InUse.{contracts-in-use, listing-in-use, holding-in-use}
-use Rattle.margin.specs.Charge.{memoryOf, listingOf, ChargeTerms, ChargeableIn, Chargeable, ChargedIs}
+use Rattle.margin.specs.Charge.{memoryOf, listingOf, ChargeTerms, ChargeableIn, Chargeable, Has, ChargedIs, ChargedAt}
 
 -- ---- one contract
 
@@ -76,59 +76,84 @@ module _ (m : Memory) (a : ℕ) (la : a < m .state .accountcount) where
   unfolding chargedTo listingIn
   charged-more c total v lc e f = rw (add-one c, listing-in-use m c lc, holding-in-use m a c la lc, e, f)
 
--- the trades play no part
-pub charged-any : (s : State) (buys sells ts us : List ℕ) (a n : ℕ) → n ≤ s .contractcount → a < s .accountcount
-    → chargedTo (exchangeOf (memoryOf s buys sells ts)) a n ≡ chargedTo (exchangeOf (memoryOf s buys sells us)) a n
-unfolding chargedTo listingIn
-charged-any s buys sells ts us a zero h la = refl
-charged-any s buys sells ts us a (suc n) h la =
-    rw (
-      listing-in-use (memoryOf s buys sells ts) n h,
-      listing-in-use (memoryOf s buys sells us) n h,
-      holding-in-use (memoryOf s buys sells ts) a n la h,
-      holding-in-use (memoryOf s buys sells us) a n la h,
-      charged-any s buys sells ts us a n (omega arith) la,
-    )
-
 -- ---- the loop over the contracts: `total` is the margin of the first c
 
-pub record Charging (s : State) (buys sells : List ℕ) (a total c : ℕ) : Type 0 where
-  pub within : c ≤ s .contractcount
-  pub margin : total ≡ chargedTo (exchangeOf (memoryOf s buys sells [])) a c
-  pub small : total ≤ 200_000_000_000_000 * c
+module _ (holdings : List Holding) (terms : List Contract) (buys bids sells offers : List ℕ) (a : ℕ) where
+  abbrev pub chargedHere : ℕ → ℕ
+  chargedHere c =
+      charge (getD terms c noContract)
+      * chargedLots (listingOf (getD terms c noContract) buys (getD bids c 0) sells (getD offers c 0) c) a (getD holdings c noHolding)
 
-module _ (s : State) (buys sells : List ℕ) (a : ℕ) (g : Chargeable s buys sells a) where
-  pub charging-none : Charging s buys sells a 0 0
-  charging-none =
-      record { within = omega arith; margin = charged-none (memoryOf s buys sells []) a (g .account); small = omega arith }
+  unfoldable pub chargedFirst : ℕ → ℕ
+  chargedFirst zero = 0
+  chargedFirst (suc c) = chargedFirst c + chargedHere c
 
-  module _ (c total v : ℕ) (lc : c < s .contractcount) (w : Charging s buys sells a total c)
-      (e : v ≡ chargedAt (memoryOf s buys sells []) a (g .account) c) where
+  pub record Charging (contracts total c : ℕ) : Type 0 where
+    pub within : c ≤ contracts
+    pub margin : total ≡ chargedFirst c
+    pub small : total ≤ 200_000_000_000_000 * c
+
+-- of a state it is the rules' margin
+pub charged-first : (s : State) (buys sells trades : List ℕ) (a n : ℕ) → a < s .accountcount → n ≤ s .contractcount
+    → chargedFirst (getD (s .accounts) a noAccount .holdings) (s .contracts) buys (s .buys) sells (s .sells) a n
+    ≡ chargedTo (exchangeOf (memoryOf s buys sells trades)) a n
+unfolding chargedFirst
+charged-first s buys sells trades a zero la h = charged-none (memoryOf s buys sells trades) a la
+charged-first s buys sells trades a (suc n) la h =
+    charged-more (memoryOf s buys sells trades) a la n _ _ h (charged-first s buys sells trades a n la (omega arith)) refl
+    ∙ ap (chargedTo (exchangeOf (memoryOf s buys sells trades)) a) (add-one n)
+
+-- once all contracts are in
+all-charged : (s : State) (buys sells trades : List ℕ) (a : ℕ) → a < s .accountcount
+    → chargedFirst (getD (s .accounts) a noAccount .holdings) (s .contracts) buys (s .buys) sells (s .sells) a (s .contractcount)
+    ≡ charged (exchangeOf (memoryOf s buys sells trades)) a
+all-charged s buys sells trades a la =
+    charged-first s buys sells trades a (s .contractcount) la (omega arith)
+    ∙ ap (chargedTo (exchangeOf (memoryOf s buys sells trades)) a) (sym (contracts-in-use (memoryOf s buys sells trades)))
+
+module _ (holdings : List Holding) (terms : List Contract) (contracts : ℕ) (buys bids sells offers : List ℕ) (a : ℕ)
+    (g : Chargeable holdings terms contracts buys bids sells offers a) where
+  pub charging-none : Charging holdings terms buys bids sells offers a contracts 0 0
+  unfolding chargedFirst
+  charging-none = record { within = omega arith; margin = refl; small = omega arith }
+
+  module _ (c total v : ℕ) (lc : c < contracts) (w : Charging holdings terms buys bids sells offers a contracts total c)
+      (e : v ≡ chargedHere holdings terms buys bids sells offers a c) where
     pub turn-small : v ≤ 200_000_000_000_000
     turn-small = le-trans (le-of-eq e) (charged-small _ _ _ _ _ _ _ _ (g .each c lc))
 
     pub total-fits : Fits w64 (total + v)
     total-fits =
-        fits-below {n = 1_000_000_000_000_000} tt (omega (arith, turn-small, w .small, g .contracts))
+        fits-below {n = 1_000_000_000_000_000} tt (omega (arith, turn-small, w .small, g .few))
 
-    pub charging-more : Charging s buys sells a (total + v) (c + 1)
+    margin-more : total + v ≡ chargedFirst holdings terms buys bids sells offers a (c + 1)
+    unfolding chargedFirst
+    margin-more = rw (add-one c, w .margin, e)
+
+    pub charging-more : Charging holdings terms buys bids sells offers a contracts (total + v) (c + 1)
     charging-more =
         record {
           within = omega arith;
-          margin = charged-more (memoryOf s buys sells []) a (g .account) c total v lc (w .margin) e;
+          margin = margin-more;
           small = omega (arith, turn-small, w .small);
         }
 
-  pub charging-done : (total c : ℕ) → s .contractcount ≤ c → Charging s buys sells a total c → ChargedIs s buys sells a total
-  charging-done total c stop w =
-      record { charged = λ trades. w .margin ∙ ap (chargedTo (exchangeOf (memoryOf s buys sells [])) a) (at-end trades) ∙ same trades }
+  pub charging-done : (total c : ℕ) → contracts ≤ c → Charging holdings terms buys bids sells offers a contracts total c
+      → ChargedIs holdings terms contracts buys bids sells offers a total
+  charging-done total c stop w = record { charged = λ s trades h. at-end ∙ of-state s trades h }
     where
-      at-end : (trades : List ℕ) → c ≡ length (exchangeOf (memoryOf s buys sells trades) .listings)
-      at-end trades = omega (arith, contracts-in-use (memoryOf s buys sells trades), w .within, stop)
+      at-end : total ≡ chargedFirst holdings terms buys bids sells offers a contracts
+      at-end = w .margin ∙ ap (chargedFirst holdings terms buys bids sells offers a) (omega (arith, w .within, stop))
 
-      same : (trades : List ℕ)
-          → chargedTo (exchangeOf (memoryOf s buys sells [])) a (length (exchangeOf (memoryOf s buys sells trades) .listings)) ≡ charged (exchangeOf (memoryOf s buys sells trades)) a
-      same trades = charged-any s buys sells [] trades a _ (omega (arith, contracts-in-use (memoryOf s buys sells trades))) (g .account)
+      of-state : (s : State) (trades : List ℕ) → Has s holdings terms contracts bids offers a
+          → chargedFirst holdings terms buys bids sells offers a contracts ≡ charged (exchangeOf (memoryOf s buys sells trades)) a
+      of-state s trades h = rw (← h .held, ← h .listed, ← h .count, ← h .bought, ← h .sold) (all-charged s buys sells trades a (h .account))
+
+-- what is charged by what a state has is the state's charged margin
+pub charged-at : (s : State) (buys sells : List ℕ) (a r : ℕ) → a < s .accountcount → ChargedAt s buys sells a r → (trades : List ℕ)
+    → r ≡ charged (exchangeOf (memoryOf s buys sells trades)) a
+charged-at s buys sells a r la e trades =
+    e .charged s trades (record { account = la; held = refl; listed = refl; count = refl; bought = refl; sold = refl })
 
 -- ---- available
 

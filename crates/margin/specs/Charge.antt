@@ -34,15 +34,29 @@ pub record ChargeableIn (contract : Contract) (buys : List ℕ) (buycount : ℕ)
   pub long : h .long + restingOpens a (queueIn buys c buycount) ≤ 100_000
   pub short : h .short + restingOpens a (queueIn sells c sellcount) ≤ 100_000
 
--- every contract in use, for one account in use
-pub record Chargeable (s : State) (buys sells : List ℕ) (a : ℕ) : Type 0 where
-  pub account : a < s .accountcount
-  pub accounts : s .accountcount ≤ 32
-  pub contracts : s .contractcount ≤ 4
-  pub each : (c : ℕ) → c < s .contractcount →
-      ChargeableIn (getD (s .contracts) c noContract) buys (getD (s .buys) c 0) sells (getD (s .sells) c 0) c a
-      (getD (getD (s .accounts) a noAccount .holdings) c noHolding)
+-- every contract in use, for one account: its holdings, the contracts and how many they are, and how many orders each queue has
+pub record Chargeable (holdings : List Holding) (terms : List Contract) (contracts : ℕ) (buys bids sells offers : List ℕ) (a : ℕ) : Type 0 where
+  pub account : a < 32
+  pub few : contracts ≤ 4
+  pub each : (c : ℕ) → c < contracts →
+      ChargeableIn (getD terms c noContract) buys (getD bids c 0) sells (getD offers c 0) c a (getD holdings c noHolding)
 
--- the charged margin of an account, whatever trades the day has
-pub record ChargedIs (s : State) (buys sells : List ℕ) (a r : ℕ) : Type 0 where
-  pub charged : (trades : List ℕ) → r ≡ margin.charged (exchangeOf (memoryOf s buys sells trades)) a
+-- that a state has these for an account in use
+pub record Has (s : State) (holdings : List Holding) (terms : List Contract) (contracts : ℕ) (bids offers : List ℕ) (a : ℕ) : Type 0 where
+  pub account : a < s .accountcount
+  pub held : getD (s .accounts) a noAccount .holdings ≡ holdings
+  pub listed : s .contracts ≡ terms
+  pub count : s .contractcount ≡ contracts
+  pub bought : s .buys ≡ bids
+  pub sold : s .sells ≡ offers
+
+-- the charged margin of the account in any state that has these, whatever trades the day has
+pub record ChargedIs (holdings : List Holding) (terms : List Contract) (contracts : ℕ) (buys bids sells offers : List ℕ) (a r : ℕ) : Type 0 where
+  pub charged : (s : State) (trades : List ℕ) → Has s holdings terms contracts bids offers a → r ≡ margin.charged (exchangeOf (memoryOf s buys sells trades)) a
+
+-- the same of what a state has
+abbrev pub ChargeableAt : State → List ℕ → List ℕ → ℕ → Type 0
+ChargeableAt s buys sells a = Chargeable (getD (s .accounts) a noAccount .holdings) (s .contracts) (s .contractcount) buys (s .buys) sells (s .sells) a
+
+abbrev pub ChargedAt : State → List ℕ → List ℕ → ℕ → ℕ → Type 0
+ChargedAt s buys sells a r = ChargedIs (getD (s .accounts) a noAccount .holdings) (s .contracts) (s .contractcount) buys (s .buys) sells (s .sells) a r

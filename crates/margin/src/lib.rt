@@ -9,7 +9,6 @@ ghost use Rattle.margin.specs.Charge.{ChargeTerms, ChargeableIn, Chargea
 use book::scan;
 use rules::Contract;
 use rules::Holding;
-use rules::State;
 
 // "The charge for one lot is multiplier x reference x rate / 10,000, rounded up."
 pub fn charge(c: Contract) -> u64
@@ -44,21 +43,30 @@ fn charged_in<'a>(
     charge(contract) * lots
 }
 
-// "Charged margin is charge times all long and short lots and resting opens", over all contracts. The day's trades play no part.
-pub fn charged<'a>(state: State, buys: &'a [u32], sells: &'a [u32], a: usize) -> u64
-    requires { ⌜ Chargeable state (now buys) (now sells) a ⌝ }
-    ensures { λ r. ⌜ ChargedIs state (now (buys .entry)) (now (sells .entry)) a r ⌝ }
+// "Charged margin is charge times all long and short lots and resting opens", over all contracts. It takes what it reads of the
+// state, for a copy of all of it costs as much as a queue: the account's holdings, the terms and number of contracts, and how many
+// orders each queue has. The day's trades play no part.
+pub fn charged<'a>(
+    holdings: [Holding; 4],
+    terms: [Contract; 4],
+    contracts: usize,
+    buys: &'a [u32],
+    bids: [usize; 4],
+    sells: &'a [u32],
+    offers: [usize; 4],
+    a: usize,
+) -> u64
+    requires { ⌜ Chargeable holdings terms contracts (now buys) bids (now sells) offers a ⌝ }
+    ensures { λ r. ⌜ ChargedIs holdings terms contracts (now (buys .entry)) bids (now (sells .entry)) offers a r ⌝ }
 {
     let account = a as u32;
-    let holder = state.accounts[a];
-    let contracts = state.contractcount;
     let mut total: u64 = 0;
     let mut c: usize = 0;
     while c < contracts {
-        let contract = state.contracts[c];
-        let h = holder.holdings[c];
-        let buycount = state.buys[c];
-        let sellcount = state.sells[c];
+        let contract = terms[c];
+        let h = holdings[c];
+        let buycount = bids[c];
+        let sellcount = offers[c];
         total += charged_in(contract, buys, buycount, sells, sellcount, c, account, h);
         c += 1;
     }

@@ -26,7 +26,7 @@ use Rattle.accounting.proofs.PriceBound.{settlement-price-bound}
 use Rattle.accounting.proofs.Replay.{replay-covered}
 use Rattle.invariants.proofs.Clauses.{HoldingOk, WellFormed, well-formed}
 use Rattle.invariants.proofs.MemoryRoom.{MemoryOk, memory-ok}
-use Rattle.margin.specs.Charge.{ChargeTerms, ChargeableIn, Chargeable}
+use Rattle.margin.specs.Charge.{ChargeTerms, ChargeableIn, ChargeableAt}
 use Rattle.dayprofit.specs.Day.{AllSized, SizedTrades, Quotes, Priceable}
 use Rattle.settlement.specs.Settling.{contractIn, accountIn, holdingIn}
 
@@ -118,8 +118,8 @@ module _ (m : Memory) (room : m .state .accountcount ≤ length (m .state .accou
           (replay-covered a c (exchangeOf m .accounts) (exchangeOf m .trades) (contractIn s c .reference) (contents .covered))
 
   -- an account's margin
-  pub chargeable : (a : ℕ) → a < s .accountcount → Chargeable s (m .buys) (m .sells) a
-  chargeable a la = record { account = la; accounts = accounts-few; contracts = contracts-four; each = λ c lc. chargeable-in c lc a la }
+  pub chargeable : (a : ℕ) → a < s .accountcount → ChargeableAt s (m .buys) (m .sells) a
+  chargeable a la = record { account = omega (arith, la, accounts-few); few = contracts-four; each = λ c lc. chargeable-in c lc a la }
 
   pub sized-trades : SizedTrades (m .trades) (s .tradecount)
   unfolding exchangeOf

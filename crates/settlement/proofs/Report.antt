@@ -12,7 +12,8 @@ use Rattle.rules.specs.Memory.{Memory, exchangeOf, listingIn, queueIn, recorded
 use Rattle.rules.specs.Settlement.{priceFrom, tradesIn, settlementPrice}
 use Rattle.rules.specs.declared.State.{State}
 use Rattle.rules.proofs.InUse.{listing-in-use}
-use Rattle.margin.specs.Charge.{memoryOf, ChargedIs}
+use Rattle.margin.specs.Charge.{memoryOf, ChargedAt}
+use Rattle.margin.proofs.Charging.{charged-at}
 use Rattle.settlement.specs.Settling.{contractIn, AllChargeable, ChargesAre}
 use Rattle.settlement.proofs.Places.{Writing, writing-none, writing-more, writing-done, written-padded}
 
@@ -47,9 +48,9 @@ module _ (s : State) (buys sells : List ℕ) where
   pub charges-none : ChargesSoFar s buys sells 0 (replicate 32 0)
   charges-none = record { each = λ trades. writing-none _ _ _ }
 
-  pub charges-more : AllChargeable s buys sells → (a v : ℕ) (r : List ℕ) → a < s .accountcount → ChargedIs s buys sells a v → ChargesSoFar s buys sells a r
+  pub charges-more : AllChargeable s buys sells → (a v : ℕ) (r : List ℕ) → a < s .accountcount → ChargedAt s buys sells a v → ChargesSoFar s buys sells a r
       → ChargesSoFar s buys sells (a + 1) (set r a v)
-  charges-more g a v r h e w = record { each = λ trades. writing-more _ _ _ (g .accounts) a v r h (e .charged trades) (w .each trades) }
+  charges-more g a v r h e w = record { each = λ trades. writing-more _ _ _ (g .accounts) a v r h (charged-at s buys sells a v h e trades) (w .each trades) }
 
   pub charges-done : (a : ℕ) (r : List ℕ) → s .accountcount ≤ a → ChargesSoFar s buys sells a r → ChargesAre s buys sells r
   charges-done a r h w = record { charged = λ trades. writing-done _ _ _ a r h (w .each trades) ∙ written-padded _ _ 32 0 }

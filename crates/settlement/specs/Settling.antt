@@ -20,7 +20,7 @@ use Rattle.rules.specs.declared.Command.the-variants.{Settle}
 use Rattle.rules.specs.declared.Contract.{Contract}
 use Rattle.rules.specs.declared.Holding.{Holding}
 use Rattle.rules.specs.declared.State.{State}
-use Rattle.margin.specs.Charge.{memoryOf, Chargeable}
+use Rattle.margin.specs.Charge.{memoryOf, ChargeableAt}
 use Rattle.dayprofit.specs.Sides.{dayOver, Profitable}
 use Rattle.dayprofit.specs.declared.profit.Profit.{Profit}
 use Rattle.settlement.specs.declared.balances.Books.{Books}
@@ -120,7 +120,7 @@ pub record ClearedAre (s : State) (bids offers day bids′ offers′ day′ : Li
 -- every account in use can be charged
 pub record AllChargeable (s : State) (buys sells : List ℕ) : Type 0 where
   pub accounts : s .accountcount ≤ 32
-  pub each : (a : ℕ) → a < s .accountcount → Chargeable s buys sells a
+  pub each : (a : ℕ) → a < s .accountcount → ChargeableAt s buys sells a
 
 pub record ChargesAre (s : State) (buys sells : List ℕ) (r : List ℕ) : Type 0 where
   pub charged : (trades : List ℕ) → r ≡ padded maxAccounts 0 (tabulate (s .accountcount) (margin.charged (exchangeOf (memoryOf s buys sells trades))))

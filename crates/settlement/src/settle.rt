@@ -58,10 +58,25 @@ fn charges<'a>(state: State, buys: &'a [u32], sells: &'a [u32]) -> [u64; 32]
     ensures { λ r. ⌜ ChargesAre state (now (buys .entry)) (now (sells .entry)) r ⌝ }
 {
     let accounts = state.accountcount;
+    let holders = state.accounts;
+    let terms = state.contracts;
+    let bids = state.buys;
+    let offers = state.sells;
     let mut charged: [u64; 32] = [0; 32];
     let mut a: usize = 0;
     while a < accounts {
-        charged[a] = margin::charged(state, buys, sells, a);
+        let holder = holders[a];
+        let holdings = holder.holdings;
+        charged[a] = margin::charged(
+            holdings,
+            terms,
+            state.contractcount,
+            buys,
+            bids,
+            sells,
+            offers,
+            a,
+        );
         a += 1;
     }
     charged

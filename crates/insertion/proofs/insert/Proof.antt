@@ -32,25 +32,25 @@ wide-requires : tie.Need-wide-requires
 wide-requires c κs = search needs
 
 sub-c : tie.Need-sub-c
-sub-c c = omega (arith, c .wide .ensures, here (c .before .before .before .before .before .before .before .before .before .pre) (c .before .before .before .before .before .before .before .before .before .args .o) (sym (c .before .before .code-of .ensures) ∙ c .before .if1 .left) .contract-low)
+sub-c c = omega (arith, c .wide .ensures, here (c .before .before .before .before .before .before .before .before .before .before .before .pre) (c .before .before .before .before .before .before .before .before .before .before .before .args .o) (sym (c .before .before .code-of .ensures) ∙ c .before .if1 .left) .contract-low)
 
 mul-bought : tie.Need-mul-bought
 mul-bought c = search needs
 
 array-read-bought : tie.Need-array-read-bought
-array-read-bought c = place-fits (c .before .before .before .before .before .before .before .before .before .before .before .pre) (c .before .before .before .before .before .before .before .before .before .before .before .args .o) (here (c .before .before .before .before .before .before .before .before .before .before .before .pre) (c .before .before .before .before .before .before .before .before .before .before .before .args .o) (sym (c .before .before .before .before .code-of .ensures) ∙ c .before .before .before .if1 .left)) (c .before .before .wide .ensures)
+array-read-bought c = place-fits (c .before .before .before .before .before .before .before .before .before .before .before .pre) (c .before .before .before .before .before .before .before .before .before .before .before .args .o) (here (c .before .before .before .before .before .before .before .before .before .before .before .pre) (c .before .before .before .before .before .before .before .before .before .before .before .args .o) (sym (c .before .before .code-of .ensures) ∙ c .before .if1 .left)) (c .wide .ensures)
 
 mul-sold : tie.Need-mul-sold
 mul-sold c = search needs
 
 array-read-sold : tie.Need-array-read-sold
-array-read-sold c = place-fits (c .before .before .before .before .before .before .before .before .before .before .before .pre) (c .before .before .before .before .before .before .before .before .before .before .before .args .o) (here (c .before .before .before .before .before .before .before .before .before .before .before .pre) (c .before .before .before .before .before .before .before .before .before .before .before .args .o) (sym (c .before .before .before .before .code-of .ensures) ∙ c .before .before .before .if1 .left)) (c .before .before .wide .ensures)
+array-read-sold c = place-fits (c .before .before .before .before .before .before .before .before .before .before .before .pre) (c .before .before .before .before .before .before .before .before .before .before .before .args .o) (here (c .before .before .before .before .before .before .before .before .before .before .before .pre) (c .before .before .before .before .before .before .before .before .before .before .before .args .o) (sym (c .before .before .code-of .ensures) ∙ c .before .if1 .left)) (c .wide .ensures)
 
 enter-requires : tie.Need-enter-requires
-enter-requires c κs = arriving (c .before .before .before .before .before .before .before .before .before .before .before .before .before .before .before .pre) (c .before .before .before .before .before .before .before .before .before .before .before .before .before .before .before .args .o) (sym (c .before .before .before .before .before .before .before .before .code-of .ensures) ∙ c .before .before .before .before .before .before .before .if1 .left) true (c .before .before .before .if2 .taken) (c .before .before .before .before .before .before .wide .ensures)
+enter-requires c κs = arriving (c .before .before .before .before .before .before .before .before .before .before .before .before .before .before .before .pre) (c .before .before .before .before .before .before .before .before .before .before .before .before .before .before .before .args .o) (sym (c .before .before .before .before .before .before .code-of .ensures) ∙ c .before .before .before .before .before .if1 .left) true (c .before .before .before .if2 .taken) (c .before .before .before .before .wide .ensures)
 
 with-entry-requires : tie.Need-with-entry-requires
-with-entry-requires c κs = (place-fits (c .before .before .before .before .before .before .before .before .before .before .before .before .before .before .before .before .before .before .before .before .before .before .pre) (c .before .before .before .before .before .before .before .before .before .before .before .before .before .before .before .before .before .before .before .before .before .before .args .o) (here (c .before .before .before .before .before .before .before .before .before .before .before .before .before .before .before .before .before .before .before .before .before .before .pre) (c .before .before .before .before .before .before .before .before .before .before .before .before .before .before .before .before .before .before .before .before .before .before .args .o) (sym (c .before .before .before .before .before .before .before .before .before .before .before .before .before .before .before .code-of .ensures) ∙ c .before .before .before .before .before .before .before .before .before .before .before .before .before .before .if1 .left)) (c .before .before .before .before .before .before .before .before .before .before .before .before .before .wide .ensures), next-low (c .before .before .before .before .before .before .before .before .before .before .before .before .before .before .before .before .before .before .before .before .before .before .pre) (c .before .before .before .before .before .before .before .before .before .before .before .before .before .before .before .before .before .before .before .before .before .before .args .o) (sym (c .before .before .before .before .before .before .before .before .before .before .before .before .before .before .before .code-of .ensures) ∙ c .before .before .before .before .before .before .before .before .before .before .before .before .before .before .if1 .left))
+with-entry-requires c κs = (place-fits (c .before .before .before .before .before .before .before .before .before .before .before .before .before .before .before .before .before .before .before .before .before .before .pre) (c .before .before .before .before .before .before .before .before .before .before .before .before .before .before .before .before .before .before .before .before .before .before .args .o) (here (c .before .before .before .before .before .before .before .before .before .before .before .before .before .before .before .before .before .before .before .before .before .before .pre) (c .before .before .before .before .before .before .before .before .before .before .before .before .before .before .before .before .before .before .before .before .before .before .args .o) (sym (c .before .before .before .before .before .before .before .before .before .before .before .before .before .code-of .ensures) ∙ c .before .before .before .before .before .before .before .before .before .before .before .before .if1 .left)) (c .before .before .before .before .before .before .before .before .before .before .before .wide .ensures), next-low (c .before .before .before .before .before .before .before .before .before .before .before .before .before .before .before .before .before .before .before .before .before .before .pre) (c .before .before .before .before .before .before .before .before .before .before .before .before .before .before .before .before .before .before .before .before .before .before .args .o) (sym (c .before .before .before .before .before .before .before .before .before .before .before .before .before .code-of .ensures) ∙ c .before .before .before .before .before .before .before .before .before .before .before .before .if1 .left))
 
 accepted-requires : tie.Need-accepted-requires
 accepted-requires c κs = search needs
@@ -65,13 +65,13 @@ same-length-6 : tie.Need-same-length-6
 same-length-6 c = search needs
 
 returns-2 : tie.Need-returns-2
-returns-2 c = insert-accepted (c .before .before .before .before .before .before .before .before .before .before .before .before .before .before .before .before .before .before .before .before .before .before .before .before .pre) (c .before .before .before .before .before .before .before .before .before .before .before .before .before .before .before .before .before .before .before .before .before .before .before .before .args .o) (sym (c .before .before .before .before .before .before .before .before .before .before .before .before .before .before .before .before .before .code-of .ensures) ∙ c .before .before .before .before .before .before .before .before .before .before .before .before .before .before .before .before .if1 .left) true (c .before .before .before .before .before .before .before .before .before .before .before .before .if2 .taken) (c .before .before .before .before .before .before .before .before .before .before .before .before .before .before .before .wide .ensures) (c .before .before .before .before .before .before .before .before .enter .ensures) (c .before .with-entry .ensures) (c .accepted .ensures)
+returns-2 c = insert-accepted (c .before .before .before .before .before .before .before .before .before .before .before .before .before .before .before .before .before .before .before .before .before .before .before .before .pre) (c .before .before .before .before .before .before .before .before .before .before .before .before .before .before .before .before .before .before .before .before .before .before .before .before .args .o) (sym (c .before .before .before .before .before .before .before .before .before .before .before .before .before .before .before .code-of .ensures) ∙ c .before .before .before .before .before .before .before .before .before .before .before .before .before .before .if1 .left) true (c .before .before .before .before .before .before .before .before .before .before .before .before .if2 .taken) (c .before .before .before .before .before .before .before .before .before .before .before .before .before .wide .ensures) (c .before .before .before .before .before .before .before .before .enter .ensures) (c .before .with-entry .ensures) (c .accepted .ensures)
 
 enter-requires-2 : tie.Need-enter-requires-2
-enter-requires-2 c κs = arriving (c .before .before .before .before .before .before .before .before .before .before .before .before .before .before .before .pre) (c .before .before .before .before .before .before .before .before .before .before .before .before .before .before .before .args .o) (sym (c .before .before .before .before .before .before .before .before .code-of .ensures) ∙ c .before .before .before .before .before .before .before .if1 .left) false (c .before .before .before .if2 .left) (c .before .before .before .before .before .before .wide .ensures)
+enter-requires-2 c κs = arriving (c .before .before .before .before .before .before .before .before .before .before .before .before .before .before .before .pre) (c .before .before .before .before .before .before .before .before .before .before .before .before .before .before .before .args .o) (sym (c .before .before .before .before .before .before .code-of .ensures) ∙ c .before .before .before .before .before .if1 .left) false (c .before .before .before .if2 .left) (c .before .before .before .before .wide .ensures)
 
 with-entry-requires-2 : tie.Need-with-entry-requires-2
-with-entry-requires-2 c κs = (place-fits (c .before .before .before .before .before .before .before .before .before .before .before .before .before .before .before .before .before .before .before .before .before .before .pre) (c .before .before .before .before .before .before .before .before .before .before .before .before .before .before .before .before .before .before .before .before .before .before .args .o) (here (c .before .before .before .before .before .before .before .before .before .before .before .before .before .before .before .before .before .before .before .before .before .before .pre) (c .before .before .before .before .before .before .before .before .before .before .before .before .before .before .before .before .before .before .before .before .before .before .args .o) (sym (c .before .before .before .before .before .before .before .before .before .before .before .before .before .before .before .code-of .ensures) ∙ c .before .before .before .before .before .before .before .before .before .before .before .before .before .before .if1 .left)) (c .before .before .before .before .before .before .before .before .before .before .before .before .before .wide .ensures), next-low (c .before .before .before .before .before .before .before .before .before .before .before .before .before .before .before .before .before .before .before .before .before .before .pre) (c .before .before .before .before .before .before .before .before .before .before .before .before .before .before .before .before .before .before .before .before .before .before .args .o) (sym (c .before .before .before .before .before .before .before .before .before .before .before .before .before .before .before .code-of .ensures) ∙ c .before .before .before .before .before .before .before .before .before .before .before .before .before .before .if1 .left))
+with-entry-requires-2 c κs = (place-fits (c .before .before .before .before .before .before .before .before .before .before .before .before .before .before .before .before .before .before .before .before .before .before .pre) (c .before .before .before .before .before .before .before .before .before .before .before .before .before .before .before .before .before .before .before .before .before .before .args .o) (here (c .before .before .before .before .before .before .before .before .before .before .before .before .before .before .before .before .before .before .before .before .before .before .pre) (c .before .before .before .before .before .before .before .before .before .before .before .before .before .before .before .before .before .before .before .before .before .before .args .o) (sym (c .before .before .before .before .before .before .before .before .before .before .before .before .before .code-of .ensures) ∙ c .before .before .before .before .before .before .before .before .before .before .before .before .if1 .left)) (c .before .before .before .before .before .before .before .before .before .before .before .wide .ensures), next-low (c .before .before .before .before .before .before .before .before .before .before .before .before .before .before .before .before .before .before .before .before .before .before .pre) (c .before .before .before .before .before .before .before .before .before .before .before .before .before .before .before .before .before .before .before .before .before .before .args .o) (sym (c .before .before .before .before .before .before .before .before .before .before .before .before .before .code-of .ensures) ∙ c .before .before .before .before .before .before .before .before .before .before .before .before .if1 .left))
 
 accepted-requires-2 : tie.Need-accepted-requires-2
 accepted-requires-2 c κs = search needs
@@ -86,7 +86,7 @@ same-length-9 : tie.Need-same-length-9
 same-length-9 c = search needs
 
 returns-3 : tie.Need-returns-3
-returns-3 c = insert-accepted (c .before .before .before .before .before .before .before .before .before .before .before .before .before .before .before .before .before .before .before .before .before .before .before .before .pre) (c .before .before .before .before .before .before .before .before .before .before .before .before .before .before .before .before .before .before .before .before .before .before .before .before .args .o) (sym (c .before .before .before .before .before .before .before .before .before .before .before .before .before .before .before .before .before .code-of .ensures) ∙ c .before .before .before .before .before .before .before .before .before .before .before .before .before .before .before .before .if1 .left) false (c .before .before .before .before .before .before .before .before .before .before .before .before .if2 .left) (c .before .before .before .before .before .before .before .before .before .before .before .before .before .before .before .wide .ensures) (c .before .before .before .before .before .before .before .before .enter2 .ensures) (c .before .with-entry2 .ensures) (c .accepted2 .ensures)
+returns-3 c = insert-accepted (c .before .before .before .before .before .before .before .before .before .before .before .before .before .before .before .before .before .before .before .before .before .before .before .before .pre) (c .before .before .before .before .before .before .before .before .before .before .before .before .before .before .before .before .before .before .before .before .before .before .before .before .args .o) (sym (c .before .before .before .before .before .before .before .before .before .before .before .before .before .before .before .code-of .ensures) ∙ c .before .before .before .before .before .before .before .before .before .before .before .before .before .before .if1 .left) false (c .before .before .before .before .before .before .before .before .before .before .before .before .if2 .left) (c .before .before .before .before .before .before .before .before .before .before .before .before .before .wide .ensures) (c .before .before .before .before .before .before .before .before .enter2 .ensures) (c .before .with-entry2 .ensures) (c .accepted2 .ensures)
 
 pub insert-spec : {M : Type 1} → statement M
 insert-spec =

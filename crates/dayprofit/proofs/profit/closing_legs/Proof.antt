@@ -1,13 +1,14 @@
+use mathlib.Core.Path.{refl}
 use Prim.Native.Nat.{_-_}
 use native.Mathlib.Omega.{arith}
 use borrow.Author.Needs.{needs}
-use Rattle.dayprofit.proofs.Legs.{Closing, closing-none, closing-more, closing-skip, closing-lots-fit, closing-value-fits, closing-product-fits, closing-done}
+use Rattle.dayprofit.proofs.Legs.{Closing, closing-none, closing-more, closing-skip, closing-lots-fit, closing-value-fits, closing-product-fits, closing-done, leg-counts, leg-skipped}
 use Rattle.dayprofit.proofs.profit.closing_legs.Statement.{statement}
 use Rattle.dayprofit.proofs.profit.closing_legs.Tie as tie
 use Rattle.dayprofit.proofs.profit.closing_legs.Reads as reads
 use Rattle.dayprofit.proofs.profit.closing_legs.Lts as lts
 use Rattle.book.proofs.trades.trade_at.Reads as trade-at-reads
-use Rattle.dayprofit.proofs.profit.leg_lots.Reads as leg-lots-reads
+use Rattle.dayprofit.proofs.profit.is_leg.Reads as is-leg-reads
 
 abbrev Inv-loop : tie.InvT-loop
 Inv-loop area count a c short sell lots₀ value₀ i₀ lots value i = Closing area count a c short lots value i
@@ -21,8 +22,8 @@ loop-holds c = closing-none _ _ _ _ _
 trade-at-requires : tie.Need-trade-at-requires Inv-loop μ-loop
 trade-at-requires c κs = omega arith
 
-leg-lots-requires : tie.Need-leg-lots-requires Inv-loop μ-loop
-leg-lots-requires c κs = search needs
+is-leg-requires : tie.Need-is-leg-requires Inv-loop μ-loop
+is-leg-requires c κs = search needs
 
 add-i : tie.Need-add-i Inv-loop μ-loop
 add-i c = omega arith
@@ -32,22 +33,22 @@ loop-less c = omega arith
 
 -- a trade without such a leg
 loop-again : tie.Need-loop-again Inv-loop μ-loop
-loop-again c = closing-skip _ _ _ _ _ (c .before .before .before .before .before .before .pre) _ _ _ (c .before .before .before .loop-test .taken) (c .before .before .before .before .loop .inv) _ (c .before .before .trade-at .ensures) _ (c .before .leg-lots .ensures) (c .if1 .taken)
+loop-again c = closing-skip _ _ _ _ _ (c .before .before .before .before .before .before .pre) _ _ _ (c .before .before .before .loop-test .taken) (c .before .before .before .before .loop .inv) _ (c .before .before .trade-at .ensures) _ (leg-skipped (c .before .is-leg .result) _ _ (c .before .is-leg .ensures) (c .if1 .taken)) refl
 
 cast-price : tie.Need-cast-price Inv-loop μ-loop
 cast-price c = search needs
 
 add-lots : tie.Need-add-lots Inv-loop μ-loop
-add-lots c = closing-lots-fit _ _ _ _ _ (c .before .before .before .before .before .before .before .pre) _ _ _ (c .before .before .before .before .loop-test .taken) (c .before .before .before .before .before .loop .inv) _ (c .before .before .before .trade-at .ensures) _ (c .before .before .leg-lots .ensures)
+add-lots c = closing-lots-fit _ _ _ _ _ (c .before .before .before .before .before .before .before .pre) _ _ _ (c .before .before .before .before .loop-test .taken) (c .before .before .before .before .before .loop .inv) _ (c .before .before .before .trade-at .ensures) _ (leg-counts (c .before .before .is-leg .result) _ _ (c .before .before .is-leg .ensures) (c .before .if1 .left))
 
 cast-value : tie.Need-cast-value Inv-loop μ-loop
 cast-value c = search needs
 
 mul-value : tie.Need-mul-value Inv-loop μ-loop
-mul-value c = closing-product-fits _ _ _ _ _ (c .before .before .before .before .before .before .before .pre) _ _ _ (c .before .before .before .before .loop-test .taken) (c .before .before .before .before .before .loop .inv) _ (c .before .before .before .trade-at .ensures) _ (c .before .before .leg-lots .ensures)
+mul-value c = closing-product-fits _ _ _ _ _ (c .before .before .before .before .before .before .before .pre) _ _ _ (c .before .before .before .before .loop-test .taken) (c .before .before .before .before .before .loop .inv) _ (c .before .before .before .trade-at .ensures) _ (leg-counts (c .before .before .is-leg .result) _ _ (c .before .before .is-leg .ensures) (c .before .if1 .left))
 
 add-value : tie.Need-add-value Inv-loop μ-loop
-add-value c = closing-value-fits _ _ _ _ _ (c .before .before .before .before .before .before .before .pre) _ _ _ (c .before .before .before .before .loop-test .taken) (c .before .before .before .before .before .loop .inv) _ (c .before .before .before .trade-at .ensures) _ (c .before .before .leg-lots .ensures)
+add-value c = closing-value-fits _ _ _ _ _ (c .before .before .before .before .before .before .before .pre) _ _ _ (c .before .before .before .before .loop-test .taken) (c .before .before .before .before .before .loop .inv) _ (c .before .before .before .trade-at .ensures) _ (leg-counts (c .before .before .is-leg .result) _ _ (c .before .before .is-leg .ensures) (c .before .if1 .left))
 
 add-i-2 : tie.Need-add-i-2 Inv-loop μ-loop
 add-i-2 c = omega arith
@@ -56,7 +57,7 @@ loop-less-2 : tie.Need-loop-less-2 Inv-loop μ-loop
 loop-less-2 c = omega arith
 
 loop-again-2 : tie.Need-loop-again-2 Inv-loop μ-loop
-loop-again-2 c = closing-more _ _ _ _ _ (c .before .before .before .before .before .before .before .pre) _ _ _ (c .before .before .before .before .loop-test .taken) (c .before .before .before .before .before .loop .inv) _ (c .before .before .before .trade-at .ensures) _ (c .before .before .leg-lots .ensures)
+loop-again-2 c = closing-more _ _ _ _ _ (c .before .before .before .before .before .before .before .pre) _ _ _ (c .before .before .before .before .loop-test .taken) (c .before .before .before .before .before .loop .inv) _ (c .before .before .before .trade-at .ensures) _ (leg-counts (c .before .before .is-leg .result) _ _ (c .before .before .is-leg .ensures) (c .before .if1 .left))
 
 returns : tie.Need-returns Inv-loop μ-loop
 returns c = closing-done _ _ _ _ _ _ _ _ (c .before .before .before .pre) (c .loop-test .left) (c .before .loop .inv)
@@ -69,7 +70,7 @@ closing-legs-spec =
     μ-loop
     loop-holds
     trade-at-requires
-    leg-lots-requires
+    is-leg-requires
     add-i
     loop-less
     loop-again

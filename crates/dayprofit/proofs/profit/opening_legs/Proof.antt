@@ -1,14 +1,15 @@
+use mathlib.Core.Path.{refl}
 use Prim.Native.Nat.{_-_}
 use native.Mathlib.Omega.{arith}
 use borrow.Author.Needs.{needs}
-use Rattle.dayprofit.proofs.Legs.{Opening, opening-none, opening-more, opening-skip, opening-used-fits, opening-lots-fit, opening-value-fits, taken-fits, left-fits, opening-done}
+use Rattle.dayprofit.proofs.Legs.{Opening, opening-none, opening-more, opening-skip, opening-used-fits, opening-lots-fit, opening-value-fits, taken-fits, left-fits, opening-done, leg-counts, leg-skipped}
 use Rattle.dayprofit.proofs.profit.opening_legs.Statement.{statement}
 use Rattle.dayprofit.proofs.profit.opening_legs.Tie as tie
 use Rattle.dayprofit.proofs.profit.opening_legs.Reads as reads
 use Rattle.dayprofit.proofs.profit.opening_legs.Lts as lts
 use Rattle.book.proofs.trades.trade_at.Reads as trade-at-reads
 use Rattle.laws.proofs.smaller.Reads as smaller-reads
-use Rattle.dayprofit.proofs.profit.leg_lots.Reads as leg-lots-reads
+use Rattle.dayprofit.proofs.profit.is_leg.Reads as is-leg-reads
 
 abbrev Inv-loop : tie.InvT-loop
 Inv-loop area count a c short closed skip₀ used₀ lots₀ value₀ i₀ skip used lots value i = Opening area count a c short closed skip used lots value i
@@ -22,8 +23,8 @@ loop-holds c = opening-none _ _ _ _ _ _
 trade-at-requires : tie.Need-trade-at-requires Inv-loop μ-loop
 trade-at-requires c κs = omega arith
 
-leg-lots-requires : tie.Need-leg-lots-requires Inv-loop μ-loop
-leg-lots-requires c κs = search needs
+is-leg-requires : tie.Need-is-leg-requires Inv-loop μ-loop
+is-leg-requires c κs = search needs
 
 add-i : tie.Need-add-i Inv-loop μ-loop
 add-i c = omega arith
@@ -33,7 +34,7 @@ loop-less c = omega arith
 
 -- a trade without such a leg
 loop-again : tie.Need-loop-again Inv-loop μ-loop
-loop-again c = opening-skip _ _ _ _ _ _ (c .before .before .before .before .before .before .pre) _ _ _ _ _ (c .before .before .before .loop-test .taken) (c .before .before .before .before .loop .inv) _ (c .before .before .trade-at .ensures) _ (c .before .leg-lots .ensures) (c .if1 .taken)
+loop-again c = opening-skip _ _ _ _ _ _ (c .before .before .before .before .before .before .pre) _ _ _ _ _ (c .before .before .before .loop-test .taken) (c .before .before .before .before .loop .inv) _ (c .before .before .trade-at .ensures) _ (leg-skipped (c .before .is-leg .result) _ _ (c .before .is-leg .ensures) (c .if1 .taken)) refl
 
 smaller-requires : tie.Need-smaller-requires Inv-loop μ-loop
 smaller-requires c κs = search needs
@@ -51,22 +52,22 @@ cast-used : tie.Need-cast-used Inv-loop μ-loop
 cast-used c = search needs
 
 mul-used : tie.Need-mul-used Inv-loop μ-loop
-mul-used c = taken-fits _ _ _ _ _ _ (c .before .before .before .before .before .before .before .before .pre) _ _ _ _ _ (c .before .before .before .before .before .loop-test .taken) (c .before .before .before .before .before .before .loop .inv) _ (c .before .before .before .before .trade-at .ensures) _ (c .before .before .before .leg-lots .ensures) _ (c .before .smaller .ensures)
+mul-used c = taken-fits _ _ _ _ _ _ (c .before .before .before .before .before .before .before .before .pre) _ _ _ _ _ (c .before .before .before .before .before .loop-test .taken) (c .before .before .before .before .before .before .loop .inv) _ (c .before .before .before .before .trade-at .ensures) _ (leg-counts (c .before .before .before .is-leg .result) _ _ (c .before .before .before .is-leg .ensures) (c .before .before .if1 .left)) _ (c .before .smaller .ensures)
 
 add-used : tie.Need-add-used Inv-loop μ-loop
-add-used c = opening-used-fits _ _ _ _ _ _ (c .before .before .before .before .before .before .before .before .pre) _ _ _ _ _ (c .before .before .before .before .before .loop-test .taken) (c .before .before .before .before .before .before .loop .inv) _ (c .before .before .before .before .trade-at .ensures) _ (c .before .before .before .leg-lots .ensures) _ (c .before .smaller .ensures)
+add-used c = opening-used-fits _ _ _ _ _ _ (c .before .before .before .before .before .before .before .before .pre) _ _ _ _ _ (c .before .before .before .before .before .loop-test .taken) (c .before .before .before .before .before .before .loop .inv) _ (c .before .before .before .before .trade-at .ensures) _ (leg-counts (c .before .before .before .is-leg .result) _ _ (c .before .before .before .is-leg .ensures) (c .before .before .if1 .left)) _ (c .before .smaller .ensures)
 
 add-lots : tie.Need-add-lots Inv-loop μ-loop
-add-lots c = opening-lots-fit _ _ _ _ _ _ (c .before .before .before .before .before .before .before .before .pre) _ _ _ _ _ (c .before .before .before .before .before .loop-test .taken) (c .before .before .before .before .before .before .loop .inv) _ (c .before .before .before .before .trade-at .ensures) _ (c .before .before .before .leg-lots .ensures) _ (c .before .smaller .ensures)
+add-lots c = opening-lots-fit _ _ _ _ _ _ (c .before .before .before .before .before .before .before .before .pre) _ _ _ _ _ (c .before .before .before .before .before .loop-test .taken) (c .before .before .before .before .before .before .loop .inv) _ (c .before .before .before .before .trade-at .ensures) _ (leg-counts (c .before .before .before .is-leg .result) _ _ (c .before .before .before .is-leg .ensures) (c .before .before .if1 .left)) _ (c .before .smaller .ensures)
 
 cast-value : tie.Need-cast-value Inv-loop μ-loop
 cast-value c = search needs
 
 mul-value : tie.Need-mul-value Inv-loop μ-loop
-mul-value c = left-fits _ _ _ _ _ _ (c .before .before .before .before .before .before .before .before .pre) _ _ _ _ _ (c .before .before .before .before .before .loop-test .taken) (c .before .before .before .before .before .before .loop .inv) _ (c .before .before .before .before .trade-at .ensures) _ (c .before .before .before .leg-lots .ensures) _ (c .before .smaller .ensures)
+mul-value c = left-fits _ _ _ _ _ _ (c .before .before .before .before .before .before .before .before .pre) _ _ _ _ _ (c .before .before .before .before .before .loop-test .taken) (c .before .before .before .before .before .before .loop .inv) _ (c .before .before .before .before .trade-at .ensures) _ (leg-counts (c .before .before .before .is-leg .result) _ _ (c .before .before .before .is-leg .ensures) (c .before .before .if1 .left)) _ (c .before .smaller .ensures)
 
 add-value : tie.Need-add-value Inv-loop μ-loop
-add-value c = opening-value-fits _ _ _ _ _ _ (c .before .before .before .before .before .before .before .before .pre) _ _ _ _ _ (c .before .before .before .before .before .loop-test .taken) (c .before .before .before .before .before .before .loop .inv) _ (c .before .before .before .before .trade-at .ensures) _ (c .before .before .before .leg-lots .ensures) _ (c .before .smaller .ensures)
+add-value c = opening-value-fits _ _ _ _ _ _ (c .before .before .before .before .before .before .before .before .pre) _ _ _ _ _ (c .before .before .before .before .before .loop-test .taken) (c .before .before .before .before .before .before .loop .inv) _ (c .before .before .before .before .trade-at .ensures) _ (leg-counts (c .before .before .before .is-leg .result) _ _ (c .before .before .before .is-leg .ensures) (c .before .before .if1 .left)) _ (c .before .smaller .ensures)
 
 add-i-2 : tie.Need-add-i-2 Inv-loop μ-loop
 add-i-2 c = omega arith
@@ -75,7 +76,7 @@ loop-less-2 : tie.Need-loop-less-2 Inv-loop μ-loop
 loop-less-2 c = omega arith
 
 loop-again-2 : tie.Need-loop-again-2 Inv-loop μ-loop
-loop-again-2 c = opening-more _ _ _ _ _ _ (c .before .before .before .before .before .before .before .before .pre) _ _ _ _ _ (c .before .before .before .before .before .loop-test .taken) (c .before .before .before .before .before .before .loop .inv) _ (c .before .before .before .before .trade-at .ensures) _ (c .before .before .before .leg-lots .ensures) _ (c .before .smaller .ensures)
+loop-again-2 c = opening-more _ _ _ _ _ _ (c .before .before .before .before .before .before .before .before .pre) _ _ _ _ _ (c .before .before .before .before .before .loop-test .taken) (c .before .before .before .before .before .before .loop .inv) _ (c .before .before .before .before .trade-at .ensures) _ (leg-counts (c .before .before .before .is-leg .result) _ _ (c .before .before .before .is-leg .ensures) (c .before .before .if1 .left)) _ (c .before .smaller .ensures)
 
 returns : tie.Need-returns Inv-loop μ-loop
 returns c = opening-done _ _ _ _ _ _ _ _ _ _ _ (c .before .before .before .pre) (c .loop-test .left) (c .before .loop .inv)
@@ -88,7 +89,7 @@ opening-legs-spec =
     μ-loop
     loop-holds
     trade-at-requires
-    leg-lots-requires
+    is-leg-requires
     add-i
     loop-less
     loop-again

@@ -32,8 +32,8 @@ balance : (c : tie.After-wide) → Within (2 * 10 ^ 18) (getD (c .before .before
 balance c = balance-fits (c .before .before .before .before .before .before .before .before .pre) _ (present (c .before .before .before)) (c .wide .ensures)
 
 short : (c : tie.After-too-little)
-    → c .too-little .result ≡ ltZ (getD (c .before .before .before .before .before .before .before .before .before .before .before .before .args .t1 .accounts) (c .before .before .before .before .wide .result - 1) noAccount .balance -ℤ pos (c .before .charged .result)) (pos (c .before .before .before .before .before .before .before .before .before .before .before .before .args .amount))
-short c = c .too-little .ensures ∙ rw (back (2 * 10 ^ 18) (omega arith) (balance (c .before .before .before .before)))
+    → c .too-little .result ≡ ltZ (getD (c .before .before .before .before .before .before .before .before .before .before .before .before .before .before .before .before .args .t1 .accounts) (c .before .before .before .before .before .before .before .before .wide .result - 1) noAccount .balance -ℤ pos (c .before .charged .result)) (pos (c .before .before .before .before .before .before .before .before .before .before .before .before .before .before .before .before .args .amount))
+short c = c .too-little .ensures ∙ rw (back (2 * 10 ^ 18) (omega arith) (balance (c .before .before .before .before .before .before .before .before)))
 
 -- ---- the needs
 
@@ -70,37 +70,37 @@ element-copy-out-who : tie.Need-element-copy-out-who
 element-copy-out-who c = account-fits (c .before .before .before .before .before .before .before .before .pre) _ (c .wide .ensures) (present (c .before .before .before))
 
 charged-requires : tie.Need-charged-requires
-charged-requires c κs = account-chargeable (c .before .before .before .before .before .before .before .before .before .before .pre) _ (present (c .before .before .before .before .before)) (c .before .before .wide .ensures)
+charged-requires c κs = account-chargeable (c .before .before .before .before .before .before .before .before .before .before .before .before .before .before .pre) _ (present (c .before .before .before .before .before .before .before .before .before)) (c .before .before .before .before .before .before .wide .ensures)
 
 too-little-requires : tie.Need-too-little-requires
 too-little-requires c κs =
-    (charged-fits (c .before .before .before .before .before .before .before .before .before .before .before .pre) _ (present (c .before .before .before .before .before .before)) (c .before .before .before .wide .ensures) (c .charged .ensures), amount-high _ (right (c .before .before .before .before)))
+    (charged-fits (c .before .before .before .before .before .before .before .before .before .before .before .before .before .before .before .pre) _ (present (c .before .before .before .before .before .before .before .before .before .before)) (c .before .before .before .before .before .before .before .wide .ensures) (c .charged .ensures), amount-high _ (right (c .before .before .before .before .before .before .before .before)))
 
 refused-requires-3 : tie.Need-refused-requires-3
 refused-requires-3 c κs = search needs
 
 returns-3 : tie.Need-returns-3
 returns-3 c =
-    withdraw-short (c .before .before .before .before .before .before .before .before .before .before .before .before .before .before .pre) _ _ (present (c .before .before .before .before .before .before .before .before .before)) (right (c .before .before .before .before .before .before .before)) (c .before .before .before .before .before .before .wide .ensures) (c .before .before .before .charged .ensures)
+    withdraw-short (c .before .before .before .before .before .before .before .before .before .before .before .before .before .before .before .before .before .before .pre) _ _ (present (c .before .before .before .before .before .before .before .before .before .before .before .before .before)) (right (c .before .before .before .before .before .before .before .before .before .before .before)) (c .before .before .before .before .before .before .before .before .before .before .wide .ensures) (c .before .before .before .charged .ensures)
     (sym (short (c .before .before)) ∙ c .before .if3 .taken) (c .refused3 .ensures)
 
 cast-with-balance : tie.Need-cast-with-balance
-cast-with-balance c = within-fits (10 ^ 15) (omega arith) (small (c .before .before .before .before .before .before))
+cast-with-balance c = within-fits (10 ^ 15) (omega arith) (small (c .before .before .before .before .before .before .before .before .before .before))
 
 sub-with-balance : tie.Need-sub-with-balance
-sub-with-balance c = sub-fits (balance (c .before .before .before .before .before)) (small (c .before .before .before .before .before .before)) (omega arith)
+sub-with-balance c = sub-fits (balance (c .before .before .before .before .before .before .before .before .before)) (small (c .before .before .before .before .before .before .before .before .before .before)) (omega arith)
 
 with-balance-requires : tie.Need-with-balance-requires
-with-balance-requires c κs = account-fits (c .before .before .before .before .before .before .before .before .before .before .before .before .before .pre) _ (c .before .before .before .before .before .wide .ensures) (present (c .before .before .before .before .before .before .before .before))
+with-balance-requires c κs = account-fits (c .before .before .before .before .before .before .before .before .before .before .before .before .before .before .before .before .before .pre) _ (c .before .before .before .before .before .before .before .before .before .wide .ensures) (present (c .before .before .before .before .before .before .before .before .before .before .before .before))
 
 accepted-requires : tie.Need-accepted-requires
 accepted-requires c κs = search needs
 
 returns-4 : tie.Need-returns-4
 returns-4 c =
-    withdraw-accepted (c .before .before .before .before .before .before .before .before .before .before .before .before .before .before .before .pre) _ _ (present (c .before .before .before .before .before .before .before .before .before .before)) (right (c .before .before .before .before .before .before .before .before)) (c .before .before .before .before .before .before .before .wide .ensures) (c .before .before .before .before .charged .ensures)
+    withdraw-accepted (c .before .before .before .before .before .before .before .before .before .before .before .before .before .before .before .before .before .before .before .pre) _ _ (present (c .before .before .before .before .before .before .before .before .before .before .before .before .before .before)) (right (c .before .before .before .before .before .before .before .before .before .before .before .before)) (c .before .before .before .before .before .before .before .before .before .before .before .wide .ensures) (c .before .before .before .before .charged .ensures)
     (sym (short (c .before .before .before)) ∙ c .before .before .if3 .left)
-    (c .before .with-balance .ensures ∙ rw (sub-back (balance (c .before .before .before .before .before .before .before)) (small (c .before .before .before .before .before .before .before .before)) (omega arith)))
+    (c .before .with-balance .ensures ∙ rw (sub-back (balance (c .before .before .before .before .before .before .before .before .before .before .before)) (small (c .before .before .before .before .before .before .before .before .before .before .before .before)) (omega arith)))
     (c .accepted .ensures)
 
 pub withdraw-spec : {M : Type 1} → statement M

@@ -13,8 +13,8 @@ sub-c c = search needs
 mul-terms : tie.Need-mul-terms
 mul-terms c = search needs
 
-element-copy-out-terms : tie.Need-element-copy-out-terms
-element-copy-out-terms c = place-fits (c .before .before .before .before .pre .0) (c .before .before .before .before .args .o) (c .before .before .before .before .pre .1) (c .wide .ensures)
+array-copy-out-terms : tie.Need-array-copy-out-terms
+array-copy-out-terms c = place-fits (c .before .before .before .before .before .pre .0) (c .before .before .before .before .before .args .o) (c .before .before .before .before .before .pre .1) (c .before .wide .ensures)
 
 wide-requires-2 : tie.Need-wide-requires-2
 wide-requires-2 c κs = search needs
@@ -25,20 +25,20 @@ sub-a c = search needs
 mul-who : tie.Need-mul-who
 mul-who c = search needs
 
-element-copy-out-who : tie.Need-element-copy-out-who
-element-copy-out-who c = holder-fits (c .before .before .before .before .before .before .pre .0) (c .before .before .before .before .before .before .args .o) (c .before .before .before .before .before .before .pre .1) (c .before .before .wide .ensures) (c .wide2 .ensures)
+array-copy-out-who : tie.Need-array-copy-out-who
+array-copy-out-who c = holder-fits (c .before .before .before .before .before .before .before .before .pre .0) (c .before .before .before .before .before .before .before .before .args .o) (c .before .before .before .before .before .before .before .before .pre .1) (c .before .before .before .before .wide .ensures) (c .before .wide2 .ensures)
 
 mul-h : tie.Need-mul-h
 mul-h c = search needs
 
 element-copy-out-h : tie.Need-element-copy-out-h
-element-copy-out-h c = place-fits (c .before .before .before .before .before .before .before .pre .0) (c .before .before .before .before .before .before .before .args .o) (c .before .before .before .before .before .before .before .pre .1) (c .before .before .before .wide .ensures)
+element-copy-out-h c = place-fits (c .before .before .before .before .before .before .before .before .before .pre .0) (c .before .before .before .before .before .before .before .before .before .args .o) (c .before .before .before .before .before .before .before .before .before .pre .1) (c .before .before .before .before .before .wide .ensures)
 
 side-area-requires : tie.Need-side-area-requires
 side-area-requires c κs = search needs
 
 side-count-requires : tie.Need-side-count-requires
-side-count-requires c κs = place-fits (c .before .before .before .before .before .before .before .before .before .pre .0) (c .before .before .before .before .before .before .before .before .before .args .o) (c .before .before .before .before .before .before .before .before .before .pre .1) (c .before .before .before .before .before .wide .ensures)
+side-count-requires c κs = place-fits (c .before .before .before .before .before .before .before .before .before .before .before .pre .0) (c .before .before .before .before .before .before .before .before .before .before .before .args .o) (c .before .before .before .before .before .before .before .before .before .before .before .pre .1) (c .before .before .before .before .before .before .before .wide .ensures)
 
 sub-resting : tie.Need-sub-resting
 sub-resting c = search needs
@@ -47,22 +47,22 @@ mark-requires : tie.Need-mark-requires
 mark-requires c κs = search needs
 
 resting-requires : tie.Need-resting-requires
-resting-requires c κs = own-room (c .before .before .before .before .before .before .before .before .before .before .before .before .pre .0) (c .before .before .before .before .before .before .before .before .before .before .before .before .args .o) (c .before .before .before .before .before .before .before .before .before .before .before .before .pre .1) (c .before .before .before .before .before .before .before .before .wide .ensures) (c .before .before .before .side-area .ensures) (c .before .before .side-count .ensures)
+resting-requires c κs = own-room (c .before .before .before .before .before .before .before .before .before .before .before .before .before .before .pre .0) (c .before .before .before .before .before .before .before .before .before .before .before .before .before .before .args .o) (c .before .before .before .before .before .before .before .before .before .before .before .before .before .before .pre .1) (c .before .before .before .before .before .before .before .before .before .before .wide .ensures) (c .before .before .before .side-area .ensures) (c .before .before .side-count .ensures)
 
 lots-refused-requires : tie.Need-lots-refused-requires
-lots-refused-requires c κs = rested-low (c .before .before .before .before .before .before .before .before .before .before .before .before .before .pre .0) (c .before .before .before .before .before .before .before .before .before .before .before .before .before .args .o) (c .before .before .before .before .before .before .before .before .before .before .before .before .before .pre .1) (c .before .before .before .before .before .before .before .before .before .wide .ensures) (c .before .before .before .before .side-area .ensures) (c .before .before .before .side-count .ensures) (c .before .mark .ensures) (c .resting .ensures)
+lots-refused-requires c κs = rested-low (c .before .before .before .before .before .before .before .before .before .before .before .before .before .before .before .pre .0) (c .before .before .before .before .before .before .before .before .before .before .before .before .before .before .before .args .o) (c .before .before .before .before .before .before .before .before .before .before .before .before .before .before .before .pre .1) (c .before .before .before .before .before .before .before .before .before .before .before .wide .ensures) (c .before .before .before .before .side-area .ensures) (c .before .before .before .side-count .ensures) (c .before .mark .ensures) (c .resting .ensures)
 
 returns : tie.Need-returns
-returns c = account-lots (c .before .before .before .before .before .before .before .before .before .before .before .before .before .before .before .pre .0) (c .before .before .before .before .before .before .before .before .before .before .before .before .before .before .before .args .o) (c .before .before .before .before .before .before .before .before .before .before .before .before .before .before .before .pre .1) (c .before .before .before .before .before .before .before .before .before .before .before .wide .ensures) (c .before .before .before .before .before .before .side-area .ensures) (c .before .before .before .before .before .side-count .ensures) (c .before .before .before .mark .ensures) (c .before .before .resting .ensures) (c .before .before .before .before .before .before .before .before .before .wide2 .ensures) (c .before .lots-refused .ensures) (c .if1 .taken)
+returns c = account-lots (c .before .before .before .before .before .before .before .before .before .before .before .before .before .before .before .before .before .pre .0) (c .before .before .before .before .before .before .before .before .before .before .before .before .before .before .before .before .before .args .o) (c .before .before .before .before .before .before .before .before .before .before .before .before .before .before .before .before .before .pre .1) (c .before .before .before .before .before .before .before .before .before .before .before .before .before .wide .ensures) (c .before .before .before .before .before .before .side-area .ensures) (c .before .before .before .before .before .side-count .ensures) (c .before .before .before .mark .ensures) (c .before .before .resting .ensures) (c .before .before .before .before .before .before .before .before .before .before .wide2 .ensures) (c .before .lots-refused .ensures) (c .if1 .taken)
 
 money-refused-requires : tie.Need-money-refused-requires
-money-refused-requires c κs = search needs
+money-refused-requires c κs = (c .before .before .before .before .before .before .before .before .before .before .before .before .before .before .before .before .before .pre .0, c .before .before .before .before .before .before .before .before .before .before .before .before .before .before .before .before .before .pre .1, c .before .before .before .before .before .before .before .before .before .before .before .before .before .before .before .before .before .pre .2, rw (c .before .before .before .before .before .before .before .before .before .before .wide2 .ensures))
 
 returns-2 : tie.Need-returns-2
-returns-2 c = account-money (c .before .before .before .before .before .before .before .before .before .before .before .before .before .before .before .before .before .pre .0) (c .before .before .before .before .before .before .before .before .before .before .before .before .before .before .before .before .before .args .o) (c .before .before .before .before .before .before .before .before .before .before .before .before .before .before .before .before .before .pre .1) (c .before .before .before .before .before .before .before .before .before .before .before .before .before .wide .ensures) (c .before .before .before .before .before .before .before .before .side-area .ensures) (c .before .before .before .before .before .before .before .side-count .ensures) (c .before .before .before .before .before .mark .ensures) (c .before .before .before .before .resting .ensures) (c .before .before .before .before .before .before .before .before .before .before .before .wide2 .ensures) (c .before .before .before .lots-refused .ensures) (c .before .before .if1 .left) (c .before .money-refused .ensures) (c .if2 .taken)
+returns-2 c = account-money (c .before .before .before .before .before .before .before .before .before .before .before .before .before .before .before .before .before .before .before .pre .0) (c .before .before .before .before .before .before .before .before .before .before .before .before .before .before .before .before .before .before .before .args .o) (c .before .before .before .before .before .before .before .before .before .before .before .before .before .before .before .before .before .before .before .pre .1) (c .before .before .before .before .before .before .before .before .before .before .before .before .before .before .before .wide .ensures) (c .before .before .before .before .before .before .before .before .side-area .ensures) (c .before .before .before .before .before .before .before .side-count .ensures) (c .before .before .before .before .before .mark .ensures) (c .before .before .before .before .resting .ensures) (c .before .before .before .before .before .before .before .before .before .before .before .before .wide2 .ensures) (c .before .before .before .lots-refused .ensures) (c .before .before .if1 .left) (c .before .money-refused .ensures) (c .if2 .taken)
 
 returns-3 : tie.Need-returns-3
-returns-3 c = account-clear (c .before .before .before .before .before .before .before .before .before .before .before .before .before .before .before .before .before .pre .0) (c .before .before .before .before .before .before .before .before .before .before .before .before .before .before .before .before .before .args .o) (c .before .before .before .before .before .before .before .before .before .before .before .before .before .before .before .before .before .pre .1) (c .before .before .before .before .before .before .before .before .before .before .before .before .before .wide .ensures) (c .before .before .before .before .before .before .before .before .side-area .ensures) (c .before .before .before .before .before .before .before .side-count .ensures) (c .before .before .before .before .before .mark .ensures) (c .before .before .before .before .resting .ensures) (c .before .before .before .before .before .before .before .before .before .before .before .wide2 .ensures) (c .before .before .before .lots-refused .ensures) (c .before .before .if1 .left) (c .before .money-refused .ensures) (c .if2 .left)
+returns-3 c = account-clear (c .before .before .before .before .before .before .before .before .before .before .before .before .before .before .before .before .before .before .before .pre .0) (c .before .before .before .before .before .before .before .before .before .before .before .before .before .before .before .before .before .before .before .args .o) (c .before .before .before .before .before .before .before .before .before .before .before .before .before .before .before .before .before .before .before .pre .1) (c .before .before .before .before .before .before .before .before .before .before .before .before .before .before .before .wide .ensures) (c .before .before .before .before .before .before .before .before .side-area .ensures) (c .before .before .before .before .before .before .before .side-count .ensures) (c .before .before .before .before .before .mark .ensures) (c .before .before .before .before .resting .ensures) (c .before .before .before .before .before .before .before .before .before .before .before .before .wide2 .ensures) (c .before .before .before .lots-refused .ensures) (c .before .before .if1 .left) (c .before .money-refused .ensures) (c .if2 .left)
 
 pub account-code-spec : {M : Type 1} → statement M
 account-code-spec =
@@ -71,11 +71,11 @@ account-code-spec =
     wide-requires
     sub-c
     mul-terms
-    element-copy-out-terms
+    array-copy-out-terms
     wide-requires-2
     sub-a
     mul-who
-    element-copy-out-who
+    array-copy-out-who
     mul-h
     element-copy-out-h
     side-area-requires

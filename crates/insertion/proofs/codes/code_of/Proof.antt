@@ -54,28 +54,28 @@ returns-3 : tie.Need-returns-3
 returns-3 c = code-terms (c .before .before .before .before .before .before .before .before .before .before .before .before .pre) (c .before .before .before .before .before .before .before .before .before .before .before .before .args .o) (here (c .before .before .before .before .before)) (c .before .before .before .before .wide .ensures) (account-there (c .before .before .before .before .before .before .before)) (contract-there (c .before .before .before .before .before)) (c .before .terms-code .ensures) (c .if3 .taken)
 
 account-code-requires : tie.Need-account-code-requires
-account-code-requires c κs = (c .before .before .before .before .before .before .before .before .before .before .before .before .pre, here (c .before .before .before .before .before), lots-few (c .before .before .before .before .before .before .before .before .before .before .before .before .pre) (c .before .before .before .before .before .before .before .before .before .before .before .before .args .o) (here (c .before .before .before .before .before)) (c .before .before .before .before .wide .ensures) (account-there (c .before .before .before .before .before .before .before)) (contract-there (c .before .before .before .before .before)) (c .before .terms-code .ensures) (c .if3 .left))
+account-code-requires c κs = (c .before .before .before .before .before .before .before .before .before .before .before .before .before .before .before .pre, here (c .before .before .before .before .before .before .before .before), lots-few (c .before .before .before .before .before .before .before .before .before .before .before .before .before .before .before .pre) (c .before .before .before .before .before .before .before .before .before .before .before .before .before .before .before .args .o) (here (c .before .before .before .before .before .before .before .before)) (c .before .before .before .before .before .before .before .wide .ensures) (account-there (c .before .before .before .before .before .before .before .before .before .before)) (contract-there (c .before .before .before .before .before .before .before .before)) (c .before .before .before .before .terms-code .ensures) (c .before .before .before .if3 .left))
 
 returns-4 : tie.Need-returns-4
-returns-4 c = code-lots-or-money (c .before .before .before .before .before .before .before .before .before .before .before .before .before .before .pre) (c .before .before .before .before .before .before .before .before .before .before .before .before .before .before .args .o) (here (c .before .before .before .before .before .before .before)) (c .before .before .before .before .before .before .wide .ensures) (account-there (c .before .before .before .before .before .before .before .before .before)) (contract-there (c .before .before .before .before .before .before .before)) (c .before .before .before .terms-code .ensures) (c .before .before .if3 .left) (c .before .account-code .ensures) (c .if4 .taken)
+returns-4 c = code-lots-or-money (c .before .before .before .before .before .before .before .before .before .before .before .before .before .before .before .before .before .pre) (c .before .before .before .before .before .before .before .before .before .before .before .before .before .before .before .before .before .args .o) (here (c .before .before .before .before .before .before .before .before .before .before)) (c .before .before .before .before .before .before .before .before .before .wide .ensures) (account-there (c .before .before .before .before .before .before .before .before .before .before .before .before)) (contract-there (c .before .before .before .before .before .before .before .before .before .before)) (c .before .before .before .before .before .before .terms-code .ensures) (c .before .before .before .before .before .if3 .left) (c .before .account-code .ensures) (c .if4 .taken)
 
 side-count-requires : tie.Need-side-count-requires
-side-count-requires c κs = place-fits (c .before .before .before .before .before .before .before .before .before .before .before .before .before .before .pre) (c .before .before .before .before .before .before .before .before .before .before .before .before .before .before .args .o) (here (c .before .before .before .before .before .before .before)) (c .before .before .before .before .before .before .wide .ensures)
+side-count-requires c κs = place-fits (c .before .before .before .before .before .before .before .before .before .before .before .before .pre) (c .before .before .before .before .before .before .before .before .before .before .before .before .args .o) (here (c .before .before .before .before .before)) (c .before .before .before .before .wide .ensures)
 
 side-area-requires : tie.Need-side-area-requires
 side-area-requires c κs = search needs
 
 side-count-requires-2 : tie.Need-side-count-requires-2
-side-count-requires-2 c κs = place-fits (c .before .before .before .before .before .before .before .before .before .before .before .before .before .before .before .before .before .before .pre) (c .before .before .before .before .before .before .before .before .before .before .before .before .before .before .before .before .before .before .args .o) (here (c .before .before .before .before .before .before .before .before .before .before .before)) (c .before .before .before .before .before .before .before .before .before .before .wide .ensures)
+side-count-requires-2 c κs = place-fits (c .before .before .before .before .before .before .before .before .before .before .before .before .before .before .pre) (c .before .before .before .before .before .before .before .before .before .before .before .before .before .before .args .o) (here (c .before .before .before .before .before .before .before)) (c .before .before .before .before .before .before .wide .ensures)
 
 taker-of-requires : tie.Need-taker-of-requires
-taker-of-requires c κs = (here (c .before .before .before .before .before .before .before .before .before .before .before .before) .account-low, here (c .before .before .before .before .before .before .before .before .before .before .before .before) .contract-low, opposite-room (c .before .before .before .before .before .before .before .before .before .before .before .before .before .before .before .before .before .before .before .pre) (c .before .before .before .before .before .before .before .before .before .before .before .before .before .before .before .before .before .before .before .args .o) (here (c .before .before .before .before .before .before .before .before .before .before .before .before)) (c .before .before .before .before .before .before .before .before .before .before .before .wide .ensures) (account-there (c .before .before .before .before .before .before .before .before .before .before .before .before .before .before)) (contract-there (c .before .before .before .before .before .before .before .before .before .before .before .before)) (c .before .before .before .before .before .before .before .before .terms-code .ensures) (c .before .before .before .before .before .before .before .if3 .left) (c .before .before .before .before .before .before .account-code .ensures) (c .before .before .before .before .before .if4 .left) (c .before .before .before .before .side-count .ensures) (c .before .before .side-area .ensures) (c .side-count2 .ensures))
+taker-of-requires c κs = (here (c .before .before .before .before .before .before .before .before .before .before .before .before) .account-low, here (c .before .before .before .before .before .before .before .before .before .before .before .before) .contract-low, opposite-room (c .before .before .before .before .before .before .before .before .before .before .before .before .before .before .before .before .before .before .before .pre) (c .before .before .before .before .before .before .before .before .before .before .before .before .before .before .before .before .before .before .before .args .o) (here (c .before .before .before .before .before .before .before .before .before .before .before .before)) (c .before .before .before .before .before .before .before .before .before .before .before .wide .ensures) (account-there (c .before .before .before .before .before .before .before .before .before .before .before .before .before .before)) (contract-there (c .before .before .before .before .before .before .before .before .before .before .before .before)) (c .before .before .before .before .before .before .before .before .terms-code .ensures) (c .before .before .before .before .before .before .before .if3 .left) (c .before .before .before .account-code .ensures) (c .before .before .if4 .left) (c .before .before .before .before .before .before .side-count .ensures) (c .side-area .ensures) (c .before .before .before .before .side-count2 .ensures))
 
 book-code-requires : tie.Need-book-code-requires
-book-code-requires c κs = (facing (c .before .before .before .before .before .before .before .before .before .before .before .before .before .before .before .before .before .before .before .before .pre) (c .before .before .before .before .before .before .before .before .before .before .before .before .before .before .before .before .before .before .before .before .args .o) (here (c .before .before .before .before .before .before .before .before .before .before .before .before .before)) (c .before .before .before .before .before .before .before .before .before .before .before .before .wide .ensures) (account-there (c .before .before .before .before .before .before .before .before .before .before .before .before .before .before .before)) (contract-there (c .before .before .before .before .before .before .before .before .before .before .before .before .before)) (c .before .before .before .before .before .before .before .before .before .terms-code .ensures) (c .before .before .before .before .before .before .before .before .if3 .left) (c .before .before .before .before .before .before .before .account-code .ensures) (c .before .before .before .before .before .before .if4 .left) (c .before .before .before .before .before .side-count .ensures) (c .before .before .before .side-area .ensures) (c .before .side-count2 .ensures) (c .taker-of .ensures), recorded-few (c .before .before .before .before .before .before .before .before .before .before .before .before .before .before .before .before .before .before .before .before .pre) (c .before .before .before .before .before .before .before .before .before .before .before .before .before .before .before .before .before .before .before .before .args .o) (here (c .before .before .before .before .before .before .before .before .before .before .before .before .before)) (c .before .before .before .before .before .before .before .before .before .before .before .before .wide .ensures) (account-there (c .before .before .before .before .before .before .before .before .before .before .before .before .before .before .before)) (contract-there (c .before .before .before .before .before .before .before .before .before .before .before .before .before)) (c .before .before .before .before .before .before .before .before .before .terms-code .ensures) (c .before .before .before .before .before .before .before .before .if3 .left) (c .before .before .before .before .before .before .before .account-code .ensures) (c .before .before .before .before .before .before .if4 .left) (c .before .before .before .before .before .side-count .ensures) (c .before .before .before .side-area .ensures) (c .before .side-count2 .ensures) (c .taker-of .ensures))
+book-code-requires c κs = (facing (c .before .before .before .before .before .before .before .before .before .before .before .before .before .before .before .before .before .before .before .before .pre) (c .before .before .before .before .before .before .before .before .before .before .before .before .before .before .before .before .before .before .before .before .args .o) (here (c .before .before .before .before .before .before .before .before .before .before .before .before .before)) (c .before .before .before .before .before .before .before .before .before .before .before .before .wide .ensures) (account-there (c .before .before .before .before .before .before .before .before .before .before .before .before .before .before .before)) (contract-there (c .before .before .before .before .before .before .before .before .before .before .before .before .before)) (c .before .before .before .before .before .before .before .before .before .terms-code .ensures) (c .before .before .before .before .before .before .before .before .if3 .left) (c .before .before .before .before .account-code .ensures) (c .before .before .before .if4 .left) (c .before .before .before .before .before .before .before .side-count .ensures) (c .before .side-area .ensures) (c .before .before .before .before .before .side-count2 .ensures) (c .taker-of .ensures), recorded-few (c .before .before .before .before .before .before .before .before .before .before .before .before .before .before .before .before .before .before .before .before .pre) (c .before .before .before .before .before .before .before .before .before .before .before .before .before .before .before .before .before .before .before .before .args .o) (here (c .before .before .before .before .before .before .before .before .before .before .before .before .before)) (c .before .before .before .before .before .before .before .before .before .before .before .before .wide .ensures) (account-there (c .before .before .before .before .before .before .before .before .before .before .before .before .before .before .before)) (contract-there (c .before .before .before .before .before .before .before .before .before .before .before .before .before)) (c .before .before .before .before .before .before .before .before .before .terms-code .ensures) (c .before .before .before .before .before .before .before .before .if3 .left) (c .before .before .before .before .account-code .ensures) (c .before .before .before .if4 .left) (c .before .before .before .before .before .before .before .side-count .ensures) (c .before .side-area .ensures) (c .before .before .before .before .before .side-count2 .ensures) (c .taker-of .ensures))
 
 returns-5 : tie.Need-returns-5
-returns-5 c = code-book (c .before .before .before .before .before .before .before .before .before .before .before .before .before .before .before .before .before .before .before .before .before .pre) (c .before .before .before .before .before .before .before .before .before .before .before .before .before .before .before .before .before .before .before .before .before .args .o) (here (c .before .before .before .before .before .before .before .before .before .before .before .before .before .before)) (c .before .before .before .before .before .before .before .before .before .before .before .before .before .wide .ensures) (account-there (c .before .before .before .before .before .before .before .before .before .before .before .before .before .before .before .before)) (contract-there (c .before .before .before .before .before .before .before .before .before .before .before .before .before .before)) (c .before .before .before .before .before .before .before .before .before .before .terms-code .ensures) (c .before .before .before .before .before .before .before .before .before .if3 .left) (c .before .before .before .before .before .before .before .before .account-code .ensures) (c .before .before .before .before .before .before .before .if4 .left) (c .before .before .before .before .before .before .side-count .ensures) (c .before .before .before .before .side-area .ensures) (c .before .before .side-count2 .ensures) (c .before .taker-of .ensures) (c .book-code .ensures)
+returns-5 c = code-book (c .before .before .before .before .before .before .before .before .before .before .before .before .before .before .before .before .before .before .before .before .before .pre) (c .before .before .before .before .before .before .before .before .before .before .before .before .before .before .before .before .before .before .before .before .before .args .o) (here (c .before .before .before .before .before .before .before .before .before .before .before .before .before .before)) (c .before .before .before .before .before .before .before .before .before .before .before .before .before .wide .ensures) (account-there (c .before .before .before .before .before .before .before .before .before .before .before .before .before .before .before .before)) (contract-there (c .before .before .before .before .before .before .before .before .before .before .before .before .before .before)) (c .before .before .before .before .before .before .before .before .before .before .terms-code .ensures) (c .before .before .before .before .before .before .before .before .before .if3 .left) (c .before .before .before .before .before .account-code .ensures) (c .before .before .before .before .if4 .left) (c .before .before .before .before .before .before .before .before .side-count .ensures) (c .before .before .side-area .ensures) (c .before .before .before .before .before .before .side-count2 .ensures) (c .before .taker-of .ensures) (c .book-code .ensures)
 
 pub code-of-spec : {M : Type 1} → statement M
 code-of-spec =
@@ -91,11 +91,11 @@ code-of-spec =
     array-copy-out-terms
     terms-code-requires
     returns-3
+    side-count-requires
+    side-count-requires-2
     account-code-requires
     returns-4
-    side-count-requires
     side-area-requires
-    side-count-requires-2
     taker-of-requires
     book-code-requires
     returns-5)
