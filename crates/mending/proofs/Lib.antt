@@ -1,3 +1,4 @@
+pub mod Again
 pub mod Heads
 pub mod Records
 pub mod Whole
