@@ -7,12 +7,19 @@ use native.Mathlib.Omega.{arith}
 use lib.Dec.{leb, ltb, eqb}
 use lib.ListN.{length, getD, take, drop, length-append, List·getD-append}
 use lib.Seq.{drop-drop, take-add, getD-take, getD-drop, getD-append-add}
-use borrow.Author.Tests.{lt-leb, ltb-true, ltb-false}
+use borrow.Author.Tests.{le-leb, lt-leb, ltb-true, ltb-false}
+use native.Mathlib.Nat.{zero-add}
+use lib.Seq.{take-at, take-all, drop-append-add, drop-append-seam, length-take-le}
+use Rattle.laws.specs.Choice.{all, all-ext, both-true}
+use Rattle.dayfile.proofs.Places.{contract-place, account-place, command-place, accounts-read}
+use Rattle.mending.proofs.Heads.{Head, head, length-decides, sound-is, sound-head}
 use Rattle.mending.proofs.Records.{length-kept}
+use Rattle.mending.proofs.Whole.{kept-limit, length-mended, place-least, place-within, whole-within}
+use Rattle.mending.proofs.Writing.{length-four}
 use Rattle.laws.specs.Choice.{pick}
 use Rattle.rules.specs.Command.{commandOf}
-use Rattle.rules.specs.DayFile.{u8At, u16At, u32At, u64At, recordFrom}
-use Rattle.mending.specs.Mend.{isMalformed, reason, kept, keptBytes, dropped}
+use Rattle.rules.specs.DayFile.{u8At, u16At, u32At, u64At, recordFrom, contractsIn, accountsIn, contractPlace, accountPlace, commandPlace, contractFrom, contractSound, balanceFrom, accountSound}
+use Rattle.mending.specs.Mend.{four, eight, isMalformed, reason, kept, keptBytes, keptCount, dropped, droppedList, headWhole, headSound, listFrom, mendedFile, wholeRecords}
 
 -- ---- records that are all well formed, 2,000 at most, are all kept
 
@@ -124,3 +131,121 @@ kept-good file first (suc k) h j i =
         last false f =
             let b = ltb-false j (kept file first k) f in
             at-seam (keptBytes file first k) file (24 * j) (first + 24 * k) (omega arith) (malformed-is file first k (kept file first k) e)
+
+-- ---- the mended file's head is the file's, and its records are those kept
+
+module _ (file : List ℕ) (sound : headSound file ≡ true) where
+  abbrev first : ℕ
+  first = commandPlace file 0
+
+  abbrev bytes : List ℕ
+  bytes = keptBytes file first (wholeRecords file first)
+
+  abbrev again : List ℕ
+  again = mendedFile file
+
+  parts : again ≡ take (first - 4) file ++ (four (keptCount file) ++ bytes)
+  unfolding mendedFile
+  parts = refl
+
+  length-front : length (take (first - 4) file) ≡ first - 4
+  length-front = length-take-le (first - 4) file (omega (arith, place-within file sound))
+
+  same-head : (t : ℕ) → t < first - 4 → getD again (0 + t) 0 ≡ getD file (0 + t) 0
+  same-head t h =
+      rw (zero-add t, parts)
+      (List·getD-append (take (first - 4) file) (four (keptCount file) ++ bytes) 0 t (omega (arith, length-front))
+      ∙ getD-take (first - 4) file t 0 h)
+
+  place : first ≡ 12 + 20 * contractsIn file + 8 * accountsIn file
+  place = omega (arith, command-place file 0)
+
+  same-contracts : contractsIn again ≡ contractsIn file
+  unfolding contractsIn
+  same-contracts = same-32 again file 0 0 (first - 4) same-head 0 0 0 (omega (arith, place-least file sound)) (omega arith) (omega arith)
+
+  same-accounts : accountsIn again ≡ accountsIn file
+  same-accounts =
+      accounts-read again
+      ∙ same-32 again file 0 0 (first - 4) same-head (4 + 20 * contractsIn file) (4 + 20 * contractsIn again) (4 + 20 * contractsIn file)
+        (omega (arith, place)) (omega (arith, same-contracts)) (omega arith)
+      ∙ sym (accounts-read file)
+
+  same-place : commandPlace again 0 ≡ first
+  same-place = omega (arith, command-place again 0, place, same-contracts, same-accounts)
+
+  drop-front : drop first again ≡ bytes
+  drop-front =
+      let e : first ≡ length (take (first - 4) file) + length (four (keptCount file)) =
+      omega (arith, length-front, length-four (keptCount file), place-least file sound) in
+      ap (λ (l : List ℕ). drop first l) parts
+      ∙ ap (λ (k : ℕ). drop k (take (first - 4) file ++ (four (keptCount file) ++ bytes))) e
+      ∙ drop-append-add (take (first - 4) file) (four (keptCount file) ++ bytes) (length (four (keptCount file)))
+      ∙ drop-append-seam (four (keptCount file)) bytes
+
+  take-front : take (first - 4) again ≡ take (first - 4) file
+  take-front =
+      ap (λ (l : List ℕ). take (first - 4) l) parts
+      ∙ take-at (take (first - 4) file) (four (keptCount file) ++ bytes) (first - 4) length-front
+
+  length-bytes : length bytes ≡ 24 * keptCount file
+  length-bytes = length-kept file first (wholeRecords file first) (whole-within file first (place-within file sound))
+
+  all-good : (j : ℕ) → j < keptCount file → wellFormedAt again (first + 24 * j)
+  all-good j h =
+      ap (λ r. isMalformed (commandOf r))
+      (same-record again bytes (first + 24 * j) (24 * j) 24
+      (λ (t : ℕ) (i : t < 24).
+        let e : first + 24 * j + t ≡ first + (24 * j + t) = omega arith in
+        rw e (sym (getD-drop first again (24 * j + t) 0) ∙ ap (λ (l : List ℕ). getD l (24 * j + t) 0) drop-front))
+      (omega arith))
+      ∙ kept-good file first (wholeRecords file first) (whole-within file first (place-within file sound)) j h
+
+  rest : length again - first ≡ 24 * keptCount file
+  rest = omega (arith, length-mended file sound)
+
+  whole : wholeRecords again first ≡ keptCount file
+  whole = rw rest (omega arith)
+
+  no-partial : (length again - first) % 24 ≡ 0
+  no-partial = rw rest (omega arith)
+
+  most : keptCount file ≤ 2_000
+  most = kept-limit file first (wholeRecords file first)
+
+  kept-again : kept again first (wholeRecords again first) ≡ keptCount file
+  kept-again = ap (kept again first) whole ∙ all-kept again first (keptCount file) most all-good (keptCount file) (omega arith)
+
+  bytes-again : keptBytes again first (wholeRecords again first) ≡ bytes
+  bytes-again =
+      ap (keptBytes again first) whole
+      ∙ bytes-stay again first (keptCount file) most all-good (keptCount file) (omega arith)
+      ∙ ap (λ (l : List ℕ). take (24 * keptCount file) l) drop-front
+      ∙ take-all (24 * keptCount file) bytes (omega (arith, length-bytes))
+
+  mended-from : (l : List ℕ) (p : ℕ) → commandPlace l 0 ≡ p
+      → mendedFile l ≡ take (p - 4) l ++ (four (kept l p (wholeRecords l p)) ++ keptBytes l p (wholeRecords l p))
+  unfolding mendedFile
+  mended-from l p e = rw e
+
+  -- A MENDED FILE MENDS TO ITSELF ..
+  pub mends-to-itself : mendedFile (mendedFile file) ≡ mendedFile file
+  mends-to-itself =
+      mended-from again first same-place
+      ∙ ap (λ (l : List ℕ). l ++ (four (kept again first (wholeRecords again first)) ++ keptBytes again first (wholeRecords again first))) take-front
+      ∙ ap (λ (k : ℕ). take (first - 4) file ++ (four k ++ keptBytes again first (wholeRecords again first))) kept-again
+      ∙ ap (λ (l : List ℕ). take (first - 4) file ++ (four (keptCount file) ++ l)) bytes-again
+      ∙ sym parts
+
+  list-from : (l : List ℕ) (p c : ℕ) → (length l - p) % 24 ≡ 0 → wholeRecords l p ≡ c → kept l p c ≡ c → dropped l p c ≡ []
+      → listFrom l p ≡ eight 0
+  unfolding listFrom
+  list-from l p c z w k d = let e : c - c + 0 ≡ 0 = omega arith in rw (z, w, k, d, e) (append-nil (eight 0))
+
+  -- .. WITH AN EMPTY LIST: its count is 0 and nothing follows
+  pub empty-list : droppedList (mendedFile file) ≡ eight 0
+  empty-list =
+      ap (listFrom again) same-place
+      ∙ list-from again first (keptCount file) no-partial whole
+        (all-kept again first (keptCount file) most all-good (keptCount file) (omega arith))
+        (none-listed again first (keptCount file) most all-good (keptCount file) (omega arith))
