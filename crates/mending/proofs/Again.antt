@@ -1,5 +1,5 @@
 -- "A mended file mends to itself with an empty list." Assumes nothing.
-use mathlib.Core.Bool.{Bool, true, false, true≢false}
+use mathlib.Core.Bool.{Bool, true, false, true≢false, _&&_}
 use mathlib.Core.List.{List, [], _∷_, _++_, append-nil}
 use mathlib.Core.Path.{_≡_, refl, sym, ap, _∙_}
 use Prim.Native.Nat.{ℕ, zero, suc, _+_, _-_, _*_, _/_, _%_, _≤_, _<_}
@@ -249,3 +249,55 @@ module _ (file : List ℕ) (sound : headSound file ≡ true) where
       ∙ list-from again first (keptCount file) no-partial whole
         (all-kept again first (keptCount file) most all-good (keptCount file) (omega arith))
         (none-listed again first (keptCount file) most all-good (keptCount file) (omega arith))
+
+  -- ---- its head is sound, so that it is not refused
+
+  same-contract : (c : ℕ) → c < contractsIn file → contractSound again c ≡ contractSound file c
+  unfolding contractSound contractFrom
+  same-contract c h =
+      let q = first - 4 in
+      let o = contractPlace c in
+      let z : o ≡ 0 + o = omega arith in
+      let at : (k : ℕ) → o + k ≡ 0 + (o + k) = λ k. omega arith in
+      let r : o + 20 ≤ q = omega (arith, place, contract-place c) in
+      rw (
+        same-16 again file 0 0 q same-head o o o (omega arith) z z,
+        same-16 again file 0 0 q same-head (o + 2) (o + 2) (o + 2) (omega arith) (at 2) (at 2),
+        same-32 again file 0 0 q same-head (o + 4) (o + 4) (o + 4) (omega arith) (at 4) (at 4),
+        same-32 again file 0 0 q same-head (o + 8) (o + 8) (o + 8) (omega arith) (at 8) (at 8),
+        same-32 again file 0 0 q same-head (o + 12) (o + 12) (o + 12) (omega arith) (at 12) (at 12),
+        same-16 again file 0 0 q same-head (o + 16) (o + 16) (o + 16) (omega arith) (at 16) (at 16),
+        same-16 again file 0 0 q same-head (o + 18) (o + 18) (o + 18) (omega arith) (at 18) (at 18),
+      )
+
+  same-account : (a : ℕ) → a < accountsIn file → accountSound again a ≡ accountSound file a
+  unfolding accountSound balanceFrom
+  same-account a h =
+      let o = accountPlace file a in
+      let e : accountPlace again a ≡ 0 + o = omega (arith, account-place again a, account-place file a, same-contracts) in
+      rw (same-64 again file 0 0 (first - 4) same-head o (accountPlace again a) o (omega (arith, place, account-place file a)) e (omega arith))
+
+  again-whole : headWhole again ≡ true
+  again-whole =
+      let h = sound-head file sound in
+      length-decides again (omega (arith, same-contracts)) (omega (arith, same-contracts)) (omega (arith, same-accounts)) (omega (arith, same-accounts))
+      ∙ le-leb (12 + 20 * contractsIn again + 8 * accountsIn again) (length again)
+        (omega (arith, same-contracts, same-accounts, place, length-mended file sound))
+
+  -- THE MENDED FILE CAN BE MENDED
+  pub again-sound : headSound (mendedFile file) ≡ true
+  again-sound =
+      let c = all (contractSound file) (contractsIn file) in
+      let a = all (accountSound file) (accountsIn file) in
+      let p = both-true (headWhole file && c) a (sym (sound-is file) ∙ sound) in
+      let q = both-true (headWhole file) c (p .0) in
+      sound-is again
+      ∙ rw (
+        again-whole,
+        same-contracts,
+        same-accounts,
+        all-ext (contractSound again) (contractSound file) (contractsIn file) same-contract,
+        all-ext (accountSound again) (accountSound file) (accountsIn file) same-account,
+        q .1,
+        p .1,
+      )
