@@ -7,19 +7,21 @@ use native.Mathlib.Omega.{arith}
 use lib.Dec.{leb, ltb, eqb}
 use lib.ListN.{length, getD, take, drop, length-append, List·getD-append}
 use lib.Seq.{drop-drop, take-add, getD-take, getD-drop, getD-append-add}
-use borrow.Author.Tests.{le-leb, lt-leb, ltb-true, ltb-false}
+use borrow.Author.Tests.{eq-eqb, le-leb, lt-leb, ltb-true, ltb-false}
 use native.Mathlib.Nat.{zero-add}
 use lib.Seq.{take-at, take-all, drop-append-add, drop-append-seam, length-take-le}
 use Rattle.laws.specs.Choice.{all, all-ext, both-true}
-use Rattle.dayfile.proofs.Places.{contract-place, account-place, command-place, accounts-read}
+use Rattle.dayfile.proofs.Places.{contract-place, account-place, command-place, accounts-read, commands-read, sound-is as DayFile·sound-is, length-decides as DayFile·length-decides}
+use Rattle.dayfile.specs.Opening.{shaped}
+use Rattle.rules.specs.DayFile.{sound as DayFile·sound}
 use Rattle.mending.proofs.Heads.{Head, head, length-decides, sound-is, sound-head}
 use Rattle.mending.proofs.Records.{length-kept}
 use Rattle.mending.proofs.Whole.{kept-limit, length-mended, place-least, place-within, whole-within}
 use Rattle.mending.proofs.Writing.{length-four}
 use Rattle.laws.specs.Choice.{pick}
 use Rattle.rules.specs.Command.{commandOf}
-use Rattle.rules.specs.DayFile.{u8At, u16At, u32At, u64At, recordFrom, contractsIn, accountsIn, contractPlace, accountPlace, commandPlace, contractFrom, contractSound, balanceFrom, accountSound}
-use Rattle.mending.specs.Mend.{four, eight, isMalformed, reason, kept, keptBytes, keptCount, dropped, droppedList, headWhole, headSound, listFrom, mendedFile, wholeRecords}
+use Rattle.rules.specs.DayFile.{u8At, u16At, u32At, u64At, recordFrom, contractsIn, accountsIn, commandsIn, contractPlace, accountPlace, commandPlace, contractFrom, contractSound, balanceFrom, accountSound}
+use Rattle.mending.specs.Mend.{two, four, eight, isMalformed, reason, kept, keptBytes, keptCount, dropped, droppedList, headWhole, headSound, listFrom, mendedFile, wholeRecords}
 
 -- ---- records that are all well formed, 2,000 at most, are all kept
 
@@ -131,6 +133,10 @@ kept-good file first (suc k) h j i =
         last false f =
             let b = ltb-false j (kept file first k) f in
             at-seam (keptBytes file first k) file (24 * j) (first + 24 * k) (omega arith) (malformed-is file first k (kept file first k) e)
+
+read-four : (n : ℕ) → u32At (four n) 0 ≡ n
+unfolding u32At u16At u8At four two
+read-four n = omega arith
 
 -- ---- the mended file's head is the file's, and its records are those kept
 
@@ -301,3 +307,31 @@ module _ (file : List ℕ) (sound : headSound file ≡ true) where
         q .1,
         p .1,
       )
+
+  -- ---- and it is a sound day file
+
+  same-count : (t : ℕ) → t < 4 → getD again (first - 4 + t) 0 ≡ getD (four (keptCount file)) (0 + t) 0
+  same-count t h =
+      let e : first - 4 + t ≡ length (take (first - 4) file) + t = omega (arith, length-front) in
+      rw (e, parts, zero-add t)
+      (getD-append-add (take (first - 4) file) (four (keptCount file) ++ bytes) t 0
+      ∙ List·getD-append (four (keptCount file)) bytes 0 t (omega (arith, length-four (keptCount file))))
+
+  count-again : commandsIn again ≡ keptCount file
+  count-again =
+      commands-read again
+      ∙ same-32 again (four (keptCount file)) (first - 4) 0 4 same-count 0 (8 + 20 * contractsIn again + 8 * accountsIn again) 0
+        (omega arith) (omega (arith, place, same-contracts, same-accounts)) (omega arith)
+      ∙ read-four (keptCount file)
+
+  -- A MENDED FILE IS A SOUND DAY FILE
+  pub mended-sound : DayFile·sound (mendedFile file) ≡ true
+  mended-sound =
+      let h = sound-head file sound in
+      let n = 12 + 20 * contractsIn again + 8 * accountsIn again + 24 * commandsIn again in
+      let p = both-true (headWhole again && all (contractSound again) (contractsIn again)) (all (accountSound again) (accountsIn again)) (sym (sound-is again) ∙ again-sound) in
+      let q = both-true (headWhole again) (all (contractSound again) (contractsIn again)) (p .0) in
+      let s : shaped again ≡ true =
+      DayFile·length-decides again (omega (arith, same-contracts)) (omega (arith, same-contracts)) (omega (arith, same-accounts)) (omega (arith, same-accounts)) (omega (arith, count-again, most))
+      ∙ eq-eqb (length again) n (omega (arith, length-mended file sound, same-contracts, same-accounts, count-again, place)) in
+      DayFile·sound-is again ∙ rw (s, q .1, p .1)
