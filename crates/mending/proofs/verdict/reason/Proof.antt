@@ -1,5 +1,6 @@
 -- `verdict::reason` meets its contract. Assumes nothing.
 use Rattle.mending.proofs.Records.{malformed, surplus, no-reason}
+use native.Mathlib.Omega.{arith}
 use borrow.Author.Needs.{needs}
 use Rattle.mending.proofs.verdict.reason.Statement.{statement}
 use Rattle.mending.proofs.verdict.reason.Tie as tie
@@ -28,10 +29,10 @@ returns : tie.Need-returns
 returns c = malformed _ _ _ _ (c .before .before .before .record-at .ensures) (c .before .before .command-of .ensures) (c .before .is-malformed .ensures) (c .if1 .taken)
 
 returns-2 : tie.Need-returns-2
-returns-2 c = surplus _ _ _ _ (c .before .before .before .before .record-at .ensures) (c .before .before .before .command-of .ensures) (c .before .before .is-malformed .ensures) (c .before .if1 .left) (c .if2 .taken)
+returns-2 c = surplus _ _ _ _ (c .before .before .before .before .record-at .ensures) (c .before .before .before .command-of .ensures) (c .before .before .is-malformed .ensures) (c .before .if1 .left) (omega (arith, c .if2 .taken))
 
 returns-3 : tie.Need-returns-3
-returns-3 c = no-reason _ _ _ _ (c .before .before .before .before .record-at .ensures) (c .before .before .before .command-of .ensures) (c .before .before .is-malformed .ensures) (c .before .if1 .left) (c .if2 .left)
+returns-3 c = no-reason _ _ _ _ (c .before .before .before .before .record-at .ensures) (c .before .before .before .command-of .ensures) (c .before .before .is-malformed .ensures) (c .before .if1 .left) (omega (arith, c .if2 .left))
 
 pub reason-spec : {M : Type 1} → statement M
 reason-spec =
