@@ -174,7 +174,7 @@ module _ (file : List ℕ) (sound : headSound file ≡ true) where
   same-accounts =
       accounts-read again
       ∙ same-32 again file 0 0 (first - 4) same-head (4 + 20 * contractsIn file) (4 + 20 * contractsIn again) (4 + 20 * contractsIn file)
-        (omega (arith, place)) (omega (arith, same-contracts)) (omega arith)
+      (omega (arith, place)) (omega (arith, same-contracts)) (omega arith)
       ∙ sym (accounts-read file)
 
   same-place : commandPlace again 0 ≡ first
@@ -202,8 +202,8 @@ module _ (file : List ℕ) (sound : headSound file ≡ true) where
       ap (λ r. isMalformed (commandOf r))
       (same-record again bytes (first + 24 * j) (24 * j) 24
       (λ (t : ℕ) (i : t < 24).
-        let e : first + 24 * j + t ≡ first + (24 * j + t) = omega arith in
-        rw e (sym (getD-drop first again (24 * j + t) 0) ∙ ap (λ (l : List ℕ). getD l (24 * j + t) 0) drop-front))
+      let e : first + 24 * j + t ≡ first + (24 * j + t) = omega arith in
+      rw e (sym (getD-drop first again (24 * j + t) 0) ∙ ap (λ (l : List ℕ). getD l (24 * j + t) 0) drop-front))
       (omega arith))
       ∙ kept-good file first (wholeRecords file first) (whole-within file first (place-within file sound)) j h
 
@@ -253,8 +253,8 @@ module _ (file : List ℕ) (sound : headSound file ≡ true) where
   empty-list =
       ap (listFrom again) same-place
       ∙ list-from again first (keptCount file) no-partial whole
-        (all-kept again first (keptCount file) most all-good (keptCount file) (omega arith))
-        (none-listed again first (keptCount file) most all-good (keptCount file) (omega arith))
+      (all-kept again first (keptCount file) most all-good (keptCount file) (omega arith))
+      (none-listed again first (keptCount file) most all-good (keptCount file) (omega arith))
 
   -- ---- its head is sound, so that it is not refused
 
@@ -288,7 +288,7 @@ module _ (file : List ℕ) (sound : headSound file ≡ true) where
       let h = sound-head file sound in
       length-decides again (omega (arith, same-contracts)) (omega (arith, same-contracts)) (omega (arith, same-accounts)) (omega (arith, same-accounts))
       ∙ le-leb (12 + 20 * contractsIn again + 8 * accountsIn again) (length again)
-        (omega (arith, same-contracts, same-accounts, place, length-mended file sound))
+      (omega (arith, same-contracts, same-accounts, place, length-mended file sound))
 
   -- THE MENDED FILE CAN BE MENDED
   pub again-sound : headSound (mendedFile file) ≡ true
@@ -321,7 +321,7 @@ module _ (file : List ℕ) (sound : headSound file ≡ true) where
   count-again =
       commands-read again
       ∙ same-32 again (four (keptCount file)) (first - 4) 0 4 same-count 0 (8 + 20 * contractsIn again + 8 * accountsIn again) 0
-        (omega arith) (omega (arith, place, same-contracts, same-accounts)) (omega arith)
+      (omega arith) (omega (arith, place, same-contracts, same-accounts)) (omega arith)
       ∙ read-four (keptCount file)
 
   -- A MENDED FILE IS A SOUND DAY FILE

@@ -67,7 +67,11 @@ pub fn mend(file: &[u8], out: &mut [u8], list: &mut [u8]) -> Mended
     ensures { λ r. ⌜ MendIs (now (file .entry)) (now (out .entry)) (now (list .entry)) r (now (out .exit)) (now (list .exit)) ⌝ }
 {
     if !head_sound(file) {
-        return Mended { code: 20, length: 0, listed: 0 };
+        return Mended {
+            code: 20,
+            length: 0,
+            listed: 0,
+        };
     }
     let first = head_end(file);
     let n = (file.len() - first) / 24;
@@ -76,12 +80,24 @@ pub fn mend(file: &[u8], out: &mut [u8], list: &mut [u8]) -> Mended
     let length = first + 24 * kept;
     let listed = 8 + 9 * dropped;
     if out.len() < length {
-        return Mended { code: 29, length: 0, listed: 0 };
+        return Mended {
+            code: 29,
+            length: 0,
+            listed: 0,
+        };
     }
     if list.len() < listed {
-        return Mended { code: 29, length: 0, listed: 0 };
+        return Mended {
+            code: 29,
+            length: 0,
+            listed: 0,
+        };
     }
     put_file(file, first, n, kept, out);
     put_list(file, first, n, dropped, list);
-    Mended { code: 0, length, listed }
+    Mended {
+        code: 0,
+        length,
+        listed,
+    }
 }
