@@ -86,7 +86,7 @@ fn contract_sound(file: &[u8], c: usize) -> bool
     u16_at(file, at + 18) == 0
 }
 
-fn contracts_sound(file: &[u8], contracts: usize) -> bool
+pub fn contracts_sound(file: &[u8], contracts: usize) -> bool
     requires { ⌜ (contracts ≤ 4) × (contractPlace contracts ≤ length (now file)) ⌝ }
     ensures { λ r. ⌜ r ≡ all (contractSound (now (file .entry))) contracts ⌝ }
 {
@@ -101,7 +101,7 @@ fn contracts_sound(file: &[u8], contracts: usize) -> bool
 }
 
 // The accounts begin at `start`.
-fn accounts_sound(file: &[u8], start: usize, accounts: usize) -> bool
+pub fn accounts_sound(file: &[u8], start: usize, accounts: usize) -> bool
     requires { ⌜ (accounts ≤ 32) × (start ≡ accountPlace (now file) 0) × (start + 8 * accounts ≤ length (now file)) ⌝ }
     ensures { λ r. ⌜ r ≡ all (accountSound (now (file .entry))) accounts ⌝ }
 {

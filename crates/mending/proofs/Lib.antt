@@ -1,0 +1,5 @@
+pub mod Again
+pub mod Heads
+pub mod Records
+pub mod Whole
+pub mod Writing

@@ -1,0 +1,64 @@
+-- `verdict::count_kept` meets its contract: of the first k records the kept ones are counted. Assumes nothing.
+use mathlib.Core.Path.{_≡_}
+use Prim.Native.Nat.{_-_, _≤_}
+use native.Mathlib.Omega.{arith}
+use Rattle.mending.specs.Mend.{kept as Mend·kept}
+use Rattle.mending.proofs.Records.{kept-none, kept-most, count-keeps, count-drops}
+use Rattle.mending.proofs.verdict.count_kept.Statement.{statement}
+use Rattle.mending.proofs.verdict.count_kept.Tie as tie
+use Rattle.mending.proofs.verdict.count_kept.Reads as reads
+use Rattle.mending.proofs.verdict.count_kept.Lts as lts
+use Rattle.mending.proofs.verdict.reason.Reads as reason-reads
+
+abbrev Inv-loop : tie.InvT-loop
+Inv-loop file first n kept₀ k₀ kept k = (k ≤ n) × (kept ≡ Mend·kept file first k)
+
+abbrev μ-loop : tie.MeasureT-loop
+μ-loop file first n kept₀ k₀ kept k = n - k
+
+loop-holds : tie.Need-loop-holds Inv-loop μ-loop
+loop-holds c = (omega arith, kept-none _ _)
+
+reason-requires : tie.Need-reason-requires Inv-loop μ-loop
+reason-requires c κs = omega (arith, c .before .before .before .pre)
+
+add-k : tie.Need-add-k Inv-loop μ-loop
+add-k c = omega arith
+
+loop-less : tie.Need-loop-less Inv-loop μ-loop
+loop-less c = omega arith
+
+loop-again : tie.Need-loop-again Inv-loop μ-loop
+loop-again c = (omega arith, count-drops _ _ _ _ _ (c .before .before .before .loop .inv .1) (c .before .reason .ensures) (c .if1 .taken))
+
+add-kept : tie.Need-add-kept Inv-loop μ-loop
+add-kept c = omega (arith, kept-most (c .before .before .before .before .before .args .file .now) (c .before .before .before .before .before .args .first) (c .before .before .before .loop .k))
+
+add-k-2 : tie.Need-add-k-2 Inv-loop μ-loop
+add-k-2 c = omega arith
+
+loop-less-2 : tie.Need-loop-less-2 Inv-loop μ-loop
+loop-less-2 c = omega arith
+
+loop-again-2 : tie.Need-loop-again-2 Inv-loop μ-loop
+loop-again-2 c = (omega arith, count-keeps _ _ _ _ _ (c .before .before .before .loop .inv .1) (c .before .reason .ensures) (c .if1 .left))
+
+returns : tie.Need-returns Inv-loop μ-loop
+returns c = let e : c .before .loop .k ≡ c .before .before .before .args .n = omega arith in rw (← e) (c .before .loop .inv .1)
+
+pub count-kept-spec : {M : Type 1} → statement M
+count-kept-spec =
+    tie.close
+    (tie.spec
+    Inv-loop
+    μ-loop
+    loop-holds
+    reason-requires
+    add-k
+    loop-less
+    loop-again
+    add-kept
+    add-k-2
+    loop-less-2
+    loop-again-2
+    returns)

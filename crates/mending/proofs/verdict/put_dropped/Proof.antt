@@ -1,0 +1,74 @@
+-- `verdict::put_dropped` meets its contract: of the first k records the dropped ones are listed. Assumes nothing.
+use mathlib.Core.Path.{_≡_}
+use Prim.Native.Nat.{_-_, _*_, _≤_}
+use native.Mathlib.Omega.{arith}
+use Rattle.lines.specs.Written.{Written}
+use Rattle.mending.specs.Mend.{kept as Mend·kept, dropped}
+use Rattle.mending.proofs.Records.{kept-none, kept-most, count-keeps, count-drops, none-dropped, list-keeps, list-drops, list-room}
+use Rattle.mending.proofs.verdict.put_dropped.Statement.{statement}
+use Rattle.mending.proofs.verdict.put_dropped.Tie as tie
+use Rattle.mending.proofs.verdict.put_dropped.Reads as reads
+use Rattle.mending.proofs.verdict.put_dropped.Lts as lts
+use Rattle.mending.proofs.verdict.put_entry.Reads as put-entry-reads
+use Rattle.mending.proofs.verdict.reason.Reads as reason-reads
+
+abbrev Inv-loop : tie.InvT-loop
+Inv-loop file first n list₀ at next₀ kept₀ k₀ list next kept k = (k ≤ n) × ((kept ≡ Mend·kept file first k) × Written (9 * k) list₀ at (dropped file first k) list next)
+
+abbrev μ-loop : tie.MeasureT-loop
+μ-loop file first n list₀ at next₀ kept₀ k₀ list next kept k = n - k
+
+loop-holds : tie.Need-loop-holds Inv-loop μ-loop
+loop-holds c = (omega arith, (kept-none _ _, none-dropped _ _ (omega (arith, c .before .before .pre .1))))
+
+reason-requires : tie.Need-reason-requires Inv-loop μ-loop
+reason-requires c κs = omega (arith, c .before .before .before .before .pre .0)
+
+add-kept : tie.Need-add-kept Inv-loop μ-loop
+add-kept c = omega (arith, kept-most (c .before .before .before .before .before .before .args .file .now) (c .before .before .before .before .before .before .args .first) (c .before .before .before .loop .k))
+
+add-k : tie.Need-add-k Inv-loop μ-loop
+add-k c = omega arith
+
+loop-less : tie.Need-loop-less Inv-loop μ-loop
+loop-less c = omega arith
+
+loop-again : tie.Need-loop-again Inv-loop μ-loop
+loop-again c = (omega arith, (count-keeps _ _ _ _ _ (c .before .before .before .loop .inv .1 .0) (c .before .reason .ensures) (c .if1 .taken), list-keeps _ _ _ _ _ (c .before .before .before .loop .inv .1 .0) (c .before .reason .ensures) (c .if1 .taken) (c .before .before .before .loop .inv .1 .1)))
+
+put-entry-requires : tie.Need-put-entry-requires Inv-loop μ-loop
+put-entry-requires c κs = (list-room _ _ _ _ _ (c .before .before .before .before .loop .inv .1 .0) (c .before .before .reason .ensures) (c .before .if1 .left) (c .before .before .before .before .before .before .before .args .n) (c .before .before .before .loop-test .taken) (c .before .before .before .before .before .before .before .pre .1) (c .before .before .before .before .loop .inv .1 .1), omega (arith, c .before .before .before .before .before .before .before .fits))
+
+add-k-2 : tie.Need-add-k-2 Inv-loop μ-loop
+add-k-2 c = omega arith
+
+loop-less-2 : tie.Need-loop-less-2 Inv-loop μ-loop
+loop-less-2 c = omega arith
+
+loop-again-2 : tie.Need-loop-again-2 Inv-loop μ-loop
+loop-again-2 c = (omega arith, (count-drops _ _ _ _ _ (c .before .before .before .before .before .before .before .loop .inv .1 .0) (c .before .before .before .before .before .reason .ensures) (c .before .before .before .before .if1 .left), list-drops _ _ _ _ _ (c .before .before .before .before .before .before .before .loop .inv .1 .0) (c .before .before .before .before .before .reason .ensures) (c .before .before .before .before .if1 .left) (c .before .before .before .before .before .before .before .loop .inv .1 .1) (c .before .before .put-entry .ensures)))
+
+same-length : tie.Need-same-length Inv-loop μ-loop
+same-length c = c .before .loop .inv .1 .1 .kept
+
+returns : tie.Need-returns Inv-loop μ-loop
+returns c = let e : c .before .loop .k ≡ c .before .before .before .before .args .n = omega arith in rw (← e) (c .before .loop .inv .1 .1)
+
+pub put-dropped-spec : {M : Type 1} → statement M
+put-dropped-spec =
+    tie.close
+    (tie.spec
+    Inv-loop
+    μ-loop
+    loop-holds
+    reason-requires
+    add-kept
+    add-k
+    loop-less
+    loop-again
+    put-entry-requires
+    add-k-2
+    loop-less-2
+    loop-again-2
+    same-length
+    returns)
