@@ -1,4 +1,5 @@
-// Bytes and little-endian numbers written into a lent area. Each call gives the place after what it wrote, and requires room.
+// Bytes and little-endian numbers written into a lent area. Each call gives the place after what it wrote. For this crate: each
+// requires room.
 ghost use Prim.Native.Nat.{_+_, _≤_};
 ghost use lib.ListN.{length, take, drop};
 ghost use Rattle.lines.specs.Written.{Written};

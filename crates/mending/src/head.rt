@@ -49,7 +49,7 @@ pub fn head_sound(file: &[u8]) -> bool
     accounts_sound(file, 8 + 20 * contracts, accounts)
 }
 
-// Where the first command's record begins.
+// Where the first command's record begins. For this crate: it requires a sound head.
 pub fn head_end(file: &[u8]) -> usize
     requires { ⌜ headSound (now file) ≡ true ⌝ }
     ensures { λ r. ⌜ r ≡ commandPlace (now (file .entry)) 0 ⌝ }

@@ -1,8 +1,10 @@
 -- `codes::book_code` meets its contract: the tests in the order of the list. Assumes nothing.
+use mathlib.Core.Path.{_≡_}
 use borrow.Author.Tests.{le-leb, lt-leb}
 use borrow.Author.Needs.{needs}
 use Rattle.rules.specs.Answers.{firstOf}
-use Rattle.insertion.specs.Insertion.{bookRefusals}
+use Rattle.rules.specs.declared.NewOrder.{NewOrder}
+use Rattle.insertion.specs.Insertion.{bookRefusals, fullRefused, killRefused}
 use Rattle.insertion.proofs.codes.book_code.Statement.{statement}
 use Rattle.insertion.proofs.codes.book_code.Tie as tie
 
@@ -15,7 +17,10 @@ kill-refused-requires c κs = search needs
 
 returns-2 : tie.Need-returns-2
 unfolding firstOf bookRefusals
-returns-2 c = rw (lt-leb _ _ (c .before .before .if1 .left), ← c .before .kill-refused .ensures, c .if2 .taken)
+returns-2 c =
+    let o : NewOrder = c .before .before .before .before .before .args .o in
+    let e : c .before .kill-refused .result ≡ killRefused _ _ (o .lots) (o .time) = c .before .kill-refused .ensures in
+    rw (lt-leb _ _ (c .before .before .if1 .left), ← e, c .if2 .taken)
 
 trades-refused-requires : tie.Need-trades-refused-requires
 trades-refused-requires c κs = search needs
@@ -29,7 +34,10 @@ full-refused-requires c κs = search needs
 
 returns-4 : tie.Need-returns-4
 unfolding firstOf bookRefusals
-returns-4 c = rw (lt-leb _ _ (c .before .before .before .before .before .before .if1 .left), ← c .before .before .before .before .before .kill-refused .ensures, c .before .before .before .before .if2 .left, ← c .before .before .before .trades-refused .ensures, c .before .before .if3 .left, ← c .before .full-refused .ensures, c .if4 .taken)
+returns-4 c =
+    let o : NewOrder = c .before .before .before .before .before .before .before .before .before .args .o in
+    let e : c .before .full-refused .result ≡ fullRefused (c .before .before .before .before .before .before .before .before .before .args .own) _ _ (o .lots) (o .time) = c .before .full-refused .ensures in
+    rw (lt-leb _ _ (c .before .before .before .before .before .before .if1 .left), ← c .before .before .before .before .before .kill-refused .ensures, c .before .before .before .before .if2 .left, ← c .before .before .before .trades-refused .ensures, c .before .before .if3 .left, ← e, c .if4 .taken)
 
 returns-5 : tie.Need-returns-5
 unfolding firstOf bookRefusals

@@ -1,6 +1,9 @@
 -- `codes::terms_code` meets its contract: the phase, then the order's fields. Assumes nothing.
+use mathlib.Core.Bool.{false}
+use mathlib.Core.Path.{_≡_}
 use borrow.Author.Tests.{eq-eqb, ne-eqb}
 use borrow.Author.Needs.{needs}
+use lib.Dec.{eqb}
 use Rattle.rules.specs.Answers.{firstOf}
 use Rattle.insertion.specs.Insertion.{termsRefusals}
 use Rattle.insertion.proofs.codes.terms_code.Statement.{statement}
@@ -8,7 +11,9 @@ use Rattle.insertion.proofs.codes.terms_code.Tie as tie
 
 returns : tie.Need-returns
 unfolding firstOf termsRefusals
-returns c = rw (ne-eqb _ _ (c .if1 .taken))
+returns c =
+    let e : eqb (c .before .before .args .terms .phase) 1 ≡ false = ne-eqb _ _ (c .if1 .taken) in
+    rw e
 
 fields-code-requires : tie.Need-fields-code-requires
 fields-code-requires c κs = search needs
