@@ -1,18 +1,14 @@
--- Margin of an account of a well-formed state: it can be charged, and what is charged is small. Assumes nothing.
+-- Margin of an account of a well-formed state: it can be charged. Assumes nothing.
 use mathlib.Core.Bool.{true, false}
-use mathlib.Core.Path.{_≡_, refl}
-use Prim.Native.Nat.{ℕ, zero, suc, _+_, _*_, _<_, _≤_, _^_}
-use native.Mathlib.Numerals.{add-one}
+use Prim.Native.Nat.{ℕ, _<_}
 use native.Mathlib.Omega.{arith}
 use lib.ListN.{length, getD}
 use Rattle.rules.specs.Exchange.{accountAt, holdingAt, noAccount, noContract, noHolding}
-use Rattle.rules.specs.Margin.{charged, chargedTo}
 use Rattle.rules.specs.Memory.{Memory, exchangeOf, listingIn}
 use Rattle.rules.specs.declared.Contract.{Contract}
 use Rattle.rules.proofs.Terms.{Terms, terms, terms-passed}
 use Rattle.invariants.proofs.Clauses.{HoldingOk, ListingOk}
 use Rattle.margin.specs.Charge.{ChargeTerms, ChargeableIn, ChargeableAt}
-use Rattle.margin.proofs.Charging.{chargedAt, charged-more, charged-small}
 use Rattle.engine.proofs.Formed.{Formed, contracts-count, accounts-count, listing-at, holding-at}
 
 charge-terms : (c : Contract) → Terms c → ChargeTerms c
@@ -52,13 +48,3 @@ module _ (m : Memory) (f : Formed m) where
 
     pub chargeable : ChargeableAt (m .state) (m .buys) (m .sells) a
     chargeable = record { account = omega (arith, here, f .accounts-high); few = f .contracts-high; each = in-contract }
-
-    charged-to : (n : ℕ) → n ≤ m .state .contractcount → chargedTo (exchangeOf m) a n ≤ 200_000_000_000_000 * n
-    charged-to zero h = unfold chargedTo in omega arith
-    charged-to (suc c) h =
-        let ih = charged-to c (omega arith) in
-        let e : chargedTo (exchangeOf m) a c + chargedAt m a here c ≡ chargedTo (exchangeOf m) a (suc c) = rw add-one at (charged-more m a here c _ _ h refl refl) in
-        omega (arith, e, charged-small _ _ _ _ _ _ _ _ (in-contract c h))
-
-    pub charged-high : charged (exchangeOf m) a ≤ 10 ^ 15
-    charged-high = omega (arith, charged-to (length (exchangeOf m .listings)) (omega (arith, contracts-count m f)), contracts-count m f, f .contracts-high)
