@@ -35,11 +35,11 @@ charge-small c t = omega (arith, rated-small c t)
 
 module _ (k : Contract) (buys : List ℕ) (buycount : ℕ) (sells : List ℕ) (sellcount c a : ℕ) (h : Holding)
     (g : ChargeableIn k buys buycount sells sellcount c a h) where
-  pub lots-small : chargedLots (listingOf k buys buycount sells sellcount c) a h ≤ 200_000
+  lots-small : chargedLots (listingOf k buys buycount sells sellcount c) a h ≤ 200_000
   unfolding chargedLots
   lots-small = omega (arith, g .long, g .short)
 
-  pub charged-small : charge k * chargedLots (listingOf k buys buycount sells sellcount c) a h ≤ 200_000_000_000_000
+  charged-small : charge k * chargedLots (listingOf k buys buycount sells sellcount c) a h ≤ 200_000_000_000_000
   charged-small =
       le-trans (mul-le-mul-right (chargedLots (listingOf k buys buycount sells sellcount c) a h) (charge-small k (g .terms)))
       (mul-le-mul-left 1_000_000_000 lots-small)
@@ -58,17 +58,17 @@ module _ (k : Contract) (buys : List ℕ) (buycount : ℕ) (sells : List ℕ) (s
 
 module _ (m : Memory) (a : ℕ) (la : a < m .state .accountcount) where
   -- what a turn of the loop adds
-  abbrev pub chargedAt : ℕ → ℕ
+  abbrev chargedAt : ℕ → ℕ
   chargedAt c =
       charge (getD (m .state .contracts) c noContract)
       * chargedLots (listingOf (getD (m .state .contracts) c noContract) (m .buys) (getD (m .state .buys) c 0) (m .sells) (getD (m .state .sells) c 0) c) a
       (getD (getD (m .state .accounts) a noAccount .holdings) c noHolding)
 
-  pub charged-none : 0 ≡ chargedTo (exchangeOf m) a 0
+  charged-none : 0 ≡ chargedTo (exchangeOf m) a 0
   unfolding chargedTo
   charged-none = refl
 
-  pub charged-more : (c total v : ℕ) → c < m .state .contractcount → total ≡ chargedTo (exchangeOf m) a c → v ≡ chargedAt c
+  charged-more : (c total v : ℕ) → c < m .state .contractcount → total ≡ chargedTo (exchangeOf m) a c → v ≡ chargedAt c
       → total + v ≡ chargedTo (exchangeOf m) a (c + 1)
   unfolding chargedTo listingIn
   charged-more c total v lc e f = rw (add-one c, listing-in-use m c lc, holding-in-use m a c la lc, e, f)

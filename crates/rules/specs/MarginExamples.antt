@@ -62,16 +62,16 @@ x =
 insert : Bool → Bool → ℕ → ℕ → ℕ → Command
 insert sell close who number lots =
     Insert (
-      record {
-        account = who;
-        contract = number;
-        sell = sell;
-        close = close;
-        lots = lots;
-        price = pick sell 105 95;
-        condition = Limit (pick sell 105 95);
-        time = GoodForDay;
-      }
+    record {
+      account = who;
+      contract = number;
+      sell = sell;
+      close = close;
+      lots = lots;
+      price = pick sell 105 95;
+      condition = Limit (pick sell 105 95);
+      time = GoodForDay;
+    }
     )
 
 buyOpen : ℕ → ℕ → ℕ → Command
