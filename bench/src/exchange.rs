@@ -174,19 +174,15 @@ impl State {
             .sum()
     }
 
-    /// "charge times all long and short lots and resting opens"
-    pub fn charged(&self, areas: &Areas, account: usize) -> u64 {
+    /// "the charge times the larger of (long plus resting buy opens) and (short plus resting sell opens)"
+    pub fn charged(&self, areas: &Areas, account: usize, holdings: &[Holding; 4]) -> u64 {
         (0..self.contractcount)
             .map(|c| {
-                let h = &self.accounts[account].holdings[c];
-                let opens = self.resting_lots(areas, false, c, account, false) + self.resting_lots(areas, true, c, account, false);
-                self.contracts[c].charge() * (h.long as u64 + h.short as u64 + opens)
+                let bought = holdings[c].long as u64 + self.resting_lots(areas, false, c, account, false);
+                let sold = holdings[c].short as u64 + self.resting_lots(areas, true, c, account, false);
+                self.contracts[c].charge() * bought.max(sold)
             })
             .sum()
-    }
-
-    fn available(&self, areas: &Areas, account: usize) -> i64 {
-        self.accounts[account].balance - self.charged(areas, account) as i64
     }
 
     fn deposit(&mut self, r: &Record) -> Answer {
@@ -208,10 +204,12 @@ impl State {
         if r.amount < 1 || r.amount > 1_000_000_000_000_000 {
             return refused(16);
         }
-        if self.available(areas, r.account - 1) < r.amount as i64 {
+        let account = &self.accounts[r.account - 1];
+        let left = account.balance - r.amount as i64;
+        if left < self.charged(areas, r.account - 1, &account.holdings) as i64 {
             return refused(9);
         }
-        self.accounts[r.account - 1].balance -= r.amount as i64;
+        self.accounts[r.account - 1].balance = left;
         Answer::default()
     }
 
@@ -268,7 +266,9 @@ impl State {
             if held as u64 + rested + o.lots as u64 > terms.limit as u64 {
                 return Err(8);
             }
-            if self.available(areas, a) < (terms.charge() * o.lots as u64) as i64 {
+            let mut holdings = self.accounts[a].holdings;
+            *(if o.sell { &mut holdings[c].short } else { &mut holdings[c].long }) += o.lots;
+            if self.accounts[a].balance < self.charged(areas, a, &holdings) as i64 {
                 return Err(9);
             }
         }

@@ -26,7 +26,7 @@ pub fn lines(file: &[u8]) -> Vec<u8> {
             }
             for a in 0..state.accountcount {
                 let [closing, holding] = state.profits[a];
-                let charged = state.charged(&areas, a);
+                let charged = state.charged(&areas, a, &state.accounts[a].holdings);
                 writeln!(out, "B {} {} {} {} {}", a + 1, closing, holding, state.accounts[a].balance, charged).unwrap();
             }
         }

@@ -42,8 +42,8 @@ class Case:
         return self.state.balances[self.command.account]
 
     @cached_property
-    def available(self):
-        return model.available(self.state, self.command.account)
+    def free(self):
+        return model.free_balance(self.state, self.command.account)
 
     @cached_property
     def by_operator(self):
@@ -54,6 +54,11 @@ class Case:
     @cached_property
     def order(self):
         return model.arriving(self.command)
+
+    def added_charge(self, lots):
+        """What so many lots of the order, an open, would add to the charged margin."""
+        order = self.order._replace(lots=lots)
+        return model.charged_margin(self.state, order.account, order) - model.charged_margin(self.state, order.account)
 
     @cached_property
     def opposite(self):
@@ -223,10 +228,13 @@ INSERT_REFUSED = {
             and case.order.lots == model.most_lots_by_holding(case.state, case.order) + 1
         ),
     ),
-    "insert: open one lot above what is available": lambda case: (
-        case.code == 9 and 0 <= case.available - model.charge(case.contract) * (case.order.lots - 1)
+    "insert: open one lot above what the balance covers": lambda case: (
+        case.code == 9 and case.added_charge(case.order.lots - 1) <= case.free
     ),
-    "insert: open with less than nothing available": lambda case: case.code == 9 and case.available < 0,
+    "insert: open with more charged than the balance": lambda case: case.code == 9 and case.free < 0,
+    "insert: open that adds no charge, with more charged than the balance": lambda case: (
+        case.code == 9 and case.added_charge(case.order.lots) == 0
+    ),
     **for_each(
         dayfile.PRICE_CONDITIONS,
         lambda price_condition: f"insert: fill or kill {price_condition}, one lot above the fillable",
@@ -260,12 +268,20 @@ INSERT_ACCEPTED = {
             and case.order.lots == model.most_lots_by_holding(case.state, case.order)
         ),
     ),
-    "insert: open takes all available": lambda case: (
-        case.order.effect == "open" and case.available == model.charge(case.contract) * case.order.lots
+    "insert: open takes all of the balance": lambda case: (
+        case.order.effect == "open" and 0 < case.free == case.added_charge(case.order.lots)
     ),
-    "insert: close with less than nothing available": lambda case: (
-        case.order.effect == "close" and case.available < 0
+    "insert: open that adds no charge": lambda case: (
+        case.order.effect == "open" and case.added_charge(case.order.lots) == 0
     ),
+    "insert: open that adds no charge, nothing free": lambda case: (
+        case.order.effect == "open" and case.free == case.added_charge(case.order.lots) == 0
+    ),
+    "insert: open that adds charge for some of its lots": lambda case: (
+        case.order.effect == "open"
+        and 0 < case.added_charge(case.order.lots) < model.charge(case.contract) * case.order.lots
+    ),
+    "insert: close with more charged than the balance": lambda case: case.order.effect == "close" and case.free < 0,
     "insert: limit at the low, reference less band": lambda case: (
         case.order.price == model.low(case.contract) == case.contract.reference - case.contract.band
     ),
@@ -427,11 +443,9 @@ WITHDRAW = {
     "withdraw: amount 0": lambda case: case.code == 16 and case.command.amount == 0,
     "withdraw: amount above 10^15": lambda case: case.code == 16 and case.command.amount == TOP_AMOUNT + 1,
     "withdraw: amount with bit 63": lambda case: case.code == 16 and case.command.amount >= 2**63,
-    "withdraw: all available": lambda case: case.code == 0 and case.command.amount == case.available,
-    "withdraw: one above what is available": lambda case: (
-        case.code == 9 and case.command.amount == case.available + 1
-    ),
-    "withdraw: less than nothing available": lambda case: case.code == 9 and case.available < 0,
+    "withdraw: all that is free": lambda case: case.code == 0 and case.command.amount == case.free,
+    "withdraw: one above what is free": lambda case: case.code == 9 and case.command.amount == case.free + 1,
+    "withdraw: more charged than the balance": lambda case: case.code == 9 and case.free < 0,
     "withdraw: balance above 10^18 before": lambda case: case.code == 0 and case.balance > TOP_BALANCE,
 }
 

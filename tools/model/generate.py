@@ -184,11 +184,23 @@ def some_price(rng, contract, side):
     return max(price, 0)
 
 
+def most_lots_by_money(state, order):
+    """The most lots with which an open's charge is within the balance, at most one more than an order may have."""
+    fewest, most = 0, MOST_LOTS + 1
+    while fewest < most:
+        lots = (fewest + most + 1) // 2
+        if model.charged_margin(state, order.account, order._replace(lots=lots)) <= state.balances[order.account]:
+            fewest = lots
+        else:
+            most = lots - 1
+    return fewest
+
+
 def some_lots(day, order):
     """Few lots, or a number at the edge of a rule and perhaps one beyond it."""
     rng = day.rng
     contract = day.state.contracts[order.contract]
-    affordable = max(model.available(day.state, order.account), 0) // model.charge(contract)
+    affordable = most_lots_by_money(day.state, order)
     beyond = rng.choice((0, 0, 1))
     edges = {
         model.fillable(contract, order) + rng.choice((-1, 0, 0, 1)): 25,
@@ -239,8 +251,8 @@ def some_deposit(day):
 def some_withdrawal(day):
     rng = day.rng
     account = day.account()
-    all_available = model.available(day.state, account) + rng.choice((0, 0, 1))
-    amount = all_available if 1 <= all_available <= TOP_AMOUNT and rng.random() < 0.3 else some_amount(rng)
+    all_free = model.free_balance(day.state, account) + rng.choice((0, 0, 1))
+    amount = all_free if 1 <= all_free <= TOP_AMOUNT and rng.random() < 0.3 else some_amount(rng)
     return dayfile.withdraw(account, amount)
 
 

@@ -1,7 +1,8 @@
 #!/usr/bin/env python3
-"""The rules of document 01 as a slow, plain interpreter: a day file in, the day runner's whole output out.
+"""The rules of document 01, with ticket 2 of document 02, as a slow, plain interpreter: a day file in, the day runner's
+whole output out.
 
-Written from the paper alone, in the paper's order and under its sentences (in quotation marks), so that it can be
+Written from the papers alone, in their order and under their sentences (in quotation marks), so that it can be
 checked by reading and stand beside the engine as a second opinion. Where the paper leaves a choice, a comment outside
 the quotation marks says which reading is taken.
 """
@@ -387,8 +388,8 @@ def insert_code(state, command):
     # resting closes on it"
     if order.lots > most_lots_by_holding(state, order):
         return 8
-    # "9: open or withdraw: too little available": "An open needs charge times lots."
-    if order.effect == "open" and available(state, order.account) < charge(contract) * order.lots:
+    # "An open passes if all charged margin, its lots included, is at most the balance" (document 02, ticket 2)
+    if order.effect == "open" and charged_margin(state, order.account, order) > state.balances[order.account]:
         return 9
     # "10: order numbers used up"
     if state.next_order_number > LAST_ORDER_NUMBER:
@@ -495,8 +496,8 @@ def withdraw_code(state, command):
         return 2
     if not 1 <= command.amount <= TOP_AMOUNT:
         return 16
-    # "9: open or withdraw: too little available"
-    if available(state, command.account) < command.amount:
+    # "a withdrawal passes if the balance after it is at least the charged margin" (document 02, ticket 2)
+    if state.balances[command.account] - command.amount < charged_margin(state, command.account):
         return 9
     return 0
 
@@ -657,23 +658,24 @@ def rounded_up(number, divisor):
     return whole + 1 if remainder > 0 else whole
 
 
-# "Charged margin is charge times all long and short lots and resting opens."
-# Over all contracts, each at its own charge.
-def charged_margin(state, account):
+# "For each contract, charged margin is now the charge times the larger (house) of (long plus resting buy opens) and
+# (short plus resting sell opens)." (document 02, ticket 2)
+# Over all contracts, each at its own charge. The lots of an open that arrives are counted on its side.
+def charged_margin(state, account, arriving_open=None):
     total = 0
     for number, contract in state.contracts.items():
-        lots = (
-            state.holdings[account, number, "long"]
-            + state.holdings[account, number, "short"]
-            + resting_lots(contract, account, "buy", "open")
-            + resting_lots(contract, account, "sell", "open")
-        )
-        total += charge(contract) * lots
+        lots = {
+            "buy": state.holdings[account, number, "long"] + resting_lots(contract, account, "buy", "open"),
+            "sell": state.holdings[account, number, "short"] + resting_lots(contract, account, "sell", "open"),
+        }
+        if arriving_open is not None and arriving_open.contract == number:
+            lots[arriving_open.side] += arriving_open.lots
+        total += charge(contract) * max(lots.values())
     return total
 
 
-# "Available is balance less charged."
-def available(state, account):
+# What the charged margin leaves of the balance, below zero where it exceeds it: what a withdrawal may take.
+def free_balance(state, account):
     return state.balances[account] - charged_margin(state, account)
 
 

@@ -127,22 +127,34 @@ def resting_closes_not_counted(state, order):
     return state.holdings[order.account, order.contract, model.HELD[order.side, order.effect]]
 
 
-def margin_without_resting_opens(state, account):
-    return sum(
-        model.charge(contract) * (state.holdings[account, number, "long"] + state.holdings[account, number, "short"])
-        for number, contract in state.contracts.items()
-    )
+def charged_by(lots_charged):
+    """Another charged margin, of the long and short lots, the resting buy and sell opens, and those arriving."""
+
+    def charged(state, account, arriving_open=None):
+        total = 0
+        for number, contract in state.contracts.items():
+            arriving = {"buy": 0, "sell": 0}
+            if arriving_open is not None and arriving_open.contract == number:
+                arriving[arriving_open.side] = arriving_open.lots
+            total += model.charge(contract) * lots_charged(
+                state.holdings[account, number, "long"],
+                state.holdings[account, number, "short"],
+                model.resting_lots(contract, account, "buy", "open"),
+                model.resting_lots(contract, account, "sell", "open"),
+                arriving["buy"],
+                arriving["sell"],
+            )
+        return total
+
+    return replaced(charged_margin=charged)
 
 
-def margin_of_the_larger_side(state, account):
-    return sum(
-        model.charge(contract)
-        * max(
-            state.holdings[account, number, held] + model.resting_lots(contract, account, side, "open")
-            for held, side in (("long", "buy"), ("short", "sell"))
-        )
-        for number, contract in state.contracts.items()
-    )
+def open_without_added_charge_passes(state, command, code):
+    order = model.arriving(command)
+    if code != 9:
+        return code
+    charged = [model.charged_margin(state, order.account, included) for included in (None, order)]
+    return 0 if charged[0] == charged[1] else code
 
 
 def settlement_price_rounded_once(state, number):
@@ -211,7 +223,7 @@ WRONG_ENGINES = {
     "withdrawal must leave something": code_changed(
         "withdraw",
         lambda state, command, code: (
-            9 if code == 0 and command.amount == model.available(state, command.account) else code
+            9 if code == 0 and command.amount == model.free_balance(state, command.account) else code
         ),
     ),
     "operator may cancel for others": code_changed(
@@ -229,8 +241,23 @@ WRONG_ENGINES = {
     "19 before 18": code_changed("settle", lambda state, command, code: 19 if state.settlements == 250 else code),
     "long and short count together": replaced(most_lots_by_holding=long_and_short_together),
     "resting closes do not count": replaced(most_lots_by_holding=resting_closes_not_counted),
-    "resting opens without margin": replaced(charged_margin=margin_without_resting_opens),
-    "margin of the larger side": replaced(charged_margin=margin_of_the_larger_side),
+    "resting opens without margin": charged_by(
+        lambda long, short, bids, offers, bid, offer: max(long + bid, short + offer)
+    ),
+    "margin of both sides": charged_by(lambda *lots: sum(lots)),
+    "margin of the net lots": charged_by(
+        lambda long, short, bids, offers, bid, offer: abs(long + bids + bid - short - offers - offer)
+    ),
+    "larger holding, all resting opens": charged_by(
+        lambda long, short, bids, offers, bid, offer: max(long, short) + bids + offers + bid + offer
+    ),
+    "an open's lots on top of the larger side": charged_by(
+        lambda long, short, bids, offers, bid, offer: max(long + bids, short + offers) + bid + offer
+    ),
+    "an open's lots not included": charged_by(
+        lambda long, short, bids, offers, bid, offer: max(long + bids, short + offers)
+    ),
+    "an open that adds no charge always passes": code_changed("insert", open_without_added_charge_passes),
     "charge rounded down": replaced(rounded_up=lambda number, divisor: number // divisor),
     "low below one tick": replaced(low=lambda contract: max(0, contract.reference - contract.band)),
     "high without the top": replaced(high=lambda contract: contract.reference + contract.band),

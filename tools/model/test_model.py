@@ -354,18 +354,18 @@ class HoldingsAndMoney(unittest.TestCase):
         self.assertEqual(last_code(held + "insert 1 contract 1 sell close best lots 4 kill"), 8)
         self.assertEqual(last_code(held + "insert 1 contract 1 buy close limit 99 lots 1 day"), 8)
 
-    def test_open_takes_exactly_what_is_available(self):
+    def test_open_takes_exactly_the_balance(self):
         self.assertEqual(last_code(OPEN_DAY + "insert 1 contract 1 buy open limit 100 lots 100 day"), 0)
         self.assertEqual(last_code(OPEN_DAY + "insert 1 contract 1 buy open limit 100 lots 101 day"), 9)
 
-    def test_available_runs_over_all_contracts(self):
+    def test_margin_runs_over_all_contracts(self):
         # 60 lots at charge 100 leave 4,000 of 10,000: 40 lots at charge 100 in contract 2.
         text = CONTRACT + CONTRACT + TWO_ACCOUNTS + """
             state 1 continuous
             state 2 continuous
             insert 1 contract 1 buy open limit 100 lots 60 day
             """
-        self.assertEqual(model.available(state_after(text), 1), 4_000)
+        self.assertEqual(model.free_balance(state_after(text), 1), 4_000)
         self.assertEqual(last_code(text + "insert 1 contract 2 sell open limit 100 lots 40 day"), 0)
         self.assertEqual(last_code(text + "insert 1 contract 2 sell open limit 100 lots 41 day"), 9)
         self.assertEqual(codes(text + "withdraw 1 4,001\n withdraw 1 4,000\n withdraw 1 1")[-3:], [9, 0, 9])
@@ -379,6 +379,54 @@ class HoldingsAndMoney(unittest.TestCase):
             """
         self.assertEqual(last_answer(held), "0 3 0 100")
         self.assertEqual(model.charged_margin(state_after(held), 1), 10_000)
+
+    def test_margin_of_the_larger_side(self):
+        # Account 1 is 40 long and 60 short, bids for 5 and offers 3: 63 lots are charged, 6,300 of 10,000.
+        both = OPEN_DAY + """
+            insert 2 contract 1 sell open limit 100 lots 40 day
+            insert 1 contract 1 buy open limit 100 lots 40 day
+            insert 2 contract 1 buy open limit 100 lots 60 day
+            insert 1 contract 1 sell open limit 100 lots 60 day
+            insert 1 contract 1 buy open limit 95 lots 5 day
+            insert 1 contract 1 sell open limit 105 lots 3 day
+            """
+        state = state_after(both)
+        self.assertEqual(model.charged_margin(state, 1), 6_300)
+        self.assertEqual(model.charged_margin(state, 2), 6_000)
+        # 18 more buys add no charge; 55 bring the buys to 100 lots.
+        full = both + "withdraw 1 3,700\n"
+        self.assertEqual(codes(both + "withdraw 1 3,701\n withdraw 1 3,700\n withdraw 1 1")[-3:], [9, 0, 9])
+        for text, side, lots in ((full, "buy", 18), (full, "sell", 0), (both, "buy", 55), (both, "sell", 37)):
+            order = text + "insert 1 contract 1 " + side + " open limit 100 lots {} day"
+            self.assertEqual(last_code(order.format(lots + 1)), 9)
+            if lots > 0:
+                self.assertEqual(last_code(order.format(lots)), 0)
+
+    def test_open_that_adds_no_charge_is_refused_where_the_charge_exceeds_the_balance(self):
+        # Account 1 sells 10 at 100, which settle at 110 on the second day: a loss of 10 x 10 x 10 leaves 999, and 10
+        # lots at 110 are charged 1,100.
+        text = CONTRACT + """
+            account 1,999
+            account 100,000
+            state 1 continuous
+            insert 1 contract 1 sell open limit 100 lots 10 day
+            insert 2 contract 1 buy open limit 100 lots 10 day
+            state 1 closed
+            settle
+            state 1 continuous
+            insert 2 contract 1 buy open limit 110 lots 1 day
+            insert 2 contract 1 sell open limit 110 lots 1 day
+            state 1 closed
+            settle
+            state 1 continuous
+            """
+        self.assertEqual(lines_of("B", text)[2], "B 1 0 -1000 999 1100")
+        self.assertEqual(last_code(text + "insert 1 contract 1 buy open limit 110 lots 1 day"), 9)
+        self.assertEqual(last_code(text + "insert 1 contract 1 buy close limit 110 lots 1 day"), 0)
+        # With 101 more the charge is just covered, and 10 lots of the other side pass.
+        paid = text + "deposit 1 101\n"
+        self.assertEqual(last_code(paid + "insert 1 contract 1 buy open limit 110 lots 10 day"), 0)
+        self.assertEqual(last_code(paid + "insert 1 contract 1 buy open limit 110 lots 11 day"), 9)
 
     def test_charge_is_rounded_up_for_one_lot(self):
         # 1 x 101 x 1 / 10,000 is rounded up to 1 for each of 3 lots.
@@ -703,12 +751,12 @@ class Article32(unittest.TestCase):
     def test_long_and_short_of_one_account_are_not_netted(self):
         # Account 1 is 5 long from the day before. It sells 5 open at 106 to account 2, who buys to close.
         # Price 106, charge 106. Account 1: long 5 x (106 - 102) x 10 = 200 held, short 5 x (106 - 106) = 0; margin for
-        # 5 long and 5 short. Account 2: closes 5 short at 106: 5 x (102 - 106) x 10 = -200.
+        # one side of 5. Account 2: closes 5 short at 106: 5 x (102 - 106) x 10 = -200.
         text = self.FIRST_DAY + """
             insert 1 contract 1 sell open limit 106 lots 5 day
             insert 2 contract 1 buy close limit 106 lots 5 day
             """ + self.END
-        self.assertEqual(self.balances(text), ["B 1 0 200 10200 1060", "B 2 -200 0 9800 0"])
+        self.assertEqual(self.balances(text), ["B 1 0 200 10200 530", "B 2 -200 0 9800 0"])
 
     def test_held_lots_count_from_the_reference(self):
         # Quotes at 104 and 106 without a trade move the price from 102 to 104: 5 x 2 x 10 for the long.
@@ -732,7 +780,7 @@ class Article32(unittest.TestCase):
         # Contract 2 (times 7): account 1 sells at 104 and settles at 104: 0. Then closes at 108: (104 - 108) x 7 = -28.
         # Price of contract 2: (104 + 108) / 2 = 106; account 2 holds nothing there.
         # Account 1 also took both sides of the trade at 105: long 103 - 105 = -2, short 105 - 103 = 2, together 0.
-        # Charges: contract 1: 103; contract 2: 7 x 106 x 1,000 / 10,000 = 74.2, rounded up 75.
+        # Charges: contract 1: 103, for account 1 on 2 long, which are more than 1 short; in contract 2 nothing is held.
         text = CONTRACT + CONTRACT.replace("multiplier 10", "multiplier 7") + TWO_ACCOUNTS + """
             state 1 continuous
             state 2 continuous
@@ -749,7 +797,7 @@ class Article32(unittest.TestCase):
             settle
             """
         self.assertEqual(
-            output(text)[-4:], ["P 1 103", "P 2 106", "B 1 -28 20 9992 309", "B 2 28 -20 10008 103"]
+            output(text)[-4:], ["P 1 103", "P 2 106", "B 1 -28 20 9992 206", "B 2 28 -20 10008 103"]
         )
 
     def test_balance_may_fall_below_zero(self):
@@ -765,7 +813,7 @@ class Article32(unittest.TestCase):
             insert 2 contract 1 buy open limit 85 lots 2 day
             """ + self.END
         self.assertEqual(self.balances(text)[0], "B 1 0 -170 -70 1")
-        # 17 x 10 less than nothing is available: no withdrawal, no open, but the close is accepted.
+        # More is charged than the balance: no withdrawal, no open, but the close is accepted.
         after = text + """
             state 1 continuous
             withdraw 1 1

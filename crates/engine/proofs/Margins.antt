@@ -1,18 +1,15 @@
--- Margin of an account of a well-formed state: it can be charged, and what is charged is small. Assumes nothing.
+-- Margin of an account of a well-formed state: it can be charged. Assumes nothing.
 use mathlib.Core.Bool.{true, false}
-use mathlib.Core.Path.{_≡_, refl}
-use Prim.Native.Nat.{ℕ, zero, suc, _+_, _*_, _<_, _≤_, _^_}
-use native.Mathlib.Numerals.{add-one}
+use Prim.Native.Nat.{ℕ, _+_, _<_, _≤_}
 use native.Mathlib.Omega.{arith}
 use lib.ListN.{length, getD}
 use Rattle.rules.specs.Exchange.{accountAt, holdingAt, noAccount, noContract, noHolding}
-use Rattle.rules.specs.Margin.{charged, chargedTo}
 use Rattle.rules.specs.Memory.{Memory, exchangeOf, listingIn}
 use Rattle.rules.specs.declared.Contract.{Contract}
+use Rattle.rules.specs.declared.Holding.{Holding}
 use Rattle.rules.proofs.Terms.{Terms, terms, terms-passed}
 use Rattle.invariants.proofs.Clauses.{HoldingOk, ListingOk}
 use Rattle.margin.specs.Charge.{ChargeTerms, ChargeableIn, ChargeableAt}
-use Rattle.margin.proofs.Charging.{chargedAt, charged-more, charged-small}
 use Rattle.engine.proofs.Formed.{Formed, contracts-count, accounts-count, listing-at, holding-at}
 
 charge-terms : (c : Contract) → Terms c → ChargeTerms c
@@ -32,13 +29,16 @@ module _ (m : Memory) (f : Formed m) where
       terms _ (terms-passed (getD (m .state .contracts) c noContract) (k .contract))
 
   module _ (a : ℕ) (here : a < m .state .accountcount) where
-    in-contract : (c : ℕ) → c < m .state .contractcount
-        → ChargeableIn (getD (m .state .contracts) c noContract) (m .buys) (getD (m .state .buys) c 0) (m .sells) (getD (m .state .sells) c 0) c a
-        (getD (getD (m .state .accounts) a noAccount .holdings) c noHolding)
+    abbrev held : ℕ → Holding
+    held c = getD (getD (m .state .accounts) a noAccount .holdings) c noHolding
+
+    -- what it holds in a contract can be charged, and so with the lots of one order more
+    pub in-contract : (c : ℕ) → c < m .state .contractcount → (h : Holding) → h .long ≤ held c .long + 1_000 → h .short ≤ held c .short + 1_000
+        → ChargeableIn (getD (m .state .contracts) c noContract) (m .buys) (getD (m .state .buys) c 0) (m .sells) (getD (m .state .sells) c 0) c a h
     unfolding listingIn holdingAt accountAt
-    in-contract c l =
+    in-contract c l h long short =
         let t = contract-terms c l in
-        let k : HoldingOk (listingIn m c) a (getD (getD (m .state .accounts) a noAccount .holdings) c noHolding) =
+        let k : HoldingOk (listingIn m c) a (held c) =
         rw (listing-at m f c l, holding-at m f a c here l) at (f .contents .holding a c (rw (accounts-count m f) here) (rw (contracts-count m f) l)) in
         record {
           terms = charge-terms (getD (m .state .contracts) c noContract) t;
@@ -51,14 +51,9 @@ module _ (m : Memory) (f : Formed m) where
         }
 
     pub chargeable : ChargeableAt (m .state) (m .buys) (m .sells) a
-    chargeable = record { account = omega (arith, here, f .accounts-high); few = f .contracts-high; each = in-contract }
-
-    charged-to : (n : ℕ) → n ≤ m .state .contractcount → chargedTo (exchangeOf m) a n ≤ 200_000_000_000_000 * n
-    charged-to zero h = unfold chargedTo in omega arith
-    charged-to (suc c) h =
-        let ih = charged-to c (omega arith) in
-        let e : chargedTo (exchangeOf m) a c + chargedAt m a here c ≡ chargedTo (exchangeOf m) a (suc c) = rw add-one at (charged-more m a here c _ _ h refl refl) in
-        omega (arith, e, charged-small _ _ _ _ _ _ _ _ (in-contract c h))
-
-    pub charged-high : charged (exchangeOf m) a ≤ 10 ^ 15
-    charged-high = omega (arith, charged-to (length (exchangeOf m .listings)) (omega (arith, contracts-count m f)), contracts-count m f, f .contracts-high)
+    chargeable =
+        record {
+          account = omega (arith, here, f .accounts-high);
+          few = f .contracts-high;
+          each = λ c l. in-contract c l (held c) (omega arith) (omega arith);
+        }

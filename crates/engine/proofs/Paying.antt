@@ -11,10 +11,10 @@ use lib.ListN.{getD, set}
 use lib.Signed.{ltZ}
 use Rattle.laws.specs.Bound.{Within}
 use Rattle.laws.specs.Choice.{both-true, pick}
-use Rattle.rules.specs.Answers.{amountRefused, codeOf, depositRefusals, firstOf, liftsTooHigh, refusals, withdrawRefusals}
+use Rattle.rules.specs.Answers.{amountRefused, codeOf, depositRefusals, firstOf, leavesTooLittle, liftsTooHigh, refusals, withdrawRefusals}
 use Rattle.rules.specs.Bounds.{within, maxAmount}
 use Rattle.rules.specs.Exchange.{accountAt, noAccount}
-use Rattle.rules.specs.Margin.{available, charged}
+use Rattle.rules.specs.Margin.{charged}
 use Rattle.rules.specs.Memory.{Memory, exchangeOf, inUse, put, stepIn}
 use Rattle.rules.specs.Step.{carriedOut, deposited, paid, withBalance, withdrawn}
 use Rattle.rules.specs.declared.Account.{Account}
@@ -25,7 +25,7 @@ use Rattle.margin.proofs.Charging.{charged-at}
 use Rattle.engine.specs.Outcome.{isAbsent, memory, WellFormedState, OutcomeIs, refusedWith, acceptedWith, withBalanceAt}
 use Rattle.engine.specs.declared.answers.Outcome.{Outcome}
 use Rattle.engine.proofs.Formed.{Formed, formed, no-account, account-at, account-put, balance-within}
-use Rattle.engine.proofs.Margins.{chargeable, charged-high}
+use Rattle.engine.proofs.Margins.{chargeable}
 use Rattle.engine.proofs.Outcomes.{refusal, acceptance}
 use Rattle.engine.proofs.Puts.{put-accounts}
 use Rattle.engine.proofs.Tests.{place-below}
@@ -67,15 +67,12 @@ module _ {s : State} {buys sells trades : List ℕ} (w : WellFormedState s buys 
       unfolding accountAt
       balance-fits = rw is (balance-within m f (account - 1) here)
 
-      -- the account can be charged, and what is charged is small
+      -- the account can be charged
       pub account-chargeable : ChargeableAt s buys sells (k - 1)
       account-chargeable = rw is (chargeable m f (account - 1) here)
 
       charged-is : {total : ℕ} → ChargedAt s buys sells (k - 1) total → total ≡ charged (exchangeOf m) (account - 1)
       charged-is c = charged-at s buys sells (k - 1) _ (rw is here) c trades ∙ rw is
-
-      pub charged-fits : {total : ℕ} → ChargedAt s buys sells (k - 1) total → total ≤ 10 ^ 15
-      charged-fits c = rw (charged-is c) (charged-high m f (account - 1) here)
 
   -- ---- deposit
 
@@ -122,7 +119,7 @@ module _ {s : State} {buys sells trades : List ℕ} (w : WellFormedState s buys 
     WithdrawIs r = OutcomeIs (stepIn m (Withdraw account amount)) r buys sells trades
 
     withdraw-code : codeOf (exchangeOf m) (Withdraw account amount)
-        ≡ pick (isAbsent account (s .accountcount)) 2 (pick (amountRefused amount) 16 (pick (ltZ (available (exchangeOf m) (account - 1)) (pos amount)) 9 0))
+        ≡ pick (isAbsent account (s .accountcount)) 2 (pick (amountRefused amount) 16 (pick (leavesTooLittle (exchangeOf m) account amount) 9 0))
     unfolding codeOf refusals withdrawRefusals firstOf
     withdraw-code = rw (no-account m f account)
 
@@ -137,22 +134,21 @@ module _ {s : State} {buys sells trades : List ℕ} (w : WellFormedState s buys 
       withdraw-amount a = withdraw-refused 16 (omega arith) (rw (withdraw-code, present, a))
 
       module _ (right : amountRefused amount ≡ false) {k : ℕ} (is : k ≡ account) where
+        abbrev left : ℤ
+        left = getD (s .accounts) (k - 1) noAccount .balance -ℤ pos amount
+
         module _ {total : ℕ} (c : ChargedAt s buys sells (k - 1) total) where
-          abbrev left : ℤ
-          left = getD (s .accounts) (k - 1) noAccount .balance -ℤ pos total
+          leaves-is : leavesTooLittle (exchangeOf m) account amount ≡ ltZ left (pos total)
+          unfolding leavesTooLittle
+          leaves-is = rw (charged-is present is c, is, balance-is present)
 
-          available-is : available (exchangeOf m) (account - 1) ≡ left
-          unfolding available
-          available-is = rw (charged-is present is c, is, balance-is present)
+          pub withdraw-short : {r : Outcome} → ltZ left (pos total) ≡ true → r ≡ refusedWith s 9 → WithdrawIs r
+          withdraw-short h = withdraw-refused 9 (omega arith) (rw (withdraw-code, present, right, leaves-is, h))
 
-          pub withdraw-short : {r : Outcome} → ltZ left (pos amount) ≡ true → r ≡ refusedWith s 9 → WithdrawIs r
-          withdraw-short h = withdraw-refused 9 (omega arith) (rw (withdraw-code, present, right, available-is, h))
-
-          withdraw-lies : put m (carriedOut (exchangeOf m) (Withdraw account amount) .exchange) ≡ memory (withBalanceAt s (k - 1) (getD (s .accounts) (k - 1) noAccount .balance -ℤ pos amount)) buys sells trades
+          withdraw-lies : put m (carriedOut (exchangeOf m) (Withdraw account amount) .exchange) ≡ memory (withBalanceAt s (k - 1) left) buys sells trades
           unfolding carriedOut withdrawn
           withdraw-lies = rw (is, balance-is present) (paid-lies present (getD (s .accounts) (account - 1) noAccount .balance -ℤ pos amount))
 
-          pub withdraw-accepted : {r : Outcome} {next : State} → ltZ left (pos amount) ≡ false
-              → next ≡ withBalanceAt s (k - 1) (getD (s .accounts) (k - 1) noAccount .balance -ℤ pos amount) → r ≡ acceptedWith next 0 0 0 → WithdrawIs r
+          pub withdraw-accepted : {r : Outcome} {next : State} → ltZ left (pos total) ≡ false → next ≡ withBalanceAt s (k - 1) left → r ≡ acceptedWith next 0 0 0 → WithdrawIs r
           unfolding carriedOut withdrawn
-          withdraw-accepted h n e = acceptance s buys sells trades (Withdraw account amount) (rw (withdraw-code, present, right, available-is, h)) refl (withdraw-lies ∙ rw n) e
+          withdraw-accepted h n e = acceptance s buys sells trades (Withdraw account amount) (rw (withdraw-code, present, right, leaves-is, h)) refl (withdraw-lies ∙ rw n) e

@@ -86,7 +86,7 @@ pub fn withdraw<'a>(
     }
     let place = laws::wide(account) - 1;
     let who = state.accounts[place];
-    let balance = who.balance;
+    let left = who.balance - amount as i64;
     let holdings = who.holdings;
     let terms = state.contracts;
     let bids = state.buys;
@@ -101,8 +101,8 @@ pub fn withdraw<'a>(
         offers,
         place,
     );
-    if margin::too_little(balance, charged, amount) {
+    if margin::too_little(left, charged) {
         return answers::refused(state, 9);
     }
-    answers::accepted(with_balance(state, place, balance - amount as i64), 0, 0, 0)
+    answers::accepted(with_balance(state, place, left), 0, 0, 0)
 }

@@ -93,8 +93,8 @@ fn lots_refused(terms: Contract, h: Holding, rested: u64, o: NewOrder) -> bool
     laws::wide32(terms.limit) < laws::wide32(held) + rested + lots
 }
 
-// 9: "open .. too little available": an open needs the charge times its lots. A close is never refused for money. `who` is the
-// order's account.
+// 9: an open passes if all charged margin, its lots included, is at most the balance. A close is never refused for money. `who` is
+// the order's account.
 fn money_refused<'a>(
     state: State,
     who: Account,
@@ -110,11 +110,11 @@ fn money_refused<'a>(
         return false;
     }
     let c = laws::wide(o.contract) - 1;
-    let contracts = state.contracts;
-    let terms = contracts[c];
     let a = laws::wide(o.account) - 1;
+    let held = book::holdings::book_leg(who, c, o.sell, 0, o.lots);
     let balance = who.balance;
-    let holdings = who.holdings;
+    let holdings = held.holdings;
+    let contracts = state.contracts;
     let bids = state.buys;
     let offers = state.sells;
     let charged = margin::charged(
@@ -127,8 +127,7 @@ fn money_refused<'a>(
         offers,
         a,
     );
-    let needed = margin::charge(terms) * laws::wide32(o.lots);
-    margin::too_little(balance, charged, needed)
+    margin::too_little(balance, charged)
 }
 
 // Codes 8 and 9, 0 where neither holds.

@@ -14,11 +14,11 @@ use Rattle.laws.specs.Bound.{within-abs, within-d, abs-within}
 use Rattle.laws.specs.Choice.{either-false}
 use Rattle.laws.specs.Lists.{map-set, at-set}
 use Rattle.laws.specs.Ring.{d, d-ind, posPart, negPart, split, ring, ltZ-d}
-use Rattle.rules.specs.Answers.{depositRefusals, withdrawRefusals, codeOf, refusals, liftsTooHigh, amountRefused}
+use Rattle.rules.specs.Answers.{depositRefusals, withdrawRefusals, codeOf, refusals, liftsTooHigh, leavesTooLittle, amountRefused}
 use Rattle.rules.specs.Bounds.{maxBalance, maxDayProfit}
 use Rattle.rules.specs.Exchange.{Exchange, listingAt, accountAt, holdingAt, placeOf, noAccount, noHolding}
 use Rattle.rules.specs.Holdings.{bookTrades, startAccount, startOfDay}
-use Rattle.rules.specs.Margin.{available, charged}
+use Rattle.rules.specs.Margin.{charged}
 use Rattle.rules.specs.Step.{withBalance, paid, deposited, withdrawn, carriedOut}
 use Rattle.rules.specs.declared.Account.{Account}
 use Rattle.rules.specs.declared.Holding.{Holding}
@@ -89,11 +89,11 @@ deposit-bound (negsuc m) amount high n h k e =
     d-ind amount (suc m) (λ z. ltZ (pos high) z ≡ false → natAbs z ≤ n) (λ j i f. omega arith) (λ j i f. omega (arith, ltb-false high j f)) e
 
 -- a withdrawal passes code 9 only where what is left covers the margin, which is not below zero
-withdraw-bound : (b : ℤ) (amount margin n : ℕ) → natAbs b ≤ n → ltZ (b -ℤ pos margin) (pos amount) ≡ false → natAbs (b -ℤ pos amount) ≤ n
+withdraw-bound : (b : ℤ) (amount margin n : ℕ) → natAbs b ≤ n → ltZ (b -ℤ pos amount) (pos margin) ≡ false → natAbs (b -ℤ pos amount) ≤ n
 withdraw-bound b amount margin n h e =
     let w = within-abs b n h in
-    let e′ : ltZ (d (posPart b + 0) (negPart b + margin)) (d amount 0) ≡ false = simp ring at (rw (split b) at e) in
-    let l = ltb-false (posPart b + 0 + 0) (amount + (negPart b + margin)) (sym (ltZ-d (posPart b + 0) (negPart b + margin) amount 0) ∙ e′) in
+    let e′ : ltZ (d (posPart b + 0) (negPart b + amount)) (d margin 0) ≡ false = simp ring at (rw (split b) at e) in
+    let l = ltb-false (posPart b + 0 + 0) (margin + (negPart b + amount)) (sym (ltZ-d (posPart b + 0) (negPart b + amount) margin 0) ∙ e′) in
     abs-within (b -ℤ pos amount) (rw (split b) (simp ring (within-d (omega arith) (omega arith))))
 
 -- ---- the two steps
@@ -109,7 +109,7 @@ module _ (x : Exchange) (k : WellFormed x) (account amount : ℕ) where
       (deposit-bound (accountAt (x .accounts) (placeOf account) .balance) amount maxBalance _ (k .balance _ there) (omega arith) low)
 
   pub withdraw-keeps : codeOf x (Withdraw account amount) ≡ 0 → WellFormed (carriedOut x (Withdraw account amount) .exchange)
-  unfolding codeOf refusals withdrawRefusals carriedOut withdrawn available
+  unfolding codeOf refusals withdrawRefusals carriedOut withdrawn leavesTooLittle
   withdraw-keeps e =
       let f = failed (withdrawRefusals x account amount) (omega arith) e in
       let there = present account (x .accounts) (f .0) in

@@ -1,18 +1,14 @@
 -- Charged margin contract by contract, as a loop adds it up, and its bounds. Assumes nothing.
 use mathlib.Core.List.{List}
 use mathlib.Core.Path.{_≡_, refl, sym, ap, _∙_}
-use Prim.Native.Nat.{ℕ, zero, suc, _+_, _*_, _<_, _≤_}
+use Prim.Native.Nat.{ℕ, zero, suc, _+_, _*_, _<_, _≤_, max}
 use native.Mathlib.Nat.{mul-le-mul-left, mul-le-mul-right, le-trans, le-of-eq}
 use native.Mathlib.Numerals.{add-one}
 use native.Mathlib.Omega.{arith}
-use lib.Dec.{ltb}
-use lib.IntN.{ℤ, pos, _-ℤ_}
-use lib.ListN.{length, getD}
-use lib.Signed.{ltZ}
+use lib.ListN.{getD}
 use mir.Facts.{fits-below}
 use mir.Syntax.{w64}
 use mir.Val.{Fits}
-use Rattle.laws.specs.Ring.{d, posPart, negPart, split, pos-d, d-eq, ltZ-d, ring}
 use Rattle.rules.specs.Exchange.{noAccount, noContract, noHolding, restingOpens}
 use Rattle.rules.specs.Margin.{chargeOf, charge, chargedLots, chargedTo, charged}
 use Rattle.rules.specs.Memory.{Memory, exchangeOf, listingIn, queueIn}
@@ -39,39 +35,40 @@ charge-small c t = omega (arith, rated-small c t)
 
 module _ (k : Contract) (buys : List ℕ) (buycount : ℕ) (sells : List ℕ) (sellcount c a : ℕ) (h : Holding)
     (g : ChargeableIn k buys buycount sells sellcount c a h) where
-  pub lots-small : chargedLots (listingOf k buys buycount sells sellcount c) a h ≤ 200_000
+  lots-small : chargedLots (listingOf k buys buycount sells sellcount c) a h ≤ 200_000
   unfolding chargedLots
   lots-small = omega (arith, g .long, g .short)
 
-  pub charged-small : charge k * chargedLots (listingOf k buys buycount sells sellcount c) a h ≤ 200_000_000_000_000
+  charged-small : charge k * chargedLots (listingOf k buys buycount sells sellcount c) a h ≤ 200_000_000_000_000
   charged-small =
       le-trans (mul-le-mul-right (chargedLots (listingOf k buys buycount sells sellcount c) a h) (charge-small k (g .terms)))
       (mul-le-mul-left 1_000_000_000 lots-small)
 
-  pub charged-here : (r bids offers : ℕ) → r ≡ charge k → bids ≡ restingOpens a (queueIn buys c buycount) → offers ≡ restingOpens a (queueIn sells c sellcount)
-      → r * (h .long + h .short + bids + offers) ≡ charge k * chargedLots (listingOf k buys buycount sells sellcount c) a h
-  unfolding chargedLots
-  charged-here r bids offers e f g = rw (e, f, g)
+  -- as the code adds it up
+  module _ (r bids offers lots : ℕ) (er : r ≡ charge k) (eb : bids ≡ restingOpens a (queueIn buys c buycount))
+      (eo : offers ≡ restingOpens a (queueIn sells c sellcount)) (el : lots ≡ max (h .long + bids) (h .short + offers)) where
+    pub charged-here : r * lots ≡ charge k * chargedLots (listingOf k buys buycount sells sellcount c) a h
+    unfolding chargedLots
+    charged-here = rw (el, er, eb, eo)
 
-  pub charged-here-small : (r bids offers : ℕ) → r ≡ charge k → bids ≡ restingOpens a (queueIn buys c buycount) → offers ≡ restingOpens a (queueIn sells c sellcount)
-      → r * (h .long + h .short + bids + offers) ≤ 200_000_000_000_000
-  charged-here-small r bids offers e f g = le-trans (le-of-eq (charged-here r bids offers e f g)) charged-small
+    pub charged-here-small : r * lots ≤ 200_000_000_000_000
+    charged-here-small = le-trans (le-of-eq charged-here) charged-small
 
 -- ---- the first contracts
 
 module _ (m : Memory) (a : ℕ) (la : a < m .state .accountcount) where
   -- what a turn of the loop adds
-  abbrev pub chargedAt : ℕ → ℕ
+  abbrev chargedAt : ℕ → ℕ
   chargedAt c =
       charge (getD (m .state .contracts) c noContract)
       * chargedLots (listingOf (getD (m .state .contracts) c noContract) (m .buys) (getD (m .state .buys) c 0) (m .sells) (getD (m .state .sells) c 0) c) a
       (getD (getD (m .state .accounts) a noAccount .holdings) c noHolding)
 
-  pub charged-none : 0 ≡ chargedTo (exchangeOf m) a 0
+  charged-none : 0 ≡ chargedTo (exchangeOf m) a 0
   unfolding chargedTo
   charged-none = refl
 
-  pub charged-more : (c total v : ℕ) → c < m .state .contractcount → total ≡ chargedTo (exchangeOf m) a c → v ≡ chargedAt c
+  charged-more : (c total v : ℕ) → c < m .state .contractcount → total ≡ chargedTo (exchangeOf m) a c → v ≡ chargedAt c
       → total + v ≡ chargedTo (exchangeOf m) a (c + 1)
   unfolding chargedTo listingIn
   charged-more c total v lc e f = rw (add-one c, listing-in-use m c lc, holding-in-use m a c la lc, e, f)
@@ -140,7 +137,8 @@ module _ (holdings : List Holding) (terms : List Contract) (contracts : ℕ) (bu
 
   pub charging-done : (total c : ℕ) → contracts ≤ c → Charging holdings terms buys bids sells offers a contracts total c
       → ChargedIs holdings terms contracts buys bids sells offers a total
-  charging-done total c stop w = record { charged = λ s trades h. at-end ∙ of-state s trades h }
+  charging-done total c stop w =
+      record { charged = λ s trades h. at-end ∙ of-state s trades h; small = omega (arith, w .small, w .within, g .few) }
     where
       at-end : total ≡ chargedFirst holdings terms buys bids sells offers a contracts
       at-end = w .margin ∙ ap (chargedFirst holdings terms buys bids sells offers a) (omega (arith, w .within, stop))
@@ -154,18 +152,3 @@ pub charged-at : (s : State) (buys sells : List ℕ) (a r : ℕ) → a < s .acco
     → r ≡ charged (exchangeOf (memoryOf s buys sells trades)) a
 charged-at s buys sells a r la e trades =
     e .charged s trades (record { account = la; held = refl; listed = refl; count = refl; bought = refl; sold = refl })
-
--- ---- available
-
-same-ltb : (x y x′ y′ : ℕ) → x ≡ x′ → y ≡ y′ → ltb x y ≡ ltb x′ y′
-same-ltb x y x′ y′ e f = rw (e, f)
-
-below-difference : (a b margin amount : ℕ) → ltZ (d a b) (pos (margin + amount)) ≡ ltZ (d a b -ℤ pos margin) (pos amount)
-below-difference a b margin amount =
-    let e : d a b -ℤ pos margin ≡ d a (b + margin) = simp ring (d-eq _ _ _ _ (omega arith)) in
-    rw (e, pos-d (margin + amount), pos-d amount, ltZ-d, ltZ-d)
-    (same-ltb (a + 0) (margin + amount + b) (a + 0) (amount + (b + margin)) (omega arith) (omega arith))
-
--- a balance less the margin is below an amount where the balance is below both
-pub below-both : (balance : ℤ) (margin amount : ℕ) → ltZ balance (pos (margin + amount)) ≡ ltZ (balance -ℤ pos margin) (pos amount)
-below-both balance margin amount = rw (split balance) (below-difference (posPart balance) (negPart balance) margin amount)

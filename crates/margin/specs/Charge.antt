@@ -24,15 +24,16 @@ pub record ChargeTerms (c : Contract) : Type 0 where
   pub reference : c .reference ≤ 1_000_000
   pub rate : c .rate ≤ 10_000
 
--- a contract's queues in their areas, and an account's holding in it
+-- a contract's queues in their areas, and an account's holding in it. Either side has at most 100,000 lots in a well-formed state; with
+-- those of an open it may have more
 pub record ChargeableIn (contract : Contract) (buys : List ℕ) (buycount : ℕ) (sells : List ℕ) (sellcount c a : ℕ) (h : Holding) : Type 0 where
   pub terms : ChargeTerms contract
   pub bids : buycount ≤ 64
   pub offers : sellcount ≤ 64
   pub buyroom : 320 * c + 5 * buycount ≤ length buys
   pub sellroom : 320 * c + 5 * sellcount ≤ length sells
-  pub long : h .long + restingOpens a (queueIn buys c buycount) ≤ 100_000
-  pub short : h .short + restingOpens a (queueIn sells c sellcount) ≤ 100_000
+  pub long : h .long + restingOpens a (queueIn buys c buycount) ≤ 200_000
+  pub short : h .short + restingOpens a (queueIn sells c sellcount) ≤ 200_000
 
 -- every contract in use, for one account: its holdings, the contracts and how many they are, and how many orders each queue has
 pub record Chargeable (holdings : List Holding) (terms : List Contract) (contracts : ℕ) (buys bids sells offers : List ℕ) (a : ℕ) : Type 0 where
@@ -50,9 +51,10 @@ pub record Has (s : State) (holdings : List Holding) (terms : List Contract) (co
   pub bought : s .buys ≡ bids
   pub sold : s .sells ≡ offers
 
--- the charged margin of the account in any state that has these, whatever trades the day has
+-- the charged margin of the account in any state that has these, whatever trades the day has; it is small
 pub record ChargedIs (holdings : List Holding) (terms : List Contract) (contracts : ℕ) (buys bids sells offers : List ℕ) (a r : ℕ) : Type 0 where
   pub charged : (s : State) (trades : List ℕ) → Has s holdings terms contracts bids offers a → r ≡ margin.charged (exchangeOf (memoryOf s buys sells trades)) a
+  pub small : r ≤ 1_000_000_000_000_000
 
 -- the same of what a state has
 abbrev pub ChargeableAt : State → List ℕ → List ℕ → ℕ → Type 0

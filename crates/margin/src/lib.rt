@@ -1,8 +1,8 @@
-// Margin: the charge for one lot, an account's charged margin, and whether too little is available. For our own crates: each
+// Margin: the charge for one lot, an account's charged margin, and whether a balance is too little for it. For our own crates: each
 // asks for values in the ranges of a well-formed state, so that no product passes its width.
 ghost use mathlib.Core.Path.{_≡_};
-ghost use Prim.Native.Nat.{_*_, _≤_};
-ghost use lib.IntN.{pos, _-ℤ_};
+ghost use Prim.Native.Nat.{_*_, _≤_, max};
+ghost use lib.IntN.{pos};
 ghost use lib.Signed.{ltZ};
 ghost use Rattle.rules.specs.Margin as margin;
 ghost use Rattle.margin.specs.Charge.{ChargeTerms, ChargeableIn, Chargeable, ChargedIs, listingOf};
@@ -21,7 +21,13 @@ pub fn charge(c: Contract) -> u64
     (multiplier * reference * rate + 9999) / 10000
 }
 
-// The charge times the long and short lots and resting opens of one account in one contract.
+fn larger_side(bought: u64, sold: u64) -> u64
+    ensures { λ r. ⌜ r ≡ max bought sold ⌝ }
+{
+    if bought < sold { sold } else { bought }
+}
+
+// The charge times the larger of (long plus resting buy opens) and (short plus resting sell opens), of one account in one contract.
 fn charged_in<'a>(
     contract: Contract,
     buys: &'a [u32],
@@ -39,13 +45,13 @@ fn charged_in<'a>(
     let short = h.short as u64;
     let bids = scan::resting(buys, c, buycount, account, 0);
     let offers = scan::resting(sells, c, sellcount, account, 0);
-    let lots = long + short + bids + offers;
+    let lots = larger_side(long + bids, short + offers);
     charge(contract) * lots
 }
 
-// "Charged margin is charge times all long and short lots and resting opens", over all contracts. It takes what it reads of the
-// state, for a copy of all of it costs as much as a queue: the account's holdings, the terms and number of contracts, and how many
-// orders each queue has. The day's trades play no part.
+// An account's charged margin, over all contracts. It takes what it reads of the state, for a copy of all of it costs as much as a
+// queue: the account's holdings, the terms and number of contracts, and how many orders each queue has. The day's trades play no part.
+// For an open the holdings have its lots already.
 pub fn charged<'a>(
     holdings: [Holding; 4],
     terms: [Contract; 4],
@@ -73,10 +79,10 @@ pub fn charged<'a>(
     total
 }
 
-// Whether the balance less the charged margin is below an amount.
-pub fn too_little(balance: i64, charged: u64, amount: u64) -> bool
-    requires { ⌜ (charged ≤ 1000000000000000) × (amount ≤ 1000000000000000) ⌝ }
-    ensures { λ r. ⌜ r ≡ ltZ (balance -ℤ pos charged) (pos amount) ⌝ }
+// Whether a balance is less than the charged margin.
+pub fn too_little(balance: i64, charged: u64) -> bool
+    requires { ⌜ charged ≤ 1000000000000000 ⌝ }
+    ensures { λ r. ⌜ r ≡ ltZ balance (pos charged) ⌝ }
 {
-    balance < (charged + amount) as i64
+    balance < charged as i64
 }

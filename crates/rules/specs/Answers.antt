@@ -4,13 +4,13 @@ use mathlib.Core.Bool.{Bool, true, false, not, _&&_, _||_}
 use mathlib.Core.List.{List, [], _∷_, _++_}
 use Prim.Native.Nat.{ℕ, _+_, _*_}
 use lib.Dec.{leb, ltb, eqb}
-use lib.IntN.{pos, _+ℤ_}
+use lib.IntN.{pos, _+ℤ_, _-ℤ_}
 use lib.Signed.{ltZ}
 use lib.ListN.{length}
 use Rattle.laws.specs.Choice.{pick, allOf}
 use Rattle.rules.specs.Bounds.{within, allowedToday, maxLots, maxResting, maxTrades, maxSettlements, numbersEnd, maxAmount, maxBalance}
 use Rattle.rules.specs.Exchange.{Exchange, Listing, listingAt, accountAt, holdingAt, placeOf, absent, own, opposite, bestPrice, restingOpens, restingCloses}
-use Rattle.rules.specs.Margin.{charge, available}
+use Rattle.rules.specs.Margin.{charged, chargedWith}
 use Rattle.rules.specs.Matching.{sweep, fillable}
 use Rattle.rules.specs.declared.Contract.{Contract}
 use Rattle.rules.specs.declared.Holding.{Holding}
@@ -105,10 +105,12 @@ holdingRefused x o =
     (overHolding (listingOf x o) (placeOf (o .account)) (holdingAt (x .accounts) (placeOf (o .account)) (placeOf (o .contract))) (o .sell) (o .lots))
     (overLimit (listingOf x o) (placeOf (o .account)) (holdingAt (x .accounts) (placeOf (o .account)) (placeOf (o .contract))) (o .sell) (o .lots))
 
--- 9: "open .. too little available"; "An open needs charge times lots."
+-- 9, open: "An open passes if all charged margin, its lots included, is at most the balance" (02, ticket 2)
 unfoldable pub moneyRefused : Exchange → NewOrder → Bool
 moneyRefused x o =
-    not (o .close) && ltZ (available x (placeOf (o .account))) (pos (charge (listingOf x o .contract) * o .lots))
+    not (o .close)
+    && ltZ (accountAt (x .accounts) (placeOf (o .account)) .balance)
+    (pos (chargedWith x (placeOf (o .account)) (placeOf (o .contract)) (o .sell) (o .lots)))
 
 -- ---- the refusals of each kind, "Order: 21, 1, then .."
 
@@ -189,12 +191,17 @@ depositRefusals x account amount =
     ∷ (16 when (amountRefused amount || liftsTooHigh x account amount))
     ∷ []
 
+-- 9, withdraw: "a withdrawal passes if the balance after it is at least the charged margin" (02, ticket 2)
+unfoldable pub leavesTooLittle : Exchange → ℕ → ℕ → Bool
+leavesTooLittle x account amount =
+    ltZ (accountAt (x .accounts) (placeOf account) .balance -ℤ pos amount) (pos (charged x (placeOf account)))
+
 -- "withdraw 2, 16, 9"
 unfoldable pub withdrawRefusals : Exchange → ℕ → ℕ → List Refusal
 withdrawRefusals x account amount =
     (2 when absent account (x .accounts))
     ∷ (16 when amountRefused amount)
-    ∷ (9 when ltZ (available x (placeOf account)) (pos amount))
+    ∷ (9 when leavesTooLittle x account amount)
     ∷ []
 
 -- 17: "State changes (house ..): 0 to 1, 0 to 3, 1 to 2, 2 to 1, 1 to 3, 2 to 3."

@@ -9,12 +9,13 @@ use lib.ListN.{replicate}
 use Rattle.laws.specs.Choice.{all, allOf}
 use Rattle.laws.specs.Sums.{sumOf}
 use Rattle.laws.specs.Tabulate.{tabulate}
-use Rattle.rules.specs.Answers.{amountRefused, cancelRefusals, changeListed, codeOf, depositRefusals, fillableLots, firstOf, insertRefusals, liftsTooHigh, listingOf, holdingRefused, moneyRefused, noSuchOrder, numbered, ofAnother, overHolding, overLimit, phaseRefusals, priceRefusedBy, pullRefusals, refusals, removalRefused, restingOrder, settleRefusals, takerOf, tradesNeeded, withdrawRefusals}
+use Rattle.rules.specs.Answers.{amountRefused, cancelRefusals, changeListed, codeOf, depositRefusals, fillableLots, firstOf, insertRefusals, leavesTooLittle, liftsTooHigh, listingOf, holdingRefused, moneyRefused, noSuchOrder, numbered, ofAnother, overHolding, overLimit, phaseRefusals, priceRefusedBy, pullRefusals, refusals, removalRefused, restingOrder, settleRefusals, takerOf, tradesNeeded, withdrawRefusals}
 use Rattle.rules.specs.Bounds.{allowedToday, dayHigh, dayLow, onTick}
 use Rattle.rules.specs.Command.{bits, commandOf, insertFlags, insertOf, newOrder, phaseOf, priceCondition, settleOf, timeCondition, zeros}
 use Rattle.rules.specs.Examples.{Row, _gives_, allRight}
 use Rattle.rules.specs.Exchange.{Exchange, absent, accountAt, bestPrice, holdingAt, listingAt, lotsWhere, noHolding, noTrade, resting}
-use Rattle.rules.specs.Margin.{available, chargeOf, chargedLots, chargedTo}
+use Rattle.rules.specs.Holdings.{afterLeg, bookLeg}
+use Rattle.rules.specs.Margin.{chargeOf, chargedLots, chargedTo}
 use Rattle.rules.specs.Matching.{fillable, meets, middle, stays, sweep, tradePrice, tradeWith}
 use Rattle.rules.specs.declared.Account.{Account}
 use Rattle.rules.specs.declared.Contract.{Contract}
@@ -28,7 +29,7 @@ use Rattle.rules.specs.declared.TimeCondition.{TimeCondition}
 use Rattle.rules.specs.declared.TimeCondition.the-variants.{GoodForDay, ImmediateOrCancel, FillOrKill}
 
 -- ---- a state to ask: one contract, low 100 and high 120, a charge of 110 a lot, at most 1,000 lots a side; sells 7 at 110
--- and 5 at 112 rest, of account 1; account 2 is short 995 lots and has money for 10 more
+-- and 5 at 112 rest, of account 1; account 2 is short 995 lots and has money for 3 more
 
 contract : ℕ → Contract
 contract phase = record { multiplier = 10; tick = 2; reference = 110; band = 10; limit = 1_000; rate = 1_000; phase = phase; last = 110 }
@@ -40,7 +41,7 @@ rich : Account
 rich = record { balance = pos 1_100_000; holdings = noHolding ∷ [] }
 
 poor : Account
-poor = record { balance = pos 110_550; holdings = record { long = 0; short = 995; startlong = 0; startshort = 995 } ∷ [] }
+poor = record { balance = pos 109_780; holdings = record { long = 0; short = 995; startlong = 0; startshort = 995 } ∷ [] }
 
 -- a contract in a phase, so many buys resting at 100, so many trades made, a next number, so many settlements
 asked : ℕ → ℕ → ℕ → ℕ → ℕ → Exchange
@@ -95,16 +96,19 @@ codes =
     ∷ (codeOf open′ (buy 1 1 0 5 Market GoodForDay) gives 5)
     ∷ (codeOf open′ (buy 1 1 1 5 Market GoodForDay) gives 6)
     ∷ (codeOf open′ (buy 1 1 1 5 Market ImmediateOrCancel) gives 7)
-    -- holding before money; exactly the limit and exactly the available amount pass; a close needs no money
-    ∷ (codeOf open′ (sell 2 false 5) gives 0)
+    -- holding before money; exactly the limit and exactly the balance pass; the larger side is charged, so 995 lots bought
+    -- against as many sold need no money
+    ∷ (codeOf open′ (sell 1 false 988) gives 0)
+    ∷ (codeOf open′ (sell 1 false 989) gives 8)
+    ∷ (codeOf open′ (sell 2 false 3) gives 0)
+    ∷ (codeOf open′ (sell 2 false 4) gives 9)
     ∷ (codeOf open′ (sell 2 false 6) gives 8)
-    ∷ (codeOf open′ (sell 2 false 11) gives 8)
-    ∷ (codeOf open′ (buy 2 1 10 100 (Limit 100) GoodForDay) gives 0)
-    ∷ (codeOf open′ (buy 2 1 11 100 (Limit 100) GoodForDay) gives 9)
+    ∷ (codeOf open′ (buy 2 1 998 100 (Limit 100) GoodForDay) gives 0)
+    ∷ (codeOf open′ (buy 2 1 999 100 (Limit 100) GoodForDay) gives 9)
     ∷ (codeOf (asked 1 1 0 100 0) (buy 1 1 1_000 100 (Limit 100) GoodForDay) gives 8)
     ∷ (codeOf open′ (sell 1 true 1) gives 8)
     -- money before numbers, numbers before fill or kill; the number 999,999 is still given
-    ∷ (codeOf (asked 1 0 0 1_000_000 0) (buy 2 1 11 100 (Limit 100) GoodForDay) gives 9)
+    ∷ (codeOf (asked 1 0 0 1_000_000 0) (buy 2 1 999 100 (Limit 100) GoodForDay) gives 9)
     ∷ (codeOf (asked 1 0 0 1_000_000 0) (buy 1 1 13 112 (Limit 112) FillOrKill) gives 10)
     ∷ (codeOf (asked 1 0 0 999_999 0) (buy 1 1 12 112 (Limit 112) FillOrKill) gives 0)
     -- fill or kill before the room for trades, that before the room in the queue
@@ -132,8 +136,8 @@ codes =
     ∷ (codeOf open′ (Deposit 1 1_000_000_000_000_000) gives 0)
     ∷ (codeOf open′ (Deposit 1 1_000_000_000_000_001) gives 16)
     ∷ (codeOf open′ (Withdraw 2 1_000_000_000_000_001) gives 16)
-    ∷ (codeOf open′ (Withdraw 2 1_101) gives 9)
-    ∷ (codeOf open′ (Withdraw 2 1_100) gives 0)
+    ∷ (codeOf open′ (Withdraw 2 331) gives 9)
+    ∷ (codeOf open′ (Withdraw 2 330) gives 0)
     ∷ (codeOf open′ (Withdraw 1 1_098_681) gives 9)
     ∷ (codeOf open′ (Withdraw 1 1_098_680) gives 0)
     -- state: contract before change; no change to the same state
@@ -157,5 +161,5 @@ codes =
     ∷ []
 
 pub code-examples : allRight codes ≡ true
-unfolding allRight codes contract order rich poor asked open′ buy sell raw absent accountAt all allOf allowedToday amountRefused available bestPrice bits cancelRefusals changeListed chargeOf chargedLots chargedTo codeOf commandOf dayHigh dayLow depositRefusals fillable fillableLots firstOf holdingAt insertFlags insertOf insertRefusals liftsTooHigh listingAt listingOf holdingRefused lotsWhere meets middle moneyRefused newOrder noSuchOrder numbered ofAnother onTick overHolding overLimit phaseOf phaseRefusals priceCondition priceRefusedBy pullRefusals refusals removalRefused resting restingOrder settleOf settleRefusals stays sumOf sweep tabulate takerOf timeCondition tradePrice tradeWith tradesNeeded withdrawRefusals zeros
+unfolding allRight codes contract order rich poor asked open′ buy sell raw absent accountAt afterLeg all allOf allowedToday amountRefused bestPrice bits bookLeg cancelRefusals changeListed chargeOf chargedLots chargedTo codeOf commandOf dayHigh dayLow depositRefusals fillable fillableLots firstOf holdingAt insertFlags insertOf insertRefusals leavesTooLittle liftsTooHigh listingAt listingOf holdingRefused lotsWhere meets middle moneyRefused newOrder noSuchOrder numbered ofAnother onTick overHolding overLimit phaseOf phaseRefusals priceCondition priceRefusedBy pullRefusals refusals removalRefused resting restingOrder settleOf settleRefusals stays sumOf sweep tabulate takerOf timeCondition tradePrice tradeWith tradesNeeded withdrawRefusals zeros
 code-examples = refl

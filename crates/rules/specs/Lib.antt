@@ -16,6 +16,7 @@ pub mod DayFile
 pub mod Lines
 pub mod Examples
 pub mod CodeExamples
+pub mod MarginExamples
 pub mod MatchingExamples
 pub mod ProfitExamples
 pub mod WellFormedExamples

@@ -1,8 +1,9 @@
--- Margin (document 01, "Margin and settlement"; 002). Money is a whole number of any size. Assumes nothing.
-use Prim.Native.Nat.{ℕ, zero, suc, _+_, _*_, _/_}
-use lib.IntN.{ℤ, pos, _-ℤ_}
+-- Margin (document 01, "Margin and settlement", as ticket 2 of document 02 changes it; 002, Article 26). Assumes nothing.
+use mathlib.Core.Bool.{Bool}
+use Prim.Native.Nat.{ℕ, zero, suc, _+_, _*_, _/_, max}
 use lib.ListN.{length}
-use Rattle.rules.specs.Exchange.{Exchange, Listing, listingAt, accountAt, holdingAt, restingOpens}
+use Rattle.rules.specs.Exchange.{Exchange, Listing, listingAt, holdingAt, restingOpens}
+use Rattle.rules.specs.Holdings.{bookLeg}
 use Rattle.rules.specs.declared.Contract.{Contract}
 use Rattle.rules.specs.declared.Holding.{Holding}
 
@@ -13,11 +14,11 @@ chargeOf multiplier reference rate = (multiplier * reference * rate + 9_999) / 1
 abbrev pub charge : Contract → ℕ
 charge c = chargeOf (c .multiplier) (c .reference) (c .rate)
 
--- "all long and short lots and resting opens", of one account in one contract
+-- "the larger (house) of (long plus resting buy opens) and (short plus resting sell opens)", of one account in one contract
 unfoldable pub chargedLots : Listing → ℕ → Holding → ℕ
-chargedLots l a h = h .long + h .short + restingOpens a (l .buys) + restingOpens a (l .sells)
+chargedLots l a h = max (h .long + restingOpens a (l .buys)) (h .short + restingOpens a (l .sells))
 
--- "Charged margin is charge times all long and short lots and resting opens", over the first n contracts
+-- "For each contract, charged margin is now the charge times the larger ..", over the first n contracts
 unfoldable pub chargedTo : Exchange → ℕ → ℕ → ℕ
 chargedTo x a zero = 0
 chargedTo x a (suc c) = chargedTo x a c + charge (listingAt x c .contract) * chargedLots (listingAt x c) a (holdingAt (x .accounts) a c)
@@ -25,6 +26,11 @@ chargedTo x a (suc c) = chargedTo x a c + charge (listingAt x c .contract) * cha
 abbrev pub charged : Exchange → ℕ → ℕ
 charged x a = chargedTo x a (length (x .listings))
 
--- "Available is balance less charged."
-unfoldable pub available : Exchange → ℕ → ℤ
-available x a = accountAt (x .accounts) a .balance -ℤ pos (charged x a)
+-- the state in which an account already holds the lots of an open: a buy's are long, a sell's short
+abbrev pub withOpen : Exchange → ℕ → ℕ → Bool → ℕ → Exchange
+withOpen x a c sell lots =
+    record { listings = x .listings; accounts = bookLeg (x .accounts) a c sell 0 lots; trades = x .trades; next = x .next; settlements = x .settlements }
+
+-- "all charged margin, its lots included": what is charged with an open of the account in contract c
+abbrev pub chargedWith : Exchange → ℕ → ℕ → Bool → ℕ → ℕ
+chargedWith x a c sell lots = charged (withOpen x a c sell lots) a

@@ -106,8 +106,8 @@ module _ (m : Memory) (room : m .state .accountcount ≤ length (m .state .accou
             offers = its .counts .sells c lc;
             buyroom = quotes .buyroom;
             sellroom = quotes .sellroom;
-            long = le-trans (its-holding .opens false) (contract-at .limit-high);
-            short = le-trans (its-holding .opens true) (contract-at .limit-high);
+            long = omega (arith, its-holding .opens false, contract-at .limit-high);
+            short = omega (arith, its-holding .opens true, contract-at .limit-high);
           }
 
       pub legs-covered : AllCovered (dayStart (contractIn s c .reference) (holdingIn s a c .startlong) (holdingIn s a c .startshort)) (legs a c (recordedTrades (m .trades) (s .tradecount)))

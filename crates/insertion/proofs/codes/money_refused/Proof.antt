@@ -1,11 +1,11 @@
--- `codes::money_refused` meets its contract: the account can be charged, and what is charged and needed is small. Assumes nothing.
+-- `codes::money_refused` meets its contract: the account can be charged with the order's lots, and what is charged is the rules'. Assumes nothing.
 use mathlib.Core.Path.{_∙_}
 use Prim.Native.Nat.{_^_, _*_}
 use native.Mathlib.Omega.{arith}
-use borrow.Author.Needs.{needs}
 use Rattle.laws.proofs.Signed.{back}
-use Rattle.insertion.proofs.Affording.{close-free, can-charge, can-price, balance-fits, charged-fits, needed-fits, money-is}
+use Rattle.insertion.proofs.Affording.{close-free, can-hold, can-charge, balance-fits, money-is}
 use Rattle.insertion.proofs.Inserting.{place-fits}
+use borrow.Author.Needs.{needs}
 use Rattle.insertion.proofs.codes.money_refused.Statement.{statement}
 use Rattle.insertion.proofs.codes.money_refused.Tie as tie
 
@@ -18,35 +18,24 @@ wide-requires c κs = search needs
 sub-c : tie.Need-sub-c
 sub-c c = search needs
 
-mul-terms : tie.Need-mul-terms
-mul-terms c = search needs
-
-array-copy-out-terms : tie.Need-array-copy-out-terms
-array-copy-out-terms c = place-fits (c .before .before .before .before .before .before .pre .0) (c .before .before .before .before .before .before .args .o) (c .before .before .before .before .before .before .pre .1) (c .before .wide .ensures)
-
 wide-requires-2 : tie.Need-wide-requires-2
 wide-requires-2 c κs = search needs
 
 sub-a : tie.Need-sub-a
 sub-a c = search needs
 
+book-leg-requires : tie.Need-book-leg-requires
+book-leg-requires c κs = (place-fits (c .before .before .before .before .before .before .pre .0) (c .before .before .before .before .before .before .args .o) (c .before .before .before .before .before .before .pre .1) (c .before .wide .ensures), c .before .before .before .before .before .before .pre .2, can-hold (c .before .before .before .before .before .before .pre .0) (c .before .before .before .before .before .before .args .o) (c .before .before .before .before .before .before .pre .1) (c .before .before .before .before .before .before .pre .2) (c .before .wide .ensures) (c .wide2 .ensures) (c .before .before .before .before .before .before .pre .3))
+
 charged-requires : tie.Need-charged-requires
-charged-requires c κs = can-charge (c .before .before .before .before .before .before .before .before .before .before .before .before .pre .0) (c .before .before .before .before .before .before .before .before .before .before .before .before .args .o) (c .before .before .before .before .before .before .before .before .before .before .before .before .pre .1) (c .before .before .before .before .before .before .before .wide .ensures) (c .before .before .before .before .wide2 .ensures) (c .before .before .before .before .before .before .before .before .before .before .before .before .pre .3)
-
-charge-requires : tie.Need-charge-requires
-charge-requires c κs = can-price (c .before .before .before .before .before .before .before .before .before .before .before .before .before .pre .0) (c .before .before .before .before .before .before .before .before .before .before .before .before .before .args .o) (c .before .before .before .before .before .before .before .before .before .before .before .before .before .pre .1) (c .before .before .before .before .before .before .before .before .wide .ensures) (c .before .before .before .before .before .wide2 .ensures) (c .before .before .before .before .before .before .before .before .before .before .before .before .before .pre .3)
-
-wide32-requires : tie.Need-wide32-requires
-wide32-requires c κs = search needs
-
-mul-needed : tie.Need-mul-needed
-mul-needed c = record { fits = omega (arith, needed-fits (c .before .before .before .before .before .before .before .before .before .before .before .before .before .before .before .pre .0) (c .before .before .before .before .before .before .before .before .before .before .before .before .before .before .before .args .o) (c .before .before .before .before .before .before .before .before .before .before .before .before .before .before .before .pre .1) (c .before .before .before .before .before .before .before .before .before .before .wide .ensures) (c .before .before .before .before .before .before .before .wide2 .ensures) (c .before .before .before .before .before .before .before .before .before .before .before .before .before .before .before .pre .3) (c .before .before .charged .ensures) (c .before .charge .ensures) (c .wide32 .ensures) (c .before .before .before .before .before .before .before .before .before .before .before .before .before .before .before .pre .2)) }
+charged-requires c κs = can-charge (c .before .before .before .before .before .before .before .before .before .before .before .before .pre .0) (c .before .before .before .before .before .before .before .before .before .before .before .before .args .o) (c .before .before .before .before .before .before .before .before .before .before .before .before .pre .1) (c .before .before .before .before .before .before .before .before .before .before .before .before .pre .2) (c .before .before .before .before .before .before .before .wide .ensures) (c .before .before .before .before .before .before .wide2 .ensures) (c .before .before .before .before .before .before .before .before .before .before .before .before .pre .3) (c .before .before .before .before .before .book-leg .ensures)
 
 too-little-requires : tie.Need-too-little-requires
-too-little-requires c κs = (charged-fits (c .before .before .before .before .before .before .before .before .before .before .before .before .before .before .before .pre .0) (c .before .before .before .before .before .before .before .before .before .before .before .before .before .before .before .args .o) (c .before .before .before .before .before .before .before .before .before .before .before .before .before .before .before .pre .1) (c .before .before .before .before .before .before .before .before .before .before .wide .ensures) (c .before .before .before .before .before .before .before .wide2 .ensures) (c .before .before .before .before .before .before .before .before .before .before .before .before .before .before .before .pre .3) (c .before .before .charged .ensures), omega (arith, needed-fits (c .before .before .before .before .before .before .before .before .before .before .before .before .before .before .before .pre .0) (c .before .before .before .before .before .before .before .before .before .before .before .before .before .before .before .args .o) (c .before .before .before .before .before .before .before .before .before .before .before .before .before .before .before .pre .1) (c .before .before .before .before .before .before .before .before .before .before .wide .ensures) (c .before .before .before .before .before .before .before .wide2 .ensures) (c .before .before .before .before .before .before .before .before .before .before .before .before .before .before .before .pre .3) (c .before .before .charged .ensures) (c .before .charge .ensures) (c .wide32 .ensures) (c .before .before .before .before .before .before .before .before .before .before .before .before .before .before .before .pre .2)))
+too-little-requires c κs = search needs
 
 returns-2 : tie.Need-returns-2
-returns-2 c = money-is (c .before .before .before .before .before .before .before .before .before .before .before .before .before .before .before .before .pre .0) (c .before .before .before .before .before .before .before .before .before .before .before .before .before .before .before .before .args .o) (c .before .before .before .before .before .before .before .before .before .before .before .before .before .before .before .before .pre .1) (c .before .before .before .before .before .before .before .before .before .before .before .wide .ensures) (c .before .before .before .before .before .before .before .before .wide2 .ensures) (c .before .before .before .before .before .before .before .before .before .before .before .before .before .before .before .before .pre .3) (c .before .before .before .charged .ensures) (c .before .before .charge .ensures) (c .before .wide32 .ensures) (c .before .before .before .before .before .before .before .before .before .before .before .before .if1 .left) (c .too-little .ensures ∙ rw (back (2 * 10 ^ 18) (omega arith) (balance-fits (c .before .before .before .before .before .before .before .before .before .before .before .before .before .before .before .before .pre .0) (c .before .before .before .before .before .before .before .before .before .before .before .before .before .before .before .before .args .o) (c .before .before .before .before .before .before .before .before .before .before .before .before .before .before .before .before .pre .1) (c .before .before .before .before .before .before .before .before .before .before .before .wide .ensures) (c .before .before .before .before .before .before .before .before .wide2 .ensures) (c .before .before .before .before .before .before .before .before .before .before .before .before .before .before .before .before .pre .3))))
+returns-2 c = money-is (c .before .before .before .before .before .before .before .before .before .before .before .before .before .before .pre .0) (c .before .before .before .before .before .before .before .before .before .before .before .before .before .before .args .o) (c .before .before .before .before .before .before .before .before .before .before .before .before .before .before .pre .1) (c .before .before .before .before .before .before .before .before .before .before .before .before .before .before .pre .2) (c .before .before .before .before .before .before .before .before .before .wide .ensures) (c .before .before .before .before .before .before .before .before .wide2 .ensures) (c .before .before .before .before .before .before .before .before .before .before .before .before .before .before .pre .3) (c .before .before .before .before .before .before .before .book-leg .ensures) (c .before .charged .ensures) (c .before .before .before .before .before .before .before .before .before .before .if1 .left)
+    (c .too-little .ensures ∙ rw (back (2 * 10 ^ 18) (omega arith) (balance-fits (c .before .before .before .before .before .before .before .before .before .before .before .before .before .before .pre .0) (c .before .before .before .before .before .before .before .before .before .before .before .before .before .before .args .o) (c .before .before .before .before .before .before .before .before .before .before .before .before .before .before .pre .1) (c .before .before .before .before .before .before .before .before .before .before .before .before .before .before .pre .2) (c .before .before .before .before .before .before .before .before .before .wide .ensures) (c .before .before .before .before .before .before .before .before .wide2 .ensures) (c .before .before .before .before .before .before .before .before .before .before .before .before .before .before .pre .3))))
 
 pub money-refused-spec : {M : Type 1} → statement M
 money-refused-spec =
@@ -55,13 +44,9 @@ money-refused-spec =
     returns
     wide-requires
     sub-c
-    mul-terms
-    array-copy-out-terms
     wide-requires-2
     sub-a
+    book-leg-requires
     charged-requires
-    charge-requires
-    wide32-requires
-    mul-needed
     too-little-requires
     returns-2)
