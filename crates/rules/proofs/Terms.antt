@@ -7,7 +7,7 @@ use borrow.Author.Tests.{leb-true, le-leb}
 use lib.Dec.{leb}
 use Rattle.laws.specs.Chains.{join, passed}
 use Rattle.laws.specs.Choice.{both-true, true-both}
-use Rattle.rules.specs.Bounds.{within, onTick, tickMultiple, termsInRange, maxPrice}
+use Rattle.rules.specs.Bounds.{within, onTick, tickMultiple, termsInRange, maxPrice, maxMethod}
 use Rattle.rules.specs.WellFormed.{contractInRange}
 use Rattle.rules.specs.declared.Contract.{Contract}
 
@@ -52,6 +52,7 @@ pub record Terms (c : Contract) : Type 0 where
   pub limit-high : c .limit ≤ 100_000
   pub rate-low : 1 ≤ c .rate
   pub rate-high : c .rate ≤ 10_000
+  pub method-high : c .method ≤ maxMethod
 
 module _ (c : Contract) where
   abbrev termTests : List Bool
@@ -61,6 +62,7 @@ module _ (c : Contract) where
       ∷ tickMultiple (c .tick) (c .band)
       ∷ within 1 100_000 (c .limit)
       ∷ within 1 10_000 (c .rate)
+      ∷ leb (c .method) maxMethod
       ∷ []
 
   pub terms : termsInRange c ≡ true → Terms c
@@ -76,8 +78,9 @@ module _ (c : Contract) where
         band = multiple (c .tick) (c .band) (p .1 .1 .1 .0);
         limit-low = within-low 1 100_000 (c .limit) (p .1 .1 .1 .1 .0);
         limit-high = within-high 1 100_000 (c .limit) (p .1 .1 .1 .1 .0);
-        rate-low = within-low 1 10_000 (c .rate) (p .1 .1 .1 .1 .1);
-        rate-high = within-high 1 10_000 (c .rate) (p .1 .1 .1 .1 .1);
+        rate-low = within-low 1 10_000 (c .rate) (p .1 .1 .1 .1 .1 .0);
+        rate-high = within-high 1 10_000 (c .rate) (p .1 .1 .1 .1 .1 .0);
+        method-high = leb-true (c .method) maxMethod (p .1 .1 .1 .1 .1 .1);
       }
 
   pub terms-test : Terms c → termsInRange c ≡ true
@@ -93,7 +96,7 @@ module _ (c : Contract) where
               multiple-test (c .tick) (c .band) (t .band),
               (
                 within-test 1 100_000 (c .limit) (t .limit-low) (t .limit-high),
-                within-test 1 10_000 (c .rate) (t .rate-low) (t .rate-high),
+                (within-test 1 10_000 (c .rate) (t .rate-low) (t .rate-high), le-leb (c .method) maxMethod (t .method-high)),
               ),
             ),
           ),

@@ -17,6 +17,7 @@ pub mod Lines
 pub mod Examples
 pub mod CodeExamples
 pub mod MatchingExamples
+pub mod MethodExamples
 pub mod ProfitExamples
 pub mod WellFormedExamples
 pub mod PaperDay
