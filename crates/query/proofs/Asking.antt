@@ -73,7 +73,7 @@ module _ {s : State} {buys sells trades : List ℕ} (w : WellFormedState s buys 
 
       module _ {area : List ℕ} {count : ℕ} (ea : area ≡ sideArea (not (o .sell)) buys sells) (ec : count ≡ sideCount (not (o .sell)) s (k - 1)) where
         pub room : QueueRoom area (o .contract - 1) count
-        room = rw (ec, ea, is) (opposite-facing m f c (p .contract) (s .next) _ o .queue)
+        room = rw (ec, ea, is) (opposite-facing m f c (p .contract) (s .next) (listingAt x c .contract) o .queue)
 
         module _ {t : Taker} (et : t ≡ takerFor (s .next) (getD (s .contracts) (k - 1) noContract) (queueIn area (o .contract - 1) count) o) where
           pub facing : Facing t area (k - 1) count
@@ -83,7 +83,7 @@ module _ {s : State} {buys sells trades : List ℕ} (w : WellFormedState s buys 
               → record { code = 0; lots = r .lots; read = r .read } ≡ orderReading x o
           unfolding orderReading readingWith lotsNow readNow fillableLots takerOf listingOf exchangeOf
           answered passed {r} gathered =
-              rw (gathered .lots, gathered .read, et, ec, ea, is) (sym (rw (code-is, passed, opposite-is m f c (p .contract) (o .sell))))
+              rw (gathered .lots, gathered .read, et, ec, ea, is) (sym (rw (code-is, passed, opposite-is m f c (p .contract) (o .sell), contract-is m f c (p .contract))))
 
   -- the lots to be had are those that the sweep would trade, whatever the last price
   pub would-trade : Present s o → (last : ℕ) → tradedLots (sweep (takerOf x o) (o .lots) last (opposite (o .sell) (listingOf x o)) .trades) ≡ lotsNow x o
