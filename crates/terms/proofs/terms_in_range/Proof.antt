@@ -1,6 +1,6 @@
 -- `terms::terms_in_range` meets its contract: the terms in the definition's order. Assumes nothing.
 use mathlib.Core.Bool.{true}
-use mathlib.Core.Path.{_≡_, sym, _∙_}
+use mathlib.Core.Path.{_≡_, refl, sym, _∙_}
 use borrow.Author.Tests.{not-true, not-false}
 use borrow.Author.Needs.{needs}
 use Rattle.rules.specs.Bounds.{within, tickMultiple, termsInRange}
@@ -147,6 +147,7 @@ returns-7 c =
       limit-passed e5,
       rate-passed e6,
     )
+    refl
 
 pub terms-in-range-spec : {M : Type 1} → statement M
 terms-in-range-spec =

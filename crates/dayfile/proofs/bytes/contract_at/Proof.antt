@@ -1,4 +1,5 @@
 -- `dayfile::bytes::contract_at` meets its contract, field by field. Assumes nothing.
+use mathlib.Core.Path.{refl}
 use borrow.Author.Needs.{needs}
 use Rattle.rules.specs.DayFile.{contractFrom}
 use Rattle.dayfile.proofs.bytes.contract_at.Statement.{statement}
@@ -68,6 +69,7 @@ returns c =
       c .before .u16-at3 .ensures,
       c .u16-at4 .ensures,
     )
+    refl
 
 pub contract-at-spec : {M : Type 1} → statement M
 contract-at-spec =
