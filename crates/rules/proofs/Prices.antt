@@ -36,10 +36,6 @@ pub middle-high : (a b c : ℕ) → middle a b c ≤ max a b
 unfolding middle
 middle-high a b c = omega arith
 
--- of a buy price and a sell price that meet, it lies between them
-pub middle-between : (buy sell last : ℕ) → sell ≤ buy → (sell ≤ middle buy sell last) × (middle buy sell last ≤ buy)
-middle-between buy sell last h = (omega (arith, middle-low buy sell last), omega (arith, middle-high buy sell last))
-
 -- the last price, brought into the range between the two
 pub middle-from-below : (a b c : ℕ) → a ≤ b → middle a b c ≡ max a (min b c)
 unfolding middle
@@ -139,7 +135,8 @@ method-rounds c = go (eqb (c .method) 0) (eqb (c .method) 1)
     go false true = refl
     go false false = tt
 
--- "so every file sound until now keeps its results": a contract whose last two bytes are zero has the middle price
+-- "so every file sound until now keeps its results": a contract whose last two bytes are zero has the middle price (and is in range
+-- as before: Terms, `zero-in-range`)
 pub zero-is-middle : (c : Contract) (limit price last : ℕ) → c .method ≡ 0 → pairedPrice (methodOf c) limit price last ≡ middle limit price last
 unfolding methodOf pairedPrice
 zero-is-middle c limit price last e = rw e

@@ -1,7 +1,7 @@
 -- What a passed test of a range, of a tick multiple and of a contract's terms says, and back. Assumes nothing.
-use mathlib.Core.Bool.{Bool, true}
+use mathlib.Core.Bool.{Bool, true, false, _&&_}
 use mathlib.Core.List.{List, [], _∷_}
-use mathlib.Core.Path.{_≡_}
+use mathlib.Core.Path.{_≡_, refl}
 use Prim.Native.Nat.{ℕ, _≤_}
 use borrow.Author.Tests.{leb-true, le-leb}
 use lib.Dec.{leb}
@@ -40,6 +40,16 @@ module _ (tick n : ℕ) where
   multiple-test k = true-both (onTick tick n) (within tick maxPrice n) (k .on-tick) (within-test tick maxPrice n (k .low) (k .high))
 
 -- ---- a contract's terms
+
+and-true : (b : Bool) → (b && true) ≡ b
+and-true true = refl
+and-true false = refl
+
+-- "every file sound until now": with a method of 0 the terms are in range where document 01 has them so
+pub zero-in-range : (c : Contract) → c .method ≡ 0 → termsInRange c
+    ≡ (within 1 1_000 (c .multiplier) && within 1 1_000 (c .tick) && tickMultiple (c .tick) (c .reference) && tickMultiple (c .tick) (c .band) && within 1 100_000 (c .limit) && within 1 10_000 (c .rate))
+unfolding termsInRange
+zero-in-range c e = rw e (and-true _)
 
 pub record Terms (c : Contract) : Type 0 where
   pub multiplier-low : 1 ≤ c .multiplier
