@@ -1,8 +1,8 @@
 #!/usr/bin/env python3
-"""The rules of document 01 as a slow, plain interpreter: a day file in, the day runner's whole output out. With it the
-requests of document 02 that change what the runner prints: ticket 6.
+"""The rules of document 01, with tickets 2 and 6 of document 02, as a slow, plain interpreter: a day file in, the day
+runner's whole output out.
 
-Written from the papers alone, in the paper's order and under its sentences (in quotation marks), so that it can be
+Written from the papers alone, in their order and under their sentences (in quotation marks), so that it can be
 checked by reading and stand beside the engine as a second opinion. Where the paper leaves a choice, a comment outside
 the quotation marks says which reading is taken.
 """
@@ -671,9 +671,9 @@ def rounded_up(number, divisor):
     return whole + 1 if remainder > 0 else whole
 
 
-# "For each contract, charged margin is now the charge times the larger (house) of (long plus resting buy opens) and (short
-# plus resting sell opens)." (document 02, ticket 2) Over all contracts, each at its own charge; the lots of an open that
-# arrives are counted on its side where it is given.
+# "For each contract, charged margin is now the charge times the larger (house) of (long plus resting buy opens) and
+# (short plus resting sell opens)." (document 02, ticket 2)
+# Over all contracts, each at its own charge. The lots of an open that arrives are counted on its side.
 def charged_margin(state, account, arriving_open=None):
     total = 0
     for number, contract in state.contracts.items():

@@ -152,7 +152,7 @@ def resting_closes_not_counted(state, order):
 
 
 def charged_by(lots_charged):
-    """Another charged margin: it is given the long and short lots, the resting buy and sell opens, and those arriving."""
+    """Another charged margin, of the long and short lots, the resting buy and sell opens, and those arriving."""
 
     def charged(state, account, arriving_open=None):
         total = 0
@@ -269,7 +269,9 @@ WRONG_ENGINES = {
     "19 before 18": code_changed("settle", lambda state, command, code: 19 if state.settlements == 250 else code),
     "long and short count together": replaced(most_lots_by_holding=long_and_short_together),
     "resting closes do not count": replaced(most_lots_by_holding=resting_closes_not_counted),
-    "resting opens without margin": charged_by(lambda long, short, bids, offers, bid, offer: max(long + bid, short + offer)),
+    "resting opens without margin": charged_by(
+        lambda long, short, bids, offers, bid, offer: max(long + bid, short + offer)
+    ),
     "margin of both sides": charged_by(lambda *lots: sum(lots)),
     "margin of the net lots": charged_by(
         lambda long, short, bids, offers, bid, offer: abs(long + bids + bid - short - offers - offer)

@@ -403,7 +403,8 @@ class HoldingsAndMoney(unittest.TestCase):
                 self.assertEqual(last_code(order.format(lots)), 0)
 
     def test_open_that_adds_no_charge_is_refused_where_the_charge_exceeds_the_balance(self):
-        # Account 1 sells 10 at 100, which settle at 110, a loss of 10 x 10 x 10; 10 lots at 110 are 1,100 of 1,999 - 1,000.
+        # Account 1 sells 10 at 100, which settle at 110 on the second day: a loss of 10 x 10 x 10 leaves 999, and 10
+        # lots at 110 are charged 1,100.
         text = CONTRACT + """
             account 1,999
             account 100,000
