@@ -24,7 +24,8 @@ comment; blank lines, spaces before a line and commas in numbers (10,000) are fr
     end
 
 Numbers may be outside the rules, as long as the file can hold them: a lesson may want to show what is refused. For the
-same reason a price may stand after market or best, and reserved NUMBER at the end of a contract.
+same reason a price may stand after market or best. A contract may end with its pairing method: method 0 is the middle
+price, as where none is named, method 1 the average and method 2 first-in.
 """
 
 import argparse
@@ -118,8 +119,8 @@ class Words:
 
 def read_contract(words):
     fields = {name: words.named_number(name, most) for name, most in CONTRACT_WORDS.items()}
-    if words.optional("reserved"):
-        fields["reserved"] = words.number("reserved", BITS_16)
+    if words.optional("method"):
+        fields["method"] = words.number("method", BITS_16)
     return dayfile.ContractRecord(**fields)
 
 
@@ -276,8 +277,8 @@ def unpack(file):
 
 def contract_text(contract):
     fields = " ".join(f"{name} {getattr(contract, name)}" for name in CONTRACT_WORDS)
-    reserved = f" reserved {contract.reserved}" if contract.reserved else ""
-    return f"contract {fields}{reserved}"
+    method = f" method {contract.method}" if contract.method else ""
+    return f"contract {fields}{method}"
 
 
 def command_text(command):

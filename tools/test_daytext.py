@@ -24,7 +24,7 @@ class Pack(unittest.TestCase):
         text = """
             # two contracts, two accounts
             contract multiplier 1 tick 2 reference 4 band 6 limit 8 rate 9
-            contract multiplier 1 tick 2 reference 4 band 6 limit 8 rate 9 reserved 5
+            contract multiplier 1 tick 2 reference 4 band 6 limit 8 rate 9 method 5
             account 0
             account 1,000,000,000,000,000,000   # the most
             """

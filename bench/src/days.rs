@@ -24,7 +24,7 @@ impl Memory {
     }
 }
 
-/// Four contracts, and accounts that are rich enough for anything.
+/// Four contracts, the pairing methods among them in turn, and accounts that are rich enough for anything.
 pub fn file(accounts: usize) -> Vec<u8> {
     let mut bytes = vec![CONTRACTS as u8, 0, 0, 0];
     for c in 0..CONTRACTS as u16 {
@@ -34,7 +34,7 @@ pub fn file(accounts: usize) -> Vec<u8> {
         bytes.extend(500u32.to_le_bytes());
         bytes.extend(100_000u32.to_le_bytes());
         bytes.extend(1_000u16.to_le_bytes());
-        bytes.extend(0u16.to_le_bytes());
+        bytes.extend((c % 3).to_le_bytes());
     }
     bytes.extend((accounts as u32).to_le_bytes());
     for _ in 0..accounts {

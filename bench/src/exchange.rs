@@ -2,7 +2,7 @@
 //! refusals in the same order.
 
 use crate::cases::{ACCOUNTS, ORDER, QUEUE, TRADE};
-use crate::plain::{close_up, enter, Account, Entry, Holding, PriceCondition, Taker};
+use crate::plain::{close_up, enter, Account, Entry, Holding, PairingMethod, PriceCondition, Taker};
 
 pub const RECORD: usize = 24;
 
@@ -14,6 +14,7 @@ pub struct Contract {
     pub band: u32,
     pub limit: u32,
     pub rate: u32,
+    pub method: u32,
     pub phase: u32,
     pub last: u32,
 }
@@ -140,6 +141,14 @@ impl Contract {
     /// "multiplier x reference x rate / 10,000, rounded up"
     fn charge(&self) -> u64 {
         (self.multiplier as u64 * self.reference as u64 * self.rate as u64).div_ceil(10_000)
+    }
+
+    fn pairing_method(&self) -> PairingMethod {
+        match self.method {
+            0 => PairingMethod::Middle,
+            1 => PairingMethod::Average(self.tick),
+            _ => PairingMethod::FirstIn,
+        }
     }
 
     fn allows(&self, price: u32) -> bool {
@@ -282,6 +291,7 @@ impl State {
             close: o.close as u32,
             number: self.next,
             condition: o.condition,
+            method: terms.pairing_method(),
             best: self.queue(areas, !o.sell, c).first().copied().unwrap_or(0),
             lots: o.lots,
             price: o.price,
@@ -530,6 +540,7 @@ impl State {
                 band: word(day, at + 8),
                 limit: word(day, at + 12),
                 rate: half(day, at + 16),
+                method: half(day, at + 18),
                 phase: 0,
                 last: reference,
             };

@@ -34,6 +34,14 @@ pub enum PriceCondition {
     Best,
 }
 
+/// How a limit order's trade is priced; the average is rounded down to its tick.
+#[derive(Clone, Copy)]
+pub enum PairingMethod {
+    Middle,
+    Average(u32),
+    FirstIn,
+}
+
 /// An arriving order. `price` is where a good-for-day remainder rests.
 pub struct Taker {
     pub account: u32,
@@ -42,6 +50,7 @@ pub struct Taker {
     pub close: u32,
     pub number: u32,
     pub condition: PriceCondition,
+    pub method: PairingMethod,
     pub best: u32,
     pub lots: u32,
     pub price: u32,
@@ -106,6 +115,7 @@ impl Taker {
             close: s.close,
             number: s.number,
             condition,
+            method: PairingMethod::Middle,
             best: s.best,
             lots: s.lots,
             price: s.price,
@@ -124,8 +134,16 @@ impl Taker {
 
     fn trade_price(&self, price: u32, last: u32) -> u32 {
         match self.condition {
-            PriceCondition::Limit(limit) => last.clamp(limit.min(price), limit.max(price)),
+            PriceCondition::Limit(limit) => self.paired_price(limit, price, last),
             PriceCondition::Market | PriceCondition::Best => price,
+        }
+    }
+
+    fn paired_price(&self, limit: u32, price: u32, last: u32) -> u32 {
+        match self.method {
+            PairingMethod::Middle => last.clamp(limit.min(price), limit.max(price)),
+            PairingMethod::Average(tick) => (limit + price) / 2 / tick * tick,
+            PairingMethod::FirstIn => price,
         }
     }
 }

@@ -27,6 +27,7 @@ BALANCE_STEP = 3 * 10**15
 
 # "A contract has multiplier 1 to 1,000, tick 1 to 1,000, reference and band (each a multiple of the tick, from one
 # tick to 1,000,000), holding limit 1 to 100,000, margin rate 1 to 10,000 in ten-thousandths."
+# "20 for a method above 2; 21 for a state holding one" (document 02, ticket 6)
 # In this order, since a tick of 0 has no multiples.
 CONTRACT_RULES = (
     ("multiplier not 1 to 1,000", lambda contract: 1 <= contract.multiplier <= 1_000),
@@ -37,6 +38,7 @@ CONTRACT_RULES = (
     ("band off tick", lambda contract: contract.band % contract.tick == 0),
     ("limit not 1 to 100,000", lambda contract: 1 <= contract.limit <= 100_000),
     ("rate not 1 to 10,000", lambda contract: 1 <= contract.rate <= 10_000),
+    ("method above 2", lambda contract: contract.method <= 2),
 )
 
 

@@ -105,7 +105,7 @@ class Case:
         for resting, _ in self.fills:
             price = resting.price
             if self.order.price_condition == "limit":
-                price = model.middle(self.order.price, resting.price, last_price)
+                price = model.paired_price(self.contract, self.order.price, resting.price, last_price)
             prices.append((price, resting.price, last_price))
             last_price = price
         return prices
@@ -166,6 +166,11 @@ class Case:
 def for_each(values, name, test):
     """A name and its test for each of the values: both are given the value."""
     return {name(value): (lambda case, value=value: test(case, value)) for value in values}
+
+
+def paired_by(case, method):
+    """Whether the order is a limit order in a contract with this pairing method."""
+    return case.order.price_condition == "limit" and case.contract.method == method
 
 
 def codes(kind, numbers):
@@ -354,26 +359,53 @@ INSERT_ACCEPTED = {
             )
         ),
     ),
-    "price: middle is the last price": lambda case: any(
-        price == last != case.order.price and price != resting for price, resting, last in case.trade_prices
+    "price: middle is the last price": lambda case: (
+        paired_by(case, 0)
+        and any(price == last != case.order.price and price != resting for price, resting, last in case.trade_prices)
     ),
     "price: middle is the resting price": lambda case: (
-        case.order.price_condition == "limit"
+        paired_by(case, 0)
         and any(price == resting != case.order.price and price != last for price, resting, last in case.trade_prices)
     ),
-    "price: middle is the arriving price": lambda case: any(
-        price == case.order.price != resting and price != last for price, resting, last in case.trade_prices
+    "price: middle is the arriving price": lambda case: (
+        paired_by(case, 0)
+        and any(price == case.order.price != resting and price != last for price, resting, last in case.trade_prices)
+    ),
+    **for_each(
+        dayfile.SIDES,
+        lambda side: f"price: average between the two, {side} arrives",
+        lambda case, side: (
+            paired_by(case, 1)
+            and case.order.side == side
+            and any(price not in (case.order.price, resting) for price, resting, _ in case.trade_prices)
+        ),
+    ),
+    "price: average rounded down": lambda case: (
+        paired_by(case, 1) and any((case.order.price + resting) % 2 == 1 for _, resting, _ in case.trade_prices)
+    ),
+    "price: average rounded down to the tick": lambda case: (
+        paired_by(case, 1)
+        and any((case.order.price + resting) // 2 % case.contract.tick != 0 for _, resting, _ in case.trade_prices)
+    ),
+    **for_each(
+        dayfile.SIDES,
+        lambda side: f"price: first-in is neither the arriving nor the last price, {side} arrives",
+        lambda case, side: (
+            paired_by(case, 2)
+            and case.order.side == side
+            and any(price not in (case.order.price, last) for price, _, last in case.trade_prices)
+        ),
     ),
     "price: last price outside the day's band": lambda case: (
-        case.order.price_condition == "limit"
+        paired_by(case, 0)
         and case.fills != []
         and not model.allowed_today(case.contract, case.contract.last_price)
     ),
     **for_each(
-        ("market", "best"),
-        lambda price_condition: f"price: resting price for {price_condition}, not the middle",
-        lambda case, price_condition: (
-            case.order.price_condition == price_condition
+        product(("market", "best"), (0, 1, 2)),
+        lambda value: f"price: resting price for {value[0]}, not the last price, method {value[1]}",
+        lambda case, value: (
+            (case.order.price_condition, case.contract.method) == value
             and any(price != last for price, _, last in case.trade_prices)
         ),
     ),
@@ -503,7 +535,6 @@ BROKEN = [
     "broken: accounts not 1 to 32",
     "broken: commands not 0 to 2,000",
     *(f"broken: {fault}" for fault, _ in CONTRACT_RULES),
-    "broken: reserved bytes not zero",
     "broken: balance not 0 to 10^18",
 ]
 

@@ -21,8 +21,8 @@ CONTRACT_FAULTS = {
     "limit-100001": {"limit": 100_001},
     "rate-0": {"rate": 0},
     "rate-10001": {"rate": 10_001},
-    "reserved-first-byte": {"reserved": 1},
-    "reserved-second-byte": {"reserved": 256},
+    "method-3": {"method": 3},
+    "method-256": {"method": 256},
 }
 
 BALANCE_FAULTS = {

@@ -8,6 +8,7 @@ from bounds import MOST_ACCOUNTS, MOST_COMMANDS, MOST_CONTRACTS, TOP_BALANCE, co
 # "Little-endian. Sections in a fixed order, each after its 4-byte count"
 COUNT = struct.Struct("<I")
 # "A contract is 20 bytes: multiplier 2, tick 2, reference 4, band 4, limit 4, rate 2, zero 2."
+# "The contract record's last two bytes, zero until now, name the method" (document 02, ticket 6)
 CONTRACT = struct.Struct("<HHIIIHH")
 # "An account is 8 bytes: opening balance"
 ACCOUNT = struct.Struct("<Q")
@@ -22,7 +23,7 @@ class ContractRecord(NamedTuple):
     band: int
     limit: int
     rate: int
-    reserved: int = 0
+    method: int = 0
 
 
 class Command(NamedTuple):
@@ -187,8 +188,6 @@ def check_ranges(day):
         fault = contract_fault(contract)
         if fault:
             raise Broken(fault, f"contract {number}: ")
-        if contract.reserved != 0:
-            raise Broken("reserved bytes not zero", f"contract {number}: ")
     for number, balance in enumerate(day.balances, 1):
         # "opening balance, 0 to 10^18"
         if not 0 <= balance <= TOP_BALANCE:

@@ -71,7 +71,7 @@ class Day:
 
 
 def some_contract(rng):
-    """Any contract: small and large ticks, narrow bands and bands beyond both ends, tight and wide limits."""
+    """Any contract: small and large ticks, narrow bands and bands beyond both ends, tight and wide limits, each method."""
     tick = pick(rng, {1: 5, 2: 2, 5: 2, 7: 1, 1_000: 1, rng.randint(1, 1_000): 1})
     most_ticks = TOP_PRICE // tick
     reference_ticks = pick(rng, {rng.randint(1, 20): 2, 100: 4, rng.randint(1, most_ticks): 2, most_ticks: 1})
@@ -83,13 +83,20 @@ def some_contract(rng):
         band=min(band_ticks, most_ticks) * tick,
         limit=pick(rng, {rng.randint(1, 12): 3, 50: 2, 1_000: 2, 100_000: 3}),
         rate=pick(rng, {1: 2, 1_000: 4, 10_000: 1, rng.randint(1, 10_000): 1}),
+        method=pick(rng, {0: 2, 1: 1, 2: 1}),
     )
 
 
 def wide_contract(rng, tick=1):
     """A contract whose limit and band are in nobody's way."""
     return ContractRecord(
-        rng.choice((1, 10)), tick, reference=500 * tick, band=400 * tick, limit=100_000, rate=rng.randint(1, 1_000)
+        rng.choice((1, 10)),
+        tick,
+        reference=500 * tick,
+        band=400 * tick,
+        limit=100_000,
+        rate=rng.randint(1, 1_000),
+        method=rng.choice((0, 1, 2)),
     )
 
 

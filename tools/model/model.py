@@ -1,6 +1,6 @@
 #!/usr/bin/env python3
-"""The rules of document 01, with ticket 2 of document 02, as a slow, plain interpreter: a day file in, the day runner's
-whole output out.
+"""The rules of document 01, with tickets 2 and 6 of document 02, as a slow, plain interpreter: a day file in, the day
+runner's whole output out.
 
 Written from the papers alone, in their order and under their sentences (in quotation marks), so that it can be
 checked by reading and stand beside the engine as a second opinion. Where the paper leaves a choice, a comment outside
@@ -75,6 +75,7 @@ class Contract:
     limit: int
     rate: int
     last_price: int
+    method: int = 0
     state: str = "pre-open"
     queues: dict = field(default_factory=lambda: {"buy": [], "sell": []})
 
@@ -106,6 +107,7 @@ def opening_state(day):
             record.limit,
             record.rate,
             last_price=record.reference,
+            method=record.method,
         )
         for number, record in enumerate(day.contracts, 1)
     }
@@ -591,12 +593,23 @@ def fillable(contract, order):
     )
 
 
-# "A limit order trades at the middle of buy price, sell price and last price, worked out again for each trade. Market
-# and best trade at the resting price."
+# The pairing method "concerns limit orders only". "Market and best trade at the resting price."
 def trade_price(contract, order, resting):
     if order.price_condition == "limit":
-        return middle(order.price, resting.price, contract.last_price)
+        return paired_price(contract, order.price, resting.price, contract.last_price)
     return resting.price
+
+
+# "0 middle price, 1 average, 2 first-in price" (document 02, ticket 6)
+# "A limit order trades at the middle of buy price, sell price and last price, worked out again for each trade."
+# "Average is half the sum of both prices, rounded down to a tick. First-in is the resting price."
+def paired_price(contract, arriving_price, resting_price, last_price):
+    if contract.method == 0:
+        return middle(arriving_price, resting_price, last_price)
+    if contract.method == 1:
+        half = (arriving_price + resting_price) // 2
+        return half - half % contract.tick
+    return resting_price
 
 
 def middle(first, second, third):

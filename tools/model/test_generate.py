@@ -23,6 +23,7 @@ FILES = 250
 right_is_counterpart = model.is_counterpart
 right_most_lots = model.most_lots_by_holding
 right_next_day = model.start_next_day
+right_paired_price = model.paired_price
 right_profit = model.profit
 right_pull = model.pull
 right_settlement_price = model.settlement_price
@@ -51,13 +52,36 @@ def insert_code_changed(change):
 
 def one_price_for_the_sweep(contract, order, resting):
     best = model.opposite_queue(contract, order)[0].price
-    return model.middle(order.price, best, contract.last_price) if order.price_condition == "limit" else resting.price
+    if order.price_condition != "limit":
+        return resting.price
+    return model.paired_price(contract, order.price, best, contract.last_price)
 
 
-def middle_for_market_too(contract, order, resting):
+def method_for_market_too(contract, order, resting):
     end_of_band = model.high(contract) if order.side == "buy" else model.low(contract)
     price = order.price if order.price_condition == "limit" else end_of_band
-    return model.middle(price, resting.price, contract.last_price)
+    return model.paired_price(contract, price, resting.price, contract.last_price)
+
+
+def every_method_is_the_middle(contract, arriving_price, resting_price, last_price):
+    return model.middle(arriving_price, resting_price, last_price)
+
+
+def average_changed(rounded):
+    """The model with another rounding of an average: it is given the sum of both prices and the tick."""
+
+    def changed(contract, arriving_price, resting_price, last_price):
+        if contract.method != 1:
+            return right_paired_price(contract, arriving_price, resting_price, last_price)
+        return rounded(arriving_price + resting_price, contract.tick)
+
+    return replaced(paired_price=changed)
+
+
+def first_in_is_the_arriving_price(contract, arriving_price, resting_price, last_price):
+    if contract.method == 2:
+        return arriving_price
+    return right_paired_price(contract, arriving_price, resting_price, last_price)
 
 
 def book_full_before_matching(contract, order, code):
@@ -203,7 +227,11 @@ def best_is_market(contract, order, resting):
 
 WRONG_ENGINES = {
     "one price for the whole sweep": replaced(trade_price=one_price_for_the_sweep),
-    "market trades at the middle": replaced(trade_price=middle_for_market_too),
+    "market trades by the method": replaced(trade_price=method_for_market_too),
+    "every method is the middle": replaced(paired_price=every_method_is_the_middle),
+    "average not rounded to a tick": average_changed(lambda total, tick: total // 2),
+    "average rounded up": average_changed(lambda total, tick: -(-total // (2 * tick)) * tick),
+    "first-in is the arriving price": replaced(paired_price=first_in_is_the_arriving_price),
     "limit trades at the resting price": replaced(trade_price=lambda contract, order, resting: resting.price),
     "best goes on to the next price": replaced(is_counterpart=best_is_market),
     "the newest of a price is first": replaced(sort_queue=newest_first),

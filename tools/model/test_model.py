@@ -551,12 +551,41 @@ class Matching(unittest.TestCase):
                 )
 
     def test_market_and_best_trade_at_the_resting_price(self):
-        for condition in ("market", "best"):
-            text = OPEN_DAY + f"""
+        for condition, method in product(("market", "best"), (0, 1, 2)):
+            text = OPEN_DAY.replace("rate 1000", f"rate 1000 method {method}") + f"""
                 insert 1 contract 1 sell open limit 109 lots 1 day
                 insert 2 contract 1 buy open {condition} lots 1 immediate
                 """
             self.assertEqual(lines_of("T", text), ["T 1 1 109 1 2 1"])
+
+    def prices(self, method, arriving):
+        """The prices at which an order sweeps the sells, by a method."""
+        text = self.SELLS.replace("rate 1000", f"rate 1000 method {method}") + arriving
+        return [int(line.split()[3]) for line in lines_of("T", text)]
+
+    def test_average_is_half_the_sum(self):
+        # Half of 104 and 101 is 102.5, half of 104 and 103 is 103.5.
+        self.assertEqual(self.prices(1, "insert 2 contract 1 buy open limit 104 lots 9 day"), [102, 102, 103])
+
+    def test_first_in_is_the_resting_price(self):
+        self.assertEqual(self.prices(2, "insert 2 contract 1 buy open limit 104 lots 9 day"), [101, 101, 103])
+
+    def test_average_is_rounded_down_to_a_tick(self):
+        def average(tick, arriving, resting):
+            return model.paired_price(model.Contract(1, tick, 100, 1, 1, 1, 100, method=1), arriving, resting, 100)
+
+        self.assertEqual(average(2, 112, 110), 110)
+        self.assertEqual(average(5, 120, 105), 110)
+        self.assertEqual(average(1_000, 1_000_000, 999_000), 999_000)
+        self.assertEqual(average(5, 110, 110), 110)
+
+    def test_every_method_lies_between_the_two(self):
+        for method, tick, low, high, last in product((0, 1, 2), (1, 2, 3), range(1, 6), range(1, 6), range(1, 6)):
+            if low <= high:
+                contract = model.Contract(1, tick, tick, tick, 1, 1, tick, method=method)
+                for arriving, resting in ((low, high), (high, low)):
+                    price = model.paired_price(contract, arriving * tick, resting * tick, last * tick)
+                    self.assertTrue(low * tick <= price <= high * tick and price % tick == 0)
 
     def test_fill_or_kill_leaves_no_trace(self):
         text = self.SELLS + """
@@ -866,6 +895,12 @@ class WellFormed(unittest.TestCase):
         self.contract.rate = 0
         self.assert_21()
 
+    def test_method(self):
+        self.contract.method = 2
+        self.assertTrue(model.well_formed(self.state))
+        self.contract.method = 3
+        self.assert_21()
+
     def test_last_price(self):
         self.contract.last_price = 0
         self.assert_21()
@@ -999,7 +1034,7 @@ class DayFiles(unittest.TestCase):
             ("tick-1001", "contract 1: tick not 1 to 1,000"),
             ("reference-off-tick", "contract 1: reference off tick"),
             ("band-off-tick", "contract 1: band off tick"),
-            ("reserved-second-byte", "contract 1: reserved bytes not zero"),
+            ("method-256", "contract 1: method above 2"),
             ("balance-bit-63", "account 1: balance not 0 to 10^18"),
             ("accounts-33", "accounts not 1 to 32"),
             ("commands-2001", "commands not 0 to 2,000"),

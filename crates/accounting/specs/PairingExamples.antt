@@ -82,7 +82,7 @@ pub day : Exchange
 day =
     record {
       listings = record {
-        contract = record { multiplier = 10; tick = 1; reference = 100; band = 10; limit = 10; rate = 1_000; phase = 3; last = 103 };
+        contract = record { multiplier = 10; tick = 1; reference = 100; band = 10; limit = 10; rate = 1_000; method = 0; phase = 3; last = 103 };
         buys = [];
         sells = [];
       } ∷ [];

@@ -1,4 +1,5 @@
 pub mod Bookings
+pub mod Methods
 pub mod Pulls
 pub mod Queues
 pub mod Recorded

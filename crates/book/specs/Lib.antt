@@ -1,3 +1,4 @@
 pub mod Bounds
+pub mod Methods
 pub mod Removal
 pub mod Side

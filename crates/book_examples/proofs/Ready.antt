@@ -12,6 +12,7 @@ use Rattle.rules.specs.Matching.{restLots, restedLots, enter, sweep}
 use Rattle.rules.specs.Memory.{orderFrom, queueIn}
 use Rattle.rules.specs.declared.Account.{Account}
 use Rattle.rules.specs.declared.Order.{Order}
+use Rattle.rules.specs.declared.PairingMethod.the-variants.{Middle}
 use Rattle.rules.specs.declared.Taker.{Taker}
 use Rattle.rules.specs.declared.Trade.{Trade}
 use Rattle.rules.proofs.Codecs.{length-queue, order-at, order-words}
@@ -43,7 +44,7 @@ none-held b =
     nothing : HoldingWithin b noHolding
     nothing = record { long = omega arith; short = omega arith }
 
-module _ (t : Taker) (lots : ℕ) (opposite : List ℕ) (count : ℕ) (contract : t .contract ≡ 0) where
+module _ (t : Taker) (lots : ℕ) (opposite : List ℕ) (count : ℕ) (contract : t .contract ≡ 0) (method : t .method ≡ Middle) where
   -- the queue of contract 0 begins with the area
   account-at : (i : ℕ) → i < count → getD (queueIn opposite (t .contract) count) i noOrder .account ≡ getD opposite (5 * i + 2) 0
   account-at i h =
@@ -72,6 +73,7 @@ module _ (t : Taker) (lots : ℕ) (opposite : List ℕ) (count : ℕ) (contract 
         sweeps =
             record {
               contract = omega arith;
+              method = rw method tt;
               size = size;
               queue = omega arith;
               room = omega arith;

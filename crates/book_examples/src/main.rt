@@ -3,6 +3,7 @@
 ghost use mathlib.Core.Bool.{true};
 ghost use mathlib.Core.Path.{_≡_};
 ghost use Prim.Native.Nat.{_≤_};
+ghost use Rattle.rules.specs.declared.PairingMethod.the-variants.{Middle};
 ghost use Rattle.book_examples.specs.Known.{AccountsKnown, noHoldings};
 use book::queue;
 use book::scan;
@@ -11,6 +12,7 @@ use matching::entry;
 use matching::entry::Entry;
 use rules::Account;
 use rules::Holding;
+use rules::PairingMethod;
 use rules::PriceCondition;
 use rules::Taker;
 
@@ -38,8 +40,10 @@ fn no_holdings() -> [Account; 32]
     [empty; 32]
 }
 
-// A limit order of account 0 in contract 0.
-fn limit_order(sell: bool, number: u32, limit: u32) -> Taker {
+// A limit order of account 0 in contract 0, paired by the middle price.
+fn limit_order(sell: bool, number: u32, limit: u32) -> Taker
+    ensures { λ r. ⌜ r .method ≡ Middle ⌝ }
+{
     Taker {
         account: 0,
         contract: 0,
@@ -47,6 +51,7 @@ fn limit_order(sell: bool, number: u32, limit: u32) -> Taker {
         close: 0,
         number,
         condition: PriceCondition::Limit(limit),
+        method: PairingMethod::Middle,
         best: 0,
     }
 }
@@ -92,7 +97,9 @@ fn submit(
     lots: u32,
     price: u32,
     last: u32,
-) -> Entry {
+) -> Entry
+    requires { ⌜ t .method ≡ Middle ⌝ }
+{
     if t.contract != 0 || t.account > 31 || lots > 1000 {
         return nothing();
     }

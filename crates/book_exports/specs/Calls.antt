@@ -12,6 +12,7 @@ use Rattle.rules.specs.Matching.{Entered, enter, lastPrice}
 use Rattle.rules.specs.Memory.{queueIn, putQueue, tradeWords}
 use Rattle.rules.specs.declared.Account.{Account}
 use Rattle.rules.specs.declared.Order.{Order}
+use Rattle.rules.specs.declared.PairingMethod.the-variants.{Middle}
 use Rattle.rules.specs.declared.Taker.{Taker}
 use Rattle.matching.specs.Entry.{EntryReady}
 use Rattle.book_exports.specs.declared.Sweeps.{Sweeps}
@@ -29,6 +30,7 @@ takerOf s =
       close = s .close;
       number = s .number;
       condition = priceCondition (s .kind) (s .price);
+      method = Middle;
       best = s .best;
     }
 

@@ -15,6 +15,7 @@ use matching::entry;
 use rules::Account;
 use rules::Holding;
 use rules::Order;
+use rules::PairingMethod;
 use rules::PriceCondition;
 use rules::Taker;
 
@@ -58,7 +59,7 @@ pub extern "C" fn zelvorm_cancel(area: &mut [u32], c: usize, count: usize, numbe
     count
 }
 
-// An order: `kind` is its price condition (0 limit, 1 market, 2 best), `own`, `opposite` and `made` are the counts before it,
+// An order, paired by the middle price: `kind` is its price condition (0 limit, 1 market, 2 best), `own`, `opposite` and `made` are the counts before it,
 // `held` the lots that each account holds of everything, `probe` the account whose holding is asked for.
 #[repr(C)]
 pub struct Sweeps {
@@ -112,6 +113,7 @@ fn taker(s: Sweeps) -> Taker
         close: s.close,
         number: s.number,
         condition,
+        method: PairingMethod::Middle,
         best: s.best,
     }
 }

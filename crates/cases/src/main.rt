@@ -16,7 +16,7 @@
 //   13  a byte after the last command
 //   14  a command after the last command
 //   15  tick 0
-//   16  reserved bytes not zero
+//   16  a pairing method of 256
 //   17  reference off its tick
 //   18  band below one tick
 //   19  multiplier 1,001

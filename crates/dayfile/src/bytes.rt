@@ -47,7 +47,7 @@ pub fn u64_at(file: &[u8], at: usize) -> u64
     low + 4294967296 * high
 }
 
-// "A contract is 20 bytes", the last two of them zero: see `file::contract_sound`.
+// "A contract is 20 bytes", the last two of them its pairing method
 pub fn contract_at(file: &[u8], at: usize) -> Contract
     requires { ⌜ at + 20 ≤ length (now file) ⌝ }
     ensures { λ r. ⌜ r ≡ contractFrom (now (file .entry)) at ⌝ }
@@ -58,6 +58,7 @@ pub fn contract_at(file: &[u8], at: usize) -> Contract
     let band = u32_at(file, at + 8);
     let limit = u32_at(file, at + 12);
     let rate = u16_at(file, at + 16) as u32;
+    let method = u16_at(file, at + 18) as u32;
     Contract {
         multiplier: multiplier,
         tick: tick,
@@ -65,6 +66,7 @@ pub fn contract_at(file: &[u8], at: usize) -> Contract
         band: band,
         limit: limit,
         rate: rate,
+        method: method,
         phase: 0,
         last: reference,
     }

@@ -10,7 +10,6 @@ ghost use Rattle.rules.specs.DayFile.{sound as DayFile·sound};
 ghost use Rattle.dayfile.specs.Opening.{shaped};
 use super::bytes::contract_at;
 use super::bytes::record_at;
-use super::bytes::u16_at;
 use super::bytes::u32_at;
 use super::bytes::u64_at;
 use rules::Record;
@@ -78,12 +77,7 @@ fn contract_sound(file: &[u8], c: usize) -> bool
     requires { ⌜ (c ≤ 3) × (contractPlace (c + 1) ≤ length (now file)) ⌝ }
     ensures { λ r. ⌜ r ≡ contractSound (now (file .entry)) c ⌝ }
 {
-    let at = 4 + 20 * c;
-    let contract = contract_at(file, at);
-    if !terms::terms_in_range(contract) {
-        return false;
-    }
-    u16_at(file, at + 18) == 0
+    terms::terms_in_range(contract_at(file, 4 + 20 * c))
 }
 
 pub fn contracts_sound(file: &[u8], contracts: usize) -> bool

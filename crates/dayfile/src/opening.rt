@@ -24,6 +24,7 @@ fn opening_contracts(file: &[u8], contracts: usize) -> [Contract; 4]
         band: 0,
         limit: 0,
         rate: 0,
+        method: 0,
         phase: 0,
         last: 0,
     };

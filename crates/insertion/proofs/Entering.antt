@@ -23,6 +23,8 @@ use Rattle.rules.specs.declared.State.{State}
 use Rattle.rules.specs.declared.Trade.{Trade}
 use Rattle.rules.proofs.Codecs.{store-trades}
 use Rattle.rules.proofs.Holdings.{length-bookTrades}
+use Rattle.rules.proofs.Terms.{terms}
+use Rattle.book.proofs.Methods.{method-has-tick}
 use Rattle.matching.specs.Entry.{EntryIs}
 use Rattle.matching.specs.declared.entry.Entry.{Entry}
 use Rattle.invariants.proofs.Accepted.{failed}
@@ -30,7 +32,7 @@ use Rattle.invariants.proofs.Clauses.{Counted, WellFormed, trade-ok}
 use Rattle.invariants.proofs.Insert.{insert-counted, insert-keeps}
 use Rattle.invariants.proofs.InsertAccepted.{Passes, passes}
 use Rattle.invariants.proofs.MemoryKeeps.{sound}
-use Rattle.insertion.specs.Insertion.{Arrived, Arriving, Present, enteredFor, lastIn, sideArea, sideCount, takerFor, withEntry}
+use Rattle.insertion.specs.Insertion.{Arrived, Arriving, Present, enteredFor, lastIn, sideArea, sideCount, takerFor, termsIn, withEntry}
 use Rattle.engine.specs.Outcome.{memory, OutcomeIs, WellFormedState, acceptedWith}
 use Rattle.engine.specs.declared.answers.Outcome.{Outcome}
 use Rattle.engine.proofs.Accounts.{TradesUsed, put-trades-booked}
@@ -38,7 +40,7 @@ use Rattle.engine.proofs.Formed.{Formed, accounts-count, contracts-count, few-a
 use Rattle.insertion.proofs.Inserting.{present}
 use Rattle.engine.proofs.Outcomes.{acceptance}
 use Rattle.engine.proofs.Puts.{put-one-listing, trades-count}
-use Rattle.insertion.proofs.Sides.{contract-is, held-low, opposite-is, side-account, side-is, side-long, side-room}
+use Rattle.insertion.proofs.Sides.{contract-is, contract-terms, held-low, opposite-is, side-account, side-is, side-long, side-room}
 
 -- ---- the two queues of a listing, by the side of an order
 
@@ -106,9 +108,9 @@ module _ {s : State} {buys sells trades : List ℕ} (w : WellFormedState s buys 
   abbrev entered : Entered
   entered = enteredFor s mine others o
 
-  taker-is : takerOf x o ≡ takerFor (s .next) others o
+  taker-is : takerOf x o ≡ takerFor (s .next) (termsIn s o) others o
   unfolding takerOf listingOf exchangeOf
-  taker-is = rw (opposite-is m f c (here .contract) (o .sell))
+  taker-is = rw (opposite-is m f c (here .contract) (o .sell), contract-is m f c (here .contract))
 
   last-is : listingOf x o .contract .last ≡ lastIn s o
   unfolding listingOf
@@ -118,7 +120,7 @@ module _ {s : State} {buys sells trades : List ℕ} (w : WellFormedState s buys 
   unfolding enteredOf listingOf
   entered-is = rw (taker-is, last-is, side-is m f c (here .contract) (o .sell), opposite-is m f c (here .contract) (o .sell))
 
-  trades-needed : tradesNeeded x o ≡ length (sweep (takerFor (s .next) others o) (o .lots) (lastIn s o) others .trades)
+  trades-needed : tradesNeeded x o ≡ length (sweep (takerFor (s .next) (termsIn s o) others o) (o .lots) (lastIn s o) others .trades)
   unfolding tradesNeeded listingOf
   trades-needed = rw (taker-is, last-is, opposite-is m f c (here .contract) (o .sell))
 
@@ -174,6 +176,7 @@ module _ {s : State} {buys sells trades : List ℕ} (w : WellFormedState s buys 
               sweeps =
                   record {
                     contract = omega (arith, here .contract, f .contracts-high);
+                    method = method-has-tick (termsIn s o) (terms (termsIn s o) (contract-terms m f c (here .contract)) .tick-low);
                     size = passed .lots-high;
                     queue = side-room m f c (here .contract) (not (o .sell)) .room;
                     room = omega (arith, passed .trades, trades-count m f, trades-needed, f .trades-room);

@@ -168,9 +168,9 @@ module _ {s : State} {buys sells trades : List ℕ} (w : WellFormedState s buys 
             pub opposite-room : QueueRoom area (o .contract - 1) count
             opposite-room = rw (ec, ea, is) (side-room m f c (p .contract) (not (o .sell)))
 
-            module _ {t : Taker} (er : t ≡ takerFor (s .next) (queueIn area (o .contract - 1) count) o) where
+            module _ {t : Taker} (er : t ≡ takerFor (s .next) (getD (s .contracts) (k - 1) noContract) (queueIn area (o .contract - 1) count) o) where
               pub facing : Facing t area (k - 1) count
-              facing = rw (er, ec, ea, is) (opposite-facing m f c (p .contract) (s .next) o)
+              facing = rw (er, ec, ea, is) (opposite-facing m f c (p .contract) (s .next) _ o)
 
               pub recorded-few : s .tradecount ≤ 1_024
               recorded-few = f .trades-high
@@ -178,7 +178,7 @@ module _ {s : State} {buys sells trades : List ℕ} (w : WellFormedState s buys 
               book-is : firstOf (bookRefusals (s .next) (s .tradecount) own₁ t (queueIn area (k - 1) count) o) ≡ firstOf bookPart
               unfolding bookPart listingOf takerOf exchangeOf
               book-is =
-                  rw (er, eo, ec, ea, is, trades-count m f, side-is m f c (p .contract) (o .sell), length-queue, opposite-is m f c (p .contract) (o .sell))
+                  rw (er, eo, ec, ea, is, trades-count m f, side-is m f c (p .contract) (o .sell), length-queue, opposite-is m f c (p .contract) (o .sell), contract-is m f c (p .contract))
 
               pub code-book : {book : ℕ} → book ≡ firstOf (bookRefusals (s .next) (s .tradecount) own₁ t (queueIn area (k - 1) count) o)
                   → book ≡ codeOf x (Insert o)

@@ -12,6 +12,7 @@ use Rattle.rules.specs.Bounds.{termsInRange}
 use Rattle.rules.specs.Exchange.{Exchange, Listing, holdingAt, listingAt, noContract, noOrder, opposite, own, resting}
 use Rattle.rules.specs.Memory.{Memory, exchangeOf, listingIn, queueIn}
 use Rattle.rules.specs.WellFormed.{orderInRange, sorted}
+use Rattle.rules.specs.declared.Contract.{Contract}
 use Rattle.rules.specs.declared.NewOrder.{NewOrder}
 use Rattle.rules.specs.declared.Order.{Order}
 use Rattle.rules.proofs.Codecs.{length-queue}
@@ -58,8 +59,8 @@ module _ (m : Memory) (f : Formed m) (c : ℕ) (h : c < m .state .contractcount)
   side-sorted side = rw (← side-is side) (listing .order side)
 
   -- an order meets the queue opposite it, best price first
-  pub opposite-facing : (next : ℕ) (o : NewOrder) → Facing (takerFor next (queueOf (not (o .sell))) o) (sideArea (not (o .sell)) (m .buys) (m .sells)) c (sideCount (not (o .sell)) (m .state) c)
-  opposite-facing next o = record { queue = side-room (not (o .sell)); order = side-sorted (not (o .sell)); best = refl }
+  pub opposite-facing : (next : ℕ) (terms : Contract) (o : NewOrder) → Facing (takerFor next terms (queueOf (not (o .sell))) o) (sideArea (not (o .sell)) (m .buys) (m .sells)) c (sideCount (not (o .sell)) (m .state) c)
+  opposite-facing next terms o = record { queue = side-room (not (o .sell)); order = side-sorted (not (o .sell)); best = refl }
 
   pub side-account : (side : Bool) (i : ℕ) → i < sideCount side (m .state) c → getD (queueOf side) i noOrder .account < m .state .accountcount
   side-account side i l =

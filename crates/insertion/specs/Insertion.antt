@@ -12,7 +12,7 @@ use Rattle.rules.specs.Answers.{Refusal, _when_, holdingRefused, moneyRefused, 
 use Rattle.rules.specs.Bounds.{within, maxLots, maxResting, maxTrades, numbersEnd}
 use Rattle.rules.specs.EarlyStop.{countTrades}
 use Rattle.rules.specs.Exchange.{Exchange, bestPrice, noContract, placeOf}
-use Rattle.rules.specs.Matching.{Entered, enter, fillable}
+use Rattle.rules.specs.Matching.{Entered, enter, fillable, methodOf}
 use Rattle.rules.specs.Memory.{queueIn}
 use Rattle.rules.specs.Step.{limitOf, withLast}
 use Rattle.rules.specs.WellFormed.{sorted}
@@ -105,9 +105,9 @@ pub record Present (s : State) (o : NewOrder) : Type 0 where
 
 -- ---- the order entered
 
--- the order with the number it gets, against the opposite queue
-abbrev pub takerFor : ℕ → List Order → NewOrder → Taker
-takerFor next queue o =
+-- the order with the number it gets, in a contract with these terms, against the opposite queue
+abbrev pub takerFor : ℕ → Contract → List Order → NewOrder → Taker
+takerFor next terms queue o =
     record {
       account = placeOf (o .account);
       contract = placeOf (o .contract);
@@ -115,24 +115,28 @@ takerFor next queue o =
       close = mark (o .close);
       number = next;
       condition = o .condition;
+      method = methodOf terms;
       best = bestPrice queue;
     }
 
--- its contract's last price
+-- its contract's terms, and the last price
+abbrev pub termsIn : State → NewOrder → Contract
+termsIn s o = getD (s .contracts) (placeOf (o .contract)) noContract
+
 abbrev pub lastIn : State → NewOrder → ℕ
-lastIn s o = getD (s .contracts) (placeOf (o .contract)) noContract .last
+lastIn s o = termsIn s o .last
 
 -- ready to be entered on a side that lies in `owns`, against one that lies in `opposites`
 pub record Arriving (s : State) (owns : List ℕ) (own : ℕ) (opposites : List ℕ) (opposite : ℕ) (area : List ℕ) (o : NewOrder) : Type 0 where
   pub account-low : 1 ≤ o .account
   pub contract-low : 1 ≤ o .contract
   pub queue : QueueRoom opposites (placeOf (o .contract)) opposite
-  pub ready : EntryReady (takerFor (s .next) (queueIn opposites (placeOf (o .contract)) opposite) o) (o .lots) (limitOf (o .condition)) (isGoodForDay (o .time)) (lastIn s o) (s .accounts) owns own opposites opposite area (s .tradecount)
+  pub ready : EntryReady (takerFor (s .next) (termsIn s o) (queueIn opposites (placeOf (o .contract)) opposite) o) (o .lots) (limitOf (o .condition)) (isGoodForDay (o .time)) (lastIn s o) (s .accounts) owns own opposites opposite area (s .tradecount)
 
 -- what it trades and leaves
 abbrev pub enteredFor : State → List Order → List Order → NewOrder → Entered
 enteredFor s own opposite o =
-    enter (takerFor (s .next) opposite o) (o .lots) (limitOf (o .condition)) (isGoodForDay (o .time)) (lastIn s o) own opposite
+    enter (takerFor (s .next) (termsIn s o) opposite o) (o .lots) (limitOf (o .condition)) (isGoodForDay (o .time)) (lastIn s o) own opposite
 
 pub record Arrived (s : State) (owns : List ℕ) (own : ℕ) (opposites : List ℕ) (opposite : ℕ) (area : List ℕ) (o : NewOrder) (r : Entry) (owns′ opposites′ area′ : List ℕ) : Type 0 where
   pub entry : EntryIs (enteredFor s (queueIn owns (placeOf (o .contract)) own) (queueIn opposites (placeOf (o .contract)) opposite) o) (placeOf (o .contract)) owns own opposites opposite area (s .tradecount) (lastIn s o) (s .accounts) r owns′ opposites′ area′

@@ -289,6 +289,6 @@ pub fn code_of<'a>(
         return account;
     }
     let area = orders::side_area(!o.sell, buys, sells);
-    let t = orders::taker_of(state.next, area, count, o);
+    let t = orders::taker_of(state.next, terms, area, count, o);
     book_code(state, own, area, c, count, t, o)
 }

@@ -27,10 +27,10 @@ fn enter(
     requires { ⌜ Arriving state (now own) owncount (now opposite) oppositecount (now trades) o ⌝ }
     ensures { λ r. ⌜ Arrived state (now (own .entry)) owncount (now (opposite .entry)) oppositecount (now (trades .entry)) o r (now (own .exit)) (now (opposite .exit)) (now (trades .exit)) ⌝ }
 {
-    let t = orders::taker_of(state.next, &opposite[..], oppositecount, o);
     let c = laws::wide(o.contract) - 1;
     let contracts = state.contracts;
     let terms = contracts[c];
+    let t = orders::taker_of(state.next, terms, &opposite[..], oppositecount, o);
     let condition = o.condition;
     let time = o.time;
     let price = orders::limit_of(condition);

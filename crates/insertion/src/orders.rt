@@ -5,10 +5,13 @@ ghost use Prim.Native.Nat.{_-_, _<_, _≤_};
 ghost use Rattle.laws.specs.Choice.{pick};
 ghost use Rattle.rules.specs.Answers as answer;
 ghost use Rattle.rules.specs.Exchange as exchange;
+ghost use Rattle.rules.specs.Matching.{methodOf};
 ghost use Rattle.rules.specs.Memory.{queueIn};
 ghost use Rattle.rules.specs.Step.{limitOf};
 ghost use Rattle.insertion.specs.Insertion.{sideArea, sideCount, QueueRoom, takerFor};
+use rules::Contract;
 use rules::NewOrder;
+use rules::PairingMethod;
 use rules::PriceCondition;
 use rules::State;
 use rules::Taker;
@@ -104,14 +107,28 @@ fn best_price(area: &[u32], c: usize, count: usize) -> u32
     o.price
 }
 
-// The order with the number it gets and the best opposite price standing.
-pub fn taker_of(next: u32, area: &[u32], count: usize, o: NewOrder) -> Taker
+// The pairing method that the contract's terms name.
+fn method_of(terms: Contract) -> PairingMethod
+    ensures { λ r. ⌜ r ≡ methodOf terms ⌝ }
+{
+    if terms.method == 0 {
+        return PairingMethod::Middle;
+    }
+    if terms.method == 1 {
+        return PairingMethod::Average(terms.tick);
+    }
+    PairingMethod::FirstIn
+}
+
+// The order with the number it gets, its contract's pairing method and the best opposite price standing.
+pub fn taker_of(next: u32, terms: Contract, area: &[u32], count: usize, o: NewOrder) -> Taker
     requires { ⌜ (1 ≤ o .account) × (1 ≤ o .contract) × QueueRoom (now area) (o .contract - 1) count ⌝ }
-    ensures { λ r. ⌜ r ≡ takerFor next (queueIn (now (area .entry)) (o .contract - 1) count) o ⌝ }
+    ensures { λ r. ⌜ r ≡ takerFor next terms (queueIn (now (area .entry)) (o .contract - 1) count) o ⌝ }
 {
     let c = laws::wide(o.contract) - 1;
     let best = best_price(area, c, count);
     let condition = o.condition;
+    let method = method_of(terms);
     Taker {
         account: o.account - 1,
         contract: o.contract - 1,
@@ -119,6 +136,7 @@ pub fn taker_of(next: u32, area: &[u32], count: usize, o: NewOrder) -> Taker
         close: mark(o.close),
         number: next,
         condition,
+        method,
         best,
     }
 }

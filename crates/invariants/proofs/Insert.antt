@@ -24,11 +24,12 @@ use Rattle.rules.specs.declared.NewOrder.{NewOrder}
 use Rattle.rules.specs.declared.Order.{Order}
 use Rattle.rules.proofs.Fillable.{swept-fillable}
 use Rattle.rules.proofs.Holdings.{length-bookTrades, booked-balance, booked-start-holding, replay-more, never-more}
+use Rattle.rules.proofs.Prices.{method-rounds}
 use Rattle.rules.proofs.Rest.{rest-sum, length-rest}
 use Rattle.invariants.proofs.Carry.{Allows, orders-carried, trades-carried}
 use Rattle.invariants.proofs.Clauses.{ListingOk, held, HoldingOk, WellFormed, Counted}
 use Rattle.invariants.proofs.InsertAccepted.{Passes, passes}
-use Rattle.invariants.proofs.InsertListing.{allows-last, mark-low, contractOf, swept, rested, sides, last-on-tick, contractAfter, rested-left, listing-after}
+use Rattle.invariants.proofs.InsertListing.{allows-last, mark-low, contractOf, swept, rested, sides, last-on-tick, tick-low, contractAfter, rested-left, listing-after}
 use Rattle.invariants.proofs.InsertQueues.{rested-sum, rested-length, rested-length-one, rested-fewer}
 use Rattle.invariants.proofs.Legs.{resting-cons, KeptAt}
 use Rattle.invariants.proofs.Numbers.{occurs, uses, usesIn, once-count, once-changed, next-unused}
@@ -227,7 +228,7 @@ module _ (x : Exchange) (k : WellFormed x) (o : NewOrder) (p : Passes x o) where
   new-trades =
       swept-in-range afterwards (takerOf x o) (contractOf x k o p) (omega (arith, same-listings, p .contract))
       (omega (arith, same-accounts, p .account)) (k .next-low) (omega arith) (mark-low (o .close)) (p .price)
-      (allows-after place) (o .lots) (contractOf x k o p .last) others (last-on-tick x k o p)
+      (tick-low x k o p) (method-rounds (contractOf x k o p)) (allows-after place) (o .lots) (contractOf x k o p .last) others (last-on-tick x k o p)
       (subst (λ (n : ℕ). allOf (orderInRange n (x .next) (contractOf x k o p)) others ≡ true) (sym same-accounts) (sides x k o p .others-orders))
 
   its-trades : allOf (ofContract place) (lots-swept .trades) ≡ true

@@ -21,9 +21,9 @@ use Rattle.rules.specs.declared.Order.{Order}
 use Rattle.rules.specs.declared.PriceCondition.{PriceCondition}
 use Rattle.rules.specs.declared.PriceCondition.the-variants.{Limit, Market, Best}
 use Rattle.rules.specs.declared.Trade.{Trade}
-use Rattle.rules.proofs.Prices.{swept-allowed, last-test}
+use Rattle.rules.proofs.Prices.{swept-allowed, last-test, method-rounds}
 use Rattle.rules.proofs.Rest.{rest-sorted, uncrossedFrom, entered-uncrossed}
-use Rattle.rules.proofs.Terms.{multiple, multiple-test}
+use Rattle.rules.proofs.Terms.{contract-terms, multiple, multiple-test}
 use Rattle.invariants.proofs.Carry.{Allows, orders-carried}
 use Rattle.invariants.proofs.Clauses.{order-ok, order-test, ListingOk, WellFormed}
 use Rattle.invariants.proofs.InsertAccepted.{Passes}
@@ -88,10 +88,13 @@ module _ (x : Exchange) (k : WellFormed x) (o : NewOrder) (p : Passes x o) where
   pub last-on-tick : onTick (contractOf .tick) (contractOf .last) ≡ true
   last-on-tick = multiple (contractOf .tick) (contractOf .last) (last-multiple contractOf (listing-ok .contract)) .on-tick
 
+  pub tick-low : 1 ≤ contractOf .tick
+  tick-low = contract-terms contractOf (listing-ok .contract) .tick-low
+
   trade-prices : allOf (λ t. allowedToday contractOf (t .price)) (swept .trades) ≡ true
   unfolding takerOf
   trade-prices =
-      swept-allowed contractOf (takerOf x o) (o .lots) (contractOf .last) (opposite (o .sell) (listingOf x o)) (p .price) last-on-tick
+      swept-allowed contractOf tick-low (takerOf x o) (method-rounds contractOf) (o .lots) (contractOf .last) (opposite (o .sell) (listingOf x o)) (p .price) last-on-tick
       (allOf-imp (orderInRange (length (x .accounts)) (x .next) contractOf) (λ r. allowedToday contractOf (r .price))
       (opposite (o .sell) (listingOf x o))
       (λ r h. order-ok (length (x .accounts)) (x .next) contractOf r h .price) (sides .others-orders))

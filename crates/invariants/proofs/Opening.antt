@@ -11,7 +11,7 @@ use lib.ListN.{length, getD, replicate}
 use Rattle.laws.specs.Choice.{all, all-at, both-true}
 use Rattle.laws.specs.Chains.{passed, join}
 use Rattle.rules.specs.Bounds.{within, termsInRange, tickMultiple, maxContracts, maxAccounts, maxBalance}
-use Rattle.rules.specs.DayFile.{maxCommands, u16At, contractsIn, contractPlace, accountsIn, commandsIn, commandPlace, contractFrom, contractSound, balanceFrom, accountSound, sound, openingListing, openingAccount, opening}
+use Rattle.rules.specs.DayFile.{maxCommands, contractsIn, contractPlace, accountsIn, commandsIn, commandPlace, contractFrom, contractSound, balanceFrom, accountSound, sound, openingListing, openingAccount, opening}
 use Rattle.rules.specs.Exchange.{noHolding}
 use Rattle.rules.specs.Holdings.{startHolding, startAccount}
 use Rattle.rules.specs.WellFormed.{contractInRange, wellFormedContents}
@@ -50,8 +50,7 @@ module _ (file : List ℕ) (h : sound file ≡ true) where
   in-range : (c : ℕ) → c < contractsIn file → contractInRange (contractFrom file (contractPlace c)) ≡ true
   unfolding sound contractSound contractInRange contractFrom
   in-range c l =
-      let k = all-at (contractSound file) c (contractsIn file) (passed (within 1 maxContracts (contractsIn file)) fileTests h .1 .1 .1 .1 .0) l in
-      let t = both-true (termsInRange (contractFrom file (contractPlace c))) (eqb (u16At file (contractPlace c + 18)) 0) k .0 in
+      let t = all-at (contractSound file) c (contractsIn file) (passed (within 1 maxContracts (contractsIn file)) fileTests h .1 .1 .1 .1 .0) l in
       join (termsInRange (contractFrom file (contractPlace c)))
       (leb 0 3 ∷ tickMultiple (contractFrom file (contractPlace c) .tick) (contractFrom file (contractPlace c) .reference) ∷ [])
       (t, (le-leb 0 3 (omega arith), multiple-test _ _ (terms (contractFrom file (contractPlace c)) t .reference)))

@@ -121,6 +121,7 @@ contract-settled c price h m =
             limit-high = t .limit-high;
             rate-low = t .rate-low;
             rate-high = t .rate-high;
+            method-high = t .method-high;
           }),
       (le-leb 0 3 (omega arith), p .1 .1),
     )

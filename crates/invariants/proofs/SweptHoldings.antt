@@ -14,6 +14,7 @@ use Rattle.rules.specs.WellFormed.{orderInRange}
 use Rattle.rules.specs.declared.Account.{Account}
 use Rattle.rules.specs.declared.Contract.{Contract}
 use Rattle.rules.specs.declared.Order.{Order}
+use Rattle.rules.specs.declared.PairingMethod.{PairingMethod}
 use Rattle.rules.specs.declared.PriceCondition.{PriceCondition}
 use Rattle.rules.specs.declared.Taker.{Taker}
 use Rattle.rules.specs.declared.Trade.{Trade}
@@ -36,10 +37,10 @@ pub record TradeKept (accounts limit : ℕ) (t : Taker) (price : ℕ) (own : Lis
       KeptBy (t .sell) accounts limit (t .contract) (bookTrade l (tradeWith t o left last)) (remainder t price (left - min left (o .lots)) ∷ own)
       (withLots o (o .lots - min left (o .lots)) ∷ os)
 
-module _ (accounts limit price : ℕ) (account contract close number best : ℕ) (condition : PriceCondition) (own : List Order) (l : List Account)
+module _ (accounts limit price : ℕ) (account contract close number best : ℕ) (condition : PriceCondition) (method : PairingMethod) (own : List Order) (l : List Account)
     (here : account < accounts) (mark : close ≤ 1) where
   abbrev taker : Bool → Taker
-  taker sell = record { account = account; contract = contract; sell = sell; close = close; number = number; condition = condition; best = best }
+  taker sell = record { account = account; contract = contract; sell = sell; close = close; number = number; condition = condition; method = method; best = best }
 
   turn-by : (sell : Bool) (left last : ℕ) (o : Order) (os : List Order) → o .account < accounts → o .close ≤ 1 →
       KeptBy sell accounts limit contract l (remainder (taker sell) price left ∷ own) (o ∷ os) → TradeKept accounts limit
@@ -105,7 +106,7 @@ module _ (accounts limit price next : ℕ) (contract : Contract) (t : Taker) (ow
   unfolding allOf
   turn l left last o os h =
       let k = order-ok accounts next contract o (both-true (test o) (allOf test os) h .0) in
-      turn-by accounts limit price (t .account) (t .contract) (t .close) (t .number) (t .best) (t .condition) own l here mark
+      turn-by accounts limit price (t .account) (t .contract) (t .close) (t .number) (t .best) (t .condition) (t .method) own l here mark
       (t .sell) left last o os (k .account) (k .close)
 
   module _ (l : List Account) (left last : ℕ) (o : Order) (os : List Order) (q : TradeKept accounts limit t price own l left last o os) where

@@ -21,7 +21,7 @@ use Rattle.rules.specs.declared.PriceCondition.the-variants.{Limit}
 use Rattle.rules.specs.declared.Taker.{Taker}
 use Rattle.rules.specs.declared.Trade.{Trade}
 use Rattle.rules.proofs.Holdings.{holding-other-trade}
-use Rattle.rules.proofs.Prices.{allowed-facts, price-allowed}
+use Rattle.rules.proofs.Prices.{RoundsTo, allowed-facts, price-allowed}
 use Rattle.rules.proofs.Sweep.{sweep-ind, swept-each}
 use Rattle.invariants.proofs.Carry.{Allows}
 use Rattle.invariants.proofs.Clauses.{order-ok, trade-test}
@@ -40,14 +40,15 @@ module _ (y : Exchange) (t : Taker) (c : Contract)
     (there : t .contract < length (y .listings)) (here : t .account < length (y .accounts))
     (number-low : 1 ≤ t .number) (number-high : t .number < y .next) (mark : t .close ≤ 1)
     (limits : (limit : ℕ) → t .condition ≡ Limit limit → allowedToday c limit ≡ true)
+    (tick-low : 1 ≤ c .tick) (rounds : RoundsTo (c .tick) (t .method))
     (allows : Allows c (listingAt y (t .contract) .contract)) where
   -- the orders have lower numbers
   abbrev test : Order → Bool
   test = orderInRange (length (y .accounts)) (t .number) c
 
   its-price : (o : Order) (last : ℕ) → test o ≡ true → onTick (c .tick) last ≡ true →
-      allowedToday c (tradePrice (t .condition) (o .price) last) ≡ true
-  its-price o last h tick = price-allowed c (t .condition) (o .price) last limits (order-ok _ _ _ o h .price) tick
+      allowedToday c (tradePrice (t .method) (t .condition) (o .price) last) ≡ true
+  its-price o last h tick = price-allowed c tick-low (t .method) rounds (t .condition) (o .price) last limits (order-ok _ _ _ o h .price) tick
 
   one-trade : (o : Order) (left last : ℕ) → 0 < left → test o ≡ true → onTick (c .tick) last ≡ true → tradeInRange y (tradeWith t o left last) ≡ true
   unfolding tradeWith
@@ -63,7 +64,7 @@ module _ (y : Exchange) (t : Taker) (c : Contract)
         buy-high = one-of (λ n. n < y .next) (t .sell) (o .number) (t .number) (omega arith) number-high;
         sell-low = one-of (λ n. 1 ≤ n) (t .sell) (t .number) (o .number) number-low (k .number-low);
         sell-high = one-of (λ n. n < y .next) (t .sell) (t .number) (o .number) number-high (omega arith);
-        price = allows (tradePrice (t .condition) (o .price) last) (its-price o last h tick);
+        price = allows (tradePrice (t .method) (t .condition) (o .price) last) (its-price o last h tick);
         lots-low = omega arith;
         lots-high = omega arith;
         buyclose = one-of (λ n. n ≤ 1) (t .sell) (o .close) (t .close) (k .close) mark;
@@ -75,7 +76,7 @@ module _ (y : Exchange) (t : Taker) (c : Contract)
   swept-in-range =
       swept-each t (tradeInRange y) test (λ last. onTick (c .tick) last ≡ true)
       (λ o left last some met h tick.
-      (one-trade o left last some h tick, allowed-facts c (tradePrice (t .condition) (o .price) last) (its-price o last h tick) .tick))
+      (one-trade o left last some h tick, allowed-facts c (tradePrice (t .method) (t .condition) (o .price) last) (its-price o last h tick) .tick))
 
 -- ---- all of one contract
 

@@ -203,7 +203,7 @@ module _
       going-on full =
           let size : tr .lots ≡ min (lots - done) (o .lots) = trade-size m in
           let left : lots - done - o .lots ≡ lots - (done + tr .lots) = omega arith in
-          let p : tradePrice (t .condition) (o .price) price ≡ tr .price = sym (ap (λ (x : Trade). x .price) (m .trade) ∙ trade-price t o (lots - done) price) in
+          let p : tradePrice (t .method) (t .condition) (o .price) price ≡ tr .price = sym (ap (λ (x : Trade). x .price) (m .trade) ∙ trade-price t o (lots - done) price) in
           record {
             same = g .same;
             within = omega (arith, m .here);

@@ -11,6 +11,7 @@ use Rattle.rules.specs.Memory.{queueIn, putQueue, tradeWords}
 use Rattle.rules.specs.declared.Account.{Account}
 use Rattle.rules.specs.declared.Taker.{Taker}
 use Rattle.book.specs.Bounds.{HeldWithin}
+use Rattle.book.specs.Methods.{HasTick}
 use Rattle.matching.specs.declared.sweep.Filled.{Filled}
 
 -- the arriving order's account and those of the queue's orders are in use, and no account in use holds more than b lots of the
@@ -22,10 +23,12 @@ pub record Parties (b : ℕ) (t : Taker) (held : List Account) (queues : List �
   pub resting : (i : ℕ) → i < count → getD (queueIn queues (t .contract) count) i noOrder .account < used
   pub holdings : HeldWithin b used (t .contract) held
 
--- a contract that exists, room for the queue and for the trades, and accounts whose holdings are not near their width
+-- a contract that exists, with a tick where its method rounds to one, room for the queue and for the trades, and accounts whose
+-- holdings are not near their width
 pub record SweepReady
     (t : Taker) (lots last : ℕ) (held : List Account) (queues : List ℕ) (count : ℕ) (area : List ℕ) (before : ℕ) : Type 0 where
   pub contract : t .contract < 4
+  pub method : HasTick (t .method)
   pub size : lots ≤ 1_000
   pub queue : 320 * t .contract + 5 * count ≤ length queues
   pub room : 9 * (before + length (sweep t lots last (queueIn queues (t .contract) count) .trades)) ≤ length area

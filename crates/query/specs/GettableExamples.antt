@@ -37,7 +37,7 @@ book : ℕ → List Order → Exchange
 book phase sells =
     record {
       listings = record {
-        contract = record { multiplier = 10; tick = 1; reference = 110; band = 10; limit = 1_000; rate = 1_000; phase = phase; last = 110 };
+        contract = record { multiplier = 10; tick = 1; reference = 110; band = 10; limit = 1_000; rate = 1_000; method = 0; phase = phase; last = 110 };
         buys = order 4 109 3 ∷ [];
         sells = sells;
       } ∷ [];
@@ -80,7 +80,7 @@ memoryOf : ℕ → Memory
 memoryOf contracts =
     record {
       state = record {
-        contracts = record { multiplier = 10; tick = 1; reference = 110; band = 10; limit = 1_000; rate = 1_000; phase = 0; last = 110 } ∷ [];
+        contracts = record { multiplier = 10; tick = 1; reference = 110; band = 10; limit = 1_000; rate = 1_000; method = 0; phase = 0; last = 110 } ∷ [];
         accounts = record { balance = pos 0; holdings = noHolding ∷ [] } ∷ [];
         buys = 0 ∷ [];
         sells = 0 ∷ [];

@@ -20,7 +20,7 @@ pub trade-lots : (t : Taker) (o : Order) (left last : ℕ) → tradeWith t o lef
 unfolding tradeWith
 trade-lots t o left last = refl
 
-pub trade-price : (t : Taker) (o : Order) (left last : ℕ) → tradeWith t o left last .price ≡ tradePrice (t .condition) (o .price) last
+pub trade-price : (t : Taker) (o : Order) (left last : ℕ) → tradeWith t o left last .price ≡ tradePrice (t .method) (t .condition) (o .price) last
 unfolding tradeWith
 trade-price t o left last = refl
 
@@ -66,7 +66,7 @@ module _ (t : Taker) (left last : ℕ) (o : Order) (os : List Order) where
 
   met-turn : 0 < left → counterpart t o ≡ true
       → sweep t left last (o ∷ os)
-      ≡ afterTrade (tradeWith t o left last) (stays o (o .lots - min left (o .lots))) (sweep t (left - min left (o .lots)) (tradePrice (t .condition) (o .price) last) os)
+      ≡ afterTrade (tradeWith t o left last) (stays o (o .lots - min left (o .lots))) (sweep t (left - min left (o .lots)) (tradePrice (t .method) (t .condition) (o .price) last) os)
   unfolding sweep
   met-turn some met = pick-true (ltb 0 left && counterpart t o) _ _ (true-both (ltb 0 left) (counterpart t o) (lt-ltb 0 left some) met)
 
@@ -77,7 +77,7 @@ module _ (t : Taker) (left last : ℕ) (o : Order) (os : List Order) where
       met-turn some met ∙ rw (m, z, stays-some o (o .lots - left) (omega arith), sweep-used)
 
   pub sweep-full : 0 < left → counterpart t o ≡ true → o .lots ≤ left
-      → sweep t left last (o ∷ os) ≡ filled t o left last (sweep t (left - o .lots) (tradePrice (t .condition) (o .price) last) os)
+      → sweep t left last (o ∷ os) ≡ filled t o left last (sweep t (left - o .lots) (tradePrice (t .method) (t .condition) (o .price) last) os)
   sweep-full some met enough =
       let m : min left (o .lots) ≡ o .lots = omega arith in
       met-turn some met ∙ rw (m, stays-none o (o .lots - o .lots) (omega arith))
@@ -96,7 +96,7 @@ module _ (t : Taker) (P : ℕ → ℕ → List Order → Swept → Type 0)
     (part : (left last : ℕ) (o : Order) (os : List Order) → 0 < left → counterpart t o ≡ true → left < o .lots
     → P left last (o ∷ os) (partFilled t o left last os))
     (full : (left last : ℕ) (o : Order) (os : List Order) (s : Swept) → 0 < left → counterpart t o ≡ true → o .lots ≤ left
-    → P (left - o .lots) (tradePrice (t .condition) (o .price) last) os s → P left last (o ∷ os) (filled t o left last s)) where
+    → P (left - o .lots) (tradePrice (t .method) (t .condition) (o .price) last) os s → P left last (o ∷ os) (filled t o left last s)) where
   turn : (left last : ℕ) (o : Order) (os : List Order) (some met short : Bool) → ltb 0 left ≡ some → counterpart t o ≡ met
       → ltb left (o .lots) ≡ short
       → ((k p : ℕ) → P k p os (sweep t k p os)) → P left last (o ∷ os) (sweep t left last (o ∷ os))
@@ -120,7 +120,7 @@ module _ (t : Taker) (P : ℕ → ℕ → List Order → Swept → Type 0)
 -- What holds of every trade with an order of the queue, at a last price of which something holds that every trade's price keeps:
 -- holds of every trade of the sweep.
 pub swept-each : (t : Taker) (test : Trade → Bool) (fit : Order → Bool) (Last : ℕ → Type 0)
-    → ((o : Order) (left last : ℕ) → 0 < left → counterpart t o ≡ true → fit o ≡ true → Last last → (test (tradeWith t o left last) ≡ true) × Last (tradePrice (t .condition) (o .price) last))
+    → ((o : Order) (left last : ℕ) → 0 < left → counterpart t o ≡ true → fit o ≡ true → Last last → (test (tradeWith t o left last) ≡ true) × Last (tradePrice (t .method) (t .condition) (o .price) last))
     → (left last : ℕ) (os : List Order) → Last last → allOf fit os ≡ true → allOf test (sweep t left last os .trades) ≡ true
 unfolding allOf
 swept-each t test fit Last each =

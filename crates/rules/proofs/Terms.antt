@@ -1,13 +1,13 @@
 -- What a passed test of a range, of a tick multiple and of a contract's terms says, and back. Assumes nothing.
-use mathlib.Core.Bool.{Bool, true}
+use mathlib.Core.Bool.{Bool, true, false, _&&_}
 use mathlib.Core.List.{List, [], _∷_}
-use mathlib.Core.Path.{_≡_}
+use mathlib.Core.Path.{_≡_, refl}
 use Prim.Native.Nat.{ℕ, _≤_}
 use borrow.Author.Tests.{leb-true, le-leb}
 use lib.Dec.{leb}
 use Rattle.laws.specs.Chains.{join, passed}
 use Rattle.laws.specs.Choice.{both-true, true-both}
-use Rattle.rules.specs.Bounds.{within, onTick, tickMultiple, termsInRange, maxPrice}
+use Rattle.rules.specs.Bounds.{within, onTick, tickMultiple, termsInRange, maxPrice, maxMethod}
 use Rattle.rules.specs.WellFormed.{contractInRange}
 use Rattle.rules.specs.declared.Contract.{Contract}
 
@@ -41,6 +41,16 @@ module _ (tick n : ℕ) where
 
 -- ---- a contract's terms
 
+and-true : (b : Bool) → (b && true) ≡ b
+and-true true = refl
+and-true false = refl
+
+-- "every file sound until now": with a method of 0 the terms are in range where document 01 has them so
+pub zero-in-range : (c : Contract) → c .method ≡ 0 → termsInRange c
+    ≡ (within 1 1_000 (c .multiplier) && within 1 1_000 (c .tick) && tickMultiple (c .tick) (c .reference) && tickMultiple (c .tick) (c .band) && within 1 100_000 (c .limit) && within 1 10_000 (c .rate))
+unfolding termsInRange
+zero-in-range c e = rw e (and-true _)
+
 pub record Terms (c : Contract) : Type 0 where
   pub multiplier-low : 1 ≤ c .multiplier
   pub multiplier-high : c .multiplier ≤ 1_000
@@ -52,6 +62,7 @@ pub record Terms (c : Contract) : Type 0 where
   pub limit-high : c .limit ≤ 100_000
   pub rate-low : 1 ≤ c .rate
   pub rate-high : c .rate ≤ 10_000
+  pub method-high : c .method ≤ maxMethod
 
 module _ (c : Contract) where
   abbrev termTests : List Bool
@@ -61,6 +72,7 @@ module _ (c : Contract) where
       ∷ tickMultiple (c .tick) (c .band)
       ∷ within 1 100_000 (c .limit)
       ∷ within 1 10_000 (c .rate)
+      ∷ leb (c .method) maxMethod
       ∷ []
 
   pub terms : termsInRange c ≡ true → Terms c
@@ -76,8 +88,9 @@ module _ (c : Contract) where
         band = multiple (c .tick) (c .band) (p .1 .1 .1 .0);
         limit-low = within-low 1 100_000 (c .limit) (p .1 .1 .1 .1 .0);
         limit-high = within-high 1 100_000 (c .limit) (p .1 .1 .1 .1 .0);
-        rate-low = within-low 1 10_000 (c .rate) (p .1 .1 .1 .1 .1);
-        rate-high = within-high 1 10_000 (c .rate) (p .1 .1 .1 .1 .1);
+        rate-low = within-low 1 10_000 (c .rate) (p .1 .1 .1 .1 .1 .0);
+        rate-high = within-high 1 10_000 (c .rate) (p .1 .1 .1 .1 .1 .0);
+        method-high = leb-true (c .method) maxMethod (p .1 .1 .1 .1 .1 .1);
       }
 
   pub terms-test : Terms c → termsInRange c ≡ true
@@ -93,7 +106,7 @@ module _ (c : Contract) where
               multiple-test (c .tick) (c .band) (t .band),
               (
                 within-test 1 100_000 (c .limit) (t .limit-low) (t .limit-high),
-                within-test 1 10_000 (c .rate) (t .rate-low) (t .rate-high),
+                (within-test 1 10_000 (c .rate) (t .rate-low) (t .rate-high), le-leb (c .method) maxMethod (t .method-high)),
               ),
             ),
           ),

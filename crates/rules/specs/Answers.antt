@@ -11,7 +11,7 @@ use Rattle.laws.specs.Choice.{pick, allOf}
 use Rattle.rules.specs.Bounds.{within, allowedToday, maxLots, maxResting, maxTrades, maxSettlements, numbersEnd, maxAmount, maxBalance}
 use Rattle.rules.specs.Exchange.{Exchange, Listing, listingAt, accountAt, holdingAt, placeOf, absent, own, opposite, bestPrice, restingOpens, restingCloses}
 use Rattle.rules.specs.Margin.{charged, chargedWith}
-use Rattle.rules.specs.Matching.{sweep, fillable}
+use Rattle.rules.specs.Matching.{sweep, fillable, methodOf}
 use Rattle.rules.specs.declared.Contract.{Contract}
 use Rattle.rules.specs.declared.Holding.{Holding}
 use Rattle.rules.specs.declared.NewOrder.{NewOrder}
@@ -68,6 +68,7 @@ takerOf x o =
       close = mark (o .close);
       number = x .next;
       condition = o .condition;
+      method = methodOf (listingOf x o .contract);
       best = bestPrice (opposite (o .sell) (listingOf x o));
     }
 

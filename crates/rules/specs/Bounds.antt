@@ -43,6 +43,10 @@ maxAmount = 10 ^ 15
 abbrev pub maxDayProfit : ℕ
 maxDayProfit = 3 * 10 ^ 15
 
+-- "a pairing method: 0 middle price, 1 average, 2 first-in price"
+abbrev pub maxMethod : ℕ
+maxMethod = 2
+
 abbrev pub within : ℕ → ℕ → ℕ → Bool
 within low high n = leb low n && leb n high
 
@@ -55,7 +59,8 @@ unfoldable pub tickMultiple : ℕ → ℕ → Bool
 tickMultiple tick n = onTick tick n && within tick maxPrice n
 
 -- "A contract has multiplier 1 to 1,000, tick 1 to 1,000, reference and band .., holding limit 1 to 100,000, margin rate 1
--- to 10,000 in ten-thousandths."
+-- to 10,000 in ten-thousandths." Its pairing method is 0, 1 or 2: "20 for a method above 2; 21 for a state holding one"
+-- (document 02, ticket 6).
 unfoldable pub termsInRange : Contract → Bool
 termsInRange c =
     within 1 1_000 (c .multiplier)
@@ -64,6 +69,7 @@ termsInRange c =
     && tickMultiple (c .tick) (c .band)
     && within 1 100_000 (c .limit)
     && within 1 10_000 (c .rate)
+    && leb (c .method) maxMethod
 
 -- "Its day's low is the larger of one tick and reference minus band." (A difference below zero is 0 here, and one tick is
 -- larger than either.)

@@ -16,7 +16,7 @@ use Rattle.rules.specs.Examples.{Row, _gives_, allRight}
 use Rattle.rules.specs.Exchange.{Exchange, absent, accountAt, bestPrice, holdingAt, listingAt, lotsWhere, noHolding, noTrade, resting}
 use Rattle.rules.specs.Holdings.{afterLeg, bookLeg}
 use Rattle.rules.specs.Margin.{chargeOf, chargedLots, chargedTo}
-use Rattle.rules.specs.Matching.{fillable, meets, middle, stays, sweep, tradePrice, tradeWith}
+use Rattle.rules.specs.Matching.{fillable, meets, methodOf, middle, pairedPrice, stays, sweep, tradePrice, tradeWith}
 use Rattle.rules.specs.declared.Account.{Account}
 use Rattle.rules.specs.declared.Contract.{Contract}
 use Rattle.rules.specs.declared.Command.{Command}
@@ -32,7 +32,7 @@ use Rattle.rules.specs.declared.TimeCondition.the-variants.{GoodForDay, 
 -- and 5 at 112 rest, of account 1; account 2 is short 995 lots and has money for 3 more
 
 contract : ℕ → Contract
-contract phase = record { multiplier = 10; tick = 2; reference = 110; band = 10; limit = 1_000; rate = 1_000; phase = phase; last = 110 }
+contract phase = record { multiplier = 10; tick = 2; reference = 110; band = 10; limit = 1_000; rate = 1_000; method = 0; phase = phase; last = 110 }
 
 order : ℕ → ℕ → ℕ → Order
 order number price lots = record { price = price; number = number; account = 0; lots = lots; close = 0 }
@@ -161,5 +161,5 @@ codes =
     ∷ []
 
 pub code-examples : allRight codes ≡ true
-unfolding allRight codes contract order rich poor asked open′ buy sell raw absent accountAt afterLeg all allOf allowedToday amountRefused bestPrice bits bookLeg cancelRefusals changeListed chargeOf chargedLots chargedTo codeOf commandOf dayHigh dayLow depositRefusals fillable fillableLots firstOf holdingAt insertFlags insertOf insertRefusals leavesTooLittle liftsTooHigh listingAt listingOf holdingRefused lotsWhere meets middle moneyRefused newOrder noSuchOrder numbered ofAnother onTick overHolding overLimit phaseOf phaseRefusals priceCondition priceRefusedBy pullRefusals refusals removalRefused resting restingOrder settleOf settleRefusals stays sumOf sweep tabulate takerOf timeCondition tradePrice tradeWith tradesNeeded withdrawRefusals zeros
+unfolding allRight codes contract order rich poor asked open′ buy sell raw absent accountAt afterLeg all allOf allowedToday amountRefused bestPrice bits bookLeg cancelRefusals changeListed chargeOf chargedLots chargedTo codeOf commandOf dayHigh dayLow depositRefusals fillable fillableLots firstOf holdingAt insertFlags insertOf insertRefusals leavesTooLittle liftsTooHigh listingAt listingOf holdingRefused lotsWhere meets methodOf middle pairedPrice moneyRefused newOrder noSuchOrder numbered ofAnother onTick overHolding overLimit phaseOf phaseRefusals priceCondition priceRefusedBy pullRefusals refusals removalRefused resting restingOrder settleOf settleRefusals stays sumOf sweep tabulate takerOf timeCondition tradePrice tradeWith tradesNeeded withdrawRefusals zeros
 code-examples = refl

@@ -55,8 +55,9 @@ commandPlace file k = accountPlace file (accountsIn file) + 4 + 24 * k
 
 -- ---- the records
 
--- "A contract is 20 bytes: multiplier 2, tick 2, reference 4, band 4, limit 4, rate 2, zero 2." Its run opens in pre-open;
--- "The last price starts as the reference".
+-- "A contract is 20 bytes: multiplier 2, tick 2, reference 4, band 4, limit 4, rate 2, zero 2." "The contract record's last two
+-- bytes, zero until now, name the method" (document 02, ticket 6). Its run opens in pre-open; "The last price starts as the
+-- reference".
 unfoldable pub contractFrom : List ℕ → ℕ → Contract
 contractFrom file at =
     record {
@@ -66,12 +67,13 @@ contractFrom file at =
       band = u32At file (at + 8);
       limit = u32At file (at + 12);
       rate = u16At file (at + 16);
+      method = u16At file (at + 18);
       phase = 0;
       last = u32At file (at + 4);
     }
 
 unfoldable pub contractSound : List ℕ → ℕ → Bool
-contractSound file c = termsInRange (contractFrom file (contractPlace c)) && eqb (u16At file (contractPlace c + 18)) 0
+contractSound file c = termsInRange (contractFrom file (contractPlace c))
 
 -- "An account is 8 bytes: opening balance, 0 to 10^18."
 unfoldable pub balanceFrom : List ℕ → ℕ → ℕ

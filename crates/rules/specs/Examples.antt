@@ -10,6 +10,7 @@ use Rattle.rules.specs.Margin.{chargeOf}
 use Rattle.rules.specs.Matching.{middle, meets, fillable, tradedLots}
 use Rattle.rules.specs.Settlement.{priceFrom, weightedPrice, quotedPrice, tradedValue}
 use Rattle.rules.specs.declared.Order.{Order}
+use Rattle.rules.specs.declared.PairingMethod.the-variants.{Middle}
 use Rattle.rules.specs.declared.PriceCondition.the-variants.{Limit}
 use Rattle.rules.specs.declared.Taker.{Taker}
 use Rattle.rules.specs.declared.Trade.{Trade}
@@ -27,7 +28,7 @@ trade lots price =
     record { contract = 0; price = price; lots = lots; buyorder = 1; sellorder = 2; buyer = 0; seller = 1; buyclose = 0; sellclose = 0 }
 
 limitBuy : ℕ → Taker
-limitBuy price = record { account = 0; contract = 0; sell = false; close = 0; number = 3; condition = Limit price; best = 110 }
+limitBuy price = record { account = 0; contract = 0; sell = false; close = 0; number = 3; condition = Limit price; method = Middle; best = 110 }
 
 sells : List Order
 sells = order 110 7 ∷ order 111 5 ∷ []

@@ -18,6 +18,7 @@ pub mod Examples
 pub mod CodeExamples
 pub mod MarginExamples
 pub mod MatchingExamples
+pub mod MethodExamples
 pub mod ProfitExamples
 pub mod WellFormedExamples
 pub mod PaperDay

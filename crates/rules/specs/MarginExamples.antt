@@ -13,7 +13,7 @@ use Rattle.rules.specs.Examples.{Row, _gives_, allRight}
 use Rattle.rules.specs.Exchange.{Exchange, absent, accountAt, bestPrice, holdingAt, listingAt, lotsWhere, noHolding, resting}
 use Rattle.rules.specs.Holdings.{afterLeg, bookLeg}
 use Rattle.rules.specs.Margin.{charged, chargedLots, chargedTo, chargedWith, chargeOf}
-use Rattle.rules.specs.Matching.{fillable, meets, middle, stays, sweep, tradePrice, tradeWith}
+use Rattle.rules.specs.Matching.{fillable, meets, methodOf, middle, pairedPrice, stays, sweep, tradePrice, tradeWith}
 use Rattle.rules.specs.declared.Account.{Account}
 use Rattle.rules.specs.declared.Command.{Command}
 use Rattle.rules.specs.declared.Command.the-variants.{Insert, Withdraw}
@@ -25,7 +25,7 @@ use Rattle.rules.specs.declared.TimeCondition.the-variants.{GoodForDay}
 
 -- the charge is 10 a lot for each unit of the multiplier
 contract : ℕ → Contract
-contract multiplier = record { multiplier = multiplier; tick = 1; reference = 100; band = 10; limit = 1_000; rate = 1_000; phase = 1; last = 100 }
+contract multiplier = record { multiplier = multiplier; tick = 1; reference = 100; band = 10; limit = 1_000; rate = 1_000; method = 0; phase = 1; last = 100 }
 
 -- orders of account 1
 order : ℕ → ℕ → ℕ → ℕ → Order
@@ -127,5 +127,5 @@ table =
     ∷ []
 
 pub margin-examples : allRight table ≡ true
-unfolding allRight table contract order held account x insert buyOpen sellOpen absent accountAt afterLeg allowedToday amountRefused bestPrice bookLeg chargeOf chargedLots chargedTo codeOf dayHigh dayLow fillable fillableLots firstOf holdingAt holdingRefused insertRefusals leavesTooLittle listingAt listingOf lotsWhere meets middle moneyRefused onTick overHolding overLimit priceRefusedBy refusals resting stays sumOf sweep takerOf tradePrice tradeWith tradesNeeded withdrawRefusals
+unfolding allRight table contract order held account x insert buyOpen sellOpen absent accountAt afterLeg allowedToday amountRefused bestPrice bookLeg chargeOf chargedLots chargedTo codeOf dayHigh dayLow fillable fillableLots firstOf holdingAt holdingRefused insertRefusals leavesTooLittle listingAt listingOf lotsWhere meets methodOf middle moneyRefused onTick overHolding overLimit pairedPrice priceRefusedBy refusals resting stays sumOf sweep takerOf tradePrice tradeWith tradesNeeded withdrawRefusals
 margin-examples = refl

@@ -1,12 +1,16 @@
--- What an arriving order trades, with whom and at what price (document 01, "Matching"; 001, 4.3.2). Assumes nothing.
+-- What an arriving order trades, with whom and at what price (document 01, "Matching"; 001, 4.3.2; document 02, ticket 6).
+-- Assumes nothing.
 use mathlib.Core.Bool.{Bool, true, _&&_}
 use mathlib.Core.List.{List, [], _∷_, _++_}
-use Prim.Native.Nat.{ℕ, zero, suc, _+_, _-_, min, max}
+use Prim.Native.Nat.{ℕ, zero, suc, _+_, _-_, _*_, _/_, min, max}
 use lib.Dec.{leb, ltb, eqb}
 use Rattle.laws.specs.Choice.{pick}
 use Rattle.laws.specs.Sums.{sumOf}
 use Rattle.rules.specs.Exchange.{lotsWhere, worse}
+use Rattle.rules.specs.declared.Contract.{Contract}
 use Rattle.rules.specs.declared.Order.{Order}
+use Rattle.rules.specs.declared.PairingMethod.{PairingMethod}
+use Rattle.rules.specs.declared.PairingMethod.the-variants.{Middle, Average, FirstIn}
 use Rattle.rules.specs.declared.PriceCondition.{PriceCondition}
 use Rattle.rules.specs.declared.PriceCondition.the-variants.{Limit, Market, Best}
 use Rattle.rules.specs.declared.Taker.{Taker}
@@ -30,19 +34,33 @@ fillable t queue = lotsWhere (counterpart t) queue
 unfoldable pub middle : ℕ → ℕ → ℕ → ℕ
 middle a b c = max (min a b) (min (max a b) c)
 
--- "A limit order trades at the middle of buy price, sell price and last price, worked out again for each trade. Market and
--- best trade at the resting price."
-unfoldable pub tradePrice : PriceCondition → ℕ → ℕ → ℕ
-tradePrice (Limit limit) price last = middle limit price last
-tradePrice Market price last = price
-tradePrice Best price last = price
+-- "Average is half the sum of both prices, rounded down to a tick."
+unfoldable pub average : ℕ → ℕ → ℕ → ℕ
+average tick a b = (a + b) / 2 / tick * tick
+
+-- "a pairing method: 0 middle price, 1 average, 2 first-in price"
+unfoldable pub methodOf : Contract → PairingMethod
+methodOf c = pick (eqb (c .method) 0) Middle (pick (eqb (c .method) 1) (Average (c .tick)) FirstIn)
+
+-- The price at which a limit order trades with a resting one: "the middle of buy price, sell price and last price, worked out
+-- again for each trade"; the average of the two; "First-in is the resting price."
+unfoldable pub pairedPrice : PairingMethod → ℕ → ℕ → ℕ → ℕ
+pairedPrice Middle limit price last = middle limit price last
+pairedPrice (Average tick) limit price last = average tick limit price
+pairedPrice FirstIn limit price last = price
+
+-- The method "concerns limit orders only". "Market and best trade at the resting price."
+unfoldable pub tradePrice : PairingMethod → PriceCondition → ℕ → ℕ → ℕ
+tradePrice method (Limit limit) price last = pairedPrice method limit price last
+tradePrice method Market price last = price
+tradePrice method Best price last = price
 
 -- "each trades the smaller remainder"
 unfoldable pub tradeWith : Taker → Order → ℕ → ℕ → Trade
 tradeWith t o left last =
     record {
       contract = t .contract;
-      price = tradePrice (t .condition) (o .price) last;
+      price = tradePrice (t .method) (t .condition) (o .price) last;
       lots = min left (o .lots);
       buyorder = pick (t .sell) (o .number) (t .number);
       sellorder = pick (t .sell) (t .number) (o .number);
@@ -81,7 +99,7 @@ sweep t left last (o ∷ os) =
     (afterTrade
     (tradeWith t o left last)
     (stays o (o .lots - min left (o .lots)))
-    (sweep t (left - min left (o .lots)) (tradePrice (t .condition) (o .price) last) os))
+    (sweep t (left - min left (o .lots)) (tradePrice (t .method) (t .condition) (o .price) last) os))
     (untouched (o ∷ os))
 
 unfoldable pub tradedLots : List Trade → ℕ

@@ -8,8 +8,9 @@ use lib.ListN.{length, getD}
 use Rattle.laws.specs.Sums.{sumOf}
 use Rattle.rules.specs.Examples.{Row, _gives_, allRight}
 use Rattle.rules.specs.Exchange.{noOrder, noTrade}
-use Rattle.rules.specs.Matching.{Swept, enter, meets, middle, remainder, restIn, restLots, restedLots, stays, sweep, tradePrice, tradeWith, tradedLots}
+use Rattle.rules.specs.Matching.{Swept, enter, meets, middle, pairedPrice, remainder, restIn, restLots, restedLots, stays, sweep, tradePrice, tradeWith, tradedLots}
 use Rattle.rules.specs.declared.Order.{Order}
+use Rattle.rules.specs.declared.PairingMethod.the-variants.{Middle}
 use Rattle.rules.specs.declared.PriceCondition.{PriceCondition}
 use Rattle.rules.specs.declared.PriceCondition.the-variants.{Limit, Market, Best}
 use Rattle.rules.specs.declared.Taker.{Taker}
@@ -22,7 +23,7 @@ sells : List Order
 sells = order 1 110 7 ∷ order 2 111 5 ∷ order 3 112 4 ∷ []
 
 buyer : PriceCondition → Taker
-buyer condition = record { account = 0; contract = 0; sell = false; close = 0; number = 9; condition = condition; best = 110 }
+buyer condition = record { account = 0; contract = 0; sell = false; close = 0; number = 9; condition = condition; method = Middle; best = 110 }
 
 -- a buy of so many lots, the last price 109
 swept : PriceCondition → ℕ → Swept
@@ -56,5 +57,5 @@ table =
     ∷ []
 
 pub matching-examples : allRight table ≡ true
-unfolding allRight table order sells buyer swept price lotsAt sumOf enter meets middle remainder restIn restLots restedLots stays sweep tradePrice tradeWith tradedLots
+unfolding allRight table order sells buyer swept price lotsAt sumOf enter meets middle pairedPrice remainder restIn restLots restedLots stays sweep tradePrice tradeWith tradedLots
 matching-examples = refl

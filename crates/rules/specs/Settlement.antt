@@ -163,6 +163,7 @@ settledContract c price =
       band = c .band;
       limit = c .limit;
       rate = c .rate;
+      method = c .method;
       phase = 0;
       last = c .last;
     }

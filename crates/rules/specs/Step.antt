@@ -51,11 +51,11 @@ withContract l c = record { contract = c; buys = l .buys; sells = l .sells }
 
 abbrev pub withLast : Contract → ℕ → Contract
 withLast c last =
-    record { multiplier = c .multiplier; tick = c .tick; reference = c .reference; band = c .band; limit = c .limit; rate = c .rate; phase = c .phase; last = last }
+    record { multiplier = c .multiplier; tick = c .tick; reference = c .reference; band = c .band; limit = c .limit; rate = c .rate; method = c .method; phase = c .phase; last = last }
 
 abbrev pub withPhase : Contract → ℕ → Contract
 withPhase c phase =
-    record { multiplier = c .multiplier; tick = c .tick; reference = c .reference; band = c .band; limit = c .limit; rate = c .rate; phase = phase; last = c .last }
+    record { multiplier = c .multiplier; tick = c .tick; reference = c .reference; band = c .band; limit = c .limit; rate = c .rate; method = c .method; phase = phase; last = c .last }
 
 -- ---- deposit and withdraw
 

@@ -19,7 +19,7 @@ use Rattle.rules.specs.declared.Order.{Order}
 use Rattle.rules.specs.declared.Trade.{Trade}
 
 contract : ℕ → Contract
-contract last = record { multiplier = 10; tick = 2; reference = 110; band = 10; limit = 10; rate = 1_000; phase = 1; last = last }
+contract last = record { multiplier = 10; tick = 2; reference = 110; band = 10; limit = 10; rate = 1_000; method = 0; phase = 1; last = last }
 
 order : ℕ → ℕ → ℕ → ℕ → Order
 order number price lots close = record { price = price; number = number; account = 0; lots = lots; close = close }

@@ -3,7 +3,8 @@
 // A place counts from 0, a number from 1: the account with number 1 stands at place 0. Commands and printed lines speak
 // of numbers, the records below of places, except where they say "number".
 
-// A contract's terms for the day, its phase (the paper's contract state) and its last price.
+// A contract's terms for the day, with the number of its pairing method, its phase (the paper's contract state) and its last
+// price.
 pub struct Contract {
     pub multiplier: u32,
     pub tick: u32,
@@ -11,6 +12,7 @@ pub struct Contract {
     pub band: u32,
     pub limit: u32,
     pub rate: u32,
+    pub method: u32,
     pub phase: u32,
     pub last: u32,
 }
@@ -84,6 +86,13 @@ pub enum PriceCondition {
     Best,
 }
 
+// "0 middle price, 1 average, 2 first-in price": the average holds the tick that it is rounded down to.
+pub enum PairingMethod {
+    Middle,
+    Average(u32),
+    FirstIn,
+}
+
 pub enum TimeCondition {
     GoodForDay,
     ImmediateOrCancel,
@@ -132,8 +141,8 @@ pub enum Command {
     Settle,
 }
 
-// An accepted order as it meets the book: account and contract by place, its number, and the best opposite price standing
-// on its arrival (0 where the opposite side is empty).
+// An accepted order as it meets the book: account and contract by place, its number, its contract's pairing method, and the
+// best opposite price standing on its arrival (0 where the opposite side is empty).
 pub struct Taker {
     pub account: u32,
     pub contract: u32,
@@ -141,6 +150,7 @@ pub struct Taker {
     pub close: u32,
     pub number: u32,
     pub condition: PriceCondition,
+    pub method: PairingMethod,
     pub best: u32,
 }
 

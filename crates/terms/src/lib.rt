@@ -52,7 +52,10 @@ pub fn terms_in_range(c: Contract) -> bool
     if !within(1, 100000, c.limit) {
         return false;
     }
-    within(1, 10000, c.rate)
+    if !within(1, 10000, c.rate) {
+        return false;
+    }
+    c.method <= 2
 }
 
 // "the larger of one tick and reference minus band"

@@ -47,7 +47,7 @@ enter-requires c κs =
     let counts = known .before .before in
     let start = counts .before .before .before .before .before .before .before .before in
     let a = start .args in
-    ready (a .t) (a .lots) (a .opposite .now) (a .oppositecount) (counts .before .before .before .before .before .before .if1 .left) (a .price)
+    ready (a .t) (a .lots) (a .opposite .now) (a .oppositecount) (counts .before .before .before .before .before .before .if1 .left) (start .pre) (a .price)
     (a .last) (a .own .now) (a .owncount) (a .area .now) (a .before)
     (ltb-false 31 (a .t .account) (counts .before .before .before .before .if2 .left))
     (ltb-false 1000 (a .lots) (counts .before .before .before .if3 .left))

@@ -3,11 +3,6 @@ use borrow.Author.Needs.{needs}
 use Rattle.insertion.proofs.enter.Statement.{statement}
 use Rattle.insertion.proofs.enter.Tie as tie
 
--- `insertion::enter` meets its contract: the order is the one that the rules enter. Assumes nothing.
-
-taker-of-requires : tie.Need-taker-of-requires
-taker-of-requires c κs = (c .before .before .before .before .pre .account-low, c .before .before .before .before .pre .contract-low, c .before .before .before .before .pre .queue)
-
 wide-requires : tie.Need-wide-requires
 wide-requires c κs = search needs
 
@@ -18,7 +13,10 @@ mul-terms : tie.Need-mul-terms
 mul-terms c = search needs
 
 array-copy-out-terms : tie.Need-array-copy-out-terms
-array-copy-out-terms c = rw (c .before .wide .ensures) (c .before .before .before .before .before .before .before .pre .ready .sweeps .contract)
+array-copy-out-terms c = rw (c .before .wide .ensures) (c .before .before .before .before .before .pre .ready .sweeps .contract)
+
+taker-of-requires : tie.Need-taker-of-requires
+taker-of-requires c κs = (c .before .before .before .before .before .before .before .pre .account-low, c .before .before .before .before .before .before .before .pre .contract-low, c .before .before .before .before .before .before .before .pre .queue)
 
 limit-of-requires : tie.Need-limit-of-requires
 limit-of-requires c κs = search needs
@@ -27,7 +25,7 @@ is-day-requires : tie.Need-is-day-requires
 is-day-requires c κs = search needs
 
 enter-requires : tie.Need-enter-requires
-enter-requires c κs = rw (c .before .before .before .before .before .before .before .before .before .taker-of .ensures, c .before .before .before .before .before .limit-of .ensures, c .before .before .before .before .is-day .ensures, c .before .before .before .before .before .before .before .before .wide .ensures) (c .before .before .before .before .before .before .before .before .before .before .before .before .before .before .pre .ready)
+enter-requires c κs = rw (c .before .before .before .before .before .before .taker-of .ensures, c .before .before .before .before .before .limit-of .ensures, c .before .before .before .before .is-day .ensures, c .before .before .before .before .before .before .before .before .before .before .wide .ensures) (c .before .before .before .before .before .before .before .before .before .before .before .before .before .before .pre .ready)
 
 same-length : tie.Need-same-length
 same-length c = search needs
@@ -39,17 +37,17 @@ same-length-3 : tie.Need-same-length-3
 same-length-3 c = search needs
 
 returns : tie.Need-returns
-returns c = record { entry = rw (c .before .before .before .before .before .before .before .before .before .before .before .before .before .before .before .before .taker-of .ensures, c .before .before .before .before .before .before .before .before .before .before .before .before .limit-of .ensures, c .before .before .before .before .before .before .before .before .before .before .before .is-day .ensures, c .before .before .before .before .before .before .before .before .before .before .before .before .before .before .before .wide .ensures) at (c .before .before .before .before .before .before .enter .ensures) }
+returns c = record { entry = rw (c .before .before .before .before .before .before .before .before .before .before .before .before .before .taker-of .ensures, c .before .before .before .before .before .before .before .before .before .before .before .before .limit-of .ensures, c .before .before .before .before .before .before .before .before .before .before .before .is-day .ensures, c .before .before .before .before .before .before .before .before .before .before .before .before .before .before .before .before .before .wide .ensures) at (c .before .before .before .before .before .before .enter .ensures) }
 
 pub enter-spec : {M : Type 1} → statement M
 enter-spec =
     tie.close
     (tie.spec
-    taker-of-requires
     wide-requires
     sub-c
     mul-terms
     array-copy-out-terms
+    taker-of-requires
     limit-of-requires
     is-day-requires
     enter-requires

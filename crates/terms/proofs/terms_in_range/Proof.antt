@@ -1,6 +1,6 @@
 -- `terms::terms_in_range` meets its contract: the terms in the definition's order. Assumes nothing.
 use mathlib.Core.Bool.{true}
-use mathlib.Core.Path.{_≡_, sym, _∙_}
+use mathlib.Core.Path.{_≡_, refl, sym, _∙_}
 use borrow.Author.Tests.{not-true, not-false}
 use borrow.Author.Needs.{needs}
 use Rattle.rules.specs.Bounds.{within, tickMultiple, termsInRange}
@@ -25,6 +25,9 @@ contract4 c = contract3 (c .before .before)
 abbrev contract5 : tie.Else5 → Contract
 contract5 c = contract4 (c .before .before)
 
+abbrev contract6 : tie.Else6 → Contract
+contract6 c = contract5 (c .before .before)
+
 -- what each test that was passed says
 multiplier-passed : (c : tie.Else1) → within 1 1000 (contract1 c .multiplier) ≡ true
 multiplier-passed c = sym (c .before .within .ensures) ∙ not-false (c .before .within .result) (c .if1 .left)
@@ -40,6 +43,9 @@ band-passed c = sym (c .before .tick-multiple2 .ensures) ∙ not-false (c .befor
 
 limit-passed : (c : tie.Else5) → within 1 100000 (contract5 c .limit) ≡ true
 limit-passed c = sym (c .before .within3 .ensures) ∙ not-false (c .before .within3 .result) (c .if5 .left)
+
+rate-passed : (c : tie.Else6) → within 1 10000 (contract6 c .rate) ≡ true
+rate-passed c = sym (c .before .within4 .ensures) ∙ not-false (c .before .within4 .result) (c .if6 .left)
 
 within-requires : tie.Need-within-requires
 within-requires c κs = search needs
@@ -108,7 +114,27 @@ within-requires-4 c κs = search needs
 returns-6 : tie.Need-returns-6
 unfolding termsInRange
 returns-6 c =
-    let e5 = c .before in
+    let e5 = c .before .before in
+    let e4 = e5 .before .before in
+    let e3 = e4 .before .before in
+    let e2 = e3 .before .before in
+    let e1 = e2 .before .before in
+    let t = c .before .within4 in
+    rw (
+      multiplier-passed e1,
+      tick-passed e2,
+      reference-passed e3,
+      band-passed e4,
+      limit-passed e5,
+      ← t .ensures,
+      not-true (t .result) (c .if6 .taken),
+    )
+
+returns-7 : tie.Need-returns-7
+unfolding termsInRange
+returns-7 c =
+    let e6 = c .before in
+    let e5 = e6 .before .before in
     let e4 = e5 .before .before in
     let e3 = e4 .before .before in
     let e2 = e3 .before .before in
@@ -119,8 +145,9 @@ returns-6 c =
       reference-passed e3,
       band-passed e4,
       limit-passed e5,
-      c .within4 .ensures,
+      rate-passed e6,
     )
+    refl
 
 pub terms-in-range-spec : {M : Type 1} → statement M
 terms-in-range-spec =
@@ -137,4 +164,5 @@ terms-in-range-spec =
     within-requires-3
     returns-5
     within-requires-4
-    returns-6)
+    returns-6
+    returns-7)

@@ -7,8 +7,8 @@ use Rattle.book.proofs.prices.trade_price.Tie as tie
 enum-known-condition : tie.Need-enum-known-condition
 enum-known-condition c = search needs
 
-middle-requires : tie.Need-middle-requires
-middle-requires c κs = search needs
+paired-price-requires : tie.Need-paired-price-requires
+paired-price-requires c κs = search needs
 
 enum-told : tie.Need-enum-told
 enum-told c = search needs
@@ -18,7 +18,7 @@ enum-told-2 c = search needs
 
 returns : tie.Need-returns
 unfolding tradePrice
-returns c = rw (c .before .before .condition .given .1) (c .middle .ensures)
+returns c = rw (c .before .before .condition .given .1) (c .paired-price .ensures)
 
 returns-2 : tie.Need-returns-2
 unfolding tradePrice
@@ -33,7 +33,7 @@ trade-price-spec =
     tie.close
     (tie.spec
     enum-known-condition
-    middle-requires
+    paired-price-requires
     enum-told
     enum-told-2
     returns

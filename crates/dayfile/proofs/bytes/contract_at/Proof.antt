@@ -1,4 +1,5 @@
 -- `dayfile::bytes::contract_at` meets its contract, field by field. Assumes nothing.
+use mathlib.Core.Path.{refl}
 use borrow.Author.Needs.{needs}
 use Rattle.rules.specs.DayFile.{contractFrom}
 use Rattle.dayfile.proofs.bytes.contract_at.Statement.{statement}
@@ -46,18 +47,29 @@ u16-at-requires-3 c κs = search needs
 cast-rate : tie.Need-cast-rate
 cast-rate c = search needs
 
+add-u16-at-3 : tie.Need-add-u16-at-3
+add-u16-at-3 c = search needs
+
+u16-at-requires-4 : tie.Need-u16-at-requires-4
+u16-at-requires-4 c κs = search needs
+
+cast-method : tie.Need-cast-method
+cast-method c = search needs
+
 returns : tie.Need-returns
 unfolding contractFrom
 returns c =
-    let b = c .before .before .before in
+    let b = c .before .before .before .before in
     rw (
       b .before .before .u16-at .ensures,
       b .before .u16-at2 .ensures,
       b .u32-at .ensures,
-      c .before .before .u32-at2 .ensures,
-      c .before .u32-at3 .ensures,
-      c .u16-at3 .ensures,
+      c .before .before .before .u32-at2 .ensures,
+      c .before .before .u32-at3 .ensures,
+      c .before .u16-at3 .ensures,
+      c .u16-at4 .ensures,
     )
+    refl
 
 pub contract-at-spec : {M : Type 1} → statement M
 contract-at-spec =
@@ -77,4 +89,7 @@ contract-at-spec =
     add-u16-at-2
     u16-at-requires-3
     cast-rate
+    add-u16-at-3
+    u16-at-requires-4
+    cast-method
     returns)

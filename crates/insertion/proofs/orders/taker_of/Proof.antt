@@ -12,19 +12,30 @@ sub-c c = search needs
 best-price-requires : tie.Need-best-price-requires
 best-price-requires c κs = search needs
 
-sub-t9 : tie.Need-sub-t9
-sub-t9 c = search needs
+method-of-requires : tie.Need-method-of-requires
+method-of-requires c κs = search needs
 
-sub-t10 : tie.Need-sub-t10
-sub-t10 c = search needs
+sub-t11 : tie.Need-sub-t11
+sub-t11 c = search needs
+
+sub-t12 : tie.Need-sub-t12
+sub-t12 c = search needs
 
 mark-requires : tie.Need-mark-requires
 mark-requires c κs = search needs
 
 returns : tie.Need-returns
-returns c = rw (c .mark .ensures, c .before .before .before .best-price .ensures, c .before .before .before .before .wide .ensures)
+returns c = rw (c .mark .ensures, c .before .before .before .method-of .ensures, c .before .before .before .before .best-price .ensures, c .before .before .before .before .before .wide .ensures)
 
 pub taker-of-spec : {M : Type 1} → statement M
 taker-of-spec =
     tie.close
-    (tie.spec wide-requires sub-c best-price-requires sub-t9 sub-t10 mark-requires returns)
+    (tie.spec
+    wide-requires
+    sub-c
+    best-price-requires
+    method-of-requires
+    sub-t11
+    sub-t12
+    mark-requires
+    returns)
