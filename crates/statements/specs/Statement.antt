@@ -187,8 +187,8 @@ unfoldable pub startsAddUp : Exchange → ℕ → Clients → Bool
 startsAddUp x a b =
     all
     (λ c.
-      eqb (total (b .count) (λ k. startLong (b .starts) k c)) (holdingAt (x .accounts) a c .startlong)
-      && eqb (total (b .count) (λ k. startShort (b .starts) k c)) (holdingAt (x .accounts) a c .startshort))
+    eqb (total (b .count) (λ k. startLong (b .starts) k c)) (holdingAt (x .accounts) a c .startlong)
+    && eqb (total (b .count) (λ k. startShort (b .starts) k c)) (holdingAt (x .accounts) a c .startshort))
     (length (x .listings))
 
 -- each leg of the account in a trade has a posted order; "Postings of orders that didn't trade, or of another account, are passed over"

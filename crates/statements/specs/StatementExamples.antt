@@ -48,8 +48,8 @@ dayWith startlong trades =
         sells = [];
       } ∷ [];
       accounts = record { balance = pos 0; holdings = noHolding ∷ [] }
-      ∷ record { balance = pos 0; holdings = record { long = 0; short = 0; startlong = startlong; startshort = 0 } ∷ [] }
-      ∷ [];
+          ∷ record { balance = pos 0; holdings = record { long = 0; short = 0; startlong = startlong; startshort = 0 } ∷ [] }
+          ∷ [];
       trades = trades;
       next = 7;
       settlements = 0;

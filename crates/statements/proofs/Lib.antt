@@ -1,0 +1,2 @@
+pub mod AddUp
+pub mod Posted
