@@ -66,18 +66,18 @@ module _ (F : List Leg → ℤ) (nil : F [] ≡ pos 0) (add : (ls ms : List Leg)
       sumTo-ext n _ (λ k. F []) (λ k l. ap (λ (w : Bool). F (only w (leg sell false p q))) (ne-eqb 16 k (λ e. omega arith))) ∙ none
 
   module _ (a : ℕ) (b : Clients) (all : b .count ≡ n) (c : ℕ) where
-    whose-place : (whose : Bool) (number : ℕ) → (not whose || isPosted b number) ≡ true → whose ≡ true → clientPlace b number < n
-    whose-place true number e t = rw (← all) (posted-place b number e)
+    whose-place : (whose : Bool) (number : ℕ) → (not whose || isPosted (b .count) (b .postings) number) ≡ true → whose ≡ true → clientPlace (b .count) (b .postings) number < n
+    whose-place true number e t = rw (← all) (posted-place (b .count) (b .postings) number e)
     whose-place false number e t = absurd (false≢true t)
 
-    client-legs : (ts : List Trade) → allOf (tradePosted a b) ts ≡ true → sumTo n (λ k. F (legs k c (map (clientTrade a b) ts))) ≡ F (legs a c ts)
+    client-legs : (ts : List Trade) → allOf (tradePosted a (b .count) (b .postings)) ts ≡ true → sumTo n (λ k. F (legs k c (map (clientTrade a (b .count) (b .postings)) ts))) ≡ F (legs a c ts)
     unfolding allOf tradePosted legs clientTrade
     client-legs [] h = none
     client-legs (t ∷ ts) h =
-        let p = both-true (tradePosted a b t) _ h in
-        let q = both-true (not (eqb (t .buyer) a) || isPosted b (t .buyorder)) _ (p .0) in
-        sumTo-ext n _ (λ k. F (boughtBy k c (clientTrade a b t)) +ℤ (F (soldBy k c (clientTrade a b t)) +ℤ F (legs k c (map (clientTrade a b) ts))))
-        (λ k l. add _ _ ∙ ap (λ (z : ℤ). F (boughtBy k c (clientTrade a b t)) +ℤ z) (add _ _))
+        let p = both-true (tradePosted a (b .count) (b .postings) t) _ h in
+        let q = both-true (not (eqb (t .buyer) a) || isPosted (b .count) (b .postings) (t .buyorder)) _ (p .0) in
+        sumTo-ext n _ (λ k. F (boughtBy k c (clientTrade a (b .count) (b .postings) t)) +ℤ (F (soldBy k c (clientTrade a (b .count) (b .postings) t)) +ℤ F (legs k c (map (clientTrade a (b .count) (b .postings)) ts))))
+        (λ k l. add _ _ ∙ ap (λ (z : ℤ). F (boughtBy k c (clientTrade a (b .count) (b .postings) t)) +ℤ z) (add _ _))
         ∙ sumTo-add n _ _
         ∙ ap₂ (λ (u v : ℤ). u +ℤ v)
         (one-leg (eqb (t .contract) c) (eqb (t .buyer) a) _ (t .buyclose) (t .price) (t .lots) false (whose-place _ _ (q .0)))
@@ -93,7 +93,7 @@ module _ (F : List Leg → ℤ) (nil : F [] ≡ pos 0) (add : (ls ms : List Leg)
 pub record Granted (x : Exchange) (a : ℕ) (b : Clients) : Type 0 where
   pub few : b .count ≤ 16
   pub adds : startsAddUp x a b ≡ true
-  pub posted : allOf (tradePosted a b) (x .trades) ≡ true
+  pub posted : allOf (tradePosted a (b .count) (b .postings)) (x .trades) ≡ true
   pub covered : neverClosesMore (clientExchange x a b) ≡ true
 
 abbrev dayMoney : ℕ → ℕ → ℤ → ℤ → ℤ → ℤ

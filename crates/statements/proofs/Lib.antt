@@ -1,2 +1,6 @@
 pub mod AddUp
 pub mod Posted
+pub mod PostedTrades
+pub mod Postings
+pub mod Rows
+pub mod StartLots

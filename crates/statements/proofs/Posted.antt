@@ -22,14 +22,14 @@ use Rattle.statements.specs.Statement.{Clients, isPosted, clientPlace, c
 
 -- ---- postings
 
-pub posted-place : (b : Clients) (number : ℕ) → isPosted b number ≡ true → clientPlace b number < b .count
+pub posted-place : (clients : ℕ) (postings : List ℕ) (number : ℕ) → isPosted clients postings number ≡ true → clientPlace clients postings number < clients
 unfolding clientPlace isPosted
-posted-place b number e =
-    let v = getD (posted (b .postings) number) 0 0 in
-    let p = both-true (eqb (length (posted (b .postings) number)) 1) _ e .1 in
-    let q = both-true (leb 1 v) (leb v (b .count)) p in
+posted-place clients postings number e =
+    let v = getD (posted postings number) 0 0 in
+    let p = both-true (eqb (length (posted postings number)) 1) _ e .1 in
+    let q = both-true (leb 1 v) (leb v clients) p in
     let low = leb-true 1 v (q .0) in
-    let high = leb-true v (b .count) (q .1) in
+    let high = leb-true v clients (q .1) in
     rw e (omega arith)
 
 -- ---- accounts
@@ -55,29 +55,29 @@ module _ (b : Clients) where
 
     -- ---- prices
 
-    client-trades-in : (c : ℕ) (ts : List Trade) → tradesIn c (map (clientTrade a b) ts) ≡ map (clientTrade a b) (tradesIn c ts)
+    client-trades-in : (c : ℕ) (ts : List Trade) → tradesIn c (map (clientTrade a (b .count) (b .postings)) ts) ≡ map (clientTrade a (b .count) (b .postings)) (tradesIn c ts)
     unfolding tradesIn clientTrade
     client-trades-in c [] = refl
     client-trades-in c (t ∷ ts) = rw (client-trades-in c ts) (by (eqb (t .contract) c))
       where
         by : (here : Bool)
-            → pick here (clientTrade a b t ∷ map (clientTrade a b) (tradesIn c ts)) (map (clientTrade a b) (tradesIn c ts))
-            ≡ map (clientTrade a b) (pick here (t ∷ tradesIn c ts) (tradesIn c ts))
+            → pick here (clientTrade a (b .count) (b .postings) t ∷ map (clientTrade a (b .count) (b .postings)) (tradesIn c ts)) (map (clientTrade a (b .count) (b .postings)) (tradesIn c ts))
+            ≡ map (clientTrade a (b .count) (b .postings)) (pick here (t ∷ tradesIn c ts) (tradesIn c ts))
         by true = refl
         by false = refl
 
-    same-value : (ts : List Trade) → tradedValue (map (clientTrade a b) ts) ≡ tradedValue ts
+    same-value : (ts : List Trade) → tradedValue (map (clientTrade a (b .count) (b .postings)) ts) ≡ tradedValue ts
     unfolding tradedValue sumOf clientTrade
     same-value [] = refl
     same-value (t ∷ ts) = omega (arith, same-value ts)
 
-    same-lots : (ts : List Trade) → tradedLots (map (clientTrade a b) ts) ≡ tradedLots ts
+    same-lots : (ts : List Trade) → tradedLots (map (clientTrade a (b .count) (b .postings)) ts) ≡ tradedLots ts
     unfolding tradedLots sumOf clientTrade
     same-lots [] = refl
     same-lots (t ∷ ts) = omega (arith, same-lots ts)
 
     same-from : (tick reference : ℕ) (ts : List Trade) (buys sells : List Order)
-        → priceFrom tick reference (map (clientTrade a b) ts) buys sells ≡ priceFrom tick reference ts buys sells
+        → priceFrom tick reference (map (clientTrade a (b .count) (b .postings)) ts) buys sells ≡ priceFrom tick reference ts buys sells
     unfolding priceFrom weightedPrice
     same-from tick reference [] buys sells = refl
     same-from tick reference (t ∷ ts) buys sells = rw (same-value (t ∷ ts), same-lots (t ∷ ts))

@@ -62,8 +62,8 @@ unfoldable pub posted : List ℕ → ℕ → List ℕ
 posted postings number = inRow (length postings / 2) (postedTo postings number)
 
 -- once, and to a client that there is
-unfoldable pub isPosted : Clients → ℕ → Bool
-isPosted b number = eqb (length (posted (b .postings) number)) 1 && within 1 (b .count) (getD (posted (b .postings) number) 0 0)
+unfoldable pub isPosted : ℕ → List ℕ → ℕ → Bool
+isPosted clients postings number = eqb (length (posted postings number)) 1 && within 1 clients (getD (posted postings number) 0 0)
 
 -- ---- the day as the clients see it: an exchange whose accounts are the account's clients
 
@@ -72,21 +72,21 @@ abbrev pub others : ℕ
 others = maxClients
 
 -- the place of the client to whom an order is posted
-unfoldable pub clientPlace : Clients → ℕ → ℕ
-clientPlace b number = pick (isPosted b number) (placeOf (getD (posted (b .postings) number) 0 0)) others
+unfoldable pub clientPlace : ℕ → List ℕ → ℕ → ℕ
+clientPlace clients postings number = pick (isPosted clients postings number) (placeOf (getD (posted postings number) 0 0)) others
 
 -- A trade with clients in the account's place: each of its legs is the client's to whom the order is posted. Every other leg is the
 -- others', and counts as an open, so that nothing is asked of it.
-unfoldable pub clientTrade : ℕ → Clients → Trade → Trade
-clientTrade a b t =
+unfoldable pub clientTrade : ℕ → ℕ → List ℕ → Trade → Trade
+clientTrade a clients postings t =
     record {
       contract = t .contract;
       price = t .price;
       lots = t .lots;
       buyorder = t .buyorder;
       sellorder = t .sellorder;
-      buyer = pick (eqb (t .buyer) a) (clientPlace b (t .buyorder)) others;
-      seller = pick (eqb (t .seller) a) (clientPlace b (t .sellorder)) others;
+      buyer = pick (eqb (t .buyer) a) (clientPlace clients postings (t .buyorder)) others;
+      seller = pick (eqb (t .seller) a) (clientPlace clients postings (t .sellorder)) others;
       buyclose = pick (eqb (t .buyer) a) (t .buyclose) 0;
       sellclose = pick (eqb (t .seller) a) (t .sellclose) 0;
     }
@@ -112,7 +112,7 @@ clientExchange x a b =
     record {
       listings = x .listings;
       accounts = used (length (x .listings)) (suc maxClients) (tabulate (suc maxClients) (clientAccount b));
-      trades = map (clientTrade a b) (x .trades);
+      trades = map (clientTrade a (b .count) (b .postings)) (x .trades);
       next = x .next;
       settlements = x .settlements;
     }
@@ -192,16 +192,16 @@ startsAddUp x a b =
     (length (x .listings))
 
 -- each leg of the account in a trade has a posted order; "Postings of orders that didn't trade, or of another account, are passed over"
-unfoldable pub tradePosted : ℕ → Clients → Trade → Bool
-tradePosted a b t =
-    (not (eqb (t .buyer) a) || isPosted b (t .buyorder)) && (not (eqb (t .seller) a) || isPosted b (t .sellorder))
+unfoldable pub tradePosted : ℕ → ℕ → List ℕ → Trade → Bool
+tradePosted a clients postings t =
+    (not (eqb (t .buyer) a) || isPosted clients postings (t .buyorder)) && (not (eqb (t .seller) a) || isPosted clients postings (t .sellorder))
 
 -- on a well-formed state, the account by its number, and so much room in the output area
 unfoldable pub brokerRefusals : Exchange → ℕ → Clients → ℕ → List Refusal
 brokerRefusals x account b room =
     (2 when absent account (x .accounts))
     ∷ (25 when (ltb maxClients (b .count) || not (startsAddUp x (placeOf account) b)))
-    ∷ (26 when not (allOf (tradePosted (placeOf account) b) (x .trades)))
+    ∷ (26 when not (allOf (tradePosted (placeOf account) (b .count) (b .postings)) (x .trades)))
     ∷ (27 when not (neverClosesMore (clientExchange x (placeOf account) b)))
     ∷ (29 when ltb room (length (statementOf (clientExchange x (placeOf account) b) (b .count))))
     ∷ []

@@ -1,4 +1,8 @@
 // Client statements (ticket 9 of document 02).
+pub mod posting;
+pub mod starts;
+
+// 0, or the code that refuses, and how many bytes are written.
 pub struct Statement {
     pub code: u32,
     pub length: usize,
