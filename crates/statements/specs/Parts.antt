@@ -5,12 +5,19 @@ use mathlib.Core.Path.{_≡_}
 use Prim.Native.Nat.{ℕ, _*_, _<_, _≤_}
 use lib.ListN.{length, getD}
 use Rattle.laws.specs.Choice.{allOf}
+use Rattle.laws.specs.Tabulate.{tabulate}
+use Rattle.areas.specs.Lists.{padded}
 use Rattle.areas.specs.Records.{store}
 use Rattle.rules.specs.Exchange.{holdingAt, noTrade}
 use Rattle.rules.specs.Holdings.{bookTrades, neverBelowZero, startOfDay}
-use Rattle.rules.specs.Memory.{recordedTrades, tradeWords, used}
+use Rattle.rules.specs.Memory.{exchangeOf, recordedTrades, tradeWords, used}
+use Rattle.rules.specs.Settlement.{settlementPrice}
 use Rattle.rules.specs.declared.Account.{Account}
+use Rattle.rules.specs.declared.State.{State}
 use Rattle.rules.specs.declared.Trade.{Trade}
+use Rattle.margin.specs.Charge.{memoryOf}
+use Rattle.dayprofit.specs.Day.{Priceable}
+use Rattle.settlement.specs.Settling.{AllPayable, contractIn}
 use Rattle.audit.specs.Parts.{Booked}
 use Rattle.statements.specs.Statement.{Clients, clientTrade, legCount, tradePosted}
 use Rattle.statements.specs.declared.posting.Posting.{Posting}
@@ -42,3 +49,14 @@ pub record Replayable (accounts : List Account) (contracts : ℕ) (area : List �
 pub record ReplayIs (accounts : List Account) (contracts : ℕ) (area : List ℕ) (count : ℕ) (r : Held) : Type 0 where
   pub covered : r .covered ≡ neverBelowZero (startOfDay (used contracts 17 accounts)) (recordedTrades area count)
   pub held : r .covered ≡ true → used contracts 17 (r .accounts) ≡ bookTrades (startOfDay (used contracts 17 accounts)) (recordedTrades area count)
+
+-- the settlement prices of the contracts in use, with zeros past their count
+abbrev pub pricesDue : State → List ℕ → List ℕ → List ℕ → List ℕ
+pricesDue s buys sells area = padded 4 0 (tabulate (s .contractcount) (settlementPrice (exchangeOf (memoryOf s buys sells area))))
+
+-- a state whose contracts can be priced, and whose accounts can be paid at those prices
+pub record Profitable (s : State) (buys sells area : List ℕ) : Type 0 where
+  pub few : s .contractcount ≤ 4
+  pub priceable : (c : ℕ) → c < s .contractcount
+      → Priceable (contractIn s c) buys (getD (s .buys) c 0) sells (getD (s .sells) c 0) area (s .tradecount) c
+  pub payable : AllPayable s area (pricesDue s buys sells area)

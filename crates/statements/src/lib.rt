@@ -1,5 +1,6 @@
 // Client statements (ticket 9 of document 02).
 pub mod posting;
+pub mod profits;
 pub mod replay;
 pub mod starts;
 
