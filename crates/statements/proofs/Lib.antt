@@ -4,4 +4,5 @@ pub mod PostedTrades
 pub mod Postings
 pub mod Replaying
 pub mod Rows
+pub mod Sections
 pub mod StartLots

@@ -1,14 +1,15 @@
 -- What the functions of this crate ask for and give back, for their contracts. Assumes nothing.
 use mathlib.Core.Bool.{Bool, true}
-use mathlib.Core.List.{List, [], map}
+use mathlib.Core.List.{List, [], _++_, map}
 use mathlib.Core.Path.{_≡_}
 use Prim.Native.Nat.{ℕ, _*_, _<_, _≤_}
+use lib.IntN.{ℤ, pos}
 use lib.ListN.{length, getD}
 use Rattle.laws.specs.Choice.{allOf}
 use Rattle.laws.specs.Tabulate.{tabulate}
 use Rattle.areas.specs.Lists.{padded}
 use Rattle.areas.specs.Records.{store}
-use Rattle.rules.specs.Exchange.{holdingAt, noTrade}
+use Rattle.rules.specs.Exchange.{holdingAt, noAccount, noHolding, noTrade}
 use Rattle.rules.specs.Holdings.{bookTrades, neverBelowZero, startOfDay}
 use Rattle.rules.specs.Memory.{exchangeOf, recordedTrades, tradeWords, used}
 use Rattle.rules.specs.Settlement.{settlementPrice}
@@ -19,7 +20,7 @@ use Rattle.margin.specs.Charge.{memoryOf}
 use Rattle.dayprofit.specs.Day.{Priceable}
 use Rattle.settlement.specs.Settling.{AllPayable, contractIn}
 use Rattle.audit.specs.Parts.{Booked}
-use Rattle.statements.specs.Statement.{Clients, clientTrade, legCount, tradePosted}
+use Rattle.statements.specs.Statement.{Clients, clientTrade, holdingBytes, holdingsBytes, inRow, legCount, profitBytes, section, tradePosted, tradesBytes}
 use Rattle.statements.specs.declared.posting.Posting.{Posting}
 use Rattle.statements.specs.declared.replay.Held.{Held}
 
@@ -60,3 +61,27 @@ pub record Profitable (s : State) (buys sells area : List ℕ) : Type 0 where
   pub priceable : (c : ℕ) → c < s .contractcount
       → Priceable (contractIn s c) buys (getD (s .buys) c 0) sells (getD (s .sells) c 0) area (s .tradecount) c
   pub payable : AllPayable s area (pricesDue s buys sells area)
+
+-- ---- the statement's bytes, from what the code has worked out
+
+abbrev pub accountBytes : Account → ℕ → List ℕ
+accountBytes a contracts = inRow contracts (λ c. holdingBytes (getD (a .holdings) c noHolding))
+
+abbrev pub accountsBytes : List Account → ℕ → ℕ → List ℕ
+accountsBytes accounts clients contracts = inRow clients (λ k. accountBytes (getD accounts k noAccount) contracts)
+
+abbrev pub bookBytes : List ℤ → List ℤ → ℕ → List ℕ
+bookBytes closing holding clients = inRow clients (λ k. profitBytes (getD closing k (pos 0)) (getD holding k (pos 0)))
+
+abbrev pub told : List Trade → ℕ → List Account → List ℤ → List ℤ → ℕ → ℕ → List ℕ
+told ts legs accounts closing holding clients contracts =
+    section legs (tradesBytes ts)
+    ++ (section (clients * contracts) (accountsBytes accounts clients contracts) ++ section clients (bookBytes closing holding clients))
+
+pub record Tellable (area : List ℕ) (count legs : ℕ) (accounts : List Account) (closing holding : List ℤ) (clients contracts : ℕ) (out : List ℕ) : Type 0 where
+  pub few-clients : clients ≤ 16
+  pub few-contracts : contracts ≤ 4
+  pub area-room : 9 * count ≤ length area
+  pub few-legs : legs ≤ 2_048
+  pub each : (i : ℕ) → i < count → getD (recordedTrades area count) i noTrade .contract < 4
+  pub room : length (told (recordedTrades area count) legs accounts closing holding clients contracts) ≤ length out

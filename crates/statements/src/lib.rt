@@ -3,6 +3,7 @@ pub mod posting;
 pub mod profits;
 pub mod replay;
 pub mod starts;
+pub mod writing;
 
 // 0, or the code that refuses, and how many bytes are written.
 pub struct Statement {
