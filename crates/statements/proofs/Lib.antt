@@ -1,4 +1,6 @@
 pub mod AddUp
+pub mod Answering
+pub mod Days
 pub mod Posted
 pub mod PostedTrades
 pub mod Postings

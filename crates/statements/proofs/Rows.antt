@@ -59,3 +59,8 @@ module _ (f : ℕ → ℕ) where
   unfolding total
   total-at i zero l = absurd (omega arith)
   total-at i (suc n) l = ⊎-elim (λ (e : i ≡ n). rw e (omega arith)) (λ (k : i < n). omega (arith, total-at i n k)) (eq-or-lt-of-le (le-of-suc-le-suc l))
+
+  pub total-bound : (b n : ℕ) → ((i : ℕ) → f i ≤ b) → total n f ≤ b * n
+  unfolding total
+  total-bound b zero h = omega arith
+  total-bound b (suc n) h = omega (arith, total-bound b n h, h n, mul-suc b n)

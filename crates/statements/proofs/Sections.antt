@@ -23,7 +23,7 @@ use Rattle.lines.specs.Written.{Written}
 use Rattle.lines.proofs.Text.{then, no-byte, looser}
 use Rattle.mending.specs.Mend.{two, four, eight}
 use Rattle.mending.proofs.Writing.{length-four}
-use Rattle.statements.specs.Statement.{inRow, isClient, legBytes, tradeBytes, tradesBytes, holdingBytes, profitBytes, section, unsigned}
+use Rattle.statements.specs.Statement.{inRow, isClient, legBytes, legsIn, tradeBytes, tradesBytes, holdingBytes, profitBytes, section, unsigned}
 use Rattle.statements.proofs.Rows.{row-none, row-more}
 
 -- no looser than they are
@@ -80,6 +80,29 @@ module _ {b₀ b₁ b₂ b₃ b₄ b₅ b₆ b₇ : List ℕ} {at p₁ p₂ p₃
 pub length-leg : (t : Trade) (place sell close order : ℕ) → length (legBytes t place sell close order) ≡ 16
 unfolding legBytes four two
 length-leg t place sell close order = refl
+
+-- sixteen bytes for each leg of a client
+pub length-trade : (t : Trade) → length (tradeBytes t) ≡ 16 * legsIn t
+unfolding tradeBytes legsIn legBytes four two
+length-trade t = by (isClient (t .buyer)) (isClient (t .seller))
+  where
+    by : (buys sells : Bool)
+        → length (pick buys (legBytes t (t .buyer) 0 (t .buyclose) (t .buyorder)) [] ++ pick sells (legBytes t (t .seller) 1 (t .sellclose) (t .sellorder)) [])
+        ≡ 16 * (pick buys 1 0 + pick sells 1 0)
+    by true true = refl
+    by true false = refl
+    by false true = refl
+    by false false = refl
+
+pub two-legs : (t : Trade) → legsIn t ≤ 2
+unfolding legsIn
+two-legs t = by (isClient (t .buyer)) (isClient (t .seller))
+  where
+    by : (buys sells : Bool) → pick buys 1 0 + pick sells 1 0 ≤ 2
+    by true true = omega arith
+    by true false = omega arith
+    by false true = omega arith
+    by false false = omega arith
 
 module _ (t : Trade) (place sell close order : ℕ) where
   abbrev sideBytes : List ℕ
