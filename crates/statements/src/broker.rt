@@ -52,7 +52,17 @@ fn tell<'a>(
     let closing = books.closing;
     let holding = books.holding;
     let now = held.accounts;
-    writing::put_statement(out, area, count, legs, now, closing, holding, clients, contracts);
+    writing::put_statement(
+        out,
+        area,
+        count,
+        legs,
+        now,
+        closing,
+        holding,
+        clients,
+        contracts,
+    );
     Statement { code: 0, length }
 }
 

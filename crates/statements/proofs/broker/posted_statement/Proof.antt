@@ -1,3 +1,10 @@
+-- `broker::posted_statement` meets its contract. Assumes nothing.
+use mathlib.Core.List.{[]}
+use Prim.Native.Nat.{ℕ}
+use native.Mathlib.Omega.{arith}
+use borrow.Author.Tests.{not-false}
+use lib.ListN.{length-replicate}
+use Rattle.statements.proofs.Brokering.{few-trades, trade-room, brokered, posted-told, posted-26}
 use borrow.Author.Needs.{needs}
 use Rattle.statements.proofs.broker.posted_statement.Statement.{statement}
 use Rattle.statements.proofs.broker.posted_statement.Tie as tie
@@ -8,41 +15,32 @@ use Rattle.statements.proofs.broker.tell.Reads as tell-reads
 use Rattle.statements.proofs.posting.post_trades.Reads as post-trades-reads
 use Rattle.statements.proofs.refused.Reads as refused-reads
 
--- src/broker.rt:76:81
 slice-aggregate-post-trades : tie.Need-slice-aggregate-post-trades
 slice-aggregate-post-trades c = search needs
 
--- src/broker.rt:76:9
 post-trades-requires : tie.Need-post-trades-requires
-post-trades-requires c κs = ?
+post-trades-requires c κs = (c .before .before .before .before .before .before .before .pre .few, few-trades _ _ _ _ _ _ _ (c .before .before .before .before .before .before .before .pre) [], trade-room _ _ _ _ _ _ _ (c .before .before .before .before .before .before .before .pre) [], omega (arith, few-trades _ _ _ _ _ _ _ (c .before .before .before .before .before .before .before .pre) []))
 
--- src/broker.rt:78:9
 refused-requires : tie.Need-refused-requires
 refused-requires c κs = search needs
 
--- src/broker.rt:78:9
 returns : tie.Need-returns
-returns c = ?
+returns c = posted-26 _ _ _ _ _ _ _ (c .before .before .before .before .before .before .before .before .before .before .before .before .pre) _ _ (c .before .before .before .before .post-trades .ensures .all) (c .before .if1 .taken) _ _ (c .refused .ensures)
 
--- src/broker.rt:85:9
 slice-aggregate-tell : tie.Need-slice-aggregate-tell
 slice-aggregate-tell c = search needs
 
--- src/broker.rt:87:9
 wide-requires : tie.Need-wide-requires
 wide-requires c κs = search needs
 
--- src/broker.rt:81:5
 tell-requires : tie.Need-tell-requires
-tell-requires c κs = ?
+tell-requires c κs = rw (c .before .wide .ensures) (brokered _ _ _ _ _ _ _ (c .before .before .before .before .before .before .before .before .before .before .before .before .before .before .pre) _ _ _ (length-replicate {A = ℕ} 9_216 0) (c .before .before .before .before .before .before .post-trades .ensures .content (not-false _ (c .before .before .before .if1 .left))) _ (c .before .before .before .before .before .before .post-trades .ensures .legs (not-false _ (c .before .before .before .if1 .left))))
 
--- src/broker.rt:60:1
 same-length : tie.Need-same-length
 same-length c = search needs
 
--- src/broker.rt:60:1
 returns-2 : tie.Need-returns-2
-returns-2 c = ?
+returns-2 c = posted-told _ _ _ _ _ _ _ (c .before .before .before .before .before .before .before .before .before .before .before .before .before .before .before .before .before .pre) _ _ _ (length-replicate {A = ℕ} 9_216 0) (c .before .before .before .before .before .before .before .before .before .post-trades .ensures .content (not-false _ (c .before .before .before .before .before .before .if1 .left))) _ (c .before .before .before .before .before .before .before .before .before .post-trades .ensures .all) (not-false _ (c .before .before .before .before .before .before .if1 .left)) _ (c .before .before .before .before .wide .ensures) _ _ _ (c .before .before .tell .ensures)
 
 pub posted-statement-spec : {M : Type 1} → statement M
 posted-statement-spec =
