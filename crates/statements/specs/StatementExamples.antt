@@ -43,7 +43,7 @@ unfoldable pub dayWith : ℕ → List Trade → Exchange
 dayWith startlong trades =
     record {
       listings = record {
-        contract = record { multiplier = 10; tick = 1; reference = 100; band = 10; limit = 1_000; rate = 1_000; phase = 1; last = 103 };
+        contract = record { multiplier = 10; tick = 1; reference = 100; band = 10; limit = 1_000; rate = 1_000; method = 0; phase = 1; last = 103 };
         buys = [];
         sells = [];
       } ∷ [];
