@@ -1,5 +1,4 @@
 -- `writing::put_profit` meets its contract. Assumes nothing.
-use mathlib.Core.Path.{_∙_, ap}
 use mir.Facts.{toZ-ofZ}
 use Rattle.statements.proofs.Sections.{profit-written}
 use borrow.Author.Needs.{needs}
