@@ -1,5 +1,5 @@
 -- A statement's refusals, one after the other, and what the output area holds. Assumes nothing.
-use mathlib.Core.Bool.{Bool, true, false, not, _||_}
+use mathlib.Core.Bool.{Bool, true, false, not}
 use mathlib.Core.List.{List, [], _∷_}
 use mathlib.Core.Path.{_≡_, refl, sym, ap, subst, _∙_}
 use Prim.Native.Nat.{ℕ, _<_, _≤_}
@@ -7,12 +7,12 @@ use native.Mathlib.Omega.{arith}
 use borrow.Author.Tests.{lt-ltb, le-ltb}
 use lib.Dec.{eqb, ltb}
 use lib.ListN.{length}
-use Rattle.laws.specs.Choice.{pick}
 use Rattle.areas.specs.Lists.{over}
 use Rattle.rules.specs.Answers.{Refusal, firstOf, _when_}
 use Rattle.rules.specs.Exchange.{Exchange}
 use Rattle.statements.specs.Parts.{AnswerIs, ToldIs, lastRefusals, refusedWith}
-use Rattle.statements.specs.Statement.{neverClosesMore, statementOf}
+use Rattle.clients.specs.Clients.{neverClosesMore}
+use Rattle.statements.specs.Statement.{statementOf}
 use Rattle.statements.specs.declared.Statement.{Statement}
 
 -- ---- codes

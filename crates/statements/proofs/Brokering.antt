@@ -3,21 +3,18 @@
 use mathlib.Core.Bool.{Bool, true, false, not}
 use mathlib.Core.List.{List, [], _∷_, map}
 use mathlib.Core.Path.{_≡_, refl, sym, ap, subst, _∙_}
-use Prim.Native.Nat.{ℕ, _+_, _*_, _<_, _≤_}
+use Prim.Native.Nat.{ℕ, _*_, _<_, _≤_}
 use native.Mathlib.Omega.{arith}
 use borrow.Author.Tests.{le-ltb, eqb-true, ltb-true, ltb-false}
 use lib.Dec.{eqb, ltb}
-use lib.ListN.{length, getD, length-map, List·getD-eq-default}
+use lib.ListN.{length, getD, length-map}
 use Rattle.laws.specs.Choice.{pick, all-at, allOf, allOf-at, both-true}
 use Rattle.laws.specs.Lists.{getD-map-lt}
 use Rattle.laws.specs.Tabulate.{tabulate, getD-tabulate}
-use Rattle.areas.specs.Records.{records, store}
+use Rattle.areas.specs.Records.{store}
 use Rattle.areas.proofs.Records.{length-store, records-store}
-use Rattle.rules.specs.Answers.{firstOf, _when_}
-use Rattle.rules.specs.Exchange.{Exchange, accountAt, holdingAt, listingAt, noAccount, noHolding, noTrade}
+use Rattle.rules.specs.Exchange.{Exchange, accountAt, holdingAt, noAccount, noHolding, noTrade}
 use Rattle.rules.specs.Memory.{Memory, exchangeOf, listingIn, recordedTrades, tradeWords, used, wellFormedMemory}
-use Rattle.rules.specs.Settlement.{settlementPrice}
-use Rattle.rules.specs.declared.Account.{Account}
 use Rattle.rules.specs.WellFormed.{tradeInRange}
 use Rattle.rules.specs.declared.State.{State}
 use Rattle.rules.specs.declared.Trade.{Trade}
@@ -25,17 +22,17 @@ use Rattle.rules.proofs.Codecs.{length-trades, trade-codec}
 use Rattle.rules.proofs.InUse.{accounts-in-use, contracts-in-use}
 use Rattle.accounting.proofs.Facts.{TradeFacts, facts, trade-facts}
 use Rattle.invariants.proofs.MemoryRoom.{memory-ok}
-use Rattle.dayprofit.specs.Day.{AllSized, Priceable, SizedTrades}
-use Rattle.engine.specs.Outcome.{WellFormedState, memory}
-use Rattle.settlement.specs.Settling.{contractIn}
+use Rattle.dayprofit.specs.Day.{AllSized, SizedTrades}
+use Rattle.engine.specs.Outcome.{memory}
 use Rattle.settlement.proofs.Formed.{accounts-declared, contract-at, contracts-four, price-high, priceable, sized-trades}
 use Rattle.audit.specs.Parts.{Booked}
-use Rattle.statements.specs.Parts.{AnswerIs, Brokered, Postable, PostedIs, ToldIs, broker, clientTrades, clientsDay, clientsWith, lastRefusals, refusedWith}
-use Rattle.statements.specs.Statement.{Clients, clientAccount, clientExchange, clientPlace, clientTrade, isPosted, legCount, startHolding, startLong, startShort, startsAddUp, total, tradePosted}
+use Rattle.clients.specs.Parts.{clientTrades, clientsWith}
+use Rattle.statements.specs.Parts.{Brokered, Postable, PostedIs, ToldIs, broker, clientsDay, refusedWith}
+use Rattle.clients.specs.Clients.{Clients, clientAccount, clientExchange, clientPlace, clientTrade, isPosted, legCount, startHolding, startLong, startShort, startsAddUp, total, tradePosted}
 use Rattle.statements.specs.declared.Statement.{Statement}
 use Rattle.statements.proofs.Answering.{code-here, code-later, refused-is, same-code}
-use Rattle.statements.proofs.Posted.{client-holding, posted-place, same-price}
-use Rattle.statements.proofs.Rows.{total-at}
+use Rattle.clients.proofs.Posted.{client-holding, posted-place, same-price}
+use Rattle.clients.proofs.Rows.{total-at}
 
 -- ---- a trade with clients in the account's place
 

@@ -1,22 +1,21 @@
 -- The clients' day as the code works it out: the clients as accounts, their replay, their profit, and the statement's bytes. Assumes
 -- nothing.
-use mathlib.Core.Bool.{Bool, true, false}
-use mathlib.Core.List.{List, [], _∷_, _++_, map}
+use mathlib.Core.Bool.{true}
+use mathlib.Core.List.{List}
 use mathlib.Core.Path.{_≡_, refl, sym, ap, ap₂, _∙_, subst}
-use Prim.Native.Nat.{ℕ, zero, suc, _+_, _*_, _^_, _<_, _≤_}
+use Prim.Native.Nat.{ℕ, _+_, _*_, _<_, _≤_}
 use native.Mathlib.Nat.{mul-assoc, mul-comm}
 use native.Mathlib.Omega.{arith}
 use lib.IntN.{ℤ, pos, _*ℤ_}
-use lib.ListN.{length, getD, take, length-append}
-use Rattle.laws.specs.Bound.{Within, within-pos}
-use Rattle.laws.specs.Choice.{pick}
+use lib.ListN.{length, getD, length-append}
+use Rattle.laws.specs.Bound.{within-pos}
 use Rattle.laws.specs.Sums.{sumTo, sumTo-ext}
 use Rattle.laws.specs.Tabulate.{tabulate, length-tabulate, getD-tabulate}
-use Rattle.areas.specs.Lists.{over, padded}
+use Rattle.areas.specs.Lists.{padded}
 use Rattle.areas.proofs.Lists.{getD-padded}
 use Rattle.rules.specs.Exchange.{Exchange, Listing, accountAt, holdingAt, listingAt, noAccount, noHolding, noTrade}
 use Rattle.rules.specs.Holdings.{neverBelowZero, startOfDay}
-use Rattle.rules.specs.Memory.{Memory, Declared, exchangeOf, listingIn, queueIn, recordedTrades, used}
+use Rattle.rules.specs.Memory.{Declared, exchangeOf, listingIn, recordedTrades, used}
 use Rattle.rules.specs.Settlement.{Day, closingProfit, dayOf, dayStart, afterLegs, legs, holdingGain, holdingProfit, settlementPrice}
 use Rattle.rules.specs.declared.Account.{Account}
 use Rattle.rules.specs.declared.Contract.{Contract}
@@ -30,13 +29,14 @@ use Rattle.accounting.proofs.Replay.{replay-covered}
 use Rattle.margin.specs.Charge.{memoryOf}
 use Rattle.settlement.specs.Settling.{AllPayable, BooksIs, accountIn, closingTo, contractIn, dayIn, holdingIn, holdingTo}
 use Rattle.settlement.specs.declared.balances.Books.{Books}
-use Rattle.mending.specs.Mend.{four}
 use Rattle.mending.proofs.Writing.{length-four}
-use Rattle.statements.specs.Parts.{Brokered, Profitable, Replayable, ReplayIs, Tellable, accountsBytes, bookBytes, clientState, clientsDay, clientsWith, pricesDue, told}
-use Rattle.statements.specs.Statement.{clientAccount, holdingBytes, holdingsBytes, holdingsNow, inRow, legCount, legsIn, neverClosesMore, profitBytes, profitsBytes, section, statementOf, total, tradeBytes, tradesBytes}
-use Rattle.statements.specs.declared.replay.Held.{Held}
-use Rattle.statements.proofs.Rows.{length-row, length-row-total, row-ext, total-bound}
-use Rattle.statements.proofs.Sections.{few-entries, length-holding, length-profit, length-trade, two-legs}
+use Rattle.clients.specs.Parts.{Replayable, ReplayIs, clientsWith}
+use Rattle.statements.specs.Parts.{Brokered, Profitable, Tellable, accountsBytes, bookBytes, clientState, clientsDay, pricesDue, told}
+use Rattle.clients.specs.Clients.{clientAccount, holdingsNow, inRow, legCount, legsIn, neverClosesMore}
+use Rattle.statements.specs.Statement.{holdingBytes, holdingsBytes, profitBytes, profitsBytes, statementOf, tradeBytes, tradesBytes}
+use Rattle.clients.specs.declared.replay.Held.{Held}
+use Rattle.clients.proofs.Rows.{length-row, length-row-total, row-ext, total-bound}
+use Rattle.statements.proofs.Sections.{length-holding, length-profit, length-trade, two-legs}
 
 -- ---- the clients as accounts
 

@@ -1,12 +1,6 @@
-pub mod AddUp
 pub mod Answering
 pub mod Brokering
 pub mod Days
-pub mod Posted
-pub mod PostedTrades
-pub mod Postings
+pub mod Paid
 pub mod Refusing
-pub mod Replaying
-pub mod Rows
 pub mod Sections
-pub mod StartLots

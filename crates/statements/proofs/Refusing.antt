@@ -1,23 +1,24 @@
 -- From the tests as the code makes them to the code of a statement. Assumes nothing.
 use mathlib.Core.Bool.{Bool, true, false, not, _&&_, _||_}
-use mathlib.Core.List.{List, [], _∷_}
+use mathlib.Core.List.{List}
 use mathlib.Core.Path.{_≡_, refl, sym, ap, _∙_}
 use Prim.Native.Nat.{ℕ, _-_, _<_, _≤_}
 use native.Mathlib.Omega.{arith}
 use borrow.Author.Tests.{eqb-false, le-ltb, lt-ltb, ltb-false, not-false}
 use lib.Dec.{eqb, ltb}
 use lib.ListN.{length, getD}
-use Rattle.laws.specs.Choice.{all, all-ext, either-false, true-either, either-true, allOf}
-use Rattle.rules.specs.Answers.{firstOf, _when_}
-use Rattle.rules.specs.Exchange.{Exchange, absent, holdingAt, noAccount, noHolding, placeOf}
+use Rattle.laws.specs.Choice.{all, all-ext, either-false, true-either, either-true}
+use Rattle.rules.specs.Answers.{firstOf}
+use Rattle.rules.specs.Exchange.{Exchange, absent, noAccount, noHolding, placeOf}
 use Rattle.rules.specs.Memory.{Memory, exchangeOf, wellFormedMemory}
 use Rattle.rules.specs.declared.Holding.{Holding}
 use Rattle.rules.specs.declared.State.{State}
 use Rattle.rules.proofs.InUse.{contracts-in-use, holding-in-use}
 use Rattle.engine.specs.Outcome.{WellFormedState, isAbsent, memory}
 use Rattle.engine.proofs.Formed.{formed, no-account}
-use Rattle.statements.specs.Parts.{AnswerIs, Postable, PostedIs, broker, lastRefusals, refusedWith}
-use Rattle.statements.specs.Statement.{Clients, StatementIs, brokerRefusals, clientExchange, startLong, startShort, startsAddUp, statementCode, total, tradePosted}
+use Rattle.statements.specs.Parts.{AnswerIs, Postable, PostedIs, broker, refusedWith}
+use Rattle.clients.specs.Clients.{Clients, clientExchange, startLong, startShort, startsAddUp, total}
+use Rattle.statements.specs.Statement.{StatementIs, brokerRefusals, statementCode}
 use Rattle.statements.specs.declared.Statement.{Statement}
 use Rattle.statements.proofs.Answering.{code-here, code-later, refused-is}
 

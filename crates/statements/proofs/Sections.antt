@@ -1,30 +1,31 @@
 -- The statement's bytes written one after the other. Assumes nothing.
 use mathlib.Core.Bool.{Bool, true, false, true≢false}
 use mathlib.Core.List.{List, [], _∷_, _++_}
-use mathlib.Core.Path.{_≡_, refl, sym, ap, _∙_}
+use mathlib.Core.Path.{_≡_, refl, ap, _∙_}
 use Prim.Native.Nat.{ℕ, zero, suc, _+_, _-_, _*_, _<_, _≤_, _^_}
 use native.Mathlib.Nat.{le-refl, not-suc-le-zero, mul-le-mul-right}
 use native.Mathlib.Omega.{arith}
 use borrow.Author.Tests.{lt-ltb, le-ltb, ltb-true}
-use lib.Dec.{eqb, ltb}
+use lib.Dec.{eqb}
 use lib.IntN.{ℤ, pos, negsuc, natAbs}
-use lib.ListN.{length, getD, drop, length-append}
+use lib.ListN.{length, getD, length-append}
 use lib.Signed.{ltZ}
 use mir.Syntax.{w64}
 use mir.Val.{SFits}
 use Rattle.laws.specs.Choice.{pick}
 use Rattle.areas.specs.Lists.{over}
 use Rattle.rules.specs.Exchange.{noTrade}
-use Rattle.rules.specs.Memory.{recordedTrades, tradeFrom}
+use Rattle.rules.specs.Memory.{recordedTrades}
 use Rattle.rules.specs.declared.Holding.{Holding}
 use Rattle.rules.specs.declared.Trade.{Trade}
-use Rattle.rules.proofs.Codecs.{length-trades, trade-at}
+use Rattle.rules.proofs.Codecs.{length-trades}
 use Rattle.lines.specs.Written.{Written}
 use Rattle.lines.proofs.Text.{then, no-byte, looser}
 use Rattle.mending.specs.Mend.{two, four, eight}
 use Rattle.mending.proofs.Writing.{length-four}
-use Rattle.statements.specs.Statement.{inRow, isClient, legBytes, legsIn, tradeBytes, tradesBytes, holdingBytes, profitBytes, section, unsigned}
-use Rattle.statements.proofs.Rows.{row-none, row-more}
+use Rattle.clients.specs.Clients.{inRow, isClient, legsIn}
+use Rattle.statements.specs.Statement.{legBytes, tradeBytes, tradesBytes, holdingBytes, profitBytes, section, unsigned}
+use Rattle.clients.proofs.Rows.{row-more}
 
 -- no looser than they are
 pub exact : {before bytes after : List ℕ} {most at next : ℕ} → Written most before at bytes after next → Written (length bytes) before at bytes after next

@@ -3,26 +3,26 @@
 -- lot bought at 103 (order 5) is closed in the same trade (order 6). The settlement price due is 719 / 7, rounded down: 102.
 -- Client 1 holds 7 and gains 3 x 2 x 10 on what it holds; client 2 holds nothing and gained 2 x 4 x 10 by closing. By the account's own
 -- order the parts are 110 and 30. Assumes nothing.
-use mathlib.Core.Bool.{Bool, true, false, _&&_}
-use mathlib.Core.List.{List, [], _∷_, _++_, map}
+use mathlib.Core.Bool.{Bool, true}
+use mathlib.Core.List.{List, [], _∷_, _++_}
 use mathlib.Core.Path.{_≡_, refl}
 use Prim.Native.Nat.{ℕ}
 use lib.Dec.{eqb}
-use lib.IntN.{ℤ, pos, negsuc}
-use lib.ListN.{length, replicate}
+use lib.IntN.{pos, negsuc}
+use lib.ListN.{replicate}
 use Rattle.laws.specs.Choice.{all, allOf}
 use Rattle.laws.specs.Sums.{sumOf, sumTo}
 use Rattle.laws.specs.Tabulate.{tabulate}
-use Rattle.areas.specs.Records.{decode, records}
 use Rattle.rules.specs.Answers.{firstOf}
-use Rattle.rules.specs.Exchange.{Exchange, absent, accountAt, holdingAt, listingAt, noHolding, noTrade}
+use Rattle.rules.specs.Exchange.{Exchange, absent, accountAt, holdingAt, listingAt, noHolding}
 use Rattle.rules.specs.Holdings.{afterLeg, bookLeg, bookTrade, bookTrades, legCovered, neverBelowZero, startOfDay}
 use Rattle.rules.specs.Matching.{tradedLots}
-use Rattle.rules.specs.Memory.{Memory, countsInRange, exchangeOf, hasRoom, listingIn, recordedTrades, wellFormedMemory}
+use Rattle.rules.specs.Memory.{Memory, countsInRange, hasRoom, wellFormedMemory}
 use Rattle.rules.specs.Settlement.{afterDayLeg, afterLegs, closingProfit, dayOf, dayStart, firstLots, gain, holdingGain, holdingProfit, legs, only, otherLots, priceFrom, settlementPrice, tradedValue, tradesIn, weightedPrice}
 use Rattle.rules.specs.declared.Trade.{Trade}
 use Rattle.mending.specs.Mend.{two, four, eight}
-use Rattle.statements.specs.Statement.{Clients, brokerRefusals, clientAccount, clientExchange, clientPlace, clientTrade, holdingBytes, holdingsBytes, holdingsNow, inRow, isPosted, legBytes, legCount, legsIn, neverClosesMore, posted, postedTo, profitBytes, profitsBytes, startsAddUp, statementCode, statementOf, total, tradeBytes, tradePosted, tradesBytes, unsigned}
+use Rattle.clients.specs.Clients.{Clients, clientAccount, clientExchange, clientPlace, clientTrade, holdingsNow, inRow, isPosted, legCount, legsIn, neverClosesMore, posted, postedTo, startsAddUp, total, tradePosted}
+use Rattle.statements.specs.Statement.{brokerRefusals, holdingBytes, holdingsBytes, legBytes, profitBytes, profitsBytes, statementCode, statementOf, tradeBytes, tradesBytes, unsigned}
 
 unfoldable pub trade : ℕ → ℕ → ℕ → ℕ → ℕ → ℕ → ℕ → ℕ → Trade
 trade price lots buyorder sellorder buyer seller buyclose sellclose =

@@ -3,11 +3,8 @@ ghost use mathlib.Core.Path.{_≡_};
 ghost use Rattle.engine.specs.Outcome.{memory};
 ghost use Rattle.statements.specs.Parts.{Brokered, Postable, PostedIs, ToldIs, clientState, clientsDay};
 use crate::Statement;
-use crate::posting;
 use crate::profits;
 use crate::refused;
-use crate::replay;
-use crate::starts;
 use crate::writing;
 use rules::Account;
 use rules::State;
@@ -36,10 +33,10 @@ fn tell<'a>(
     requires { ⌜ Brokered state (now buys) (now sells) (now area) (now starts) clients legs ⌝ }
     ensures { λ r. ⌜ ToldIs (clientsDay state (now (buys .entry)) (now (sells .entry)) (now (area .entry)) (now (starts .entry)) clients) clients (now (out .entry)) r (now (out .exit)) ⌝ }
 {
-    let accounts = starts::client_accounts(starts, clients);
+    let accounts = clients::starts::client_accounts(starts, clients);
     let contracts = state.contractcount;
     let count = state.tradecount;
-    let held = replay::replay(accounts, contracts, area, count);
+    let held = clients::replay::replay(accounts, contracts, area, count);
     if !held.covered {
         return refused(27);
     }
@@ -83,7 +80,14 @@ pub fn posted_statement<'a>(
 {
     let count = state.tradecount;
     let mut area: [u32; 9216] = [0; 9216];
-    let posting = posting::post_trades(trades, count, place, postings, clients, &mut area[..]);
+    let posting = clients::posting::post_trades(
+        trades,
+        count,
+        place,
+        postings,
+        clients,
+        &mut area[..],
+    );
     if !posting.all {
         return refused(26);
     }

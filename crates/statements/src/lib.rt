@@ -8,10 +8,7 @@ use engine::answers;
 use rules::State;
 
 mod broker;
-mod posting;
 mod profits;
-mod replay;
-mod starts;
 mod writing;
 
 // 0, or the code that refuses, and how many bytes are written.
@@ -55,7 +52,7 @@ pub fn client_statement<'a>(
     let holders = state.accounts;
     let holder = holders[place];
     let holdings = holder.holdings;
-    if !starts::add_up(starts, laws::wide(clients), holdings, state.contractcount) {
+    if !clients::starts::add_up(starts, laws::wide(clients), holdings, state.contractcount) {
         return refused(25);
     }
     broker::posted_statement(

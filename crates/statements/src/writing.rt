@@ -12,6 +12,7 @@ ghost use Rattle.areas.specs.Lists.{over};
 ghost use Rattle.rules.specs.Exchange.{noHolding, noTrade};
 ghost use Rattle.rules.specs.Memory.{recordedTrades};
 ghost use Rattle.lines.specs.Written.{Written};
+ghost use Rattle.clients.specs.Clients.{isClient};
 ghost use Rattle.statements.specs.Parts.{accountBytes, accountsBytes, bookBytes, Tellable, told};
 ghost use Rattle.statements.specs.Statement as statement;
 use book::trades;
@@ -64,8 +65,8 @@ fn put_side(
     close: u32,
     order: u32,
 ) -> usize
-    requires { ⌜ (at + length (pick (statement.isClient place) (statement.legBytes t place sell close order) []) ≤ length (now out)) × (t .contract < 4) ⌝ }
-    ensures { λ r. ⌜ Written 16 (now (out .entry)) at (pick (statement.isClient place) (statement.legBytes t place sell close order) []) (now (out .exit)) r ⌝ }
+    requires { ⌜ (at + length (pick (isClient place) (statement.legBytes t place sell close order) []) ≤ length (now out)) × (t .contract < 4) ⌝ }
+    ensures { λ r. ⌜ Written 16 (now (out .entry)) at (pick (isClient place) (statement.legBytes t place sell close order) []) (now (out .exit)) r ⌝ }
 {
     if 16 <= place {
         return at;

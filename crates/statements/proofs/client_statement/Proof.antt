@@ -17,7 +17,7 @@ use Rattle.engine.proofs.answers.is_absent.Reads as is-absent-reads
 use Rattle.laws.proofs.wide.Reads as wide-reads
 use Rattle.statements.proofs.broker.posted_statement.Reads as posted-statement-reads
 use Rattle.statements.proofs.refused.Reads as refused-reads
-use Rattle.statements.proofs.starts.add_up.Reads as add-up-reads
+use Rattle.clients.proofs.starts.add_up.Reads as add-up-reads
 
 well-formed-requires : tie.Need-well-formed-requires
 well-formed-requires c κs = search needs

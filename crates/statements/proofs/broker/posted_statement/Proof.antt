@@ -12,7 +12,7 @@ use Rattle.statements.proofs.broker.posted_statement.Reads as reads
 use Rattle.statements.proofs.broker.posted_statement.Lts as lts
 use Rattle.laws.proofs.wide.Reads as wide-reads
 use Rattle.statements.proofs.broker.tell.Reads as tell-reads
-use Rattle.statements.proofs.posting.post_trades.Reads as post-trades-reads
+use Rattle.clients.proofs.posting.post_trades.Reads as post-trades-reads
 use Rattle.statements.proofs.refused.Reads as refused-reads
 
 slice-aggregate-post-trades : tie.Need-slice-aggregate-post-trades

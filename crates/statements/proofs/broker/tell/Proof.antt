@@ -17,8 +17,8 @@ use Rattle.statements.proofs.broker.tell.Lts as lts
 use Rattle.statements.proofs.broker.with_clients.Reads as with-clients-reads
 use Rattle.statements.proofs.profits.books.Reads as books-reads
 use Rattle.statements.proofs.refused.Reads as refused-reads
-use Rattle.statements.proofs.replay.replay.Reads as replay-reads
-use Rattle.statements.proofs.starts.client_accounts.Reads as client-accounts-reads
+use Rattle.clients.proofs.replay.replay.Reads as replay-reads
+use Rattle.clients.proofs.starts.client_accounts.Reads as client-accounts-reads
 use Rattle.statements.proofs.writing.put_statement.Reads as put-statement-reads
 
 client-accounts-requires : tie.Need-client-accounts-requires

@@ -1,6 +1,7 @@
 -- `writing::put_profit` meets its contract. Assumes nothing.
-use mathlib.Core.Path.{_∙_, ap}
+use mathlib.Core.Path.{ap, _∙_}
 use mir.Facts.{toZ-ofZ}
+use Rattle.statements.specs.Statement.{unsigned}
 use Rattle.statements.proofs.Sections.{profit-written}
 use borrow.Author.Needs.{needs}
 use Rattle.statements.proofs.writing.put_profit.Statement.{statement}
@@ -26,7 +27,7 @@ same-length : tie.Need-same-length
 same-length c = search needs
 
 returns : tie.Need-returns
-returns c = profit-written (c .before .before .before .before .before .before .before .before .before .before .before .args .closing) (c .before .before .before .before .before .before .before .before .before .before .before .args .holding) _ _ (rw (toZ-ofZ (c .before .before .before .before .before .before .before .before .before .before .before .fits .closing)) at (c .before .before .before .before .before .before .before .before .unsigned .ensures)) (rw (toZ-ofZ (c .before .before .before .before .before .before .before .before .before .before .before .fits .holding)) at (c .before .before .before .unsigned2 .ensures)) (c .before .before .before .before .before .before .before .put-u64 .ensures) (c .before .before .put-u642 .ensures)
+returns c = profit-written (c .before .before .before .before .before .before .before .before .before .before .before .args .closing) (c .before .before .before .before .before .before .before .before .before .before .before .args .holding) _ _ (c .before .before .before .before .before .before .before .before .unsigned .ensures ∙ ap unsigned (toZ-ofZ (c .before .before .before .before .before .before .before .before .before .before .before .fits .closing))) (c .before .before .before .unsigned2 .ensures ∙ ap unsigned (toZ-ofZ (c .before .before .before .before .before .before .before .before .before .before .before .fits .holding))) (c .before .before .before .before .before .before .before .put-u64 .ensures) (c .before .before .put-u642 .ensures)
 
 pub put-profit-spec : {M : Type 1} → statement M
 put-profit-spec =
