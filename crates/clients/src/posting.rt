@@ -1,13 +1,13 @@
 // Which client each leg of the account is: the day's trades with clients in the account's place. For our own crates: each function says
 // what it requires.
-ghost use mathlib.Core.Bool.{Bool, not, _||_, _&&_};
+ghost use mathlib.Core.Bool.{not, _||_, _&&_};
 ghost use mathlib.Core.Path.{_≡_};
 ghost use Prim.Native.Nat.{_*_, _≤_};
 ghost use lib.Dec.{eqb};
 ghost use lib.ListN.{length};
 ghost use Rattle.laws.specs.Choice.{pick};
 ghost use Rattle.clients.specs.Parts.{PostingIs};
-ghost use Rattle.clients.specs.Clients.{clientPlace, clientTrade, legsIn, tradePosted, isClient};
+ghost use Rattle.clients.specs.Clients.{clientPlace, clientTrade, isClient, legsIn};
 use book::trades;
 use rules::Trade;
 

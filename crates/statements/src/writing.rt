@@ -1,15 +1,13 @@
 // The statement's bytes written into a lent area. Each call gives the place after what it wrote. For this crate: each requires room for
 // its bytes.
-ghost use mathlib.Core.Bool.{not};
 ghost use mathlib.Core.List.{[]};
 ghost use mathlib.Core.Path.{_≡_};
 ghost use Prim.Native.Nat.{ℕ, _+_, _*_, _<_, _≤_};
 ghost use lib.Dec.{eqb};
-ghost use lib.IntN.{pos};
 ghost use lib.ListN.{length, getD};
 ghost use Rattle.laws.specs.Choice.{pick};
 ghost use Rattle.areas.specs.Lists.{over};
-ghost use Rattle.rules.specs.Exchange.{noHolding, noTrade};
+ghost use Rattle.rules.specs.Exchange.{noTrade};
 ghost use Rattle.rules.specs.Memory.{recordedTrades};
 ghost use Rattle.lines.specs.Written.{Written};
 ghost use Rattle.clients.specs.Clients.{isClient};
