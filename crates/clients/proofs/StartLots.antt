@@ -10,9 +10,9 @@ use lib.IntN.{pos}
 use lib.ListN.{length, getD, drop-of-length-le}
 use Rattle.laws.specs.Choice.{pick, all, all-none, all-more, all-stop, false-both, both-false, true-both}
 use Rattle.laws.specs.Tabulate.{tabulate}
+use Rattle.laws.specs.Written.{written, Writing, writing-done}
 use Rattle.rules.specs.Exchange.{noHolding}
 use Rattle.rules.specs.declared.Holding.{Holding}
-use Rattle.settlement.proofs.Places.{written, Writing, writing-done}
 use Rattle.clients.specs.Parts.{clientsWith}
 use Rattle.clients.specs.Clients.{clientAccount, startHolding, startLong, startShort, total}
 use Rattle.clients.proofs.Rows.{total-none, total-more, total-ext}

@@ -2,7 +2,7 @@
 use Prim.Native.Nat.{_-_}
 use native.Mathlib.Omega.{arith}
 use lib.ListN.{length-replicate}
-use Rattle.settlement.proofs.Places.{Writing, writing-none, writing-more}
+use Rattle.laws.specs.Written.{Writing, writing-none, writing-more}
 use Rattle.clients.specs.Parts.{clientsWith}
 use Rattle.clients.specs.Clients.{clientAccount}
 use Rattle.clients.proofs.StartLots.{all-written}
