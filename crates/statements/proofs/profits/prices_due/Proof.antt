@@ -2,7 +2,7 @@
 use Prim.Native.Nat.{_-_}
 use native.Mathlib.Omega.{arith}
 use Rattle.margin.specs.Charge.{memoryOf}
-use Rattle.settlement.proofs.Places.{writing-none, writing-more}
+use Rattle.laws.specs.Written.{writing-none, writing-more}
 use Rattle.settlement.proofs.Report.{PricesSoFar, price-in-use, prices-done}
 use Rattle.statements.proofs.profits.prices_due.Statement.{statement}
 use Rattle.statements.proofs.profits.prices_due.Tie as tie
