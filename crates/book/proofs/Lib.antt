@@ -1,5 +1,6 @@
 pub mod Bookings
 pub mod Methods
+pub mod Positions
 pub mod Pulls
 pub mod Queues
 pub mod Recorded

@@ -163,3 +163,8 @@ module _ (area : List ℕ) (c n : ℕ) where
       set-fourth area s lots (omega arith)
       ∙ rw (order-at area c n i h, put-full area c n (set (queueIn area c n) i (withLots o lots)) lq)
       (stored-order i (withLots o lots) h room)
+
+-- the first order taken out
+pub removed-front : (os : List Order) → removeAt 0 os ≡ drop 1 os
+unfolding removeAt
+removed-front os = refl

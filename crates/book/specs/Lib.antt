@@ -1,4 +1,5 @@
 pub mod Bounds
 pub mod Methods
+pub mod Positions
 pub mod Removal
 pub mod Side

@@ -5,6 +5,7 @@ ghost use mathlib.Core.Path.{_≡_};
 ghost use Prim.Native.Nat.{_+_, _-_, _*_, _≤_, _<_};
 ghost use lib.ListN.{length, take, drop, getD, set};
 ghost use Rattle.areas.specs.Lists.{removeAt};
+ghost use Rattle.areas.specs.Moves.{closedUp};
 ghost use Rattle.rules.specs.Exchange as exchange;
 ghost use Rattle.rules.specs.Matching as matching;
 ghost use Rattle.rules.specs.Memory.{queueIn, putQueue, orderFrom, orderWords};
@@ -85,21 +86,34 @@ pub fn insert(area: &mut [u32], c: usize, count: usize, sell: bool, o: Order)
     shift(&mut area[a..e], o);
 }
 
-// Takes the order at a place out: later ones close up, and the freed place is set to zero.
+// Takes the first order of a part out: later ones close up, and the freed place is set to zero. A function of its own: by a distance
+// that it knows the compiler moves the words as one block.
+fn close_up(part: &mut [u32])
+    requires { ⌜ 5 ≤ length (now part) ⌝ }
+    ensures { λ _. ⌜ now (part .exit) ≡ closedUp 5 (now (part .entry)) ⌝ }
+{
+    areas::close_up(part, 5);
+}
+
+// Takes the order at a place out.
 pub fn remove(area: &mut [u32], c: usize, count: usize, i: usize)
     requires { ⌜ (i < count) × (320 * c + 5 * count ≤ length (now area)) ⌝ }
     ensures { λ _. ⌜ now (area .exit) ≡ putQueue (now (area .entry)) c count (removeAt i (queueIn (now (area .entry)) c count)) ⌝ }
 {
     let a = 320 * c + 5 * i;
     let e = 320 * c + 5 * count;
-    areas::close_up(&mut area[a..e], 5);
+    close_up(&mut area[a..e]);
 }
 
-// Takes the first k orders out: later ones close up, and the freed places are set to zero.
+// Takes the first k orders out: later ones close up, and the freed places are set to zero. One order is the common case.
 pub fn drop_front(area: &mut [u32], c: usize, count: usize, k: usize)
     requires { ⌜ (k ≤ count) × (320 * c + 5 * count ≤ length (now area)) ⌝ }
     ensures { λ _. ⌜ now (area .exit) ≡ putQueue (now (area .entry)) c count (drop k (queueIn (now (area .entry)) c count)) ⌝ }
 {
+    if k == 1 {
+        remove(area, c, count, 0);
+        return;
+    }
     let a = 320 * c;
     let e = 320 * c + 5 * count;
     areas::close_up(&mut area[a..e], 5 * k);

@@ -57,8 +57,8 @@ pub fn contract_at(file: &[u8], at: usize) -> Contract
     let reference = u32_at(file, at + 4);
     let band = u32_at(file, at + 8);
     let limit = u32_at(file, at + 12);
-    let rate = u16_at(file, at + 16) as u32;
-    let method = u16_at(file, at + 18) as u32;
+    let rate = u16_at(file, at + 16);
+    let method = u16_at(file, at + 18);
     Contract {
         multiplier: multiplier,
         tick: tick,

@@ -12,6 +12,7 @@ use Rattle.rules.specs.Answers.{Refusal, codeOf, firstOf, fillableLots, holding
 use Rattle.rules.specs.Bounds.{maxLots, termsInRange, within}
 use Rattle.rules.specs.Exchange.{Exchange, accountAt, holdingAt, noAccount, noContract, noHolding, opposite, own, placeOf, resting}
 use Rattle.rules.specs.Memory.{Memory, exchangeOf, queueIn}
+use Rattle.rules.specs.declared.Account.{Account}
 use Rattle.rules.specs.declared.Command.the-variants.{Insert}
 use Rattle.rules.specs.declared.NewOrder.{NewOrder}
 use Rattle.rules.specs.declared.Order.{Order}
@@ -80,20 +81,24 @@ module _ {s : State} {buys sells trades : List ℕ} (w : WellFormedState s buys 
   pub code-contract : isAbsent (o .account) (s .accountcount) ≡ false → isAbsent (o .contract) (s .contractcount) ≡ true → 3 ≡ codeOf x (Insert o)
   code-contract e g = sym (rw (in-parts, e, g))
 
+  -- the account's place; j is its number as the code widens it
+  pub holder-low : isAbsent (o .account) (s .accountcount) ≡ false → {j : ℕ} → j ≡ o .account → 1 ≤ j
+  holder-low e ej = omega (arith, place-below (o .account) (s .accountcount) e .0)
+
+  pub holder-fits : isAbsent (o .account) (s .accountcount) ≡ false → {j : ℕ} → j ≡ o .account → j - 1 < 32
+  holder-fits e ej = omega (arith, place-below (o .account) (s .accountcount) e .1, f .accounts-high)
+
   pub present : isAbsent (o .account) (s .accountcount) ≡ false → isAbsent (o .contract) (s .contractcount) ≡ false → Present s o
   present e g =
       let a = place-below (o .account) (s .accountcount) e in
       let b = place-below (o .contract) (s .contractcount) g in
       record { account-low = a .0; account = a .1; contract-low = b .0; contract = b .1 }
 
-  -- ---- an order whose account and contract are in use; k and j are its contract's and account's numbers as the code widens them
+  -- ---- an order whose account and contract are in use; k is its contract's number as the code widens it
 
   module _ (p : Present s o) {k : ℕ} (is : k ≡ o .contract) where
     pub place-fits : k - 1 < 4
     place-fits = omega (arith, p .contract, f .contracts-high)
-
-    pub holder-fits : {j : ℕ} → j ≡ o .account → j - 1 < 32
-    holder-fits ej = omega (arith, p .account, f .accounts-high)
 
     pub terms-in-range : termsInRange (getD (s .contracts) (k - 1) noContract) ≡ true
     terms-in-range = rw is (contract-terms m f c (p .contract))
@@ -112,13 +117,13 @@ module _ {s : State} {buys sells trades : List ℕ} (w : WellFormedState s buys 
         pub rested-low : rested ≤ 1_000_000
         rested-low = rw rested-is (resting-low m f c (p .contract) (o .account - 1) (p .account) (o .sell) (o .close))
 
-        module _ {j : ℕ} (ej : j ≡ o .account) {r : Bool}
-            (el : r ≡ lotsRefused (getD (s .contracts) (k - 1) noContract) (getD (getD (s .accounts) (j - 1) noAccount .holdings) (k - 1) noHolding) rested o) where
+        module _ {who : Account} (ew : getD (s .accounts) (o .account - 1) noAccount ≡ who) {r : Bool}
+            (el : r ≡ lotsRefused (getD (s .contracts) (k - 1) noContract) (getD (who .holdings) (k - 1) noHolding) rested o) where
           holding-is : r ≡ holdingRefused x o
           unfolding holdingRefused overHolding overLimit lotsRefused listingOf holdingAt accountAt
           holding-is =
               el
-              ∙ rw (rested-is, ej, is, contract-is m f c (p .contract), side-is m f c (p .contract) (o .sell), holding-at m f (o .account - 1) c (p .account) (p .contract))
+              ∙ rw (rested-is, ← ew, is, contract-is m f c (p .contract), side-is m f c (p .contract) (o .sell), holding-at m f (o .account - 1) c (p .account) (p .contract))
               (sym (lots-by-mark (o .close) _ _ _ (o .lots) (o .account - 1) _))
 
           pub account-lots : r ≡ true → 8 ≡ firstOf (accountRefusals x o)

@@ -1,5 +1,5 @@
-// The code of an insert: the refusals 2 to 13 in their order. For our own crates: `code_of` asks for a well-formed state, the others
-// for what they read of it.
+// The code of an insert: the refusals 3 to 13 in their order. For our own crates: `code_of` asks for a well-formed state and an order
+// whose account is in use, the others for what they read of it.
 ghost use mathlib.Core.Bool.{true};
 ghost use mathlib.Core.Path.{_≡_};
 ghost use Prim.Native.Nat.{_-_, _≤_};
@@ -11,7 +11,7 @@ ghost use Rattle.rules.specs.Exchange.{noAccount};
 ghost use Rattle.rules.specs.Matching as matching;
 ghost use Rattle.rules.specs.Memory.{exchangeOf, queueIn};
 ghost use Rattle.rules.specs.declared.Command.the-variants.{Insert};
-ghost use Rattle.insertion.specs.Insertion.{dayWithoutLimit, fieldsRefusals, termsRefusals, lotsRefused, killRefused, tradesRefused, fullRefused, accountRefusals, bookRefusals, Present, QueueRoom, Facing};
+ghost use Rattle.insertion.specs.Insertion.{dayWithoutLimit, fieldsRefusals, termsRefusals, lotsRefused, killRefused, tradesRefused, fullRefused, accountRefusals, bookRefusals, Present, OwnedBy, QueueRoom, Facing};
 ghost use Rattle.engine.specs.Outcome.{memory, WellFormedState};
 use crate::orders;
 use engine::answers;
@@ -130,23 +130,21 @@ fn money_refused<'a>(
     margin::too_little(balance, charged)
 }
 
-// Codes 8 and 9, 0 where neither holds.
+// Codes 8 and 9, 0 where neither holds. `who` is the order's account.
 fn account_code<'a>(
     state: State,
+    who: Account,
     buys: &'a [u32],
     sells: &'a [u32],
     trades: &'a [u32],
     o: NewOrder,
 ) -> u32
-    requires { ⌜ WellFormedState state (now buys) (now sells) (now trades) × Present state o × (o .lots ≤ 1000) ⌝ }
+    requires { ⌜ WellFormedState state (now buys) (now sells) (now trades) × Present state o × (o .lots ≤ 1000) × (getD (state .accounts) (o .account - 1) noAccount ≡ who) ⌝ }
     ensures { λ r. ⌜ r ≡ answer.firstOf (accountRefusals (exchangeOf (memory state (now (buys .entry)) (now (sells .entry)) (now (trades .entry)))) o) ⌝ }
 {
     let c = laws::wide(o.contract) - 1;
     let contracts = state.contracts;
     let terms = contracts[c];
-    let a = laws::wide(o.account) - 1;
-    let accounts = state.accounts;
-    let who = accounts[a];
     let h = who.holdings[c];
     let own = orders::side_area(o.sell, buys, sells);
     let count = orders::side_count(o.sell, state, c);
@@ -257,20 +255,19 @@ fn book_code(
     0
 }
 
-// The code of the first refusal that holds, 0 where none does.
+// The code of the first refusal that holds, 0 where none does. `who` is the order's account, which its caller has read: no copy of all
+// accounts is made to read one.
 pub fn code_of<'a>(
     state: State,
+    who: Account,
     buys: &'a [u32],
     sells: &'a [u32],
     trades: &'a [u32],
     o: NewOrder,
 ) -> u32
-    requires { ⌜ WellFormedState state (now buys) (now sells) (now trades) ⌝ }
+    requires { ⌜ WellFormedState state (now buys) (now sells) (now trades) × OwnedBy state o who ⌝ }
     ensures { λ r. ⌜ r ≡ answer.codeOf (exchangeOf (memory state (now (buys .entry)) (now (sells .entry)) (now (trades .entry)))) (Insert o) ⌝ }
 {
-    if answers::is_absent(o.account, state.accountcount) {
-        return 2;
-    }
     if answers::is_absent(o.contract, state.contractcount) {
         return 3;
     }
@@ -284,7 +281,7 @@ pub fn code_of<'a>(
     // read before margin is charged, as in `insert`
     let own = orders::side_count(o.sell, state, c);
     let count = orders::side_count(!o.sell, state, c);
-    let account = account_code(state, buys, sells, trades, o);
+    let account = account_code(state, who, buys, sells, trades, o);
     if account != 0 {
         return account;
     }

@@ -6,3 +6,4 @@ pub mod Lists
 pub mod Ring
 pub mod Sums
 pub mod Tabulate
+pub mod Written

@@ -1,4 +1,4 @@
-// Bytes and little-endian numbers written into a lent area. Each call gives the place after what it wrote. For this crate: each
+// Bytes and little-endian numbers written into a lent area. Each call gives the place after what it wrote. For our own crates: each
 // requires room.
 ghost use Prim.Native.Nat.{_+_, _≤_};
 ghost use lib.ListN.{length, take, drop};

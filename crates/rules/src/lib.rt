@@ -4,15 +4,16 @@
 // of numbers, the records below of places, except where they say "number".
 
 // A contract's terms for the day, with the number of its pairing method, its phase (the paper's contract state) and its last
-// price.
+// price. Rate and method are as wide as in the day file: four contracts then take 128 bytes, which a compiler still copies in
+// place.
 pub struct Contract {
     pub multiplier: u32,
     pub tick: u32,
     pub reference: u32,
     pub band: u32,
     pub limit: u32,
-    pub rate: u32,
-    pub method: u32,
+    pub rate: u16,
+    pub method: u16,
     pub phase: u32,
     pub last: u32,
 }

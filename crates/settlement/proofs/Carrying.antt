@@ -9,6 +9,7 @@ use mir.Syntax.{w64}
 use mir.Val.{SFits, toZ, ofZ}
 use mir.Facts.{toZ-ofZ}
 use Rattle.laws.specs.Bound.{Within, within-add}
+use Rattle.laws.specs.Written.{Writing, writing-none, writing-more, writing-done}
 use Rattle.laws.proofs.Signed.{back, sum-fits, add-back}
 use Rattle.rules.specs.Exchange.{noHolding}
 use Rattle.rules.specs.Memory.{putAccount, putFirst}
@@ -18,7 +19,7 @@ use Rattle.rules.specs.declared.Holding.{Holding}
 use Rattle.rules.specs.declared.State.{State}
 use Rattle.settlement.specs.Settling.{accountIn, closingTo, holdingTo, carriedAccount, paidAccount, AllPayable, BooksIs, TotalIs}
 use Rattle.dayprofit.specs.declared.profit.Profit.{Profit}
-use Rattle.settlement.proofs.Places.{Writing, writing-none, writing-more, writing-done, written-mapped, written-accounts, written-padded}
+use Rattle.settlement.proofs.Places.{written-mapped, written-accounts, written-padded}
 
 -- ---- the loop over an account's holdings: those in the first c contracts are carried over
 

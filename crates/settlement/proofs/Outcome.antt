@@ -11,6 +11,7 @@ use lib.IntN.{ℤ, pos, _*ℤ_}
 use lib.ListN.{length, getD}
 use Rattle.laws.specs.Sums.{sumTo, sumTo-ext}
 use Rattle.laws.specs.Tabulate.{tabulate, length-tabulate, getD-tabulate, tabulate-below, map-tabulate}
+use Rattle.laws.specs.Written.{length-written}
 use Rattle.areas.specs.Lists.{padded}
 use Rattle.areas.proofs.Lists.{getD-padded}
 use Rattle.rules.specs.Answers.{codeOf, refusals, settleRefusals}
@@ -34,7 +35,7 @@ use Rattle.margin.specs.Charge.{memoryOf}
 use Rattle.settlement.specs.Settling.{Settleable, SettledIs, contractIn, holdingIn, dayIn, closingTo, holdingTo, AllPayable, paidAccount, BooksIs, AllClearable, ClearedAre, AllChargeable, ChargesAre, nextDay}
 use Rattle.dayprofit.specs.Sides.{dayOver}
 use Rattle.settlement.proofs.Formed.{accounts-declared, contracts-four, accounts-few, contract-at, price-high, holding-starts, legs-covered, chargeable, sized-trades, balance-within, accounts-counted}
-use Rattle.settlement.proofs.Places.{length-written, written-accounts}
+use Rattle.settlement.proofs.Places.{written-accounts}
 
 -- ---- the state of the next day, from its parts
 

@@ -5,6 +5,7 @@ use mathlib.Core.Path.{_≡_, _∙_}
 use Prim.Native.Nat.{ℕ, _+_, _<_, _≤_}
 use lib.ListN.{getD, set, replicate}
 use Rattle.laws.specs.Tabulate.{tabulate}
+use Rattle.laws.specs.Written.{Writing, writing-none, writing-more, writing-done}
 use Rattle.areas.specs.Lists.{padded}
 use Rattle.rules.specs.Exchange.{Exchange, Listing, listingAt}
 use Rattle.rules.specs.Margin as margin
@@ -15,7 +16,7 @@ use Rattle.rules.proofs.InUse.{listing-in-use}
 use Rattle.margin.specs.Charge.{memoryOf, ChargedAt}
 use Rattle.margin.proofs.Charging.{charged-at}
 use Rattle.settlement.specs.Settling.{contractIn, AllChargeable, ChargesAre}
-use Rattle.settlement.proofs.Places.{Writing, writing-none, writing-more, writing-done, written-padded}
+use Rattle.settlement.proofs.Places.{written-padded}
 
 -- ---- prices
 

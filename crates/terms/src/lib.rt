@@ -52,7 +52,7 @@ pub fn terms_in_range(c: Contract) -> bool
     if !within(1, 100000, c.limit) {
         return false;
     }
-    if !within(1, 10000, c.rate) {
+    if !within(1, 10000, c.rate as u32) {
         return false;
     }
     c.method <= 2

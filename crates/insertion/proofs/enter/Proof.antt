@@ -13,10 +13,10 @@ mul-terms : tie.Need-mul-terms
 mul-terms c = search needs
 
 array-copy-out-terms : tie.Need-array-copy-out-terms
-array-copy-out-terms c = rw (c .before .wide .ensures) (c .before .before .before .before .before .pre .ready .sweeps .contract)
+array-copy-out-terms c = search needs
 
 taker-of-requires : tie.Need-taker-of-requires
-taker-of-requires c κs = (c .before .before .before .before .before .before .before .pre .account-low, c .before .before .before .before .before .before .before .pre .contract-low, c .before .before .before .before .before .before .before .pre .queue)
+taker-of-requires c κs = search needs
 
 limit-of-requires : tie.Need-limit-of-requires
 limit-of-requires c κs = search needs
@@ -25,7 +25,9 @@ is-day-requires : tie.Need-is-day-requires
 is-day-requires c κs = search needs
 
 enter-requires : tie.Need-enter-requires
-enter-requires c κs = rw (c .before .before .before .before .before .before .taker-of .ensures, c .before .before .before .before .before .limit-of .ensures, c .before .before .before .before .is-day .ensures, c .before .before .before .before .before .before .before .before .before .before .wide .ensures) (c .before .before .before .before .before .before .before .before .before .before .before .before .before .before .pre .ready)
+enter-requires c κs =
+    let start = c .before .before .before .before .before .before .before .before .before .before .before .before .before in
+    rw (c .before .before .before .before .before .taker-of .ensures, c .before .before .before .before .limit-of .ensures, c .before .before .before .is-day .ensures, c .before .before .before .before .before .before .before .before .before .wide .ensures) (start .pre .ready)
 
 same-length : tie.Need-same-length
 same-length c = search needs
@@ -37,7 +39,7 @@ same-length-3 : tie.Need-same-length-3
 same-length-3 c = search needs
 
 returns : tie.Need-returns
-returns c = record { entry = rw (c .before .before .before .before .before .before .before .before .before .before .before .before .before .taker-of .ensures, c .before .before .before .before .before .before .before .before .before .before .before .before .limit-of .ensures, c .before .before .before .before .before .before .before .before .before .before .before .is-day .ensures, c .before .before .before .before .before .before .before .before .before .before .before .before .before .before .before .before .before .wide .ensures) at (c .before .before .before .before .before .before .enter .ensures) }
+returns c = record { entry = rw (c .before .before .before .before .before .before .before .before .before .before .before .before .taker-of .ensures, c .before .before .before .before .before .before .before .before .before .before .before .limit-of .ensures, c .before .before .before .before .before .before .before .before .before .before .is-day .ensures, c .before .before .before .before .before .before .before .before .before .before .before .before .before .before .before .before .wide .ensures) at (c .before .before .before .before .before .before .enter .ensures) }
 
 pub enter-spec : {M : Type 1} → statement M
 enter-spec =

@@ -1,20 +1,85 @@
 -- `insertion::insert` meets its contract: a refusal leaves all as it was, and an accepted order enters by one law over the side.
 -- Assumes nothing.
-use mathlib.Core.Bool.{true, false}
-use mathlib.Core.Path.{sym, _∙_}
+use mathlib.Core.Bool.{Bool, true, false, not, true≢false}
+use mathlib.Core.Logic.{⊎-elim}
+use mathlib.Core.Path.{_≡_, sym, _∙_}
+use Prim.Native.Nat.{_-_, _<_}
 use native.Mathlib.Omega.{arith}
-use borrow.Author.Needs.{needs}
-use Rattle.insertion.proofs.Entering.{here, next-low, arriving, insert-accepted}
-use Rattle.insertion.proofs.Inserting.{place-fits}
+use Rattle.rules.specs.Answers.{codeOf}
+use Rattle.rules.specs.Memory.{exchangeOf, queueIn}
+use Rattle.rules.specs.declared.Command.the-variants.{Insert}
+use Rattle.engine.specs.Outcome.{isAbsent, memory}
 use Rattle.engine.proofs.Outcomes.{refusal}
+use Rattle.insertion.specs.Insertion.{Present, meetsAny, sideArea, sideCount}
+use Rattle.insertion.proofs.Entering.{here as present-accepted, next-low, arriving, meeting-room, insert-accepted}
+use Rattle.insertion.proofs.Inserting.{code-account, holder-fits, holder-low, place-fits}
+use borrow.Author.Needs.{needs}
 use Rattle.insertion.proofs.insert.Statement.{statement}
 use Rattle.insertion.proofs.insert.Tie as tie
 
-code-of-requires : tie.Need-code-of-requires
-code-of-requires c κs = search needs
+-- ---- what the tests on the way have shown
+
+account-there : (c : tie.Else1) → isAbsent (c .before .before .before .before .before .before .before .args .o .account) (c .before .before .before .before .before .before .before .args .t1 .accountcount) ≡ false
+account-there c = sym (c .before .is-absent .ensures) ∙ c .if1 .left
+
+-- the order is accepted
+accepted : (c : tie.Else2)
+    → let a = c .before .before .before .before .before .before .before .before .before .before .before .before .before .before .args in
+    codeOf (exchangeOf (memory (a .t1) (a .buys .now) (a .sells .now) (a .trades .now))) (Insert (a .o)) ≡ 0
+accepted c = sym (c .before .code-of .ensures) ∙ c .if2 .left
+
+here : (c : tie.Else2) → Present (c .before .before .before .before .before .before .before .before .before .before .before .before .before .before .args .t1) (c .before .before .before .before .before .before .before .before .before .before .before .before .before .before .args .o)
+here c =
+    let start = c .before .before .before .before .before .before .before .before .before .before .before .before .before .before in
+    present-accepted (start .pre) (start .args .o) (accepted c)
+
+place : (c : tie.After-wide2) → c .wide2 .result - 1 < 4
+place c =
+    let start = c .before .before .before .before .before .before .before .before .before .before .before .before .before .before .before in
+    place-fits (start .pre) (start .args .o) (here (c .before)) (c .wide2 .ensures)
+
+-- whether it trades, by its side
+met : (c : tie.Joined3) (side : Bool)
+    → let a = c .before .before .before .before .before .before .before .before .before .before .before .before .before .before .before .before .args in
+    a .o .sell ≡ side
+    → c .if3 .meets ≡ meetsAny (a .o .condition) (a .o .sell) (queueIn (sideArea (not side) (a .buys .now) (a .sells .now)) (a .o .contract - 1) (sideCount (not side) (a .t1) (c .before .wide2 .result - 1)))
+met c true e = ⊎-elim (λ sold. sold .3 ∙ sold .2 .ensures) (λ bought. absurd (true≢false (sym e ∙ bought .0 .left))) (c .if3 .came)
+met c false e = ⊎-elim (λ sold. absurd (true≢false (sym (sold .0 .taken) ∙ e))) (λ bought. bought .3 ∙ bought .2 .ensures) (c .if3 .came)
+
+-- ---- the needs
+
+is-absent-requires : tie.Need-is-absent-requires
+is-absent-requires c κs = search needs
 
 refused-requires : tie.Need-refused-requires
 refused-requires c κs = search needs
+
+returns : tie.Need-returns
+returns c =
+    let start = c .before .before .before .before .before .before .before .before in
+    refusal _ _ _ _ _ _ (omega arith) (sym (code-account (start .pre) (start .args .o) (sym (c .before .before .is-absent .ensures) ∙ c .before .if1 .taken))) (c .refused .ensures)
+
+wide-requires : tie.Need-wide-requires
+wide-requires c κs = search needs
+
+sub-a : tie.Need-sub-a
+sub-a c =
+    let start = c .before .before .before .before .before .before .before .before in
+    holder-low (start .pre) (start .args .o) (account-there (c .before)) (c .wide .ensures)
+
+mul-who : tie.Need-mul-who
+mul-who c = search needs
+
+element-copy-out-who : tie.Need-element-copy-out-who
+element-copy-out-who c =
+    let start = c .before .before .before .before .before .before .before .before in
+    holder-fits (start .pre) (start .args .o) (account-there (c .before)) (c .wide .ensures)
+
+code-of-requires : tie.Need-code-of-requires
+code-of-requires c κs = (c .before .before .before .before .before .before .before .before .before .before .before .before .pre, record { in-use = account-there (c .before .before .before .before .before); owner = rw (c .before .before .before .before .wide .ensures) })
+
+refused-requires-2 : tie.Need-refused-requires-2
+refused-requires-2 c κs = search needs
 
 same-length : tie.Need-same-length
 same-length c = search needs
@@ -25,32 +90,49 @@ same-length-2 c = search needs
 same-length-3 : tie.Need-same-length-3
 same-length-3 c = search needs
 
-returns : tie.Need-returns
-returns c = refusal _ _ _ _ _ _ (omega (arith, c .before .if1 .taken)) (sym (c .before .before .code-of .ensures)) (c .refused .ensures)
+returns-2 : tie.Need-returns-2
+returns-2 c = refusal _ _ _ _ _ _ (omega (arith, c .before .if2 .taken)) (sym (c .before .before .code-of .ensures)) (c .refused2 .ensures)
 
-wide-requires : tie.Need-wide-requires
-wide-requires c κs = search needs
+wide-requires-2 : tie.Need-wide-requires-2
+wide-requires-2 c κs = search needs
 
 sub-c : tie.Need-sub-c
-sub-c c = omega (arith, c .wide .ensures, here (c .before .before .before .before .before .before .before .before .before .before .before .pre) (c .before .before .before .before .before .before .before .before .before .before .before .args .o) (sym (c .before .before .code-of .ensures) ∙ c .before .if1 .left) .contract-low)
+sub-c c = omega (arith, c .wide2 .ensures, here (c .before) .contract-low)
 
 mul-bought : tie.Need-mul-bought
 mul-bought c = search needs
 
 array-read-bought : tie.Need-array-read-bought
-array-read-bought c = place-fits (c .before .before .before .before .before .before .before .before .before .before .before .pre) (c .before .before .before .before .before .before .before .before .before .before .before .args .o) (here (c .before .before .before .before .before .before .before .before .before .before .before .pre) (c .before .before .before .before .before .before .before .before .before .before .before .args .o) (sym (c .before .before .code-of .ensures) ∙ c .before .if1 .left)) (c .wide .ensures)
+array-read-bought c = place (c)
 
 mul-sold : tie.Need-mul-sold
 mul-sold c = search needs
 
 array-read-sold : tie.Need-array-read-sold
-array-read-sold c = place-fits (c .before .before .before .before .before .before .before .before .before .before .before .pre) (c .before .before .before .before .before .before .before .before .before .before .before .args .o) (here (c .before .before .before .before .before .before .before .before .before .before .before .pre) (c .before .before .before .before .before .before .before .before .before .before .before .args .o) (sym (c .before .before .code-of .ensures) ∙ c .before .if1 .left)) (c .wide .ensures)
+array-read-sold c = place (c)
+
+meets-any-requires : tie.Need-meets-any-requires
+meets-any-requires c κs =
+    let start = c .before .before .before .before .before .before .before .before .before .before .before .before .before .before .before .before .before in
+    meeting-room (start .pre) (start .args .o) (accepted (c .before .before .before)) false (c .before .before .wide2 .ensures)
+
+meets-any-requires-2 : tie.Need-meets-any-requires-2
+meets-any-requires-2 c κs =
+    let start = c .before .before .before .before .before .before .before .before .before .before .before .before .before .before .before .before .before in
+    meeting-room (start .pre) (start .args .o) (accepted (c .before .before .before)) true (c .before .before .wide2 .ensures)
+
+positions-for-requires : tie.Need-positions-for-requires
+positions-for-requires c κs = place (c .before .before)
 
 enter-requires : tie.Need-enter-requires
-enter-requires c κs = arriving (c .before .before .before .before .before .before .before .before .before .before .before .before .before .before .before .pre) (c .before .before .before .before .before .before .before .before .before .before .before .before .before .before .before .args .o) (sym (c .before .before .before .before .before .before .code-of .ensures) ∙ c .before .before .before .before .before .if1 .left) true (c .before .before .before .if2 .taken) (c .before .before .before .before .wide .ensures)
+enter-requires c κs =
+    let start = c .before .before .before .before .before .before .before .before .before .before .before .before .before .before .before .before .before .before .before .before .before .before in
+    arriving (start .pre) (start .args .o) (accepted (c .before .before .before .before .before .before .before .before)) true (c .before .before .before .if4 .taken) (c .before .before .before .before .before .before .before .wide2 .ensures) (c .before .before .before .before .before .before .if3 .meets) (c .before .before .before .before .positions-for .ensures)
 
 with-entry-requires : tie.Need-with-entry-requires
-with-entry-requires c κs = (place-fits (c .before .before .before .before .before .before .before .before .before .before .before .before .before .before .before .before .before .before .before .before .before .before .pre) (c .before .before .before .before .before .before .before .before .before .before .before .before .before .before .before .before .before .before .before .before .before .before .args .o) (here (c .before .before .before .before .before .before .before .before .before .before .before .before .before .before .before .before .before .before .before .before .before .before .pre) (c .before .before .before .before .before .before .before .before .before .before .before .before .before .before .before .before .before .before .before .before .before .before .args .o) (sym (c .before .before .before .before .before .before .before .before .before .before .before .before .before .code-of .ensures) ∙ c .before .before .before .before .before .before .before .before .before .before .before .before .if1 .left)) (c .before .before .before .before .before .before .before .before .before .before .before .wide .ensures), next-low (c .before .before .before .before .before .before .before .before .before .before .before .before .before .before .before .before .before .before .before .before .before .before .pre) (c .before .before .before .before .before .before .before .before .before .before .before .before .before .before .before .before .before .before .before .before .before .before .args .o) (sym (c .before .before .before .before .before .before .before .before .before .before .before .before .before .code-of .ensures) ∙ c .before .before .before .before .before .before .before .before .before .before .before .before .if1 .left))
+with-entry-requires c κs =
+    let start = c .before .before .before .before .before .before .before .before .before .before .before .before .before .before .before .before .before .before .before .before .before .before .before .before .before .before .before .before .before in
+    (place (c .before .before .before .before .before .before .before .before .before .before .before .before .before .before), next-low (start .pre) (start .args .o) (accepted (c .before .before .before .before .before .before .before .before .before .before .before .before .before .before .before)))
 
 accepted-requires : tie.Need-accepted-requires
 accepted-requires c κs = search needs
@@ -64,14 +146,20 @@ same-length-5 c = search needs
 same-length-6 : tie.Need-same-length-6
 same-length-6 c = search needs
 
-returns-2 : tie.Need-returns-2
-returns-2 c = insert-accepted (c .before .before .before .before .before .before .before .before .before .before .before .before .before .before .before .before .before .before .before .before .before .before .before .before .pre) (c .before .before .before .before .before .before .before .before .before .before .before .before .before .before .before .before .before .before .before .before .before .before .before .before .args .o) (sym (c .before .before .before .before .before .before .before .before .before .before .before .before .before .before .before .code-of .ensures) ∙ c .before .before .before .before .before .before .before .before .before .before .before .before .before .before .if1 .left) true (c .before .before .before .before .before .before .before .before .before .before .before .before .if2 .taken) (c .before .before .before .before .before .before .before .before .before .before .before .before .before .wide .ensures) (c .before .before .before .before .before .before .before .before .enter .ensures) (c .before .with-entry .ensures) (c .accepted .ensures)
+returns-3 : tie.Need-returns-3
+returns-3 c =
+    let start = c .before .before .before .before .before .before .before .before .before .before .before .before .before .before .before .before .before .before .before .before .before .before .before .before .before .before .before .before .before .before .before in
+    insert-accepted (start .pre) (start .args .o) (accepted (c .before .before .before .before .before .before .before .before .before .before .before .before .before .before .before .before .before)) true (c .before .before .before .before .before .before .before .before .before .before .before .before .if4 .taken) (c .before .before .before .before .before .before .before .before .before .before .before .before .before .before .before .before .wide2 .ensures) (c .before .before .before .before .before .before .before .before .before .before .before .before .before .positions-for .ensures) (met (c .before .before .before .before .before .before .before .before .before .before .before .before .before .before .before) true (c .before .before .before .before .before .before .before .before .before .before .before .before .if4 .taken)) (c .before .before .before .before .before .before .before .before .enter .ensures) (c .before .with-entry .ensures) (c .accepted .ensures)
 
 enter-requires-2 : tie.Need-enter-requires-2
-enter-requires-2 c κs = arriving (c .before .before .before .before .before .before .before .before .before .before .before .before .before .before .before .pre) (c .before .before .before .before .before .before .before .before .before .before .before .before .before .before .before .args .o) (sym (c .before .before .before .before .before .before .code-of .ensures) ∙ c .before .before .before .before .before .if1 .left) false (c .before .before .before .if2 .left) (c .before .before .before .before .wide .ensures)
+enter-requires-2 c κs =
+    let start = c .before .before .before .before .before .before .before .before .before .before .before .before .before .before .before .before .before .before .before .before .before .before in
+    arriving (start .pre) (start .args .o) (accepted (c .before .before .before .before .before .before .before .before)) false (c .before .before .before .if4 .left) (c .before .before .before .before .before .before .before .wide2 .ensures) (c .before .before .before .before .before .before .if3 .meets) (c .before .before .before .before .positions-for .ensures)
 
 with-entry-requires-2 : tie.Need-with-entry-requires-2
-with-entry-requires-2 c κs = (place-fits (c .before .before .before .before .before .before .before .before .before .before .before .before .before .before .before .before .before .before .before .before .before .before .pre) (c .before .before .before .before .before .before .before .before .before .before .before .before .before .before .before .before .before .before .before .before .before .before .args .o) (here (c .before .before .before .before .before .before .before .before .before .before .before .before .before .before .before .before .before .before .before .before .before .before .pre) (c .before .before .before .before .before .before .before .before .before .before .before .before .before .before .before .before .before .before .before .before .before .before .args .o) (sym (c .before .before .before .before .before .before .before .before .before .before .before .before .before .code-of .ensures) ∙ c .before .before .before .before .before .before .before .before .before .before .before .before .if1 .left)) (c .before .before .before .before .before .before .before .before .before .before .before .wide .ensures), next-low (c .before .before .before .before .before .before .before .before .before .before .before .before .before .before .before .before .before .before .before .before .before .before .pre) (c .before .before .before .before .before .before .before .before .before .before .before .before .before .before .before .before .before .before .before .before .before .before .args .o) (sym (c .before .before .before .before .before .before .before .before .before .before .before .before .before .code-of .ensures) ∙ c .before .before .before .before .before .before .before .before .before .before .before .before .if1 .left))
+with-entry-requires-2 c κs =
+    let start = c .before .before .before .before .before .before .before .before .before .before .before .before .before .before .before .before .before .before .before .before .before .before .before .before .before .before .before .before .before in
+    (place (c .before .before .before .before .before .before .before .before .before .before .before .before .before .before), next-low (start .pre) (start .args .o) (accepted (c .before .before .before .before .before .before .before .before .before .before .before .before .before .before .before)))
 
 accepted-requires-2 : tie.Need-accepted-requires-2
 accepted-requires-2 c κs = search needs
@@ -85,36 +173,48 @@ same-length-8 c = search needs
 same-length-9 : tie.Need-same-length-9
 same-length-9 c = search needs
 
-returns-3 : tie.Need-returns-3
-returns-3 c = insert-accepted (c .before .before .before .before .before .before .before .before .before .before .before .before .before .before .before .before .before .before .before .before .before .before .before .before .pre) (c .before .before .before .before .before .before .before .before .before .before .before .before .before .before .before .before .before .before .before .before .before .before .before .before .args .o) (sym (c .before .before .before .before .before .before .before .before .before .before .before .before .before .before .before .code-of .ensures) ∙ c .before .before .before .before .before .before .before .before .before .before .before .before .before .before .if1 .left) false (c .before .before .before .before .before .before .before .before .before .before .before .before .if2 .left) (c .before .before .before .before .before .before .before .before .before .before .before .before .before .wide .ensures) (c .before .before .before .before .before .before .before .before .enter2 .ensures) (c .before .with-entry2 .ensures) (c .accepted2 .ensures)
+returns-4 : tie.Need-returns-4
+returns-4 c =
+    let start = c .before .before .before .before .before .before .before .before .before .before .before .before .before .before .before .before .before .before .before .before .before .before .before .before .before .before .before .before .before .before .before in
+    insert-accepted (start .pre) (start .args .o) (accepted (c .before .before .before .before .before .before .before .before .before .before .before .before .before .before .before .before .before)) false (c .before .before .before .before .before .before .before .before .before .before .before .before .if4 .left) (c .before .before .before .before .before .before .before .before .before .before .before .before .before .before .before .before .wide2 .ensures) (c .before .before .before .before .before .before .before .before .before .before .before .before .before .positions-for .ensures) (met (c .before .before .before .before .before .before .before .before .before .before .before .before .before .before .before) false (c .before .before .before .before .before .before .before .before .before .before .before .before .if4 .left)) (c .before .before .before .before .before .before .before .before .enter2 .ensures) (c .before .with-entry2 .ensures) (c .accepted2 .ensures)
 
 pub insert-spec : {M : Type 1} → statement M
 insert-spec =
     tie.close
     (tie.spec
-    code-of-requires
+    is-absent-requires
     refused-requires
+    returns
+    wide-requires
+    sub-a
+    mul-who
+    element-copy-out-who
+    code-of-requires
+    refused-requires-2
     same-length
     same-length-2
     same-length-3
-    returns
-    wide-requires
+    returns-2
+    wide-requires-2
     sub-c
     mul-bought
     array-read-bought
     mul-sold
     array-read-sold
+    meets-any-requires
+    meets-any-requires-2
+    positions-for-requires
     enter-requires
     with-entry-requires
     accepted-requires
     same-length-4
     same-length-5
     same-length-6
-    returns-2
+    returns-3
     enter-requires-2
     with-entry-requires-2
     accepted-requires-2
     same-length-7
     same-length-8
     same-length-9
-    returns-3)
+    returns-4)

@@ -26,7 +26,7 @@ abbrev contract5 : tie.Else5 → Contract
 contract5 c = contract4 (c .before .before)
 
 abbrev contract6 : tie.Else6 → Contract
-contract6 c = contract5 (c .before .before)
+contract6 c = contract5 (c .before .before .before)
 
 -- what each test that was passed says
 multiplier-passed : (c : tie.Else1) → within 1 1000 (contract1 c .multiplier) ≡ true
@@ -108,13 +108,16 @@ returns-5 c =
       not-true (t .result) (c .if5 .taken),
     )
 
+cast-within : tie.Need-cast-within
+cast-within c = search needs
+
 within-requires-4 : tie.Need-within-requires-4
 within-requires-4 c κs = search needs
 
 returns-6 : tie.Need-returns-6
 unfolding termsInRange
 returns-6 c =
-    let e5 = c .before .before in
+    let e5 = c .before .before .before in
     let e4 = e5 .before .before in
     let e3 = e4 .before .before in
     let e2 = e3 .before .before in
@@ -134,7 +137,7 @@ returns-7 : tie.Need-returns-7
 unfolding termsInRange
 returns-7 c =
     let e6 = c .before in
-    let e5 = e6 .before .before in
+    let e5 = e6 .before .before .before in
     let e4 = e5 .before .before in
     let e3 = e4 .before .before in
     let e2 = e3 .before .before in
@@ -163,6 +166,7 @@ terms-in-range-spec =
     returns-4
     within-requires-3
     returns-5
+    cast-within
     within-requires-4
     returns-6
     returns-7)

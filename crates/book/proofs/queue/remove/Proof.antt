@@ -1,9 +1,10 @@
 -- `book::queue::remove` meets its contract: the part from the place on comes back closed up. Assumes nothing.
 use mathlib.Core.Path.{refl}
-use borrow.Author.Needs.{needs}
 use Rattle.book.proofs.Queues.{removed-order}
+use borrow.Author.Needs.{needs}
 use Rattle.book.proofs.queue.remove.Statement.{statement}
 use Rattle.book.proofs.queue.remove.Tie as tie
+use Rattle.book.proofs.queue.close_up.Reads as close-up-reads
 
 mul-a : tie.Need-mul-a
 mul-a c = search needs

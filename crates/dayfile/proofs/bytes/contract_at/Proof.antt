@@ -44,17 +44,11 @@ add-u16-at-2 c = search needs
 u16-at-requires-3 : tie.Need-u16-at-requires-3
 u16-at-requires-3 c κs = search needs
 
-cast-rate : tie.Need-cast-rate
-cast-rate c = search needs
-
 add-u16-at-3 : tie.Need-add-u16-at-3
 add-u16-at-3 c = search needs
 
 u16-at-requires-4 : tie.Need-u16-at-requires-4
 u16-at-requires-4 c κs = search needs
-
-cast-method : tie.Need-cast-method
-cast-method c = search needs
 
 returns : tie.Need-returns
 unfolding contractFrom
@@ -88,8 +82,6 @@ contract-at-spec =
     u32-at-requires-3
     add-u16-at-2
     u16-at-requires-3
-    cast-rate
     add-u16-at-3
     u16-at-requires-4
-    cast-method
     returns)

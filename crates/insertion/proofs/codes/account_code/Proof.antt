@@ -1,6 +1,6 @@
 -- `codes::account_code` meets its contract: the own side's resting lots are those of the rules, and the two tests stand in their order. Assumes nothing.
+use Rattle.insertion.proofs.Inserting.{place-fits, own-room, rested-low, account-lots, account-money, account-clear}
 use borrow.Author.Needs.{needs}
-use Rattle.insertion.proofs.Inserting.{place-fits, holder-fits, own-room, rested-low, account-lots, account-money, account-clear}
 use Rattle.insertion.proofs.codes.account_code.Statement.{statement}
 use Rattle.insertion.proofs.codes.account_code.Tie as tie
 
@@ -14,31 +14,25 @@ mul-terms : tie.Need-mul-terms
 mul-terms c = search needs
 
 array-copy-out-terms : tie.Need-array-copy-out-terms
-array-copy-out-terms c = place-fits (c .before .before .before .before .before .pre .0) (c .before .before .before .before .before .args .o) (c .before .before .before .before .before .pre .1) (c .before .wide .ensures)
-
-wide-requires-2 : tie.Need-wide-requires-2
-wide-requires-2 c κs = search needs
-
-sub-a : tie.Need-sub-a
-sub-a c = search needs
-
-mul-who : tie.Need-mul-who
-mul-who c = search needs
-
-array-copy-out-who : tie.Need-array-copy-out-who
-array-copy-out-who c = holder-fits (c .before .before .before .before .before .before .before .before .pre .0) (c .before .before .before .before .before .before .before .before .args .o) (c .before .before .before .before .before .before .before .before .pre .1) (c .before .before .before .before .wide .ensures) (c .before .wide2 .ensures)
+array-copy-out-terms c =
+    let start = c .before .before .before .before .before in
+    place-fits (start .pre .0) (start .args .o) (start .pre .1) (c .before .wide .ensures)
 
 mul-h : tie.Need-mul-h
 mul-h c = search needs
 
 element-copy-out-h : tie.Need-element-copy-out-h
-element-copy-out-h c = place-fits (c .before .before .before .before .before .before .before .before .before .pre .0) (c .before .before .before .before .before .before .before .before .before .args .o) (c .before .before .before .before .before .before .before .before .before .pre .1) (c .before .before .before .before .before .wide .ensures)
+element-copy-out-h c =
+    let start = c .before .before .before .before .before .before in
+    place-fits (start .pre .0) (start .args .o) (start .pre .1) (c .before .before .wide .ensures)
 
 side-area-requires : tie.Need-side-area-requires
 side-area-requires c κs = search needs
 
 side-count-requires : tie.Need-side-count-requires
-side-count-requires c κs = place-fits (c .before .before .before .before .before .before .before .before .before .before .before .pre .0) (c .before .before .before .before .before .before .before .before .before .before .before .args .o) (c .before .before .before .before .before .before .before .before .before .before .before .pre .1) (c .before .before .before .before .before .before .before .wide .ensures)
+side-count-requires c κs =
+    let start = c .before .before .before .before .before .before .before .before in
+    place-fits (start .pre .0) (start .args .o) (start .pre .1) (c .before .before .before .before .wide .ensures)
 
 sub-resting : tie.Need-sub-resting
 sub-resting c = search needs
@@ -47,22 +41,34 @@ mark-requires : tie.Need-mark-requires
 mark-requires c κs = search needs
 
 resting-requires : tie.Need-resting-requires
-resting-requires c κs = own-room (c .before .before .before .before .before .before .before .before .before .before .before .before .before .before .pre .0) (c .before .before .before .before .before .before .before .before .before .before .before .before .before .before .args .o) (c .before .before .before .before .before .before .before .before .before .before .before .before .before .before .pre .1) (c .before .before .before .before .before .before .before .before .before .before .wide .ensures) (c .before .before .before .side-area .ensures) (c .before .before .side-count .ensures)
+resting-requires c κs =
+    let start = c .before .before .before .before .before .before .before .before .before .before .before in
+    own-room (start .pre .0) (start .args .o) (start .pre .1) (c .before .before .before .before .before .before .before .wide .ensures) (c .before .before .before .side-area .ensures) (c .before .before .side-count .ensures)
 
 lots-refused-requires : tie.Need-lots-refused-requires
-lots-refused-requires c κs = rested-low (c .before .before .before .before .before .before .before .before .before .before .before .before .before .before .before .pre .0) (c .before .before .before .before .before .before .before .before .before .before .before .before .before .before .before .args .o) (c .before .before .before .before .before .before .before .before .before .before .before .before .before .before .before .pre .1) (c .before .before .before .before .before .before .before .before .before .before .before .wide .ensures) (c .before .before .before .before .side-area .ensures) (c .before .before .before .side-count .ensures) (c .before .mark .ensures) (c .resting .ensures)
+lots-refused-requires c κs =
+    let start = c .before .before .before .before .before .before .before .before .before .before .before .before in
+    rested-low (start .pre .0) (start .args .o) (start .pre .1) (c .before .before .before .before .before .before .before .before .wide .ensures) (c .before .before .before .before .side-area .ensures) (c .before .before .before .side-count .ensures) (c .before .mark .ensures) (c .resting .ensures)
 
 returns : tie.Need-returns
-returns c = account-lots (c .before .before .before .before .before .before .before .before .before .before .before .before .before .before .before .before .before .pre .0) (c .before .before .before .before .before .before .before .before .before .before .before .before .before .before .before .before .before .args .o) (c .before .before .before .before .before .before .before .before .before .before .before .before .before .before .before .before .before .pre .1) (c .before .before .before .before .before .before .before .before .before .before .before .before .before .wide .ensures) (c .before .before .before .before .before .before .side-area .ensures) (c .before .before .before .before .before .side-count .ensures) (c .before .before .before .mark .ensures) (c .before .before .resting .ensures) (c .before .before .before .before .before .before .before .before .before .before .wide2 .ensures) (c .before .lots-refused .ensures) (c .if1 .taken)
+returns c =
+    let start = c .before .before .before .before .before .before .before .before .before .before .before .before .before .before in
+    account-lots (start .pre .0) (start .args .o) (start .pre .1) (c .before .before .before .before .before .before .before .before .before .before .wide .ensures) (c .before .before .before .before .before .before .side-area .ensures) (c .before .before .before .before .before .side-count .ensures) (c .before .before .before .mark .ensures) (c .before .before .resting .ensures) (start .pre .3) (c .before .lots-refused .ensures) (c .if1 .taken)
 
 money-refused-requires : tie.Need-money-refused-requires
-money-refused-requires c κs = (c .before .before .before .before .before .before .before .before .before .before .before .before .before .before .before .before .before .pre .0, c .before .before .before .before .before .before .before .before .before .before .before .before .before .before .before .before .before .pre .1, c .before .before .before .before .before .before .before .before .before .before .before .before .before .before .before .before .before .pre .2, rw (c .before .before .before .before .before .before .before .before .before .before .wide2 .ensures))
+money-refused-requires c κs = search needs
 
 returns-2 : tie.Need-returns-2
-returns-2 c = account-money (c .before .before .before .before .before .before .before .before .before .before .before .before .before .before .before .before .before .before .before .pre .0) (c .before .before .before .before .before .before .before .before .before .before .before .before .before .before .before .before .before .before .before .args .o) (c .before .before .before .before .before .before .before .before .before .before .before .before .before .before .before .before .before .before .before .pre .1) (c .before .before .before .before .before .before .before .before .before .before .before .before .before .before .before .wide .ensures) (c .before .before .before .before .before .before .before .before .side-area .ensures) (c .before .before .before .before .before .before .before .side-count .ensures) (c .before .before .before .before .before .mark .ensures) (c .before .before .before .before .resting .ensures) (c .before .before .before .before .before .before .before .before .before .before .before .before .wide2 .ensures) (c .before .before .before .lots-refused .ensures) (c .before .before .if1 .left) (c .before .money-refused .ensures) (c .if2 .taken)
+returns-2 c =
+    let start = c .before .before .before .before .before .before .before .before .before .before .before .before .before .before .before .before in
+    account-money (start .pre .0) (start .args .o) (start .pre .1) (c .before .before .before .before .before .before .before .before .before .before .before .before .wide .ensures) (c .before .before .before .before .before .before .before .before .side-area .ensures) (c .before .before .before .before .before .before .before .side-count .ensures) (c .before .before .before .before .before .mark .ensures) (c .before .before .before .before .resting .ensures) (start .pre .3) (c .before .before .before .lots-refused .ensures) (c .before .before .if1 .left)
+    (c .before .money-refused .ensures) (c .if2 .taken)
 
 returns-3 : tie.Need-returns-3
-returns-3 c = account-clear (c .before .before .before .before .before .before .before .before .before .before .before .before .before .before .before .before .before .before .before .pre .0) (c .before .before .before .before .before .before .before .before .before .before .before .before .before .before .before .before .before .before .before .args .o) (c .before .before .before .before .before .before .before .before .before .before .before .before .before .before .before .before .before .before .before .pre .1) (c .before .before .before .before .before .before .before .before .before .before .before .before .before .before .before .wide .ensures) (c .before .before .before .before .before .before .before .before .side-area .ensures) (c .before .before .before .before .before .before .before .side-count .ensures) (c .before .before .before .before .before .mark .ensures) (c .before .before .before .before .resting .ensures) (c .before .before .before .before .before .before .before .before .before .before .before .before .wide2 .ensures) (c .before .before .before .lots-refused .ensures) (c .before .before .if1 .left) (c .before .money-refused .ensures) (c .if2 .left)
+returns-3 c =
+    let start = c .before .before .before .before .before .before .before .before .before .before .before .before .before .before .before .before in
+    account-clear (start .pre .0) (start .args .o) (start .pre .1) (c .before .before .before .before .before .before .before .before .before .before .before .before .wide .ensures) (c .before .before .before .before .before .before .before .before .side-area .ensures) (c .before .before .before .before .before .before .before .side-count .ensures) (c .before .before .before .before .before .mark .ensures) (c .before .before .before .before .resting .ensures) (start .pre .3) (c .before .before .before .lots-refused .ensures) (c .before .before .if1 .left)
+    (c .before .money-refused .ensures) (c .if2 .left)
 
 pub account-code-spec : {M : Type 1} → statement M
 account-code-spec =
@@ -72,10 +78,6 @@ account-code-spec =
     sub-c
     mul-terms
     array-copy-out-terms
-    wide-requires-2
-    sub-a
-    mul-who
-    array-copy-out-who
     mul-h
     element-copy-out-h
     side-area-requires

@@ -4,9 +4,10 @@ use native.Mathlib.Omega.{arith}
 use borrow.Author.Needs.{needs}
 use lib.ListN.{length, getD}
 use Rattle.laws.specs.Lists.{unmapped}
+use Rattle.laws.specs.Written.{Writing, writing-none, writing-more, writing-done}
 use Rattle.rules.specs.Exchange.{noContract}
 use Rattle.rules.specs.Settlement.{settledContract}
-use Rattle.settlement.proofs.Places.{Writing, writing-none, writing-more, writing-done, written-first}
+use Rattle.settlement.proofs.Places.{written-first}
 use Rattle.settlement.proofs.reopen.all_reopened.Statement.{statement}
 use Rattle.settlement.proofs.reopen.all_reopened.Tie as tie
 use Rattle.settlement.proofs.reopen.all_reopened.Reads as reads

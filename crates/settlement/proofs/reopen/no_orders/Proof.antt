@@ -4,7 +4,8 @@ use native.Mathlib.Omega.{arith}
 use borrow.Author.Needs.{needs}
 use lib.ListN.{length}
 use Rattle.laws.specs.Lists.{unmapped}
-use Rattle.settlement.proofs.Places.{Writing, writing-none, writing-more, writing-done, written-first}
+use Rattle.laws.specs.Written.{Writing, writing-none, writing-more, writing-done}
+use Rattle.settlement.proofs.Places.{written-first}
 use Rattle.settlement.proofs.reopen.no_orders.Statement.{statement}
 use Rattle.settlement.proofs.reopen.no_orders.Tie as tie
 use Rattle.settlement.proofs.reopen.no_orders.Reads as reads

@@ -1,8 +1,8 @@
 use Prim.Native.Nat.{_-_, _≤_}
 use native.Mathlib.Omega.{arith}
+use Rattle.laws.specs.Written.{writing-none, writing-more}
 use Rattle.margin.specs.Charge.{memoryOf}
 use Rattle.settlement.proofs.Formed.{accounts-declared, contracts-four, priceable}
-use Rattle.settlement.proofs.Places.{writing-none, writing-more}
 use Rattle.settlement.proofs.Report.{PricesSoFar, price-in-use, prices-done}
 use Rattle.settlement.proofs.settle.prices.Statement.{statement}
 use Rattle.settlement.proofs.settle.prices.Tie as tie

@@ -1,0 +1,7 @@
+pub mod AddUp
+pub mod Posted
+pub mod PostedTrades
+pub mod Postings
+pub mod Replaying
+pub mod Rows
+pub mod StartLots

@@ -1,0 +1,133 @@
+-- The day's trades with clients in the account's place, as a loop writes them into their area. Assumes nothing.
+use mathlib.Core.Bool.{Bool, true, false, not, _&&_, _||_, false≢true}
+use mathlib.Core.List.{List, [], _∷_, _++_, map}
+use mathlib.Core.Path.{_≡_, refl, sym, ap, ap₂, _∙_}
+use Prim.Native.Nat.{ℕ, _+_, _*_, _<_, _≤_}
+use native.Mathlib.Omega.{arith}
+use borrow.Author.Tests.{lt-ltb}
+use lib.Dec.{eqb, ltb}
+use lib.ListN.{length, getD, drop, length-append, length-map, List·getD-append}
+use lib.Seq.{getD-append-seam}
+use Rattle.laws.specs.Choice.{pick, allOf, allOf-append, allOf-stop}
+use Rattle.areas.specs.Records.{store}
+use Rattle.areas.proofs.Records.{store-append, store-nil, length-store}
+use Rattle.rules.specs.Exchange.{noTrade}
+use Rattle.rules.specs.Memory.{recordedTrades, tradeFrom, tradeWords}
+use Rattle.rules.specs.declared.Trade.{Trade}
+use Rattle.rules.proofs.Codecs.{trade-codec, length-trades, trades-none, trade-at}
+use Rattle.dayprofit.proofs.Trading.{more-trades}
+use Rattle.clients.specs.Parts.{clientTrades, PostingIs}
+use Rattle.clients.specs.Clients.{isPosted, clientPlace, clientTrade, tradePosted, isClient, legsIn, legCount, total}
+use Rattle.clients.proofs.Posted.{posted-place}
+use Rattle.clients.proofs.Rows.{total-more, total-ext}
+
+-- ---- one trade
+
+module _ (a clients : ℕ) (postings : List ℕ) (few : clients ≤ 16) where
+  -- a leg of the account has a client just where its order is posted
+  leg-posted : (whose : Bool) (number : ℕ)
+      → (not whose || isClient (pick whose (clientPlace clients postings number) 16)) ≡ (not whose || isPosted clients postings number)
+  unfolding clientPlace
+  leg-posted false number = refl
+  leg-posted true number = by (isPosted clients postings number) refl
+    where
+      by : (p : Bool) → isPosted clients postings number ≡ p → ltb (clientPlace clients postings number) 16 ≡ isPosted clients postings number
+      by true e =
+          let l : clientPlace clients postings number < 16 = omega (arith, posted-place clients postings number e) in
+          lt-ltb (clientPlace clients postings number) 16 l ∙ sym e
+      by false e = rw e
+
+  pub trade-posted : (t u : Trade) → u ≡ clientTrade a clients postings t
+      → ((not (eqb (t .buyer) a) || isClient (u .buyer)) && (not (eqb (t .seller) a) || isClient (u .seller))) ≡ tradePosted a clients postings t
+  unfolding tradePosted clientTrade
+  trade-posted t u e = rw (e, leg-posted (eqb (t .buyer) a) (t .buyorder), leg-posted (eqb (t .seller) a) (t .sellorder))
+
+-- one more trade's legs
+pub legs-more : (ts : List Trade) (u : Trade) → legCount (ts ++ (u ∷ [])) ≡ legCount ts + legsIn u
+unfolding legCount
+legs-more ts u =
+    let f : ℕ → ℕ = λ i. legsIn (getD (ts ++ (u ∷ [])) i noTrade) in
+    rw (length-append ts (u ∷ []))
+    (total-more f (length ts)
+    ∙ ap₂ (λ (x y : ℕ). x + y)
+    (total-ext f (λ i. legsIn (getD ts i noTrade)) (length ts) (λ i l. ap legsIn (List·getD-append ts (u ∷ []) noTrade i l)))
+    (ap legsIn (getD-append-seam ts u [] noTrade)))
+
+map-more : (f : Trade → Trade) (ts : List Trade) (t : Trade) → map f (ts ++ (t ∷ [])) ≡ map f ts ++ (f t ∷ [])
+map-more f [] t = refl
+map-more f (x ∷ ts) t = ap (λ (us : List Trade). f x ∷ us) (map-more f ts t)
+
+-- ---- the loop: the first i trades are written
+
+module _ (a clients : ℕ) (postings trades : List ℕ) (count : ℕ) (area₀ : List ℕ) where
+  pub record Going (i legs : ℕ) (area : List ℕ) : Type 0 where
+    pub within : i ≤ count
+    pub long : length area ≡ length area₀
+    pub content : area ≡ store tradeWords area₀ 0 (clientTrades a clients postings trades i)
+    pub counted : legs ≡ legCount (clientTrades a clients postings trades i)
+    pub few : legs ≤ 2 * i
+    pub all : allOf (tradePosted a clients postings) (recordedTrades trades i) ≡ true
+
+  none : clientTrades a clients postings trades 0 ≡ []
+  none = rw (trades-none trades)
+
+  pub going-first : Going 0 0 area₀
+  unfolding legCount total allOf
+  going-first =
+      record {
+        within = omega arith;
+        long = refl;
+        content = rw none (sym (store-nil trade-codec area₀ 0));
+        counted = rw none;
+        few = omega arith;
+        all = rw (trades-none trades);
+      }
+
+  module _ (i legs : ℕ) (area : List ℕ) (l : i < count) (g : Going i legs area) (t : Trade) (e : t ≡ tradeFrom (drop (9 * i) trades)) where
+    pub not-posted : tradePosted a clients postings t ≡ false → false ≡ allOf (tradePosted a clients postings) (recordedTrades trades count)
+    not-posted f =
+        sym (allOf-stop (tradePosted a clients postings) (recordedTrades trades count) i noTrade (rw (length-trades trades count) l)
+        (ap (tradePosted a clients postings) (trade-at trades count i l ∙ sym e) ∙ f))
+
+    module _ (u : Trade) (w : u ≡ clientTrade a clients postings t) where
+      one-more : clientTrades a clients postings trades (i + 1) ≡ clientTrades a clients postings trades i ++ (u ∷ [])
+      one-more =
+          ap (map (clientTrade a clients postings)) (more-trades trades i t e)
+          ∙ map-more (clientTrade a clients postings) (recordedTrades trades i) t
+          ∙ ap (λ (v : Trade). clientTrades a clients postings trades i ++ (v ∷ [])) (sym w)
+
+      so-many : length (clientTrades a clients postings trades i) ≡ i
+      so-many = length-map (recordedTrades trades i) (clientTrade a clients postings) ∙ length-trades trades i
+
+      pub going-more : tradePosted a clients postings t ≡ true → (area′ : List ℕ) (n : ℕ) → 9 * count ≤ length area₀
+          → area′ ≡ store tradeWords area (9 * i) (u ∷ []) → n ≡ legsIn u → n ≤ 2 → Going (i + 1) (legs + n) area′
+      unfolding allOf
+      going-more p area′ n room s q k =
+          let z : 0 + 9 * length (clientTrades a clients postings trades i) ≡ 9 * i = omega (arith, so-many) in
+          let c : area′ ≡ store tradeWords area₀ 0 (clientTrades a clients postings trades (i + 1)) =
+          s ∙ rw (g .content, one-more) (ap (λ (at : ℕ). store tradeWords (store tradeWords area₀ 0 (clientTrades a clients postings trades i)) at (u ∷ [])) (sym z)
+          ∙ sym (store-append trade-codec area₀ 0 (clientTrades a clients postings trades i) (u ∷ []) (omega arith))) in
+          record {
+            within = omega arith;
+            long = ap length s ∙ length-store trade-codec area (9 * i) (u ∷ []) (omega (arith, g .long)) ∙ g .long;
+            content = c;
+            counted = rw one-more (omega (arith, g .counted, legs-more (clientTrades a clients postings trades i) u));
+            few = omega (arith, g .few);
+            all = ap (allOf (tradePosted a clients postings)) (more-trades trades i t e)
+                ∙ allOf-append (tradePosted a clients postings) (recordedTrades trades i) (t ∷ [])
+                ∙ rw (g .all, p);
+          }
+
+  pub not-all : (area : List ℕ) → false ≡ allOf (tradePosted a clients postings) (recordedTrades trades count)
+      → PostingIs a clients postings trades count area₀ (record { all = false; legs = 0 }) area
+  not-all area e = record { all = e; content = λ t. absurd (false≢true t); legs = λ t. absurd (false≢true t) }
+
+  pub all-posted : (i legs : ℕ) (area : List ℕ) → count ≤ i → Going i legs area
+      → PostingIs a clients postings trades count area₀ (record { all = true; legs = legs }) area
+  all-posted i legs area h g =
+      let e : i ≡ count = omega (arith, g .within) in
+      record {
+        all = sym (ap (λ (n : ℕ). allOf (tradePosted a clients postings) (recordedTrades trades n)) (sym e) ∙ g .all);
+        content = λ t. g .content ∙ ap (λ (n : ℕ). store tradeWords area₀ 0 (clientTrades a clients postings trades n)) e;
+        legs = λ t. g .counted ∙ ap (λ (n : ℕ). legCount (clientTrades a clients postings trades n)) e;
+      }

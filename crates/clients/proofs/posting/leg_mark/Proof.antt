@@ -1,0 +1,15 @@
+-- `posting::leg_mark` meets its contract. Assumes nothing.
+use borrow.Author.Tests.{eq-eqb, ne-eqb}
+use Rattle.clients.proofs.posting.leg_mark.Statement.{statement}
+use Rattle.clients.proofs.posting.leg_mark.Tie as tie
+use Rattle.clients.proofs.posting.leg_mark.Reads as reads
+use Rattle.clients.proofs.posting.leg_mark.Lts as lts
+
+returns : tie.Need-returns
+returns c = rw (ne-eqb _ _ (c .if1 .taken))
+
+returns-2 : tie.Need-returns-2
+returns-2 c = rw (eq-eqb _ _ (c .if1 .left))
+
+pub leg-mark-spec : {M : Type 1} → statement M
+leg-mark-spec = tie.close (tie.spec returns returns-2)

@@ -1,0 +1,62 @@
+-- `starts::client_accounts` meets its contract: the places before k are written. Assumes nothing.
+use Prim.Native.Nat.{_-_}
+use native.Mathlib.Omega.{arith}
+use lib.ListN.{length-replicate}
+use Rattle.laws.specs.Written.{Writing, writing-none, writing-more}
+use Rattle.clients.specs.Parts.{clientsWith}
+use Rattle.clients.specs.Clients.{clientAccount}
+use Rattle.clients.proofs.StartLots.{all-written}
+use Rattle.clients.proofs.starts.client_accounts.Statement.{statement}
+use Rattle.clients.proofs.starts.client_accounts.Tie as tie
+use Rattle.clients.proofs.starts.client_accounts.Reads as reads
+use Rattle.clients.proofs.starts.client_accounts.Lts as lts
+use Rattle.clients.proofs.starts.client_account.Reads as client-account-reads
+
+abbrev Inv-loop : tie.InvT-loop
+Inv-loop starts clients accounts₀ k₀ accounts k = Writing (clientAccount (clientsWith clients starts)) accounts₀ 32 k accounts
+
+abbrev μ-loop : tie.MeasureT-loop
+μ-loop starts clients accounts₀ k₀ accounts k = 32 - k
+
+client-account-requires : tie.Need-client-account-requires Inv-loop μ-loop
+client-account-requires c κs = omega arith
+
+loop-holds : tie.Need-loop-holds Inv-loop μ-loop
+loop-holds c = writing-none _ _ _
+
+client-account-requires-2 : tie.Need-client-account-requires-2 Inv-loop μ-loop
+client-account-requires-2 c κs = omega arith
+
+mul-accounts : tie.Need-mul-accounts Inv-loop μ-loop
+mul-accounts c = omega arith
+
+array-set-from-accounts : tie.Need-array-set-from-accounts Inv-loop μ-loop
+array-set-from-accounts c = omega arith
+
+add-k : tie.Need-add-k Inv-loop μ-loop
+add-k c = omega arith
+
+loop-less : tie.Need-loop-less Inv-loop μ-loop
+loop-less c = omega arith
+
+loop-again : tie.Need-loop-again Inv-loop μ-loop
+loop-again c = writing-more _ _ _ (omega arith) _ _ _ (c .before .loop-test .taken) (c .client-account2 .ensures) (c .before .before .loop .inv)
+
+returns : tie.Need-returns Inv-loop μ-loop
+returns c = all-written _ _ _ 32 _ (length-replicate 32 (c .before .before .client-account .result)) (c .loop-test .left) (c .before .loop .inv)
+
+pub client-accounts-spec : {M : Type 1} → statement M
+client-accounts-spec =
+    tie.close
+    (tie.spec
+    Inv-loop
+    μ-loop
+    client-account-requires
+    loop-holds
+    client-account-requires-2
+    mul-accounts
+    array-set-from-accounts
+    add-k
+    loop-less
+    loop-again
+    returns)

@@ -1,0 +1,44 @@
+-- What the functions of this crate ask for and give back, for their contracts. Assumes nothing.
+use mathlib.Core.Bool.{true}
+use mathlib.Core.List.{List, [], map}
+use mathlib.Core.Path.{_≡_}
+use Prim.Native.Nat.{ℕ, _*_, _<_, _≤_}
+use lib.ListN.{length, getD}
+use Rattle.laws.specs.Choice.{allOf}
+use Rattle.areas.specs.Records.{store}
+use Rattle.rules.specs.Exchange.{holdingAt, noTrade}
+use Rattle.rules.specs.Holdings.{bookTrades, neverBelowZero, startOfDay}
+use Rattle.rules.specs.Memory.{recordedTrades, tradeWords, used}
+use Rattle.rules.specs.declared.Account.{Account}
+use Rattle.rules.specs.declared.Trade.{Trade}
+use Rattle.audit.specs.Parts.{Booked}
+use Rattle.clients.specs.Clients.{Clients, clientTrade, legCount, tradePosted}
+use Rattle.clients.specs.declared.posting.Posting.{Posting}
+use Rattle.clients.specs.declared.replay.Held.{Held}
+
+-- so many clients and their words, for what looks at no posting
+abbrev pub clientsWith : ℕ → List ℕ → Clients
+clientsWith count starts = record { count = count; starts = starts; postings = [] }
+
+-- the day's trades with clients in the account's place
+abbrev pub clientTrades : ℕ → ℕ → List ℕ → List ℕ → ℕ → List Trade
+clientTrades a clients postings trades count = map (clientTrade a clients postings) (recordedTrades trades count)
+
+-- whether all are posted; where they are, the trades in their area and the number of clients' legs
+pub record PostingIs (a clients : ℕ) (postings trades : List ℕ) (count : ℕ) (area : List ℕ) (r : Posting) (area′ : List ℕ) : Type 0 where
+  pub all : r .all ≡ allOf (tradePosted a clients postings) (recordedTrades trades count)
+  pub content : r .all ≡ true → area′ ≡ store tradeWords area 0 (clientTrades a clients postings trades count)
+  pub legs : r .all ≡ true → r .legs ≡ legCount (clientTrades a clients postings trades count)
+
+-- accounts as they stood at the start of the day, and trades among the first 17 of them: 16 clients and the others
+pub record Replayable (accounts : List Account) (contracts : ℕ) (area : List ℕ) (count : ℕ) : Type 0 where
+  pub few : contracts ≤ 4
+  pub trades : count ≤ 1_024
+  pub room : 9 * count ≤ length area
+  pub each : (i : ℕ) → i < count → Booked contracts 17 (getD (recordedTrades area count) i noTrade)
+  pub starts : (k c : ℕ) → k < 17 → c < contracts → (holdingAt accounts k c .startlong ≤ 100_000) × (holdingAt accounts k c .startshort ≤ 100_000)
+  pub start : accounts ≡ startOfDay accounts
+
+pub record ReplayIs (accounts : List Account) (contracts : ℕ) (area : List ℕ) (count : ℕ) (r : Held) : Type 0 where
+  pub covered : r .covered ≡ neverBelowZero (startOfDay (used contracts 17 accounts)) (recordedTrades area count)
+  pub held : r .covered ≡ true → used contracts 17 (r .accounts) ≡ bookTrades (startOfDay (used contracts 17 accounts)) (recordedTrades area count)

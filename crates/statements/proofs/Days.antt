@@ -1,0 +1,267 @@
+-- The clients' day as the code works it out: the clients as accounts, their replay, their profit, and the statement's bytes. Assumes
+-- nothing.
+use mathlib.Core.Bool.{true}
+use mathlib.Core.List.{List}
+use mathlib.Core.Path.{_≡_, refl, sym, ap, ap₂, _∙_, subst}
+use Prim.Native.Nat.{ℕ, _+_, _*_, _<_, _≤_}
+use native.Mathlib.Nat.{mul-assoc, mul-comm}
+use native.Mathlib.Omega.{arith}
+use lib.IntN.{ℤ, pos, _*ℤ_}
+use lib.ListN.{length, getD, length-append}
+use Rattle.laws.specs.Bound.{within-pos}
+use Rattle.laws.specs.Sums.{sumTo, sumTo-ext}
+use Rattle.laws.specs.Tabulate.{tabulate, length-tabulate, getD-tabulate}
+use Rattle.areas.specs.Lists.{padded}
+use Rattle.areas.proofs.Lists.{getD-padded}
+use Rattle.rules.specs.Exchange.{Exchange, Listing, accountAt, holdingAt, listingAt, noAccount, noHolding, noTrade}
+use Rattle.rules.specs.Holdings.{neverBelowZero, startOfDay}
+use Rattle.rules.specs.Memory.{Declared, exchangeOf, listingIn, recordedTrades, used}
+use Rattle.rules.specs.Settlement.{Day, closingProfit, dayOf, dayStart, afterLegs, legs, holdingGain, holdingProfit, settlementPrice}
+use Rattle.rules.specs.declared.Account.{Account}
+use Rattle.rules.specs.declared.Contract.{Contract}
+use Rattle.rules.specs.declared.Holding.{Holding}
+use Rattle.rules.specs.declared.State.{State}
+use Rattle.rules.specs.declared.Trade.{Trade}
+use Rattle.rules.proofs.Codecs.{length-trades}
+use Rattle.rules.proofs.InUse.{contracts-in-use, listing-in-use, used-holding}
+use Rattle.accounting.specs.Article32.{AllCovered}
+use Rattle.accounting.proofs.Replay.{replay-covered}
+use Rattle.margin.specs.Charge.{memoryOf}
+use Rattle.settlement.specs.Settling.{AllPayable, BooksIs, accountIn, closingTo, contractIn, dayIn, holdingIn, holdingTo}
+use Rattle.settlement.specs.declared.balances.Books.{Books}
+use Rattle.mending.proofs.Writing.{length-four}
+use Rattle.clients.specs.Parts.{Replayable, ReplayIs, clientsWith}
+use Rattle.statements.specs.Parts.{Brokered, Profitable, Tellable, accountsBytes, bookBytes, clientState, clientsDay, pricesDue, told}
+use Rattle.clients.specs.Clients.{clientAccount, holdingsNow, inRow, legCount, legsIn, neverClosesMore}
+use Rattle.statements.specs.Statement.{holdingBytes, holdingsBytes, profitBytes, profitsBytes, statementOf, tradeBytes, tradesBytes}
+use Rattle.clients.specs.declared.replay.Held.{Held}
+use Rattle.clients.proofs.Rows.{length-row, length-row-total, row-ext, total-bound}
+use Rattle.statements.proofs.Sections.{length-holding, length-profit, length-trade, two-legs}
+
+-- ---- the clients as accounts
+
+pub same-starts : (clients : ℕ) (starts : List ℕ) → tabulate 32 (clientAccount (clientsWith clients starts)) ≡ startOfDay (tabulate 32 (clientAccount (clientsWith clients starts)))
+unfolding startOfDay tabulate clientAccount
+same-starts clients starts = refl
+
+first-used : (n : ℕ) (f : ℕ → Account) → used n 17 (tabulate 32 f) ≡ used n 17 (tabulate 17 f)
+unfolding tabulate
+first-used n f = refl
+
+-- ---- the day
+
+module _ (s : State) (buys sells area starts : List ℕ) (clients legs′ : ℕ) (g : Brokered s buys sells area starts clients legs′) (accounts : List Account)
+    (e : accounts ≡ tabulate 32 (clientAccount (clientsWith clients starts))) where
+  abbrev y : Exchange
+  y = clientsDay s buys sells area starts clients
+
+  abbrev n : ℕ
+  n = s .contractcount
+
+  abbrev ts : List Trade
+  ts = recordedTrades area (s .tradecount)
+
+  used-clients : used n 17 accounts ≡ used n 17 (tabulate 17 (clientAccount (clientsWith clients starts)))
+  used-clients = ap (used n 17) e ∙ first-used n (clientAccount (clientsWith clients starts))
+
+  client-at : (k c : ℕ) → k < 17 → c < n → holdingAt accounts k c ≡ holdingAt (tabulate 17 (clientAccount (clientsWith clients starts))) k c
+  client-at k c lk lc =
+      sym (used-holding n 17 accounts k c lk lc)
+      ∙ ap (λ (l : List Account). holdingAt l k c) used-clients
+      ∙ used-holding n 17 (tabulate 17 (clientAccount (clientsWith clients starts))) k c lk lc
+
+  pub replayable : Replayable accounts n area (s .tradecount)
+  replayable =
+      record {
+        few = g .contracts;
+        trades = g .trades;
+        room = g .room;
+        each = g .each;
+        starts = λ k c lk lc. rw (client-at k c lk lc) (g .lots k c lk lc);
+        start = e ∙ same-starts clients starts ∙ ap startOfDay (sym e);
+      }
+
+  accounts-of : used n 17 accounts ≡ y .accounts
+  unfolding clientsDay
+  accounts-of = used-clients
+
+  module _ (h : Held) (q : ReplayIs accounts n area (s .tradecount) h) where
+    pub covered-is : h .covered ≡ neverClosesMore y
+    unfolding neverClosesMore clientsDay
+    covered-is = q .covered ∙ ap (λ (l : List Account). neverBelowZero (startOfDay l) ts) used-clients
+
+    holdings-are : h .covered ≡ true → used n 17 (h .accounts) ≡ holdingsNow y
+    unfolding holdingsNow clientsDay
+    holdings-are t = q .held t ∙ rw used-clients
+
+  -- ---- contracts and prices
+
+  contracts-are : length (y .listings) ≡ n
+  unfolding clientsDay
+  contracts-are = contracts-in-use (memoryOf s buys sells area)
+
+  contract-is : (c : ℕ) → c < n → listingAt y c .contract ≡ contractIn s c
+  unfolding clientsDay listingAt exchangeOf listingIn
+  contract-is c lc = ap (λ (l : Listing). l .contract) (listing-in-use (memoryOf s buys sells area) c lc)
+
+  abbrev cs : State
+  cs = clientState s accounts clients
+
+  same-price : (c : ℕ) → settlementPrice (exchangeOf (memoryOf cs buys sells area)) c ≡ settlementPrice y c
+  unfolding clientsDay listingAt exchangeOf listingIn settlementPrice
+  same-price c = refl
+
+  price-is : (c : ℕ) → c < n → getD (pricesDue cs buys sells area) c 0 ≡ settlementPrice y c
+  price-is c lc =
+      let f : ℕ → ℕ = settlementPrice (exchangeOf (memoryOf cs buys sells area)) in
+      getD-padded 4 c 0 0 (tabulate n f) (rw (length-tabulate n f) lc) ∙ getD-tabulate n c f 0 lc ∙ same-price c
+
+  -- ---- a client's day
+
+  holding-is : (k c : ℕ) → k < 17 → c < n → holdingIn cs k c ≡ holdingAt (y .accounts) k c
+  unfolding holdingAt accountAt
+  holding-is k c lk lc = sym (used-holding n 17 accounts k c lk lc) ∙ ap (λ (l : List Account). holdingAt l k c) accounts-of
+
+  day-is : (k c : ℕ) → k < 17 → c < n → dayIn cs area k c ≡ dayOf y k c
+  unfolding dayIn dayOf clientsDay
+  day-is k c lk lc =
+      ap₂ (λ (r : ℕ) (h : Holding). afterLegs (dayStart r (h .startlong) (h .startshort)) (legs k c ts))
+      (sym (ap (λ (t : Contract). t .reference) (contract-is c lc))) (holding-is k c lk lc)
+
+  closing-is : (k : ℕ) → k < 17 → closingTo cs area k n ≡ closingProfit y k
+  unfolding closingTo closingProfit
+  closing-is k lk =
+      sumTo-ext n _ (λ c. pos (listingAt y c .contract .multiplier) *ℤ dayOf y k c .closing)
+      (λ c lc. ap₂ (λ (t : Contract) (d : Day). pos (t .multiplier) *ℤ d .closing) (sym (contract-is c lc)) (day-is k c lk lc))
+      ∙ ap (λ (m : ℕ). sumTo m (λ c. pos (listingAt y c .contract .multiplier) *ℤ dayOf y k c .closing)) (sym contracts-are)
+
+  holding-profit-is : (k : ℕ) → k < 17 → holdingTo cs area (pricesDue cs buys sells area) k n ≡ holdingProfit y k
+  unfolding holdingTo holdingProfit
+  holding-profit-is k lk =
+      sumTo-ext n _ (λ c. pos (listingAt y c .contract .multiplier) *ℤ holdingGain (settlementPrice y c) (dayOf y k c))
+      (λ c lc. ap₂ (λ (t : Contract) (z : ℤ). pos (t .multiplier) *ℤ z) (sym (contract-is c lc)) (ap₂ holdingGain (price-is c lc) (day-is k c lk lc)))
+      ∙ ap (λ (m : ℕ). sumTo m (λ c. pos (listingAt y c .contract .multiplier) *ℤ holdingGain (settlementPrice y c) (dayOf y k c))) (sym contracts-are)
+
+  -- ---- what paying the clients asks for
+
+  module _ (covered : neverClosesMore y ≡ true) where
+    day-covered : (k c : ℕ) → k < 17 → c < n → AllCovered (dayStart (contractIn s c .reference) (holdingIn cs k c .startlong) (holdingIn cs k c .startshort)) (legs k c ts)
+    unfolding neverClosesMore clientsDay
+    day-covered k c lk lc =
+        subst (λ (h : Holding). AllCovered (dayStart (contractIn s c .reference) (h .startlong) (h .startshort)) (legs k c ts))
+        (sym (holding-is k c lk lc))
+        (replay-covered k c (y .accounts) (y .trades) (contractIn s c .reference) covered)
+
+    lots-small : (k c : ℕ) → k < 17 → c < n → (holdingIn cs k c .startlong ≤ 100_000) × (holdingIn cs k c .startshort ≤ 100_000)
+    unfolding holdingAt accountAt
+    lots-small k c lk lc = rw (client-at k c lk lc) (g .lots k c lk lc)
+
+    account-is : (k : ℕ) → k < 32 → accountIn cs k ≡ clientAccount (clientsWith clients starts) k
+    account-is k lk = ap (λ (l : List Account). getD l k noAccount) e ∙ getD-tabulate 32 k (clientAccount (clientsWith clients starts)) noAccount lk
+
+    no-balance : (k : ℕ) → k < 32 → accountIn cs k .balance ≡ pos 0
+    unfolding clientAccount
+    no-balance k lk = ap (λ (a : Account). a .balance) (account-is k lk)
+
+    four-holdings : (k : ℕ) → k < 32 → length (accountAt accounts k .holdings) ≡ 4
+    unfolding clientAccount accountAt tabulate
+    four-holdings k lk = ap (λ (a : Account). length (a .holdings)) (account-is k lk)
+
+    declared : Declared cs
+    declared =
+        let d = g .declared in
+        record {
+          contracts = d .contracts;
+          accounts = ap length e ∙ length-tabulate 32 (clientAccount (clientsWith clients starts));
+          buys = d .buys;
+          sells = d .sells;
+          holdings = four-holdings;
+        }
+
+    payable : AllPayable cs area (pricesDue cs buys sells area)
+    payable =
+        record {
+          declared = declared;
+          accounts = omega (arith, g .few);
+          contracts = g .contracts;
+          balance = λ k lk. rw (no-balance k (omega (arith, g .few))) (within-pos (omega arith));
+          each = λ k lk. record {
+            account = omega (arith, g .few);
+            contracts = g .contracts;
+            multiplier = λ c lc. g .terms c lc .0;
+            each = λ c lc. record {
+              trades = g .priceable c lc .trades;
+              reference = g .terms c lc .1;
+              long = lots-small k c (omega (arith, g .few)) lc .0;
+              short = lots-small k c (omega (arith, g .few)) lc .1;
+              price = rw (price-is c lc) (g .prices c lc);
+              covered = day-covered k c (omega (arith, g .few)) lc;
+            };
+          };
+        }
+
+    pub profitable : Profitable cs buys sells area
+    profitable = record { few = g .contracts; priceable = g .priceable; payable = payable }
+
+  -- ---- the statement's length
+
+  -- each trade has two legs at most
+  pub few-legs : legs′ ≤ 2_048
+  unfolding legCount
+  few-legs =
+      omega (arith, g .legs-are, g .trades, length-trades area (s .tradecount), total-bound (λ i. legsIn (getD ts i noTrade)) 2 (length ts) (λ i. two-legs (getD ts i noTrade)))
+
+  pub statement-length : length (statementOf y clients) ≡ 12 + 16 * legs′ + 8 * (clients * n) + 16 * clients
+  unfolding statementOf tradesBytes holdingsBytes profitsBytes legCount clientsDay
+  statement-length =
+      let t : length (inRow (length ts) (λ i. tradeBytes (getD ts i noTrade))) ≡ 16 * legCount ts =
+      length-row-total (λ i. tradeBytes (getD ts i noTrade)) (λ i. legsIn (getD ts i noTrade)) 16 (length ts) (λ i. length-trade (getD ts i noTrade)) in
+      let h : length (inRow clients (λ k. inRow (length (y .listings)) (λ c. holdingBytes (holdingAt (holdingsNow y) k c)))) ≡ 8 * length (y .listings) * clients =
+      length-row (λ k. inRow (length (y .listings)) (λ c. holdingBytes (holdingAt (holdingsNow y) k c))) (8 * length (y .listings)) clients
+      (λ k lk. length-row (λ c. holdingBytes (holdingAt (holdingsNow y) k c)) 8 (length (y .listings)) (λ c lc. length-holding (holdingAt (holdingsNow y) k c))) in
+      let p : length (inRow clients (λ k. profitBytes (closingProfit y k) (holdingProfit y k))) ≡ 16 * clients =
+      length-row (λ k. profitBytes (closingProfit y k) (holdingProfit y k)) 16 clients (λ k lk. length-profit (closingProfit y k) (holdingProfit y k)) in
+      let m : 8 * length (y .listings) * clients ≡ 8 * (clients * n) =
+      ap (λ (i : ℕ). 8 * i * clients) contracts-are ∙ mul-assoc 8 n clients ∙ ap (λ (i : ℕ). 8 * i) (mul-comm n clients) in
+      let l = g .legs-are in
+      simp (length-append, length-four) (omega arith)
+
+  -- ---- the bytes that the code writes are the statement's
+
+  module _ (h : Held) (q : ReplayIs accounts n area (s .tradecount) h) (t : h .covered ≡ true) (r : Books) (w : BooksIs cs area (pricesDue cs buys sells area) r) where
+    now-at : (k c : ℕ) → k < 17 → c < n → getD (getD (h .accounts) k noAccount .holdings) c noHolding ≡ holdingAt (holdingsNow y) k c
+    unfolding holdingAt accountAt
+    now-at k c lk lc = sym (used-holding n 17 (h .accounts) k c lk lc) ∙ ap (λ (l : List Account). holdingAt l k c) (holdings-are h q t)
+
+    holdings-told : accountsBytes (h .accounts) clients n ≡ holdingsBytes (holdingsNow y) clients n
+    unfolding holdingsBytes
+    holdings-told =
+        row-ext _ (λ k. inRow n (λ c. holdingBytes (holdingAt (holdingsNow y) k c))) clients
+        (λ k lk. row-ext _ (λ c. holdingBytes (holdingAt (holdingsNow y) k c)) n (λ c lc. ap holdingBytes (now-at k c (omega (arith, g .few)) lc)))
+
+    paid-at : (f : ℕ → ℤ) (k : ℕ) → k < clients → getD (padded 32 (pos 0) (tabulate clients f)) k (pos 0) ≡ f k
+    paid-at f k lk = getD-padded 32 k (pos 0) (pos 0) (tabulate clients f) (rw (length-tabulate clients f) lk) ∙ getD-tabulate clients k f (pos 0) lk
+
+    profits-told : bookBytes (r .closing) (r .holding) clients ≡ profitsBytes y clients
+    unfolding profitsBytes
+    profits-told =
+        row-ext _ (λ k. profitBytes (closingProfit y k) (holdingProfit y k)) clients
+        (λ k lk. ap₂ profitBytes
+        (ap (λ (l : List ℤ). getD l k (pos 0)) (w .closing) ∙ paid-at (λ a. closingTo cs area a n) k lk ∙ closing-is k (omega (arith, g .few)))
+        (ap (λ (l : List ℤ). getD l k (pos 0)) (w .holding) ∙ paid-at (λ a. holdingTo cs area (pricesDue cs buys sells area) a n) k lk ∙ holding-profit-is k (omega (arith, g .few))))
+
+    pub told-is : told ts legs′ (h .accounts) (r .closing) (r .holding) clients n ≡ statementOf y clients
+    unfolding statementOf clientsDay
+    told-is = rw (g .legs-are, holdings-told, profits-told, contracts-are)
+
+    pub tellable : (out : List ℕ) → 12 + 16 * legs′ + 8 * (clients * n) + 16 * clients ≤ length out
+        → Tellable area (s .tradecount) legs′ (h .accounts) (r .closing) (r .holding) clients n out
+    tellable out room =
+        record {
+          few-clients = g .few;
+          few-contracts = g .contracts;
+          area-room = g .room;
+          few-legs = few-legs;
+          each = λ i l. omega (arith, g .each i l .contract, g .contracts);
+          room = rw told-is (omega (arith, statement-length));
+        }

@@ -1,0 +1,6 @@
+pub mod Answering
+pub mod Brokering
+pub mod Days
+pub mod Paid
+pub mod Refusing
+pub mod Sections

@@ -1,0 +1,231 @@
+-- The statement's bytes written one after the other. Assumes nothing.
+use mathlib.Core.Bool.{Bool, true, false, true≢false}
+use mathlib.Core.List.{List, [], _∷_, _++_}
+use mathlib.Core.Path.{_≡_, refl, ap, _∙_}
+use Prim.Native.Nat.{ℕ, zero, suc, _+_, _-_, _*_, _<_, _≤_, _^_}
+use native.Mathlib.Nat.{le-refl, not-suc-le-zero, mul-le-mul-right}
+use native.Mathlib.Omega.{arith}
+use borrow.Author.Tests.{lt-ltb, le-ltb, ltb-true}
+use lib.Dec.{eqb}
+use lib.IntN.{ℤ, pos, negsuc, natAbs}
+use lib.ListN.{length, getD, length-append}
+use lib.Signed.{ltZ}
+use mir.Syntax.{w64}
+use mir.Val.{SFits}
+use Rattle.laws.specs.Choice.{pick}
+use Rattle.areas.specs.Lists.{over}
+use Rattle.rules.specs.Exchange.{noTrade}
+use Rattle.rules.specs.Memory.{recordedTrades}
+use Rattle.rules.specs.declared.Holding.{Holding}
+use Rattle.rules.specs.declared.Trade.{Trade}
+use Rattle.rules.proofs.Codecs.{length-trades}
+use Rattle.lines.specs.Written.{Written}
+use Rattle.lines.proofs.Text.{then, no-byte, looser}
+use Rattle.mending.specs.Mend.{two, four, eight}
+use Rattle.mending.proofs.Writing.{length-four}
+use Rattle.clients.specs.Clients.{inRow, isClient, legsIn}
+use Rattle.statements.specs.Statement.{legBytes, tradeBytes, tradesBytes, holdingBytes, profitBytes, section, unsigned}
+use Rattle.clients.proofs.Rows.{row-more}
+
+-- no looser than they are
+pub exact : {before bytes after : List ℕ} {most at next : ℕ} → Written most before at bytes after next → Written (length bytes) before at bytes after next
+exact w = record { content = w .content; ends = w .ends; short = le-refl _; kept = w .kept; inside = w .inside }
+
+-- ---- n things in a row: the first k are written
+
+module _ (f : ℕ → List ℕ) (n : ℕ) (out₀ : List ℕ) (at : ℕ) where
+  pub record Telling (k next : ℕ) (out : List ℕ) : Type 0 where
+    pub within : k ≤ n
+    pub row : Written (length (inRow k f)) out₀ at (inRow k f) out next
+
+  pub telling-none : at ≤ length out₀ → Telling 0 at out₀
+  unfolding inRow
+  telling-none h = record { within = omega arith; row = no-byte out₀ at h }
+
+  -- a shorter row is no longer
+  row-up : (k m : ℕ) → length (inRow k f) ≤ length (inRow (k + m) f)
+  row-up k zero = let e : k + 0 ≡ k = omega arith in rw e (le-refl _)
+  row-up k (suc m) =
+      let e : k + suc m ≡ k + m + 1 = omega arith in
+      rw (e, row-more f (k + m), length-append (inRow (k + m) f) (f (k + m))) (omega (arith, row-up k m))
+
+  module _ (k next : ℕ) (out : List ℕ) (l : k < n) (t : Telling k next out) where
+    pub telling-room : at + length (inRow n f) ≤ length out₀ → next + length (f k) ≤ length out
+    telling-room h =
+        let e : k + 1 + (n - (k + 1)) ≡ n = omega arith in
+        let u : length (inRow (k + 1) f) ≤ length (inRow n f) = rw e at (row-up (k + 1) (n - (k + 1))) in
+        let v : length (inRow (k + 1) f) ≡ length (inRow k f) + length (f k) = ap length (row-more f k) ∙ length-append (inRow k f) (f k) in
+        omega (arith, t .row .ends, t .row .kept)
+
+    -- .. of w bytes
+    pub telling-fits : {w : ℕ} → length (f k) ≡ w → at + length (inRow n f) ≤ length out₀ → next + w ≤ length out
+    telling-fits e h = let r = telling-room h in omega arith
+
+    pub telling-more : {most next′ : ℕ} {out′ : List ℕ} → Written most out next (f k) out′ next′ → Telling (k + 1) next′ out′
+    telling-more w = record { within = omega arith; row = rw (row-more f k) (exact (then (t .row) w)) }
+
+  pub telling-done : (k next : ℕ) (out : List ℕ) → n ≤ k → Telling k next out → Written (length (inRow n f)) out₀ at (inRow n f) out next
+  telling-done k next out h t =
+      let e : k ≡ n = omega (arith, t .within) in
+      rw e at (t .row)
+
+-- ---- trades
+
+module _ {b₀ b₁ b₂ b₃ b₄ b₅ b₆ b₇ : List ℕ} {at p₁ p₂ p₃ p₄ p₅ p₆ p₇ : ℕ} (t : Trade) (place sell close order mark : ℕ) where
+  pub leg-written : mark ≡ pick (eqb close 0) 0 1 → Written 1 b₀ at ((place + 1) ∷ []) b₁ p₁ → Written 1 b₁ p₁ ((t .contract + 1) ∷ []) b₂ p₂
+      → Written 1 b₂ p₂ (sell ∷ []) b₃ p₃ → Written 1 b₃ p₃ (mark ∷ []) b₄ p₄ → Written 4 b₄ p₄ (four (t .price)) b₅ p₅
+      → Written 4 b₅ p₅ (four (t .lots)) b₆ p₆ → Written 4 b₆ p₆ (four order) b₇ p₇ → Written 16 b₀ at (legBytes t place sell close order) b₇ p₇
+  unfolding legBytes
+  leg-written e w₁ w₂ w₃ w₄ w₅ w₆ w₇ = rw (← e) (then w₁ (then w₂ (then w₃ (then w₄ (then w₅ (then w₆ w₇))))))
+
+pub length-leg : (t : Trade) (place sell close order : ℕ) → length (legBytes t place sell close order) ≡ 16
+unfolding legBytes four two
+length-leg t place sell close order = refl
+
+-- sixteen bytes for each leg of a client
+pub length-trade : (t : Trade) → length (tradeBytes t) ≡ 16 * legsIn t
+unfolding tradeBytes legsIn legBytes four two
+length-trade t = by (isClient (t .buyer)) (isClient (t .seller))
+  where
+    by : (buys sells : Bool)
+        → length (pick buys (legBytes t (t .buyer) 0 (t .buyclose) (t .buyorder)) [] ++ pick sells (legBytes t (t .seller) 1 (t .sellclose) (t .sellorder)) [])
+        ≡ 16 * (pick buys 1 0 + pick sells 1 0)
+    by true true = refl
+    by true false = refl
+    by false true = refl
+    by false false = refl
+
+pub two-legs : (t : Trade) → legsIn t ≤ 2
+unfolding legsIn
+two-legs t = by (isClient (t .buyer)) (isClient (t .seller))
+  where
+    by : (buys sells : Bool) → pick buys 1 0 + pick sells 1 0 ≤ 2
+    by true true = omega arith
+    by true false = omega arith
+    by false true = omega arith
+    by false false = omega arith
+
+module _ (t : Trade) (place sell close order : ℕ) where
+  abbrev sideBytes : List ℕ
+  sideBytes = pick (isClient place) (legBytes t place sell close order) []
+
+  pub side-none : (before : List ℕ) (at : ℕ) → 16 ≤ place → at + length sideBytes ≤ length before → Written 16 before at sideBytes before at
+  side-none before at h room = rw (le-ltb place 16 h) (looser (no-byte before at (omega arith)) 16 (omega arith))
+
+  pub side-room : (at room : ℕ) → place < 16 → at + length sideBytes ≤ room → at + 16 ≤ room
+  side-room at room h k =
+      let e : length sideBytes ≡ 16 = rw (lt-ltb place 16 h) (length-leg t place sell close order) in
+      omega arith
+
+  pub side-one : {before after : List ℕ} {at next : ℕ} → place < 16 → Written 16 before at (legBytes t place sell close order) after next
+      → Written 16 before at sideBytes after next
+  side-one h w = rw (lt-ltb place 16 h) w
+
+module _ (t : Trade) where
+  abbrev buyerBytes : List ℕ
+  buyerBytes = pick (isClient (t .buyer)) (legBytes t (t .buyer) 0 (t .buyclose) (t .buyorder)) []
+
+  abbrev sellerBytes : List ℕ
+  sellerBytes = pick (isClient (t .seller)) (legBytes t (t .seller) 1 (t .sellclose) (t .sellorder)) []
+
+  trade-length : length (tradeBytes t) ≡ length buyerBytes + length sellerBytes
+  unfolding tradeBytes
+  trade-length = length-append buyerBytes sellerBytes
+
+  pub buyer-room : (at room : ℕ) → at + length (tradeBytes t) ≤ room → at + length buyerBytes ≤ room
+  buyer-room at room h = omega (arith, trade-length)
+
+  pub seller-room : {before after : List ℕ} (at next most : ℕ) → at + length (tradeBytes t) ≤ length before → Written most before at buyerBytes after next
+      → next + length sellerBytes ≤ length after
+  seller-room at next most h w = omega (arith, trade-length, w .ends, w .kept)
+
+  pub trade-written : {before middle after : List ℕ} {at j next : ℕ} → Written 16 before at buyerBytes middle j → Written 16 middle j sellerBytes after next
+      → Written 32 before at (tradeBytes t) after next
+  unfolding tradeBytes
+  trade-written w v = then w v
+
+pub trades-row : (area : List ℕ) (count : ℕ)
+    → tradesBytes (recordedTrades area count) ≡ inRow count (λ i. tradeBytes (getD (recordedTrades area count) i noTrade))
+unfolding tradesBytes
+trades-row area count = rw (length-trades area count)
+
+-- ---- holdings and profit
+
+pub holding-written : {before middle after : List ℕ} {at j next : ℕ} (h : Holding) → Written 4 before at (four (h .long)) middle j → Written 4 middle j (four (h .short)) after next
+    → Written 8 before at (holdingBytes h) after next
+unfolding holdingBytes
+holding-written h w v = then w v
+
+pub length-holding : (h : Holding) → length (holdingBytes h) ≡ 8
+unfolding holdingBytes four two
+length-holding h = refl
+
+pub profit-written : {before middle after : List ℕ} {at j next : ℕ} (closing holding : ℤ) (m n : ℕ) → m ≡ unsigned closing → n ≡ unsigned holding
+    → Written 8 before at (eight m) middle j → Written 8 middle j (eight n) after next → Written 16 before at (profitBytes closing holding) after next
+unfolding profitBytes
+profit-written closing holding m n e f w v = rw (← e, ← f) (then w v)
+
+pub length-profit : (closing holding : ℤ) → length (profitBytes closing holding) ≡ 16
+unfolding profitBytes eight four two
+length-profit closing holding = refl
+
+-- a signed number, from its size
+module _ (x : ℤ) (n : ℕ) (f : SFits w64 x) (e : n ≡ natAbs x) where
+  pub some-below : ltZ x (pos 0) ≡ true → (1 ≤ n) × (n ≤ 2 ^ 63)
+  some-below t = go x f e t
+    where
+      go : (x : ℤ) → SFits w64 x → n ≡ natAbs x → ltZ x (pos 0) ≡ true → (1 ≤ n) × (n ≤ 2 ^ 63)
+      go (pos k) f e t = absurd (not-suc-le-zero (ltb-true k 0 t))
+      go (negsuc k) f e t = (omega arith, omega (arith, f .sfits))
+
+  pub unsigned-below : ltZ x (pos 0) ≡ true → 18_446_744_073_709_551_615 - n + 1 ≡ unsigned x
+  unfolding unsigned
+  unsigned-below t = go x f e t
+    where
+      go : (x : ℤ) → SFits w64 x → n ≡ natAbs x → ltZ x (pos 0) ≡ true → 18_446_744_073_709_551_615 - n + 1 ≡ unsigned x
+      go (pos k) f e t = absurd (not-suc-le-zero (ltb-true k 0 t))
+      go (negsuc k) f e t = omega (arith, f .sfits)
+
+  pub unsigned-above : ltZ x (pos 0) ≡ false → n ≡ unsigned x
+  unfolding unsigned
+  unsigned-above t = go x e t
+    where
+      go : (x : ℤ) → n ≡ natAbs x → ltZ x (pos 0) ≡ false → n ≡ unsigned x
+      go (pos k) e t = e
+      go (negsuc k) e t = absurd (true≢false t)
+
+-- ---- the three sections, each after its count
+
+pub few-entries : {a b : ℕ} → a ≤ 16 → b ≤ 4 → a * b ≤ 64
+few-entries {a} {b} h k = let p = mul-le-mul-right b h in omega arith
+
+module _ (n₁ n₂ n₃ : ℕ) (A B C out : List ℕ) (room : length (section n₁ A ++ (section n₂ B ++ section n₃ C)) ≤ length out) where
+  size : length (section n₁ A ++ (section n₂ B ++ section n₃ C)) ≡ 12 + length A + length B + length C
+  size = simp (length-append, length-four) (omega arith)
+
+  pub room-first : 0 + 4 ≤ length out
+  room-first = omega (arith, size)
+
+  module _ {o₁ : List ℕ} {p₁ : ℕ} (w₁ : Written 4 out 0 (four n₁) o₁ p₁) where
+    pub room-second : p₁ + length A ≤ length o₁
+    room-second = omega (arith, size, w₁ .ends, w₁ .kept, length-four n₁)
+
+    module _ {o₂ : List ℕ} {p₂ : ℕ} (w₂ : Written (length A) o₁ p₁ A o₂ p₂) where
+      pub room-third : p₂ + 4 ≤ length o₂
+      room-third = omega (arith, size, w₁ .ends, w₁ .kept, length-four n₁, w₂ .ends, w₂ .kept)
+
+      module _ {o₃ : List ℕ} {p₃ : ℕ} (w₃ : Written 4 o₂ p₂ (four n₂) o₃ p₃) where
+        pub room-fourth : p₃ + length B ≤ length o₃
+        room-fourth = omega (arith, size, w₁ .ends, w₁ .kept, length-four n₁, w₂ .ends, w₂ .kept, w₃ .ends, w₃ .kept, length-four n₂)
+
+        module _ {o₄ : List ℕ} {p₄ : ℕ} (w₄ : Written (length B) o₃ p₃ B o₄ p₄) where
+          pub room-fifth : p₄ + 4 ≤ length o₄
+          room-fifth = omega (arith, size, w₁ .ends, w₁ .kept, length-four n₁, w₂ .ends, w₂ .kept, w₃ .ends, w₃ .kept, length-four n₂, w₄ .ends, w₄ .kept)
+
+          module _ {o₅ : List ℕ} {p₅ : ℕ} (w₅ : Written 4 o₄ p₄ (four n₃) o₅ p₅) where
+            pub room-sixth : p₅ + length C ≤ length o₅
+            room-sixth =
+                omega (arith, size, w₁ .ends, w₁ .kept, length-four n₁, w₂ .ends, w₂ .kept, w₃ .ends, w₃ .kept, length-four n₂, w₄ .ends, w₄ .kept, w₅ .ends, w₅ .kept, length-four n₃)
+
+            pub all-told : {o₆ : List ℕ} {p₆ : ℕ} → Written (length C) o₅ p₅ C o₆ p₆ → o₆ ≡ over out 0 (section n₁ A ++ (section n₂ B ++ section n₃ C))
+            all-told w₆ = then (then w₁ w₂) (then (then w₃ w₄) (then w₅ w₆)) .content

@@ -1,0 +1,20 @@
+-- `profits::books` meets its contract. Assumes nothing.
+use borrow.Author.Needs.{needs}
+use Rattle.statements.proofs.profits.books.Statement.{statement}
+use Rattle.statements.proofs.profits.books.Tie as tie
+use Rattle.statements.proofs.profits.books.Reads as reads
+use Rattle.statements.proofs.profits.books.Lts as lts
+use Rattle.settlement.proofs.balances.all_paid.Reads as all-paid-reads
+use Rattle.statements.proofs.profits.prices_due.Reads as prices-due-reads
+
+prices-due-requires : tie.Need-prices-due-requires
+prices-due-requires c κs = search needs
+
+all-paid-requires : tie.Need-all-paid-requires
+all-paid-requires c κs = rw (c .prices-due .ensures) (c .before .before .before .before .pre .payable)
+
+returns : tie.Need-returns
+returns c = rw (← c .before .prices-due .ensures) (c .all-paid .ensures)
+
+pub books-spec : {M : Type 1} → statement M
+books-spec = tie.close (tie.spec prices-due-requires all-paid-requires returns)

@@ -1,0 +1,80 @@
+-- `profits::prices_due` meets its contract: the prices of the contracts before c are written. Assumes nothing.
+use Prim.Native.Nat.{_-_}
+use native.Mathlib.Omega.{arith}
+use Rattle.margin.specs.Charge.{memoryOf}
+use Rattle.laws.specs.Written.{writing-none, writing-more}
+use Rattle.settlement.proofs.Report.{PricesSoFar, price-in-use, prices-done}
+use Rattle.statements.proofs.profits.prices_due.Statement.{statement}
+use Rattle.statements.proofs.profits.prices_due.Tie as tie
+use Rattle.statements.proofs.profits.prices_due.Reads as reads
+use Rattle.statements.proofs.profits.prices_due.Lts as lts
+use Rattle.dayprofit.proofs.price.settlement_price.Reads as settlement-price-reads
+
+abbrev Inv-loop : tie.InvT-loop
+Inv-loop buys sells area state contracts count prices₀ c₀ prices c = PricesSoFar (memoryOf state buys sells area) c prices
+
+abbrev μ-loop : tie.MeasureT-loop
+μ-loop buys sells area state contracts count prices₀ c₀ prices c = contracts - c
+
+loop-holds : tie.Need-loop-holds Inv-loop μ-loop
+loop-holds c = writing-none _ _ _
+
+mul-terms : tie.Need-mul-terms Inv-loop μ-loop
+mul-terms c = omega (arith, c .before .before .before .before .before .pre .few)
+
+element-copy-out-terms : tie.Need-element-copy-out-terms Inv-loop μ-loop
+element-copy-out-terms c = omega (arith, c .before .before .before .before .before .pre .few)
+
+mul-bids : tie.Need-mul-bids Inv-loop μ-loop
+mul-bids c = omega (arith, c .before .before .before .before .before .before .pre .few)
+
+element-copy-out-bids : tie.Need-element-copy-out-bids Inv-loop μ-loop
+element-copy-out-bids c = omega (arith, c .before .before .before .before .before .before .pre .few)
+
+mul-offers : tie.Need-mul-offers Inv-loop μ-loop
+mul-offers c = omega (arith, c .before .before .before .before .before .before .before .pre .few)
+
+element-copy-out-offers : tie.Need-element-copy-out-offers Inv-loop μ-loop
+element-copy-out-offers c = omega (arith, c .before .before .before .before .before .before .before .pre .few)
+
+settlement-price-requires : tie.Need-settlement-price-requires Inv-loop μ-loop
+settlement-price-requires c κs = c .before .before .before .before .before .before .before .before .pre .priceable _ (c .before .before .before .loop-test .taken)
+
+mul-prices : tie.Need-mul-prices Inv-loop μ-loop
+mul-prices c = omega (arith, c .before .before .before .before .before .before .before .before .before .pre .few)
+
+array-write-prices : tie.Need-array-write-prices Inv-loop μ-loop
+array-write-prices c = omega (arith, c .before .before .before .before .before .before .before .before .before .pre .few)
+
+add-c : tie.Need-add-c Inv-loop μ-loop
+add-c c = omega (arith, c .before .before .before .before .before .before .before .before .before .pre .few)
+
+loop-less : tie.Need-loop-less Inv-loop μ-loop
+loop-less c = omega arith
+
+loop-again : tie.Need-loop-again Inv-loop μ-loop
+loop-again c = writing-more _ _ _ (c .before .before .before .before .before .before .before .before .before .pre .few) _ _ _ (c .before .before .before .before .loop-test .taken) (price-in-use _ _ (c .before .before .before .before .loop-test .taken) _ (c .settlement-price .ensures)) (c .before .before .before .before .before .loop .inv)
+
+returns : tie.Need-returns Inv-loop μ-loop
+returns c = prices-done _ _ _ (c .loop-test .left) (c .before .loop .inv)
+
+pub prices-due-spec : {M : Type 1} → statement M
+prices-due-spec =
+    tie.close
+    (tie.spec
+    Inv-loop
+    μ-loop
+    loop-holds
+    mul-terms
+    element-copy-out-terms
+    mul-bids
+    element-copy-out-bids
+    mul-offers
+    element-copy-out-offers
+    settlement-price-requires
+    mul-prices
+    array-write-prices
+    add-c
+    loop-less
+    loop-again
+    returns)

@@ -1,0 +1,66 @@
+-- `writing::put_trades` meets its contract: the first i trades are written. Assumes nothing.
+use mathlib.Core.Path.{_≡_, sym, _∙_}
+use Prim.Native.Nat.{_-_}
+use native.Mathlib.Omega.{arith}
+use lib.ListN.{getD}
+use Rattle.rules.specs.Exchange.{noTrade}
+use Rattle.rules.specs.Memory.{recordedTrades}
+use Rattle.rules.proofs.Codecs.{trade-at}
+use Rattle.statements.specs.Statement.{tradeBytes}
+use Rattle.statements.proofs.Sections.{Telling, telling-none, telling-room, telling-more, telling-done, trades-row}
+use Rattle.statements.proofs.writing.put_trades.Statement.{statement}
+use Rattle.statements.proofs.writing.put_trades.Tie as tie
+use Rattle.statements.proofs.writing.put_trades.Reads as reads
+use Rattle.statements.proofs.writing.put_trades.Lts as lts
+use Rattle.book.proofs.trades.trade_at.Reads as trade-at-reads
+use Rattle.statements.proofs.writing.put_trade.Reads as put-trade-reads
+
+abbrev Inv-loop : tie.InvT-loop
+Inv-loop area count out₀ at next₀ i₀ out next i = Telling (λ j. tradeBytes (getD (recordedTrades area count) j noTrade)) count out₀ at i next out
+
+abbrev μ-loop : tie.MeasureT-loop
+μ-loop area count out₀ at next₀ i₀ out next i = count - i
+
+loop-holds : tie.Need-loop-holds Inv-loop μ-loop
+loop-holds c = telling-none _ _ _ _ (omega (arith, c .before .before .pre .0 .1))
+
+trade-at-requires : tie.Need-trade-at-requires Inv-loop μ-loop
+trade-at-requires c κs = omega (arith, c .before .before .before .before .pre .0 .0)
+
+-- the trade read is the one recorded there
+the-trade : (c : tie.After-trade-at Inv-loop μ-loop)
+    → c .trade-at .result ≡ getD (recordedTrades (c .before .before .before .before .before .args .area .now) (c .before .before .before .before .before .args .count)) (c .before .before .loop .i) noTrade
+the-trade c = c .trade-at .ensures ∙ sym (trade-at _ _ _ (c .before .loop-test .taken))
+
+put-trade-requires : tie.Need-put-trade-requires Inv-loop μ-loop
+put-trade-requires c κs = rw (the-trade (c .before)) (telling-room _ _ _ _ _ _ _ (c .before .before .loop-test .taken) (c .before .before .before .loop .inv) (rw (trades-row _ _) at (c .before .before .before .before .before .before .pre .0 .1)), c .before .before .before .before .before .before .pre .1 _ (c .before .before .loop-test .taken))
+
+add-i : tie.Need-add-i Inv-loop μ-loop
+add-i c = omega arith
+
+loop-less : tie.Need-loop-less Inv-loop μ-loop
+loop-less c = omega arith
+
+loop-again : tie.Need-loop-again Inv-loop μ-loop
+loop-again c = telling-more _ _ _ _ _ _ _ (c .before .before .before .before .before .loop-test .taken) (c .before .before .before .before .before .before .loop .inv) (rw (the-trade (c .before .before .before .before)) at (c .before .before .put-trade .ensures))
+
+same-length : tie.Need-same-length Inv-loop μ-loop
+same-length c = c .before .loop .inv .row .kept
+
+returns : tie.Need-returns Inv-loop μ-loop
+returns c = rw (trades-row _ _) (telling-done _ _ _ _ _ _ _ (c .loop-test .left) (c .before .loop .inv))
+
+pub put-trades-spec : {M : Type 1} → statement M
+put-trades-spec =
+    tie.close
+    (tie.spec
+    Inv-loop
+    μ-loop
+    loop-holds
+    trade-at-requires
+    put-trade-requires
+    add-i
+    loop-less
+    loop-again
+    same-length
+    returns)

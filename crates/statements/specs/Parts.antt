@@ -1,0 +1,141 @@
+-- What the functions of this crate ask for and give back, for their contracts. Assumes nothing.
+use mathlib.Core.Bool.{true, not}
+use mathlib.Core.List.{List, [], _∷_, _++_}
+use mathlib.Core.Path.{_≡_}
+use Prim.Native.Nat.{ℕ, _*_, _<_, _≤_}
+use lib.IntN.{ℤ, pos}
+use lib.ListN.{length, getD}
+use lib.Dec.{eqb, ltb}
+use Rattle.laws.specs.Choice.{allOf, pick}
+use Rattle.laws.specs.Tabulate.{tabulate}
+use Rattle.areas.specs.Lists.{over, padded}
+use Rattle.rules.specs.Answers.{Refusal, firstOf, _when_}
+use Rattle.rules.specs.Exchange.{Exchange, holdingAt, noAccount, noHolding, noTrade}
+use Rattle.rules.specs.Memory.{Declared, Memory, exchangeOf, recordedTrades, used}
+use Rattle.rules.specs.Settlement.{settlementPrice}
+use Rattle.rules.specs.declared.Account.{Account}
+use Rattle.rules.specs.declared.State.{State}
+use Rattle.rules.specs.declared.Trade.{Trade}
+use Rattle.margin.specs.Charge.{memoryOf}
+use Rattle.dayprofit.specs.Day.{Priceable}
+use Rattle.settlement.specs.Settling.{AllPayable, contractIn}
+use Rattle.audit.specs.Parts.{Booked}
+use Rattle.clients.specs.Parts.{clientsWith}
+use Rattle.clients.specs.Clients.{Clients, clientAccount, clientExchange, inRow, legCount, neverClosesMore, startsAddUp, tradePosted}
+use Rattle.statements.specs.Statement.{holdingBytes, profitBytes, section, statementOf, tradesBytes}
+use Rattle.engine.specs.Outcome.{WellFormedState, memory}
+use Rattle.statements.specs.declared.Statement.{Statement}
+
+-- the settlement prices of the contracts in use, with zeros past their count
+abbrev pub pricesDue : State → List ℕ → List ℕ → List ℕ → List ℕ
+pricesDue s buys sells area = padded 4 0 (tabulate (s .contractcount) (settlementPrice (exchangeOf (memoryOf s buys sells area))))
+
+-- a state whose contracts can be priced, and whose accounts can be paid at those prices
+pub record Profitable (s : State) (buys sells area : List ℕ) : Type 0 where
+  pub few : s .contractcount ≤ 4
+  pub priceable : (c : ℕ) → c < s .contractcount
+      → Priceable (contractIn s c) buys (getD (s .buys) c 0) sells (getD (s .sells) c 0) area (s .tradecount) c
+  pub payable : AllPayable s area (pricesDue s buys sells area)
+
+-- ---- the statement's bytes, from what the code has worked out
+
+abbrev pub accountBytes : Account → ℕ → List ℕ
+accountBytes a contracts = inRow contracts (λ c. holdingBytes (getD (a .holdings) c noHolding))
+
+abbrev pub accountsBytes : List Account → ℕ → ℕ → List ℕ
+accountsBytes accounts clients contracts = inRow clients (λ k. accountBytes (getD accounts k noAccount) contracts)
+
+abbrev pub bookBytes : List ℤ → List ℤ → ℕ → List ℕ
+bookBytes closing holding clients = inRow clients (λ k. profitBytes (getD closing k (pos 0)) (getD holding k (pos 0)))
+
+abbrev pub told : List Trade → ℕ → List Account → List ℤ → List ℤ → ℕ → ℕ → List ℕ
+told ts legs accounts closing holding clients contracts =
+    section legs (tradesBytes ts)
+    ++ (section (clients * contracts) (accountsBytes accounts clients contracts) ++ section clients (bookBytes closing holding clients))
+
+pub record Tellable (area : List ℕ) (count legs : ℕ) (accounts : List Account) (closing holding : List ℤ) (clients contracts : ℕ) (out : List ℕ) : Type 0 where
+  pub few-clients : clients ≤ 16
+  pub few-contracts : contracts ≤ 4
+  pub area-room : 9 * count ≤ length area
+  pub few-legs : legs ≤ 2_048
+  pub each : (i : ℕ) → i < count → getD (recordedTrades area count) i noTrade .contract < 4
+  pub room : length (told (recordedTrades area count) legs accounts closing holding clients contracts) ≤ length out
+
+-- ---- the account's day as its clients'
+
+abbrev pub broker : ℕ → List ℕ → List ℕ → Clients
+broker clients starts postings = record { count = clients; starts = starts; postings = postings }
+
+abbrev pub refusedWith : ℕ → Statement
+refusedWith code = record { code = code; length = 0 }
+
+-- a state with clients in place of its accounts
+abbrev pub clientState : State → List Account → ℕ → State
+clientState s accounts clients =
+    record {
+      contracts = s .contracts;
+      accounts = accounts;
+      buys = s .buys;
+      sells = s .sells;
+      contractcount = s .contractcount;
+      accountcount = clients;
+      tradecount = s .tradecount;
+      next = s .next;
+      settlements = s .settlements;
+    }
+
+-- the clients' exchange as the code has it
+unfoldable pub clientsDay : State → List ℕ → List ℕ → List ℕ → List ℕ → ℕ → Exchange
+clientsDay s buys sells area starts clients =
+    record {
+      listings = exchangeOf (memoryOf s buys sells area) .listings;
+      accounts = used (s .contractcount) 17 (tabulate 17 (clientAccount (clientsWith clients starts)));
+      trades = recordedTrades area (s .tradecount);
+      next = s .next;
+      settlements = s .settlements;
+    }
+
+-- an answer, the code being given: the statement's length and the output area
+pub record AnswerIs (code : ℕ) (y : Exchange) (clients : ℕ) (out : List ℕ) (r : Statement) (out′ : List ℕ) : Type 0 where
+  pub code-is : r .code ≡ code
+  pub length-is : r .length ≡ pick (eqb (r .code) 0) (length (statementOf y clients)) 0
+  pub out-is : out′ ≡ pick (eqb (r .code) 0) (over out 0 (statementOf y clients)) out
+
+-- the last two refusals
+abbrev pub lastRefusals : Exchange → ℕ → ℕ → List Refusal
+lastRefusals y clients room = (27 when not (neverClosesMore y)) ∷ (29 when ltb room (length (statementOf y clients))) ∷ []
+
+abbrev pub ToldIs : Exchange → ℕ → List ℕ → Statement → List ℕ → Type 0
+ToldIs y clients out r out′ = AnswerIs (firstOf (lastRefusals y clients (length out))) y clients out r out′
+
+-- all that the clients' day is worked out from
+pub record Brokered (s : State) (buys sells area starts : List ℕ) (clients legs : ℕ) : Type 0 where
+  pub declared : Declared s
+  pub contracts : s .contractcount ≤ 4
+  pub few : clients ≤ 16
+  pub trades : s .tradecount ≤ 1_024
+  pub room : 9 * s .tradecount ≤ length area
+  pub each : (i : ℕ) → i < s .tradecount → Booked (s .contractcount) 17 (getD (recordedTrades area (s .tradecount)) i noTrade)
+  pub lots : (k c : ℕ) → k < 17 → c < s .contractcount
+      → (holdingAt (tabulate 17 (clientAccount (clientsWith clients starts))) k c .startlong ≤ 100_000)
+      × (holdingAt (tabulate 17 (clientAccount (clientsWith clients starts))) k c .startshort ≤ 100_000)
+  pub legs-are : legs ≡ legCount (recordedTrades area (s .tradecount))
+  pub terms : (c : ℕ) → c < s .contractcount → (contractIn s c .multiplier ≤ 1_000) × (contractIn s c .reference ≤ 1_000_000)
+  pub priceable : (c : ℕ) → c < s .contractcount
+      → Priceable (contractIn s c) buys (getD (s .buys) c 0) sells (getD (s .sells) c 0) area (s .tradecount) c
+  pub prices : (c : ℕ) → c < s .contractcount → settlementPrice (clientsDay s buys sells area starts clients) c ≤ 1_000_000
+
+-- the account exists, there are few enough clients, and their starting lots add up
+pub record Postable (s : State) (buys sells trades : List ℕ) (a clients : ℕ) (starts : List ℕ) : Type 0 where
+  pub formed : WellFormedState s buys sells trades
+  pub account : a < s .accountcount
+  pub few : clients ≤ 16
+  pub adds : startsAddUp (exchangeOf (memory s buys sells trades)) a (broker clients starts []) ≡ true
+
+abbrev pub PostedIs : Memory → ℕ → ℕ → List ℕ → List ℕ → List ℕ → Statement → List ℕ → Type 0
+PostedIs m a clients starts postings out r out′ =
+    AnswerIs
+    (firstOf
+    ((26 when not (allOf (tradePosted a clients postings) (exchangeOf m .trades)))
+    ∷ lastRefusals (clientExchange (exchangeOf m) a (broker clients starts postings)) clients (length out)))
+    (clientExchange (exchangeOf m) a (broker clients starts postings)) clients out r out′

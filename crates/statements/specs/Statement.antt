@@ -1,0 +1,93 @@
+-- Client statements (document 02, ticket 9): each client's trades, holdings and profit told as bytes, and when a statement is refused.
+-- Assumes nothing.
+use mathlib.Core.Bool.{not, _||_}
+use mathlib.Core.List.{List, [], _∷_, _++_}
+use mathlib.Core.Path.{_≡_}
+use Prim.Native.Nat.{ℕ, _+_, _-_, _*_}
+use lib.Dec.{eqb, ltb}
+use lib.IntN.{ℤ, pos, negsuc}
+use lib.ListN.{length, getD}
+use Rattle.laws.specs.Choice.{pick, allOf}
+use Rattle.areas.specs.Lists.{over}
+use Rattle.rules.specs.Answers.{Refusal, firstOf, _when_}
+use Rattle.rules.specs.Exchange.{Exchange, absent, holdingAt, noTrade, placeOf}
+use Rattle.rules.specs.Memory.{Memory, exchangeOf, wellFormedMemory}
+use Rattle.rules.specs.Settlement.{closingProfit, holdingProfit}
+use Rattle.rules.specs.declared.Account.{Account}
+use Rattle.rules.specs.declared.Holding.{Holding}
+use Rattle.rules.specs.declared.Trade.{Trade}
+use Rattle.mending.specs.Mend.{four, eight}
+use Rattle.clients.specs.Clients.{Clients, clientExchange, holdingsNow, inRow, isClient, legCount, maxClients, neverClosesMore, startsAddUp, tradePosted}
+use Rattle.statements.specs.declared.Statement.{Statement}
+
+-- ---- the statement, of the clients' exchange: "sections in a fixed order, each after its count"; "section counts take 4 bytes"
+
+abbrev pub section : ℕ → List ℕ → List ℕ
+section count bytes = four count ++ bytes
+
+-- "trades (client 1, contract 1, sell mark 1, close mark 1, price 4, lots 4, order number 4; marks are 0 or 1)"; contracts are
+-- numbered from 1, as clients are
+unfoldable pub legBytes : Trade → ℕ → ℕ → ℕ → ℕ → List ℕ
+legBytes t client sell close order =
+    (client + 1) ∷ (t .contract + 1) ∷ sell ∷ pick (eqb close 0) 0 1 ∷ (four (t .price) ++ (four (t .lots) ++ four order))
+
+-- "one for each leg of the account in trade order, the buyer's first"
+unfoldable pub tradeBytes : Trade → List ℕ
+tradeBytes t =
+    pick (isClient (t .buyer)) (legBytes t (t .buyer) 0 (t .buyclose) (t .buyorder)) []
+    ++ pick (isClient (t .seller)) (legBytes t (t .seller) 1 (t .sellclose) (t .sellorder)) []
+
+unfoldable pub tradesBytes : List Trade → List ℕ
+tradesBytes ts = inRow (length ts) (λ i. tradeBytes (getD ts i noTrade))
+
+-- "holdings now (long 4, short 4, by client then contract)"
+unfoldable pub holdingBytes : Holding → List ℕ
+holdingBytes h = four (h .long) ++ four (h .short)
+
+unfoldable pub holdingsBytes : List Account → ℕ → ℕ → List ℕ
+holdingsBytes accounts clients contracts = inRow clients (λ k. inRow contracts (λ c. holdingBytes (holdingAt accounts k c)))
+
+-- a signed number in eight bytes: below zero, what it is above -2^64
+unfoldable pub unsigned : ℤ → ℕ
+unsigned (pos n) = n
+unsigned (negsuc n) = 18_446_744_073_709_551_615 - n
+
+-- "profit (signed closing 8, signed holding 8, by client)"
+unfoldable pub profitBytes : ℤ → ℤ → List ℕ
+profitBytes closing holding = eight (unsigned closing) ++ eight (unsigned holding)
+
+unfoldable pub profitsBytes : Exchange → ℕ → List ℕ
+profitsBytes x clients = inRow clients (λ k. profitBytes (closingProfit x k) (holdingProfit x k))
+
+unfoldable pub statementOf : Exchange → ℕ → List ℕ
+statementOf x clients =
+    section (legCount (x .trades)) (tradesBytes (x .trades))
+    ++ (section (clients * length (x .listings)) (holdingsBytes (holdingsNow x) clients (length (x .listings)))
+    ++ section clients (profitsBytes x clients))
+
+-- ---- "Refusals, in order: 21; 2; 25 over 16 clients, or starting holdings don't add up in some contract and side; 26 an order of the
+-- account that traded is unposted, posted twice or posted to an unknown client; 27 a client would close more than it holds; 29 output
+-- area too short."
+
+-- on a well-formed state, the account by its number, and so much room in the output area
+unfoldable pub brokerRefusals : Exchange → ℕ → Clients → ℕ → List Refusal
+brokerRefusals x account b room =
+    (2 when absent account (x .accounts))
+    ∷ (25 when (ltb maxClients (b .count) || not (startsAddUp x (placeOf account) b)))
+    ∷ (26 when not (allOf (tradePosted (placeOf account) (b .count) (b .postings)) (x .trades)))
+    ∷ (27 when not (neverClosesMore (clientExchange x (placeOf account) b)))
+    ∷ (29 when ltb room (length (statementOf (clientExchange x (placeOf account) b) (b .count))))
+    ∷ []
+
+unfoldable pub statementCode : Memory → ℕ → Clients → ℕ → ℕ
+statementCode m account b room = firstOf ((21 when not (wellFormedMemory m)) ∷ brokerRefusals (exchangeOf m) account b room)
+
+-- ---- THE WHOLE ANSWER: the code, the statement's length and the output area. "output bytes beyond the end stay"; refused, "Nothing is
+-- then written"
+abbrev pub statement : Memory → ℕ → Clients → List ℕ
+statement m account b = statementOf (clientExchange (exchangeOf m) (placeOf account) b) (b .count)
+
+pub record StatementIs (m : Memory) (account : ℕ) (b : Clients) (out : List ℕ) (r : Statement) (out′ : List ℕ) : Type 0 where
+  pub code : r .code ≡ statementCode m account b (length out)
+  pub length-is : r .length ≡ pick (eqb (r .code) 0) (length (statement m account b)) 0
+  pub out-is : out′ ≡ pick (eqb (r .code) 0) (over out 0 (statement m account b)) out
