@@ -106,6 +106,68 @@ pub loss-example : eight (unsigned (negsuc 19)) ≡ 236 ∷ replicate 7 255
 unfolding two four eight unsigned
 loss-example = refl
 
+-- ---- a second day: two contracts, short lots, losses. Account 2 is short 6 of contract 2 at the start, at the reference of 50: client 1
+-- 4 and client 2 the other 2. It buys 3 at 54 to close for client 1 (order 1) and sells 2 of contract 1 at 101 to open for client 2 (order
+-- 4); the prices due are 54 and 101. Client 1 loses 3 x 4 x 5 by closing and 1 x 4 x 5 on the lot left, client 2 loses 2 x 4 x 5 on its two;
+-- the lots sold at 101 stand at 101.
+
+unfoldable pub inSecond : Trade → Trade
+inSecond t =
+    record {
+      contract = 1;
+      price = t .price;
+      lots = t .lots;
+      buyorder = t .buyorder;
+      sellorder = t .sellorder;
+      buyer = t .buyer;
+      seller = t .seller;
+      buyclose = t .buyclose;
+      sellclose = t .sellclose;
+    }
+
+unfoldable pub shortDay : Exchange
+shortDay =
+    record {
+      listings = record {
+        contract = record { multiplier = 10; tick = 1; reference = 100; band = 10; limit = 1_000; rate = 1_000; method = 0; phase = 1; last = 101 };
+        buys = [];
+        sells = [];
+      } ∷ record {
+        contract = record { multiplier = 5; tick = 2; reference = 50; band = 10; limit = 1_000; rate = 1_000; method = 0; phase = 1; last = 54 };
+        buys = [];
+        sells = [];
+      } ∷ [];
+      accounts = record { balance = pos 0; holdings = noHolding ∷ noHolding ∷ [] }
+          ∷ record { balance = pos 0; holdings = noHolding ∷ record { long = 0; short = 3; startlong = 0; startshort = 6 } ∷ [] }
+          ∷ [];
+      trades = inSecond (trade 54 3 1 2 1 0 1 0) ∷ trade 101 2 3 4 0 1 0 0 ∷ [];
+      next = 5;
+      settlements = 0;
+    }
+
+-- short lots of client 1 and of client 2 at the start of the day, in contract 2
+unfoldable pub shorts : ℕ → ℕ → Clients
+shorts first second = record { count = 2; starts = (0 ∷ 0 ∷ 0 ∷ first ∷ replicate 4 0) ++ (0 ∷ 0 ∷ 0 ∷ second ∷ []); postings = 1 ∷ 1 ∷ 4 ∷ 2 ∷ [] }
+
+-- a number below zero, by its lowest byte
+unfoldable pub below : ℕ → List ℕ
+below low = low ∷ replicate 7 255
+
+pub second-example : statementOf (clientExchange shortDay 1 (shorts 4 2)) 2
+    ≡ together
+    (word 2
+    ∷ (1 ∷ 2 ∷ 0 ∷ 1 ∷ []) ∷ word 54 ∷ word 3 ∷ word 1
+    ∷ (2 ∷ 1 ∷ 1 ∷ 0 ∷ []) ∷ word 101 ∷ word 2 ∷ word 4
+    ∷ word 4
+    ∷ word 0 ∷ word 0 ∷ word 0 ∷ word 1
+    ∷ word 0 ∷ word 2 ∷ word 0 ∷ word 2
+    ∷ word 2
+    ∷ below 196 ∷ below 236
+    ∷ word 0 ∷ word 0 ∷ below 216
+    ∷ [])
+unfolding shortDay inSecond shorts below trade word together sumOf sumTo tabulate listingAt accountAt holdingAt tradedLots afterLeg bookLeg bookTrade bookTrades startOfDay afterDayLeg afterLegs closingProfit dayOf dayStart firstLots gain holdingGain holdingProfit legs only otherLots priceFrom settlementPrice tradedValue tradesIn weightedPrice two four eight clientAccount clientExchange clientPlace clientTrade holdingBytes holdingsBytes holdingsNow inRow isPosted legBytes legCount legsIn posted postedTo profitBytes profitsBytes statementOf total tradeBytes tradesBytes unsigned
+second-example = refl
+
 -- ---- refusals: a day, an account's number, clients, room, and the code they must get; the statement above is 124 bytes long
 
 pub data Case : Type 0 where
@@ -147,10 +209,15 @@ cases =
     -- no clients: of an account without lots and trades
     ∷ case (dayWith 0 []) 2 (with′ 0 0 0 []) 12 0
     ∷ case (dayWith 1 []) 2 (with′ 0 0 0 []) 12 25
+    -- the second day: it is 108 bytes long; short lots of contract 2 that do not add up; client 1 buys 3 to close and is short 2
+    ∷ case shortDay 2 (shorts 4 2) 108 0
+    ∷ case shortDay 2 (shorts 4 2) 107 29
+    ∷ case shortDay 2 (shorts 4 1) 108 25
+    ∷ case shortDay 2 (shorts 2 4) 108 27
     ∷ []
 
 pub codes : allOf right cases ≡ true
-unfolding cases right with′ day dayWith trade broker starts postings all allOf sumOf sumTo tabulate firstOf absent listingAt accountAt holdingAt tradedLots afterLeg bookLeg bookTrade bookTrades legCovered neverBelowZero startOfDay afterDayLeg afterLegs closingProfit dayOf dayStart firstLots gain holdingGain holdingProfit legs only otherLots priceFrom settlementPrice tradedValue tradesIn weightedPrice two four eight brokerRefusals clientAccount clientExchange clientPlace clientTrade holdingBytes holdingsBytes holdingsNow inRow isPosted legBytes legCount legsIn neverClosesMore posted postedTo profitBytes profitsBytes startsAddUp statementOf total tradeBytes tradePosted tradesBytes unsigned
+unfolding cases right with′ shortDay inSecond shorts day dayWith trade broker starts postings all allOf sumOf sumTo tabulate firstOf absent listingAt accountAt holdingAt tradedLots afterLeg bookLeg bookTrade bookTrades legCovered neverBelowZero startOfDay afterDayLeg afterLegs closingProfit dayOf dayStart firstLots gain holdingGain holdingProfit legs only otherLots priceFrom settlementPrice tradedValue tradesIn weightedPrice two four eight brokerRefusals clientAccount clientExchange clientPlace clientTrade holdingBytes holdingsBytes holdingsNow inRow isPosted legBytes legCount legsIn neverClosesMore posted postedTo profitBytes profitsBytes startsAddUp statementOf total tradeBytes tradePosted tradesBytes unsigned
 codes = refl
 
 -- "21": a state of no contracts, before all others
