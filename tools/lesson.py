@@ -1,0 +1,270 @@
+"""A lesson read and played: its records with their writer's comments, and its run command by command, each with the
+lines that the day runner prints and the state before and after it by the independent model.
+
+The lines are the runner's. Every one of them is compared with the model's, and the run stops at the first difference.
+"""
+
+import codecs
+import shlex
+import shutil
+import sys
+from dataclasses import replace
+from pathlib import Path
+from typing import NamedTuple
+
+sys.path.insert(0, str(Path(__file__).resolve().parent / "model"))
+
+import compare
+import dayfile
+import daytext
+import model
+
+RUNNER = Path(__file__).resolve().parents[1] / "target" / "bin" / "dayrun"
+
+
+class Unusable(Exception):
+    """What keeps a lesson from being played, in words for its user."""
+
+
+class Differs(Exception):
+    """Where the runner and the model, or a working and the model's figure, are not the same."""
+
+
+# --- Reading ---
+
+
+class Comment(NamedTuple):
+    """What the lesson's writer says of one line: the comment lines above it, and the comment beside it."""
+
+    above: tuple = ()
+    beside: str = ""
+
+
+class Lesson(NamedTuple):
+    name: str
+    file: bytes
+    day: object  # the records; None if the file is broken
+    fault: str  # what is wrong with a broken file
+    notes: tuple  # the comment lines that the lesson opens with
+    comments: dict  # "contract", "account" or "command": a Comment for each record
+
+
+def read(path):
+    """The lesson in a day file or a text; - is standard input."""
+    try:
+        given = sys.stdin.buffer.read() if path == "-" else Path(path).read_bytes()
+    except OSError as error:
+        raise Unusable(f"{path}: {error.strerror}") from None
+    if is_text(path, given):
+        text = decoded(given)
+        return lesson_of(path, packed(path, text), text)
+    return lesson_of(path, given, text_beside(path, given))
+
+
+def is_text(path, given):
+    """By the name where it tells, otherwise by the content: a day file has zero bytes, a text has none."""
+    suffix = Path(path).suffix
+    return suffix == ".txt" or suffix != ".day" and (0 not in given or is_utf16(given))
+
+
+def is_utf16(given):
+    return given.startswith((codecs.BOM_UTF16_LE, codecs.BOM_UTF16_BE))
+
+
+def decoded(given):
+    return given.decode("utf-16" if is_utf16(given) else "utf-8-sig", errors="replace")
+
+
+def packed(path, text):
+    try:
+        return daytext.pack(text)
+    except daytext.BadText as error:
+        raise Unusable(f"{path}: {error}") from None
+
+
+def text_beside(path, file):
+    """The text that a day file was made from, if it is kept beside the file under the same name."""
+    beside = Path(path).with_suffix(".txt")
+    if path == "-" or not beside.is_file():
+        return ""
+    text = decoded(beside.read_bytes())
+    try:
+        return text if daytext.pack(text) == file else ""
+    except daytext.BadText:
+        return ""
+
+
+def lesson_of(path, file, text=""):
+    name = "standard input" if path == "-" else Path(path).name
+    notes, comments = comments_of(text)
+    try:
+        day, fault = dayfile.read(file), ""
+    except dayfile.Broken as broken:
+        return Lesson(name, file, None, str(broken), notes, comments)
+    for kind, records in zip(("contract", "account", "command"), day):
+        # A day file without its text has no comments at all.
+        comments[kind] = comments[kind] or [Comment()] * len(records)
+        if len(comments[kind]) != len(records):
+            raise Unusable(f"{name}: {len(records)} {kind} records, but comments for {len(comments[kind])}")
+    return Lesson(name, file, day, fault, notes, comments)
+
+
+def comments_of(text):
+    """The notes that a sound text opens with, and the comment of each of its contracts, accounts and commands."""
+    notes, above = (), []
+    comments = {"contract": [], "account": [], "command": []}
+    commands, times = comments["command"], 1
+    for line in text.split("\n"):
+        words, _, comment = (part.strip() for part in line.partition("#"))
+        first = words.split()[0] if words else ""
+        if first == "":
+            above += [comment] if comment else []
+            continue
+        if not notes and not any(comments.values()) and first == "contract":
+            notes, above = tuple(above), []
+        if first == "repeat":
+            commands, times = [], int(words.split()[1].replace(",", ""))
+            above += [comment] if comment else []
+            continue
+        if first == "end":
+            comments["command"] += commands * times
+            commands = comments["command"]
+            continue
+        kept = comments[first] if first in ("contract", "account") else commands
+        kept.append(Comment(tuple(above), comment))
+        above = []
+    return notes, comments
+
+
+# --- Playing ---
+
+
+class Money(NamedTuple):
+    """What all accounts together had at the opening, have deposited and have withdrawn."""
+
+    opening: int
+    deposited: int = 0
+    withdrawn: int = 0
+
+    def total(self):
+        return self.opening + self.deposited - self.withdrawn
+
+
+class Step(NamedTuple):
+    """One command, the runner's lines for it, and the model's answer with the states around it."""
+
+    number: int
+    day: int  # the day that it belongs to, from 1
+    command: dayfile.Command
+    comment: Comment
+    lines: list
+    before: model.State
+    answer: model.Answer
+    after: model.State
+    money: Money
+
+
+def find_runner(command_line):
+    """The runner's words; the one that ./run builds where none is named."""
+    runner = shlex.split(command_line) if command_line else [str(RUNNER)]
+    if runner and shutil.which(runner[0]):
+        return runner
+    if command_line:
+        raise Unusable(f"no program {command_line}")
+    raise Unusable("the day runner is not built yet: ./run samples/paper-example.day builds it")
+
+
+def printed_by(runner, lesson):
+    """What the runner prints for the lesson."""
+    return compare.run_runner(runner, lesson.file).decode(errors="backslashreplace")
+
+
+def play(lesson, printed):
+    """Each step in turn. Raises Differs at the first command whose lines in `printed` are not the model's."""
+    groups = lines_by_command(printed)
+    if groups[0]:
+        raise Differs(f"the runner's output begins with {groups[0][0]}, and the file is sound")
+    state = model.opening_state(lesson.day)
+    books = model.Condition3(state)
+    money = Money(sum(state.balances.values()))
+    after = copied(state)
+    for number, command in enumerate(lesson.day.commands, 1):
+        before, day = after, state.settlements + 1
+        answer = model.answer(state, command)
+        lines = groups[number] if number < len(groups) else []
+        check_lines(number, lines, model_lines(state, number, answer))
+        books.enter(state, command, answer)
+        money = paid(money, command, answer)
+        check_money(number, books, state, answer, money)
+        after = copied(state)
+        yield Step(number, day, command, lesson.comments["command"][number - 1], lines, before, answer, after, money)
+    if len(groups) > len(lesson.day.commands) + 1:
+        extra = groups[len(lesson.day.commands) + 1][0]
+        raise Differs(f"the runner prints a line after the last command's: {extra}")
+
+
+def check_broken(lesson, printed):
+    """Raises Differs unless the runner too takes a broken file for broken."""
+    if printed != "X 20\n":
+        first = (printed.splitlines() or ["nothing"])[0]
+        raise Differs(f"the file is broken ({lesson.fault}), and the runner prints {first} where X 20 is due")
+
+
+def lines_by_command(printed):
+    """The lines of command 1, 2, .. at places 1, 2, ..: each has its C line first. At 0 those before any C line."""
+    groups = [[]]
+    for line in printed.splitlines(keepends=True):
+        if line.startswith("C "):
+            groups.append([])
+        groups[-1].append(line.removesuffix("\n") if line.endswith("\n") else f"{line} (the line has no end)")
+    return groups
+
+
+def model_lines(state, number, answer):
+    lines = model.answer_lines(state, number, answer)
+    return lines + model.settlement_lines(answer.settlement) if answer.settlement else lines
+
+
+def check_lines(number, runner_lines, expected):
+    if runner_lines != expected:
+        shown = "\n".join(
+            f"  {who} {line}"
+            for who, lines in (("runner:", runner_lines or ["(no line)"]), ("model: ", expected))
+            for line in lines
+        )
+        raise Differs(f"the runner and the model differ at command {number}\n{shown}")
+
+
+def paid(money, command, answer):
+    kind = dayfile.KINDS.get(command.kind)
+    if answer.code != 0 or kind not in ("deposit", "withdraw"):
+        return money
+    if kind == "deposit":
+        return money._replace(deposited=money.deposited + command.amount)
+    return money._replace(withdrawn=money.withdrawn + command.amount)
+
+
+def check_money(number, books, state, answer, money):
+    """Condition 3 by the model's own books."""
+    if not books.holds(state) or sum(state.balances.values()) != money.total():
+        raise Differs(f"after command {number} the balances together are not what was paid in")
+    if answer.settlement and not books.holds_after_settlement(state, answer.settlement.prices):
+        raise Differs(f"after command {number} a balance is not the account's sales less its costs")
+
+
+def copied(state):
+    """The state as it is now; what the model changes later does not reach it."""
+    contracts = {
+        number: replace(
+            contract, queues={side: [replace(order) for order in queue] for side, queue in contract.queues.items()}
+        )
+        for number, contract in state.contracts.items()
+    }
+    return replace(
+        state,
+        contracts=contracts,
+        balances=dict(state.balances),
+        holdings_at_start=dict(state.holdings_at_start),
+        holdings=dict(state.holdings),
+        trades=list(state.trades),
+    )
