@@ -18,9 +18,10 @@ import os
 import sys
 import textwrap
 
+import lesson as lessons  # first, since it makes the model's folder known
 import explanation
-import lesson as lessons
-from explanation import STATE_WORDS, listed, lots_of
+import model
+from explanation import STATE_WORDS, lots_of
 
 WIDTH = 100
 INDENT = "   "
@@ -50,8 +51,7 @@ def opening_text(lesson, state):
         lines += [wrapped(1, words) for words in others]
         lines += all_comments(1, lesson.comments["contract"][number - 1])
     for accounts, balance, comment in accounts_at_opening(lesson, state):
-        which = f"Account {accounts[0]} opens" if len(accounts) == 1 else f"Accounts {accounts[0]} to {accounts[-1]} open"
-        lines.append(f"{which} with {balance:,}.")
+        lines.append(f"{accounts_words(accounts)} with {balance:,}.")
         lines += all_comments(1, comment)
     return "\n".join(lines)
 
@@ -65,6 +65,12 @@ def accounts_at_opening(lesson, state):
         else:
             groups.append(([account], balance, comment))
     return groups
+
+
+def accounts_words(accounts):
+    if len(accounts) == 1:
+        return f"Account {accounts[0]} opens"
+    return f"Accounts {accounts[0]} {'and' if len(accounts) == 2 else 'to'} {accounts[-1]} open"
 
 
 def comment_text(level, lines):
@@ -151,10 +157,9 @@ def standing_text(state, account, when=""):
 
 def explain(lesson, printed, write, command=0, account=0):
     """Writes the explanation part by part. The whole lesson is played and compared whatever is asked for."""
-    state = lessons.model.opening_state(lesson.day)
     lines = explained = day = 0
     if not command:
-        write(opening_text(lesson, state))
+        write(opening_text(lesson, model.opening_state(lesson.day)) + "\n")
     for step in lessons.play(lesson, printed):
         lines += len(step.lines)
         if command not in (0, step.number):
@@ -163,8 +168,8 @@ def explain(lesson, printed, write, command=0, account=0):
             continue
         if step.day != day:
             day = step.day
-            write(f"\nDay {day}")
-        write("\n" + step_text(step, account, with_before=bool(command)))
+            write(f"Day {day}\n")
+        write(step_text(step, account, with_before=bool(command)) + "\n")
         explained += 1
     return explained, lines
 
@@ -190,8 +195,7 @@ def run(arguments, write):
     check_choice(lesson, arguments.command, arguments.account)
     explained, lines = explain(lesson, printed, write, arguments.command or 0, arguments.account or 0)
     commands = len(lesson.day.commands)
-    told = f"{explained:,} of {commands:,} commands explained; " if explained != commands else ""
-    write(f"\n{told}all {lines:,} lines of the runner are the model's too.")
+    write(f"Explained: {explained:,} of {commands:,} commands. The runner's {lines:,} lines are the model's too.")
 
 
 def main():

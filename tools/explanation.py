@@ -193,14 +193,16 @@ class Charged(NamedTuple):
         return self.charge * self.larger()
 
     def side_words(self, side):
-        parts = [(self.held[side], HELD_BY_SIDE[side])]
-        parts += [(lots, words) for lots, words in ((self.resting[side], "resting"), (self.arriving[side], "of this order")) if lots]
-        return " + ".join(f"{lots:,} {words}" for lots, words in parts)
+        """3 long, or 3 long + 2 resting = 5"""
+        words = f"{self.held[side]:,} {HELD_BY_SIDE[side]}"
+        for lots, name in ((self.resting[side], "resting"), (self.arriving[side], "of this order")):
+            words += f" + {lots:,} {name}" if lots else ""
+        return f"{words} = {self.lots(side):,}" if "+" in words else words
 
     def words(self):
-        """The two sides, which is the larger, and the product."""
-        sides = " and ".join(self.side_words(side) for side in dayfile.SIDES)
-        which = "both sides are equal" if self.lots("buy") == self.lots("sell") else "the larger side counts"
+        """The two sides, and the charge for the larger."""
+        sides = " against ".join(self.side_words(side) for side in dayfile.SIDES)
+        which = "equal" if self.lots("buy") == self.lots("sell") else "the larger counts"
         return f"Contract {self.contract}: {sides}; {which}: {self.larger():,} x {self.charge:,} = {self.amount():,}"
 
 
@@ -224,6 +226,11 @@ def margin_total(charges):
     amounts = [charged.amount() for charged in charges]
     total = number(sum(amounts))
     return total if len(amounts) < 2 else f"{added(amounts)} = {total}"
+
+
+def numbers_from_1(name, count):
+    """account 1, accounts 1 and 2, accounts 1 to 3"""
+    return f"{name} 1" if count == 1 else f"{name}s 1 {'and' if count == 2 else 'to'} {count}"
 
 
 # --- The book ---
@@ -273,12 +280,12 @@ def inserted_words(step, contract, order, fills):
     if vanished == given.lots_rested_or_removed == 0:
         return f"{accepted} {all_lots(order.lots)} trade{'s' if order.lots == 1 else ''}."
     traded = f"{given.lots_traded:,} of {lots_of(order.lots)}" if given.lots_traded else "Nothing"
-    remainder = lots_of(vanished + given.lots_rested_or_removed)
-    end = f"good for day, {remainder} rest at {order.price:,}"
-    if vanished:
-        end = f"{TIME_WORDS[order.time_condition]}, {remainder} vanish"
-    verb = "trade" if given.lots_traded > 1 else "trades"
-    return f"{accepted} {traded} {verb}: {stop_words(contract, order, fills)}. As it is {end}."
+    trade = "trade" if given.lots_traded > 1 else "trades"
+    remainder = vanished + given.lots_rested_or_removed
+    s = "s" if remainder == 1 else ""
+    end = f"vanish{'es' if s else ''}" if vanished else f"rest{s} at {order.price:,}"
+    time = f"As it is {TIME_WORDS[order.time_condition]}, {lots_of(remainder)} {end}."
+    return f"{accepted} {traded} {trade}: {stop_words(contract, order, fills)}. {time}"
 
 
 def all_lots(lots):
@@ -368,9 +375,8 @@ def deposited(step):
 
 
 def withdrawn(step):
-    charges = charged_by_contract(step.after, step.command.account)
-    words = f"Accepted. The balance is {balance_change(step)}; {margin_total(charges)} of it is charged."
-    return [Said(step.lines[0], words, [(1, charged.words()) for charged in charges])]
+    margin = margin_total(charged_by_contract(step.after, step.command.account))
+    return [Said(step.lines[0], f"Accepted. The balance is {balance_change(step)}, of which {margin} is charged.")]
 
 
 def balance_change(step):
@@ -477,8 +483,10 @@ def weighted_words(contract, lots_at, price):
 
 
 def tomorrow(contract):
-    words = f"It is the new reference: {range_today(contract)}; the charge for one lot is {charge_working(contract)}."
-    return [(1, words)]
+    return [
+        (1, f"The next day: reference {contract.reference:,}, {range_today(contract)}."),
+        (1, f"The charge for one lot: {charge_working(contract)}."),
+    ]
 
 
 class Lots(NamedTuple):
@@ -710,8 +718,7 @@ def why_no_contract(step):
 def absent(name, number_, existing):
     if number_ in existing:
         return []
-    which = f"{name} 1" if len(existing) == 1 else f"{name}s 1 to {len(existing)}"
-    return [f"There is no {name} {number_}; the lesson has {which}."]
+    return [f"There is no {name} {number_}; the lesson has {numbers_from_1(name, len(existing))}."]
 
 
 def why_wrong_state(step):
