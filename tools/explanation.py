@@ -474,7 +474,7 @@ def weighted_words(contract, lots_at, price):
     check("settlement price", down - down % contract.tick, price)
     exact = quotient(value, lots)
     if len(lots_at) == 1:
-        return f"all {lots_of(lots)} traded at that price" if lots > 1 else "the 1 lot of the day traded at that price"
+        return {1: "the day's 1 lot", 2: "both lots of the day"}.get(lots, f"all {lots:,} lots of the day") + " traded at it"
     products = " + ".join(f"{lots_:,} x {price_:,}" for price_, lots_ in lots_at)
     if len(lots_at) > MOST_TERMS:
         products = f"{lots_at[0][1]:,} x {lots_at[0][0]:,} + .. + {lots_at[-1][1]:,} x {lots_at[-1][0]:,}"

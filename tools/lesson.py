@@ -109,30 +109,45 @@ def lesson_of(path, file, text=""):
     return Lesson(name, file, day, fault, notes, comments)
 
 
+class CommentLines:
+    """Comment lines as paragraphs: a line that ends within a sentence goes on in the next one."""
+
+    def __init__(self):
+        self.paragraphs = []
+        self.goes_on = False
+
+    def add(self, line):
+        if line and self.goes_on:
+            self.paragraphs[-1] += f" {line}"
+        elif line:
+            self.paragraphs.append(line)
+        self.goes_on = bool(line) and not line.endswith((".", ":", ";", "!", "?"))
+
+    def take(self):
+        taken, self.paragraphs, self.goes_on = tuple(self.paragraphs), [], False
+        return taken
+
+
 def comments_of(text):
     """The notes that a sound text opens with, and the comment of each of its contracts, accounts and commands."""
-    notes, above = (), []
+    notes, above = (), CommentLines()
     comments = {"contract": [], "account": [], "command": []}
     commands, times = comments["command"], 1
     for line in text.split("\n"):
         words, _, comment = (part.strip() for part in line.partition("#"))
         first = words.split()[0] if words else ""
-        if first == "":
-            above += [comment] if comment else []
-            continue
-        if not notes and not any(comments.values()) and first == "contract":
-            notes, above = tuple(above), []
+        if first == "contract" and not comments["contract"]:
+            notes = above.take()
+        if first in ("", "repeat"):
+            above.add(comment)
         if first == "repeat":
             commands, times = [], int(words.split()[1].replace(",", ""))
-            above += [comment] if comment else []
-            continue
-        if first == "end":
+        elif first == "end":
             comments["command"] += commands * times
             commands = comments["command"]
-            continue
-        kept = comments[first] if first in ("contract", "account") else commands
-        kept.append(Comment(tuple(above), comment))
-        above = []
+        elif first:
+            kept = comments[first] if first in ("contract", "account") else commands
+            kept.append(Comment(above.take(), comment))
     return notes, comments
 
 

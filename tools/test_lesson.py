@@ -85,16 +85,17 @@ class Read(unittest.TestCase):
 class Comments(unittest.TestCase):
     def test_above_and_beside(self):
         notes, comments = lesson.comments_of(
-            "# one\n#   two\n\ncontract # terms\n# rich\naccount 5\n\n#\n# first\nsettle # again # and again\nsettle\n# last\n"
+            "# one\n#   goes on.\n# two\n\n# three\ncontract # terms\n# rich\naccount 5\n\n#\n# first\n"
+            "settle # again # and again\nsettle\n# last\n"
         )
-        self.assertEqual(notes, ("one", "two"))
+        self.assertEqual(notes, ("one goes on.", "two", "three"))
         self.assertEqual(comments["contract"], [Comment((), "terms")])
         self.assertEqual(comments["account"], [Comment(("rich",))])
         self.assertEqual(comments["command"], [Comment(("first",), "again # and again"), Comment()])
 
     def test_repeat(self):
         _, comments = lesson.comments_of("# above\nrepeat 2 # twice\n# in it\nsettle # s\nsettle\nend\nsettle # after\n")
-        turn = [Comment(("above", "twice", "in it"), "s"), Comment()]
+        turn = [Comment(("above twice in it",), "s"), Comment()]
         self.assertEqual(comments["command"], [*turn, *turn, Comment((), "after")])
 
     def test_every_sample_has_a_comment_for_each_record(self):
