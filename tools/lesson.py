@@ -132,22 +132,28 @@ def comments_of(text):
     """The notes that a sound text opens with, and the comment of each of its contracts, accounts and commands."""
     notes, above = (), CommentLines()
     comments = {"contract": [], "account": [], "command": []}
-    commands, times = comments["command"], 1
-    for line in text.split("\n"):
+    kept = commands = comments["command"]
+    times = 1
+    for line in text.splitlines():
         words, _, comment = (part.strip() for part in line.partition("#"))
-        first = words.split()[0] if words else ""
+        # What a writer expects of a line stands behind =>, on the line or below it.
+        record, expects, _ = words.partition("=>")
+        first = (record.split() or [""])[0]
         if first == "contract" and not comments["contract"]:
             notes = above.take()
-        if first in ("", "repeat"):
-            above.add(comment)
         if first == "repeat":
-            commands, times = [], int(words.split()[1].replace(",", ""))
+            commands, times = [], int(record.split()[1].replace(",", ""))
         elif first == "end":
             comments["command"] += commands * times
             commands = comments["command"]
         elif first:
             kept = comments[first] if first in ("contract", "account") else commands
             kept.append(Comment(above.take(), comment))
+            continue
+        elif expects:
+            kept[-1] = kept[-1]._replace(beside=f"{kept[-1].beside} {comment}".strip())
+            continue
+        above.add(comment)
     return notes, comments
 
 

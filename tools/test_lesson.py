@@ -73,12 +73,13 @@ class Read(unittest.TestCase):
 
     def test_unusable(self):
         for path, message in {
-            self.path("bad.txt", b"settle now"): "bad.txt: line 1: 'now' is one word too many",
-            str(Path(self.folder.name, "none.day")): "none.day: No such file or directory",
-            self.folder.name: ": Is a directory",
+            self.path("bad.txt", b"settle now"): "'now' is one word too many",
+            str(Path(self.folder.name, "none.day")): "No such file or directory",
+            self.folder.name: "Is a directory",
         }.items():
             with self.assertRaises(lesson.Unusable) as caught:
                 lesson.read(path)
+            self.assertTrue(str(caught.exception).startswith(f"{path}: "), caught.exception)
             self.assertTrue(str(caught.exception).endswith(message), caught.exception)
 
 
@@ -97,6 +98,10 @@ class Comments(unittest.TestCase):
         _, comments = lesson.comments_of("# above\nrepeat 2 # twice\n# in it\nsettle # s\nsettle\nend\nsettle # after\n")
         turn = [Comment(("above twice in it",), "s"), Comment()]
         self.assertEqual(comments["command"], [*turn, *turn, Comment((), "after")])
+
+    def test_what_is_expected_is_no_command(self):
+        _, comments = lesson.comments_of("settle => code 18  # too\n => code 18  # early\n => code 18\n# then\nsettle\n")
+        self.assertEqual(comments["command"], [Comment((), "too early"), Comment(("then",))])
 
     def test_every_sample_has_a_comment_for_each_record(self):
         for path in sorted(SAMPLES.glob("*.txt")):

@@ -252,7 +252,7 @@ class InABrowser(unittest.TestCase):
         for _ in range(3):
             self.browser.press("ArrowRight")
         words = self.shown()["words"]
-        self.assertIn("trades 3 at 102, the middle of 104, 102 and 100", words)
+        self.assertIn("the middle of 104, 102 and 100", words)
         self.assertIn("102 is the middle of the buy price 104, the sell price 102 and the last price 100.", words)
         self.browser.press("End")
         shown = self.shown()
