@@ -73,8 +73,11 @@ def accounts_words(accounts):
     return f"Accounts {accounts[0]} {'and' if len(accounts) == 2 else 'to'} {accounts[-1]} open"
 
 
-def comment_text(level, lines):
-    return [wrapped(level, line, "# ") for line in lines]
+def comment_text(level, paragraphs):
+    """A paragraph that is set in is a row of a table, which is not wrapped."""
+    return [
+        f"{INDENT * level}#{words}" if words.startswith(" ") else wrapped(level, words, "# ") for words in paragraphs
+    ]
 
 
 def all_comments(level, comment):

@@ -34,7 +34,7 @@ class Differs(Exception):
 
 
 class Comment(NamedTuple):
-    """What the lesson's writer says of one line: the comment lines above it, and the comment beside it."""
+    """What the lesson's writer says of one line: the comments above it by paragraphs, and the comment beside it."""
 
     above: tuple = ()
     beside: str = ""
@@ -45,7 +45,7 @@ class Lesson(NamedTuple):
     file: bytes
     day: object  # the records; None if the file is broken
     fault: str  # what is wrong with a broken file
-    notes: tuple  # the comment lines that the lesson opens with
+    notes: tuple  # the comments that the lesson opens with, by paragraphs
     comments: dict  # "contract", "account" or "command": a Comment for each record
 
 
@@ -110,18 +110,21 @@ def lesson_of(path, file, text=""):
 
 
 class CommentLines:
-    """Comment lines as paragraphs: a line that ends within a sentence goes on in the next one."""
+    """Comment lines as paragraphs: a line that ends within a sentence goes on in the next one. A line that is set in, as
+    a row of a table is, stands by itself and keeps its spaces."""
 
     def __init__(self):
         self.paragraphs = []
         self.goes_on = False
 
-    def add(self, line):
-        if line and self.goes_on:
+    def add(self, comment):
+        is_set_in = comment.startswith("  ")
+        line = comment.rstrip() if is_set_in else comment.strip()
+        if line and self.goes_on and not is_set_in:
             self.paragraphs[-1] += f" {line}"
         elif line:
             self.paragraphs.append(line)
-        self.goes_on = bool(line) and not line.endswith((".", ":", ";", "!", "?"))
+        self.goes_on = bool(line) and not is_set_in and not line.endswith((".", ":", ";", "!", "?"))
 
     def take(self):
         taken, self.paragraphs, self.goes_on = tuple(self.paragraphs), [], False
@@ -135,7 +138,7 @@ def comments_of(text):
     kept = commands = comments["command"]
     times = 1
     for line in text.splitlines():
-        words, _, comment = (part.strip() for part in line.partition("#"))
+        words, _, comment = line.partition("#")
         # What a writer expects of a line stands behind =>, on the line or below it.
         record, expects, _ = words.partition("=>")
         first = (record.split() or [""])[0]
@@ -148,12 +151,11 @@ def comments_of(text):
             commands = comments["command"]
         elif first:
             kept = comments[first] if first in ("contract", "account") else commands
-            kept.append(Comment(above.take(), comment))
-            continue
+            kept.append(Comment(above.take(), comment.strip()))
         elif expects:
-            kept[-1] = kept[-1]._replace(beside=f"{kept[-1].beside} {comment}".strip())
-            continue
-        above.add(comment)
+            kept[-1] = kept[-1]._replace(beside=f"{kept[-1].beside} {comment.strip()}".strip())
+        if first in ("", "repeat", "end") and not expects:
+            above.add(comment)
     return notes, comments
 
 

@@ -94,6 +94,10 @@ class Comments(unittest.TestCase):
         self.assertEqual(comments["account"], [Comment(("rich",))])
         self.assertEqual(comments["command"], [Comment(("first",), "again # and again"), Comment()])
 
+    def test_tables(self):
+        notes, _ = lesson.comments_of("# The table\n# below:\n#   a   b\n#   1   2\n#\n# and on\n#   3\n# more\ncontract\n")
+        self.assertEqual(notes, ("The table below:", "   a   b", "   1   2", "and on", "   3", "more"))
+
     def test_repeat(self):
         _, comments = lesson.comments_of("# above\nrepeat 2 # twice\n# in it\nsettle # s\nsettle\nend\nsettle # after\n")
         turn = [Comment(("above twice in it",), "s"), Comment()]
