@@ -86,7 +86,7 @@ class Read(unittest.TestCase):
 class Comments(unittest.TestCase):
     def test_above_and_beside(self):
         notes, comments = lesson.comments_of(
-            "# one\n#   goes on.\n# two\n\n# three\ncontract # terms\n# rich\naccount 5\n\n#\n# first\n"
+            "# one\n# goes on.\n# two\n\n# three\ncontract # terms\n# rich\naccount 5\n\n#\n# first\n"
             "settle # again # and again\nsettle\n# last\n"
         )
         self.assertEqual(notes, ("one goes on.", "two", "three"))
