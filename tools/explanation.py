@@ -276,7 +276,8 @@ def inserted_words(step, contract, order, fills):
     vanished = order.lots - given.lots_traded - given.lots_rested_or_removed
     accepted = f"Accepted as order {given.order_number}."
     if contract.state == "auction":
-        return f"{accepted} In an auction nothing trades until the match: {lots_of(order.lots)} rest at {order.price:,}."
+        rest = f"{lots_of(order.lots)} rest{'s' if order.lots == 1 else ''} at {order.price:,}"
+        return f"{accepted} In an auction nothing trades until the match: {rest}."
     if vanished == given.lots_rested_or_removed == 0:
         return f"{accepted} {all_lots(order.lots)} trade{'s' if order.lots == 1 else ''}."
     traded = f"{given.lots_traded:,} of {lots_of(order.lots)}" if given.lots_traded else "Nothing"
@@ -391,7 +392,7 @@ def state_changed(step):
     if before.state != "auction":
         return [Said(step.lines[0], words)]
     match_words, working = auction_match(before, step.answer.trades)
-    trades = [trade_said(step, place, []) for place in range(len(step.answer.trades))]
+    trades = [trade_said(step, place, auction_pair(before, trade)) for place, trade in enumerate(step.answer.trades)]
     return [Said(step.lines[0], f"{words} {match_words}", working), *trades]
 
 
@@ -399,18 +400,16 @@ def auction_match(contract, trades):
     """The match that ends an auction: what would trade at each resting price, and the four steps that choose one
     (document 02, ticket 4)."""
     prices = sorted(model.resting_prices(contract), reverse=True)
-    working = []
+    working = [(1, "At each resting price the volume is the smaller of the two, the surplus their difference:")]
     for price in prices:
         buy_lots, sell_lots = model.lots_at_or_better(contract, price)
-        volume, surplus = model.volume(contract, price), model.surplus(contract, price)
-        sums = f"volume {volume:,}, the smaller; surplus {surplus:,}, the difference"
-        working.append((2, f"At {price:,}: {lots_of(buy_lots)} to buy at or above it, {sell_lots:,} to sell at or below it: {sums}"))
-    if working:
-        working.insert(0, (1, "What would trade at each resting price:"))
+        sums = f"volume {model.volume(contract, price):,}, surplus {model.surplus(contract, price):,}"
+        working.append((2, f"{price:,}: {buy_lots:,} to buy at or above it, {sell_lots:,} to sell at or below it: {sums}"))
     price = model.auction_price(contract)
     check("prices of the auction's trades", {trade.price for trade in trades}, set() if price is None else {price})
     if price is None:
-        return "No buy meets a sell at any resting price: there is no price, and nothing trades.", working
+        none = "No buy meets a sell at any resting price" if prices else "No orders rest"
+        return f"{none}: there is no price, and nothing trades.", working if prices else []
 
     steps = ("Largest volume", "Smallest surplus", f"Nearest to the last price, {contract.last_price:,}", "The higher")
     places = {price_: model.place_by_the_four_steps(contract, price_) for price_ in prices}
@@ -425,6 +424,12 @@ def auction_match(contract, trades):
     traded = sum(trade.lots for trade in trades)
     check("lots of the auction", model.volume(contract, price), traded)
     return f"The match: {lots_of(traded)} at the one price {price:,}, best buy with best sell.", working
+
+
+def auction_pair(contract, trade):
+    """The limits of the two orders of one trade of a match."""
+    buy, sell = (model.resting_order(contract, order).price for order in (trade.buy_order, trade.sell_order))
+    return [(1, f"The buy's limit is {buy:,}, the sell's {sell:,}; every trade of the match is at the one price.")]
 
 
 # --- Settlement ---

@@ -382,6 +382,77 @@ class Workings(unittest.TestCase):
             explanation.explained(trade._replace(answer=answer))
 
 
+@unittest.skipUnless(hasattr(model, "auction_price"), "the model does not know the opening auction")
+class Auctions(unittest.TestCase):
+    """The match that ends an auction, by the examples of the source documents and ties worked out by hand."""
+
+    def told_of_match(self, orders, reference=100):
+        """Orders as (side, price, lots). Account 1 buys, account 2 sells."""
+        text = CONTRACT.replace("reference 100 band 10", f"reference {reference} band 20") + TWO_ACCOUNTS.replace("10,000", "1,000,000")
+        text += "state 1 auction\n"
+        for side, price, lots in orders:
+            account = 1 if side == "buy" else 2
+            text += f"insert {account} contract 1 {side} open limit {price} lots {lots} day\n"
+        return told_of_text(text + "state 1 continuous\n", command=len(orders) + 2)
+
+    def test_largest_volume(self):
+        """Source document 001, first example."""
+        buys = [("buy", 100, 5), ("buy", 101, 6), ("buy", 102, 4)]
+        text = self.told_of_match([*buys, ("sell", 101, 3), ("sell", 102, 7), ("sell", 103, 6)])
+        self.assertIn("goes from auction to continuous. The match: 4 lots at the one price 102, best buy with best sell.", text)
+        self.assertIn("103: 0 to buy at or above it, 16 to sell at or below it: volume 0, surplus 16", text)
+        self.assertIn("102: 4 to buy at or above it, 10 to sell at or below it: volume 4, surplus 6", text)
+        self.assertIn("101: 10 to buy at or above it, 3 to sell at or below it: volume 3, surplus 7", text)
+        self.assertIn("Largest volume: 102 T 1 1 102 3 3 4 Trade 1: 3 lots of contract 1 at 102: account 1 buys", text)
+        self.assertIn("The buy's limit is 102, the sell's 101; every trade of the match is at the one price.", text)
+
+    def test_smallest_surplus(self):
+        """Source document 001, second example, and source document 000."""
+        buys = [("buy", 100, 5), ("buy", 101, 6), ("buy", 102, 4)]
+        text = self.told_of_match([*buys, ("sell", 101, 4), ("sell", 102, 7), ("sell", 103, 6)])
+        self.assertIn("Largest volume: 102 and 101 Smallest surplus: 101 T 1 1 101 4", text)
+        buys = [("buy", 1612, 5), ("buy", 1611, 5), ("buy", 1610, 5)]
+        text = self.told_of_match([*buys, ("sell", 1607, 10), ("sell", 1608, 6), ("sell", 1609, 3)], 1600)
+        self.assertIn("Largest volume: 1,610, 1,609 and 1,608 Smallest surplus: 1,608 T 1 1 1608 5", text)
+        self.assertIn("The match: 15 lots at the one price 1,608", text)
+
+    def test_ties(self):
+        for reference, ends in (
+            (100, "Nearest to the last price, 100: 101 T 1"),
+            (104, "Nearest to the last price, 104: 105 T 1"),
+            (103, "Nearest to the last price, 103: 105 and 101 The higher: 105 T 1"),
+        ):
+            text = self.told_of_match([("buy", 105, 2), ("sell", 101, 1)], reference)
+            self.assertIn(f"Largest volume: 105 and 101 Smallest surplus: 105 and 101 {ends}", text)
+
+    def test_no_price(self):
+        for orders, words in (
+            ([], "No orders rest: there is no price, and nothing trades. Book of contract 1"),
+            ([("buy", 100, 2), ("sell", 101, 1)], "No buy meets a sell at any resting price: there is no price"),
+            ([("sell", 101, 1)], "No buy meets a sell at any resting price: there is no price"),
+        ):
+            self.assertIn(words, self.told_of_match(orders))
+
+    def test_orders_rest(self):
+        text = CONTRACT + TWO_ACCOUNTS + "state 1 auction\ninsert 1 contract 1 buy open limit 105 lots 2 day\n"
+        crossing = text + "insert 2 contract 1 sell open limit 101 lots 1 day\n"
+        words = "Accepted as order 2. In an auction nothing trades until the match: 1 lot rests at 101."
+        self.assertIn(words, told_of_text(crossing, command=3))
+        words = "In an auction an order must be a limit order good for day; this one is limit, fill or kill."
+        self.assertIn(words, told_of_text(crossing.replace("lots 1 day", "lots 1 kill"), command=3))
+        self.assertIn(
+            "Contract 1 is in auction and can go to continuous, not to closed.", told_of_text(text + "state 1 closed\n", command=3)
+        )
+
+    def test_a_wrong_match_is_noticed(self):
+        of = lesson.read(str(SAMPLES / "opening-auction.txt"))
+        step = next(step for step in lesson.play(of, output_of(of.file)) if step.answer.trades)
+        for changed in ({"price": 101}, {"lots": 2}):
+            trades = [step.answer.trades[0]._replace(**changed), *step.answer.trades[1:]]
+            with self.assertRaises(lesson.Differs):
+                explanation.explained(step._replace(answer=model.Answer(0, 0, 4, 0, trades)))
+
+
 # Words that may stand between the numbers of a sum. Any other word ends it.
 IN_SUMS = (
     "of this order|trades made today|resting to (?:buy|sell) (?:open|close)|resting|long|short|more"
