@@ -18,10 +18,12 @@ import os
 import sys
 import textwrap
 
-import lesson as lessons  # first, since it makes the model's folder known
-import explanation
+from lessons import explanation
+from lessons.lesson import Differs, Unusable, check_broken, find_runner, play, printed_by, read
+from lessons.margins import charged_by_contract, margin_total
+from lessons.wording import STATE_WORDS, contract_terms, lots_of
+
 import model
-from explanation import STATE_WORDS, lots_of
 
 WIDTH = 100
 INDENT = "   "
@@ -42,11 +44,15 @@ def wrapped(level, text, mark=""):
 
 
 def opening_text(lesson, state):
-    counts = ((len(state.contracts), "contract"), (len(state.balances), "account"), (len(lesson.day.commands), "command"))
+    counts = (
+        (len(state.contracts), "contract"),
+        (len(state.balances), "account"),
+        (len(lesson.day.commands), "command"),
+    )
     head = f"{lesson.name}: " + ", ".join(f"{count:,} {name}{'' if count == 1 else 's'}" for count, name in counts)
     lines = [head, "", *comment_text(0, lesson.notes), ""]
     for number, contract in state.contracts.items():
-        first, *others = explanation.contract_terms(number, contract)
+        first, *others = contract_terms(number, contract)
         lines.append(wrapped(0, first))
         lines += [wrapped(1, words) for words in others]
         lines += all_comments(1, lesson.comments["contract"][number - 1])
@@ -149,8 +155,8 @@ def orders_text(orders):
 
 
 def standing_text(state, account, when=""):
-    charges = explanation.charged_by_contract(state, account)
-    margin = f"charged margin {explanation.margin_total(charges)}" if charges else "nothing charged"
+    charges = charged_by_contract(state, account)
+    margin = f"charged margin {margin_total(charges)}" if charges else "nothing charged"
     head = f"Account {account}{when}: balance {state.balances[account]:,}, {margin}"
     return [wrapped(1, head), *(wrapped(2, charged.words()) for charged in charges)]
 
@@ -163,7 +169,7 @@ def explain(lesson, printed, write, command=0, account=0):
     lines = explained = day = 0
     if not command:
         write(opening_text(lesson, model.opening_state(lesson.day)) + "\n")
-    for step in lessons.play(lesson, printed):
+    for step in play(lesson, printed):
         lines += len(step.lines)
         if command not in (0, step.number):
             continue
@@ -184,14 +190,14 @@ def check_choice(lesson, command, account):
         ("account", account, len(lesson.day.balances)),
     ):
         if number is not None and not 1 <= number <= most:
-            raise lessons.Unusable(f"there is no {name} {number}: the lesson has {most:,}")
+            raise Unusable(f"there is no {name} {number}: the lesson has {most:,}")
 
 
 def run(arguments, write):
-    lesson = lessons.read(arguments.lesson)
-    printed = lessons.printed_by(lessons.find_runner(arguments.runner), lesson)
+    lesson = read(arguments.lesson)
+    printed = printed_by(find_runner(arguments.runner), lesson)
     if lesson.day is None:
-        lessons.check_broken(lesson, printed)
+        check_broken(lesson, printed)
         write(f"{lesson.name}: the file is broken, so that no command of it is carried out.")
         write(f"X 20\n{INDENT}{lesson.fault}")
         return
@@ -210,9 +216,9 @@ def main():
     try:
         run(parser.parse_args(), print)
         sys.stdout.flush()
-    except lessons.Unusable as unusable:
+    except Unusable as unusable:
         finish(2, unusable)
-    except lessons.Differs as differs:
+    except Differs as differs:
         finish(1, f"stopped: {differs}")
     except BrokenPipeError:
         # The reader has had enough; nothing more is to be written, not even at the end.

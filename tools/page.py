@@ -16,10 +16,12 @@ import json
 import sys
 from pathlib import Path
 
-import lesson as lessons  # first, since it makes the model's folder known
-import explanation
+from lessons import explanation
+from lessons.lesson import Differs, Unusable, check_broken, find_runner, play, printed_by, read
+from lessons.margins import charged_by_contract
+from lessons.wording import STATE_WORDS, contract_terms, figure
+
 import model
-from explanation import STATE_WORDS, number
 
 TEMPLATE = Path(__file__).with_name("page.html")
 
@@ -46,13 +48,13 @@ def queue_data(contract, side):
 
 
 def account_data(state, account):
-    """Figures as they are shown, since a balance may have more digits than a page can count; `value` is for pictures."""
-    charged = sum(charged.amount() for charged in explanation.charged_by_contract(state, account))
+    """Figures as they are shown, since a balance may have more digits than a page can count; `value` is drawn."""
+    charged = sum(charged.amount() for charged in charged_by_contract(state, account))
     return {
         "holdings": holdings_words(state, account),
-        "balance": number(state.balances[account]),
+        "balance": figure(state.balances[account]),
         "value": state.balances[account],
-        "charged": number(charged),
+        "charged": figure(charged),
     }
 
 
@@ -69,7 +71,7 @@ def holdings_words(state, account):
 
 def state_data(state):
     return {
-        "books": {number_: book_data(contract) for number_, contract in state.contracts.items()},
+        "books": {number: book_data(contract) for number, contract in state.contracts.items()},
         "accounts": {account: account_data(state, account) for account in state.balances},
     }
 
@@ -109,7 +111,7 @@ def trade_data(place, trade):
         f"A{leg.account} #{order} {leg.effect}"
         for leg, order in ((trade.buyer, trade.buy_order), (trade.seller, trade.sell_order))
     )
-    return [place, trade.contract, number(trade.price), number(trade.lots), buyer, seller]
+    return [place, trade.contract, figure(trade.price), figure(trade.lots), buyer, seller]
 
 
 def page_data(lesson, printed):
@@ -117,7 +119,7 @@ def page_data(lesson, printed):
     state = model.opening_state(lesson.day)
     opening = after = state_data(state)
     steps, active = [], set()
-    for step in lessons.play(lesson, printed):
+    for step in play(lesson, printed):
         before, after = after, state_data(step.after)
         steps.append(step_data(step, before, after))
         if not step.answer.settlement:
@@ -126,8 +128,8 @@ def page_data(lesson, printed):
         "title": Path(lesson.name).stem.replace("-", " ").capitalize(),
         "notes": lesson.notes,
         "terms": [
-            [*explanation.contract_terms(number_, contract), *comment_words(comment)]
-            for (number_, contract), comment in zip(state.contracts.items(), lesson.comments["contract"])
+            [*contract_terms(number, contract), *comment_words(comment)]
+            for (number, contract), comment in zip(state.contracts.items(), lesson.comments["contract"])
         ],
         "active": sorted(active) or list(state.balances),
         "opening": opening,
@@ -148,11 +150,11 @@ def page(lesson, printed):
 
 
 def run(arguments):
-    lesson = lessons.read(arguments.lesson)
-    printed = lessons.printed_by(lessons.find_runner(arguments.runner), lesson)
+    lesson = read(arguments.lesson)
+    printed = printed_by(find_runner(arguments.runner), lesson)
     if lesson.day is None:
-        lessons.check_broken(lesson, printed)
-        raise lessons.Unusable(f"{lesson.name}: the file is broken, and nothing of it is carried out: {lesson.fault}")
+        check_broken(lesson, printed)
+        raise Unusable(f"{lesson.name}: the file is broken, and nothing of it is carried out: {lesson.fault}")
     return page(lesson, printed)
 
 
@@ -164,9 +166,9 @@ def main():
     try:
         sys.stdout.buffer.write(run(arguments).encode())
         sys.stdout.flush()
-    except lessons.Unusable as unusable:
+    except Unusable as unusable:
         finish(2, unusable)
-    except lessons.Differs as differs:
+    except Differs as differs:
         finish(1, f"no page is made: {differs}")
     except OSError as error:
         finish(2, f"the page cannot be written: {error.strerror}")

@@ -10,9 +10,12 @@ from fractions import Fraction
 from functools import cache
 from pathlib import Path
 
-import lesson
 import explain
-import explanation
+from lessons import explanation, lesson, refusals
+from lessons.margins import charged_by_contract
+from lessons.wording import contract_terms
+
+import dayfile
 import daytext
 import generate
 import model
@@ -69,7 +72,8 @@ class PaperDay(unittest.TestCase):
         )
         self.assertIn("the middle of 104, 102 and 100", text)
         self.assertIn(
-            " Book of contract 1 before it (continuous, last price 100): sell 102 5 lots order 1 of account 1, 5 to open"
+            " Book of contract 1 before it (continuous, last price 100):"
+            " sell 102 5 lots order 1 of account 1, 5 to open"
             " Account 1 before it: balance 10,000, charged margin 500"
             " Contract 1: 0 long against 0 short + 5 resting = 5; the larger counts: 5 x 100 = 500"
             " Account 2 before it: balance 10,000, nothing charged"
@@ -127,7 +131,7 @@ class Refusals(unittest.TestCase):
     def assert_refused(self, commands, code, figures, head=CONTRACT + TWO_ACCOUNTS):
         """The last of the commands is refused with the code, for these figures."""
         text = head + "state 1 continuous\n" + commands
-        number = len(lesson.dayfile.sections(daytext.pack(text)).commands)
+        number = len(dayfile.sections(daytext.pack(text)).commands)
         words = told_of_text(text, command=number)
         self.assertIn(f"C {number} {code} 0 0 0 Refused, code {code}: ", words)
         self.assertIn(f". Nothing changes. {figures}", words)
@@ -146,7 +150,9 @@ class Refusals(unittest.TestCase):
         self.assert_refused(record.format("03", "c0"), 1, "Bits 6 and 7 of the flags should be 0; the flags are 192.")
         flags = "raw {} {} 01 {} 00000000 00000000 00000000 0000000000000000"
         self.assert_refused(flags.format("05", "01", "03"), 1, "The flags are 3; they can be 0, or 1 for the operator.")
-        self.assert_refused(flags.format("06", "00", "09"), 1, "There is no contract state 9; the states are 0 pre-open,")
+        self.assert_refused(
+            flags.format("06", "00", "09"), 1, "There is no contract state 9; the states are 0 pre-open,"
+        )
 
     def test_absent(self):
         self.assert_refused("deposit 3 1", 2, "There is no account 3; the lesson has accounts 1 and 2.")
@@ -154,29 +160,49 @@ class Refusals(unittest.TestCase):
 
     def test_state(self):
         insert = "insert 1 contract 1 buy open limit 100 lots 1 day"
-        self.assert_refused(f"state 1 closed\n{insert}", 4, "Contract 1 is in closed; an insert needs continuous")
         self.assert_refused(
-            "state 1 no-trading\npull 1 contract 1", 4, "Contract 1 is in no trading; cancel and pull need continuous"
+            f"state 1 closed\n{insert}", 4, "The state of contract 1 is closed; an insert needs continuous"
+        )
+        self.assert_refused(
+            "state 1 no-trading\npull 1 contract 1",
+            4,
+            "The state of contract 1 is no trading; cancel and pull need continuous",
         )
 
     def test_lots_and_conditions(self):
         self.assert_refused(
-            "insert 1 contract 1 buy open limit 100 lots 1001 day", 5, "The order is for 1,001 lots; it may be for 1 to 1,000."
+            "insert 1 contract 1 buy open limit 100 lots 1001 day",
+            5,
+            "The order is for 1,001 lots; it may be for 1 to 1,000.",
         )
-        self.assert_refused("insert 1 contract 1 buy open best lots 1 day", 6, "An order at best has no price to rest at")
+        self.assert_refused(
+            "insert 1 contract 1 buy open best lots 1 day", 6, "An order at best has no price to rest at"
+        )
 
     def test_price(self):
         head = CONTRACT.replace("tick 1 reference 100 band 10", "tick 5 reference 100 band 10") + TWO_ACCOUNTS
         for condition, figures in {
             "limit 101": "101 is not a multiple of the tick, 5.",
-            "limit 85": "85 is below the day's low, 90 (reference 100, band 10).",
-            "limit 115": "115 is above the day's high, 110 (reference 100, band 10).",
-            "limit 86": "86 is not a multiple of the tick, 5. 86 is below the day's low, 90",
+            "limit 85": "85 is below the day's low, reference 100 - band 10 = 90.",
+            "limit 115": "115 is above the day's high, reference 100 + band 10 = 110.",
+            "limit 86": "86 is not a multiple of the tick, 5. 86 is below the day's low, reference",
         }.items():
             self.assert_refused(f"insert 1 contract 1 buy open {condition} lots 1 day", 7, figures, head)
         self.assert_refused(
-            "insert 1 contract 1 buy open market 100 lots 1 kill", 7, "An order at market names no price; this one names 100."
+            "insert 1 contract 1 buy open market 100 lots 1 kill",
+            7,
+            "An order at market names no price; this one names 100.",
         )
+
+    def test_price_at_the_ends_of_all_prices(self):
+        insert = "insert 1 contract 1 buy open limit {} lots 1 day"
+        head = CONTRACT.replace("tick 1 reference 100 band 10", "tick 7 reference 70 band 700") + TWO_ACCOUNTS
+        self.assert_refused(insert.format(0), 7, "0 is below the day's low, which is one tick, 7.", head)
+        head = CONTRACT.replace("tick 1 reference 100 band 10", "tick 7 reference 999,992 band 70") + TWO_ACCOUNTS
+        figures = (
+            "1,000,006 is above the day's high, which is 999,999, the largest multiple of the tick within 1,000,000."
+        )
+        self.assert_refused(insert.format("1,000,006"), 7, figures, head)
 
     def test_limit_and_holding(self):
         head = CONTRACT.replace("limit 1000", "limit 10") + TWO_ACCOUNTS
@@ -192,7 +218,8 @@ class Refusals(unittest.TestCase):
             head,
         )
         self.assert_refused(
-            trade + "insert 1 contract 1 buy close limit 95 lots 3 day\ninsert 1 contract 1 buy close limit 95 lots 2 day",
+            trade
+            + "insert 1 contract 1 buy close limit 95 lots 3 day\ninsert 1 contract 1 buy close limit 95 lots 2 day",
             8,
             "4 short - 3 resting to buy close = 1 that can be closed; the order is for 2.",
             head,
@@ -217,7 +244,9 @@ class Refusals(unittest.TestCase):
 
     def test_fill_or_kill(self):
         """Document 01's example: sells 7 at 110 and 5 at 111."""
-        sells = "insert 1 contract 1 sell open limit 110 lots 7 day\ninsert 1 contract 1 sell open limit 111 lots 5 day\n"
+        sells = (
+            "insert 1 contract 1 sell open limit 110 lots 7 day\ninsert 1 contract 1 sell open limit 111 lots 5 day\n"
+        )
         head = CONTRACT.replace("band 10", "band 20") + TWO_ACCOUNTS
         for order, figures in {
             "limit 110 lots 13": "Fillable: 7 of 13 lots: 7 at 110.",
@@ -231,15 +260,23 @@ class Refusals(unittest.TestCase):
     def test_full_day_and_full_book(self):
         for name, number, figures in (
             ("full-day", 1030, "1,022 trades made today + 3 more = 1,025; a day has room for 1,024."),
-            ("full-book", 66, "64 buy orders rest in contract 1, as many as there is room for. Fillable: 0 of 1 lot, so 1"),
+            (
+                "full-book",
+                66,
+                "64 buy orders rest in contract 1, as many as there is room for. Fillable: 0 of 1 lot, so 1",
+            ),
             ("full-book", 68, "as many as there is room for. Fillable: 5 of 6 lots, so 1 would have to rest."),
         ):
             self.assertIn(figures, told(lesson.read(str(SAMPLES / f"{name}.txt")), command=number))
 
     def test_orders(self):
         order = "insert 1 contract 1 buy open limit 95 lots 1 day\n"
-        self.assert_refused("cancel 1 contract 1 order 1", 14, "No order has the number 1; the numbers given today: none")
-        self.assert_refused(f"{order}cancel 1 contract 1 order 2", 14, "No order has the number 2; the numbers given today: 1 to 1")
+        self.assert_refused(
+            "cancel 1 contract 1 order 1", 14, "No order has the number 1; the numbers given today: none"
+        )
+        self.assert_refused(
+            f"{order}cancel 1 contract 1 order 2", 14, "No order has the number 2; the numbers given today: 1 to 1"
+        )
         self.assert_refused(
             f"{order}pull 1 contract 1\ncancel 1 contract 1 order 1", 14, "Order 1 was given today, but rests no longer"
         )
@@ -262,12 +299,16 @@ class Refusals(unittest.TestCase):
 
     def test_state_changes_and_settlements(self):
         self.assert_refused(
-            "state 1 pre-open", 17, "Contract 1 is in continuous and can go to no trading or closed, not to pre-open."
+            "state 1 pre-open",
+            17,
+            "The state of contract 1 is continuous; it can go to no trading or closed, and cannot go to pre-open.",
         )
         self.assert_refused(
-            "state 1 closed\nstate 1 continuous", 17, "Contract 1 is in closed and stays so until the settlement, not to continuous."
+            "state 1 closed\nstate 1 continuous",
+            17,
+            "The state of contract 1 is closed until the settlement, and cannot go to continuous.",
         )
-        self.assert_refused("settle", 18, "Contract 1 is in continuous.")
+        self.assert_refused("settle", 18, "Not closed: contract 1 (continuous).")
         self.assert_refused(
             "state 1 closed\n" + "settle\nstate 1 closed\n" * 250 + "settle",
             19,
@@ -278,8 +319,8 @@ class Refusals(unittest.TestCase):
         """Code 10 is out of a file's reach; its words are held to the code's number all the same."""
         codes = {step.answer.code for step in play("every-code") if explanation.explained(step)}
         self.assertEqual(codes, set(range(20)) - {10})
-        self.assertEqual(set(explanation.REFUSALS), set(range(1, 20)))
-        self.assertEqual(explanation.why_numbers(None), ["All order numbers of the day, 1 to 999,999, are given."])
+        self.assertEqual(set(refusals.REFUSALS), set(range(1, 20)))
+        self.assertEqual(refusals.why_numbers(None), ["All order numbers of the day, 1 to 999,999, are given."])
 
 
 def play(name):
@@ -302,9 +343,13 @@ class Prices(unittest.TestCase):
             self.assertIn(words, text)
 
     def test_average_with_a_half(self):
-        text = CONTRACT.replace("rate 1000", "rate 1000 method 1") + TWO_ACCOUNTS + (
-            "state 1 continuous\ninsert 1 contract 1 sell open limit 101 lots 1 day\n"
-            "insert 2 contract 1 buy open limit 104 lots 1 day\n"
+        text = (
+            CONTRACT.replace("rate 1000", "rate 1000 method 1")
+            + TWO_ACCOUNTS
+            + (
+                "state 1 continuous\ninsert 1 contract 1 sell open limit 101 lots 1 day\n"
+                "insert 2 contract 1 buy open limit 104 lots 1 day\n"
+            )
         )
         self.assertIn("The average: (104 + 101) / 2 = 102.5, rounded down 102.", told_of_text(text))
 
@@ -312,9 +357,11 @@ class Prices(unittest.TestCase):
         text = told_of_sample("order-conditions")
         for words in (
             "5 of 7 lots trade: the next sell, at 103, is above its limit. As it is good for day, 2 lots rest at 102.",
-            "5 of 7 lots trade: the next sell, at 103, is above its limit. As it is immediate or cancel, 2 lots vanish.",
+            "5 of 7 lots trade: the next sell, at 103, is above its limit. As it is immediate or cancel, 2 lots"
+            " vanish.",
             "9 of 12 lots trade: no other sell order rests. As it is immediate or cancel, 3 lots vanish.",
-            "5 of 8 lots trade: an order at best stays at the best price, 101. As it is immediate or cancel, 3 lots vanish.",
+            "5 of 8 lots trade: an order at best stays at the best price, 101. As it is immediate or cancel, 3 lots"
+            " vanish.",
             "Nothing trades: no sell order rests. As it is immediate or cancel, 1 lot vanishes.",
             "it meets its own order",
         ):
@@ -333,6 +380,17 @@ class Prices(unittest.TestCase):
         ):
             self.assertIn(words, text)
 
+    def test_many_prices(self):
+        """More than can be read in one sum: the products stand below it."""
+        text = CONTRACT + TWO_ACCOUNTS + "state 1 continuous\n"
+        for price in range(91, 101):
+            text += f"insert 1 contract 1 sell open limit {price} lots 2 day\n"
+            text += f"insert 2 contract 1 buy open limit {price} lots 2 day\n"
+        words = told_of_text(text + "state 1 closed\nsettle\n")
+        self.assertIn(
+            "(2 x 91 + .. + 2 x 100) / 20 = 1,910 / 20 = 95.5, rounded down 95. 2 x 91 = 182 2 x 92 = 184", words
+        )
+
 
 class Workings(unittest.TestCase):
     def test_article_32(self):
@@ -340,7 +398,8 @@ class Workings(unittest.TestCase):
         text = told_of_sample("closing-and-holding")
         self.assertIn(
             "Contract 1, closing profit: (2 + 6 - 1) x multiplier 10 = 70"
-            " 2 lots long since the start of the day, from the reference 103, sold at 104 (trade 3): 2 x (104 - 103) = 2"
+            " 2 lots long since the start of the day, from the reference 103, sold at 104 (trade 3):"
+            " 2 x (104 - 103) = 2"
             " 2 lots bought at 101 (trade 1), sold at 104 (trade 3): 2 x (104 - 101) = 6"
             " 1 lot bought at 105 (trade 2), sold at 104 (trade 3): 1 x (104 - 105) = -1"
             " Contract 1, holding profit: -2 x multiplier 10 = -20"
@@ -388,7 +447,9 @@ class Auctions(unittest.TestCase):
 
     def told_of_match(self, orders, reference=100):
         """Orders as (side, price, lots). Account 1 buys, account 2 sells."""
-        text = CONTRACT.replace("reference 100 band 10", f"reference {reference} band 20") + TWO_ACCOUNTS.replace("10,000", "1,000,000")
+        text = CONTRACT.replace("reference 100 band 10", f"reference {reference} band 20") + TWO_ACCOUNTS.replace(
+            "10,000", "1,000,000"
+        )
         text += "state 1 auction\n"
         for side, price, lots in orders:
             account = 1 if side == "buy" else 2
@@ -399,12 +460,14 @@ class Auctions(unittest.TestCase):
         """Source document 001, first example."""
         buys = [("buy", 100, 5), ("buy", 101, 6), ("buy", 102, 4)]
         text = self.told_of_match([*buys, ("sell", 101, 3), ("sell", 102, 7), ("sell", 103, 6)])
-        self.assertIn("goes from auction to continuous. The match: 4 lots at the one price 102, best buy with best sell.", text)
+        self.assertIn(
+            "goes from auction to continuous. The match: 4 lots, best buy with best sell, all at one price, 102.", text
+        )
         self.assertIn("103: 0 to buy at or above it, 16 to sell at or below it: volume 0, surplus 16", text)
         self.assertIn("102: 4 to buy at or above it, 10 to sell at or below it: volume 4, surplus 6", text)
         self.assertIn("101: 10 to buy at or above it, 3 to sell at or below it: volume 3, surplus 7", text)
         self.assertIn("Largest volume: 102 T 1 1 102 3 3 4 Trade 1: 3 lots of contract 1 at 102: account 1 buys", text)
-        self.assertIn("The buy's limit is 102, the sell's 101; every trade of the match is at the one price.", text)
+        self.assertIn("The buy's limit is 102, the sell's 101.", text)
 
     def test_smallest_surplus(self):
         """Source document 001, second example, and source document 000."""
@@ -414,7 +477,7 @@ class Auctions(unittest.TestCase):
         buys = [("buy", 1612, 5), ("buy", 1611, 5), ("buy", 1610, 5)]
         text = self.told_of_match([*buys, ("sell", 1607, 10), ("sell", 1608, 6), ("sell", 1609, 3)], 1600)
         self.assertIn("Largest volume: 1,610, 1,609 and 1,608 Smallest surplus: 1,608 T 1 1 1608 5", text)
-        self.assertIn("The match: 15 lots at the one price 1,608", text)
+        self.assertIn("The match: 15 lots, best buy with best sell, all at one price, 1,608", text)
 
     def test_ties(self):
         for reference, ends in (
@@ -441,7 +504,8 @@ class Auctions(unittest.TestCase):
         words = "In an auction an order must be a limit order good for day; this one is limit, fill or kill."
         self.assertIn(words, told_of_text(crossing.replace("lots 1 day", "lots 1 kill"), command=3))
         self.assertIn(
-            "Contract 1 is in auction and can go to continuous, not to closed.", told_of_text(text + "state 1 closed\n", command=3)
+            "The state of contract 1 is auction; it can go to continuous, and cannot go to closed.",
+            told_of_text(text + "state 1 closed\n", command=3),
         )
 
     def test_a_wrong_match_is_noticed(self):
@@ -464,7 +528,7 @@ SUM = re.compile(r"[-+*/(). 0-9]+(?:=[-+*/(). 0-9]+)+")
 def sums_in(text):
     """Every chain of equal sums in a text, each as its parts: 1 + 2 = 3 as "1 + 2" and "3"."""
     text = re.sub(r"(?<=[0-9]),(?=[0-9]{3})", "", text)
-    text = text.replace(" x ", " * ").replace("multiplier ", "")
+    text = text.replace(" x ", " * ").replace("multiplier ", "").replace("band ", "")
     text = re.sub(rf"(?<=[0-9]) (?:{IN_SUMS})\b", "", text)
     text = re.sub(r"[A-Za-z:;,]+", "#", text)
     return [[part.lstrip(" .").rstrip() for part in found.split("=")] for found in SUM.findall(text)]
@@ -480,14 +544,14 @@ def words_of(of):
     """Every sentence of a lesson's explanation, one by one."""
     opening = model.opening_state(of.day)
     for number, contract in opening.contracts.items():
-        yield from explanation.contract_terms(number, contract)
+        yield from contract_terms(number, contract)
     for step in lesson.play(of, output_of(of.file)):
         told = explanation.explained(step)
         for said in told.said:
             yield said.words
             yield from (words for _, words in said.working)
         for account in told.accounts:
-            yield from (charged.words() for charged in explanation.charged_by_contract(step.after, account))
+            yield from (charged.words() for charged in charged_by_contract(step.after, account))
 
 
 class Arithmetic(unittest.TestCase):
@@ -599,7 +663,9 @@ class Tool(unittest.TestCase):
     def test_a_reader_that_leaves(self):
         command = f"{sys.executable} {TOOL} {SAMPLES / 'every-code.txt'} --runner '{MODEL_AS_RUNNER}' | head -1"
         ended = subprocess.run(["sh", "-c", command], capture_output=True)
-        self.assertEqual((ended.stdout, ended.stderr), (b"every-code.txt: 2 contracts, 4 accounts, 1,901 commands\n", b""))
+        self.assertEqual(
+            (ended.stdout, ended.stderr), (b"every-code.txt: 2 contracts, 4 accounts, 1,901 commands\n", b"")
+        )
 
     @unittest.skipUnless(lesson.RUNNER.exists(), "the day runner is not built")
     def test_the_runner_itself(self):

@@ -7,11 +7,12 @@ import unittest
 from pathlib import Path
 from unittest import mock
 
+from lessons import lesson
+from lessons.lesson import Comment
+
 import daytext
-import lesson
 import generate
 import model
-from lesson import Comment
 
 SAMPLES = Path(__file__).resolve().parents[1] / "samples"
 HEAD = "contract multiplier 10 tick 1 reference 100 band 10 limit 1000 rate 1000\naccount 10,000\naccount 500\n"
@@ -95,16 +96,22 @@ class Comments(unittest.TestCase):
         self.assertEqual(comments["command"], [Comment(("first",), "again # and again"), Comment()])
 
     def test_tables(self):
-        notes, _ = lesson.comments_of("# The table\n# below:\n#   a   b\n#   1   2\n#\n# and on\n#   3\n# more\ncontract\n")
+        notes, _ = lesson.comments_of(
+            "# The table\n# below:\n#   a   b\n#   1   2\n#\n# and on\n#   3\n# more\ncontract\n"
+        )
         self.assertEqual(notes, ("The table below:", "   a   b", "   1   2", "and on", "   3", "more"))
 
     def test_repeat(self):
-        _, comments = lesson.comments_of("# above\nrepeat 2 # twice\n# in it\nsettle # s\nsettle\nend\nsettle # after\n")
+        _, comments = lesson.comments_of(
+            "# above\nrepeat 2 # twice\n# in it\nsettle # s\nsettle\nend\nsettle # after\n"
+        )
         turn = [Comment(("above twice in it",), "s"), Comment()]
         self.assertEqual(comments["command"], [*turn, *turn, Comment((), "after")])
 
     def test_what_is_expected_is_no_command(self):
-        _, comments = lesson.comments_of("settle => code 18  # too\n => code 18  # early\n => code 18\n# then\nsettle\n")
+        _, comments = lesson.comments_of(
+            "settle => code 18  # too\n => code 18  # early\n => code 18\n# then\nsettle\n"
+        )
         self.assertEqual(comments["command"], [Comment((), "too early"), Comment(("then",))])
 
     def test_every_sample_has_a_comment_for_each_record(self):

@@ -9,9 +9,10 @@ import unittest
 from functools import cache
 from pathlib import Path
 
-import lesson
-import page
 import browser
+import page
+from lessons import lesson
+
 import daytext
 import model
 
@@ -43,7 +44,9 @@ class Content(unittest.TestCase):
         text = page_of_sample("paper-example")
         self.assertIn("Content-Security-Policy\" content=\"default-src 'none';", text)
         self.assertEqual(set(re.findall(r"https?://[^\"' ]*", text)), {"http://www.w3.org/2000/svg"})
-        self.assertEqual(re.findall(r"(?:src|href)=\"([^\"]*)\"|url\(|@import|fetch\(|XMLHttpRequest", text), ["data:,"])
+        self.assertEqual(
+            re.findall(r"(?:src|href)=\"([^\"]*)\"|url\(|@import|fetch\(|XMLHttpRequest", text), ["data:,"]
+        )
 
     def test_every_line_of_the_runner(self):
         for path in sorted(SAMPLES.glob("*.txt")):
@@ -59,7 +62,9 @@ class Content(unittest.TestCase):
 
     def test_a_step_holds_what_it_changed(self):
         steps = data_in(page_of_sample("paper-example"))["steps"]
-        self.assertEqual([sorted(step["accounts"]) for step in steps], [[], ["1"], ["1", "2"], ["1"], [], ["1", "2"], [], ["1", "2"]])
+        self.assertEqual(
+            [sorted(step["accounts"]) for step in steps], [[], ["1"], ["1", "2"], ["1"], [], ["1", "2"], [], ["1", "2"]]
+        )
         self.assertEqual([sorted(step["books"]) for step in steps], [["1"]] * 8)
 
     def test_accounts_that_take_no_part(self):
@@ -241,7 +246,9 @@ class InABrowser(unittest.TestCase):
         self.browser.press("Home")
         self.assert_paper_step(0)
         # The page itself is all that was asked for.
-        self.assertEqual([url.split("#")[0] for url in self.browser.requests if url.startswith("file:")], [path.as_uri()])
+        self.assertEqual(
+            [url.split("#")[0] for url in self.browser.requests if url.startswith("file:")], [path.as_uri()]
+        )
         others = [url for url in self.browser.requests if not url.startswith(("file:", "data:", "about:"))]
         self.assertEqual(others, [])
 
@@ -305,7 +312,9 @@ class InABrowser(unittest.TestCase):
     def test_a_refusal_and_two_contracts(self):
         self.open("margin-on-one-side", step=12)
         shown = self.shown()
-        self.assertEqual(shown["answer"], ["Refused, code 9: too little money for the charged margin. Nothing changes."])
+        self.assertEqual(
+            shown["answer"], ["Refused, code 9: too little money for the charged margin. Nothing changes."]
+        )
         self.assertIn("6,600 + 450 = 7,050 would be charged, more than the balance of 7,000.", shown["words"])
         self.assertEqual(shown["ladder"], {"105": [[], ["3 A1 #6"]], "95": [["5 A1 #5"], []]})
         self.browser.press("2")
@@ -317,14 +326,16 @@ class InABrowser(unittest.TestCase):
         self.open("paper-example", step=6)
         self.browser.call("Emulation.setEmulatedMedia", media="print")
         self.browser.value("dispatchEvent(new Event('beforeprint'))")
-        printed = self.browser.value("""({
+        printed = self.browser.value(
+            """({
           hidden: ["header", "#screen"].map((selector) => getComputedStyle(document.querySelector(selector)).display),
           steps: [...document.querySelectorAll("#handout section[data-step]")].map((section) => section.dataset.step),
           lines: [...document.querySelectorAll("#handout .line")].map((line) => line.dataset.line),
           text: document.querySelector("#handout").innerText,
           pictures: document.querySelectorAll("#handout svg").length,
           details: document.querySelectorAll("#handout details").length,
-        })""")
+        })"""
+        )
         self.assertEqual(printed["hidden"], ["none", "none"])
         self.assertEqual(printed["steps"], [str(step) for step in range(9)])
         self.assertEqual(printed["lines"], (SAMPLES / "paper-example.out").read_text().splitlines())
@@ -342,7 +353,7 @@ class InABrowser(unittest.TestCase):
         self.assert_paper_step(6)
 
     def test_nothing_sticks_out(self):
-        """At the widths of a projector, a small screen and a telephone; a balance of 10^18 may have to be scrolled to."""
+        """At the widths of a projector, a small screen and a telephone. A balance of 10^18 may need scrolling."""
         self.addCleanup(self.resize, 1280, 900)
         for name, step in (("paper-example", 8), ("margin-on-one-side", 17), ("largest-file", 8), ("every-code", 200)):
             self.open(name, step)
@@ -350,12 +361,16 @@ class InABrowser(unittest.TestCase):
                 self.resize(width, height)
                 reach = self.browser.value("document.documentElement.scrollWidth")
                 if name != "every-code":
-                    parts = "[...document.querySelectorAll('.card *')].map((node) => node.getBoundingClientRect().right)"
+                    parts = (
+                        "[...document.querySelectorAll('.card *')].map((node) => node.getBoundingClientRect().right)"
+                    )
                     reach = max(reach, *self.browser.value(parts))
                 self.assertLessEqual(reach, width + 0.5, f"{name} at {width}")
 
     def resize(self, width, height):
-        self.browser.call("Emulation.setDeviceMetricsOverride", width=width, height=height, deviceScaleFactor=1, mobile=False)
+        self.browser.call(
+            "Emulation.setDeviceMetricsOverride", width=width, height=height, deviceScaleFactor=1, mobile=False
+        )
 
     def test_every_sample(self):
         """The steps of every sample, of a long one every 50th, are shown without an error, with the runner's lines."""
@@ -365,7 +380,9 @@ class InABrowser(unittest.TestCase):
             last = len(groups) - 1
             for step in [*range(0, last, 1 if last < 100 else 50), last]:
                 self.browser.value(f"go({step})")
-                lines = self.browser.value("[...document.querySelectorAll('#words .line')].map((node) => node.dataset.line)")
+                lines = self.browser.value(
+                    "[...document.querySelectorAll('#words .line')].map((node) => node.dataset.line)"
+                )
                 self.assertEqual(lines, groups[step], f"{path.name}, step {step}")
             self.assertEqual(self.browser.errors, [], path.name)
 

@@ -12,14 +12,12 @@ from dataclasses import replace
 from pathlib import Path
 from typing import NamedTuple
 
-sys.path.insert(0, str(Path(__file__).resolve().parent / "model"))
-
 import compare
 import dayfile
 import daytext
 import model
 
-RUNNER = Path(__file__).resolve().parents[1] / "target" / "bin" / "dayrun"
+RUNNER = Path(__file__).resolve().parents[2] / "target" / "bin" / "dayrun"
 
 
 class Unusable(Exception):
@@ -28,6 +26,12 @@ class Unusable(Exception):
 
 class Differs(Exception):
     """Where the runner and the model, or a working and the model's figure, are not the same."""
+
+
+def check(what, worked_out, by_the_model):
+    """Holds the result of a working against the model's."""
+    if worked_out != by_the_model:
+        raise Differs(f"{what}: the working gives {worked_out}, the model {by_the_model}")
 
 
 # --- Reading ---
@@ -110,8 +114,8 @@ def lesson_of(path, file, text=""):
 
 
 class CommentLines:
-    """Comment lines as paragraphs: a line that ends within a sentence goes on in the next one. A line that is set in, as
-    a row of a table is, stands by itself and keeps its spaces."""
+    """Comment lines as paragraphs: a line that ends within a sentence goes on in the next one. A line that is set in,
+    as a row of a table is, stands by itself and keeps its spaces."""
 
     def __init__(self):
         self.paragraphs = []
