@@ -13,9 +13,11 @@ Where the day runner and the model differ no page is made, and the status is 1; 
 import argparse
 import html
 import json
+import re
 import sys
 from pathlib import Path
 
+import lessons
 from lessons import explanation
 from lessons.lesson import Differs, Unusable, check_broken, find_runner, play, printed_by, read
 from lessons.margins import charged_by_contract
@@ -23,7 +25,7 @@ from lessons.wording import STATE_WORDS, contract_terms, figure
 
 import model
 
-TEMPLATE = Path(__file__).with_name("page.html")
+PARTS = Path(lessons.__file__).parent
 
 
 def book_data(contract):
@@ -145,8 +147,17 @@ def page(lesson, printed):
     data = page_data(lesson, printed)
     # Within a script element a "<" could end it, or begin a comment.
     embedded = json.dumps(data, ensure_ascii=False, separators=(",", ":")).replace("<", "\\u003c")
-    text = TEMPLATE.read_text(encoding="utf-8")
-    return text.replace("@@TITLE@@", html.escape(data["title"])).replace("@@LESSON@@", embedded)
+    parts = {
+        "TITLE": html.escape(data["title"]),
+        "STYLE": part("page.css"),
+        "SCRIPT": part("page.js"),
+        "LESSON": embedded,
+    }
+    return re.sub("@@([A-Z]+)@@", lambda place: parts[place[1]], part("page.html")) + "\n"
+
+
+def part(name):
+    return (PARTS / name).read_text(encoding="utf-8").rstrip("\n")
 
 
 def run(arguments):

@@ -42,7 +42,8 @@ def data_in(text):
 class Content(unittest.TestCase):
     def test_nothing_is_fetched(self):
         text = page_of_sample("paper-example")
-        self.assertIn("Content-Security-Policy\" content=\"default-src 'none';", text)
+        policy = r"""<meta http-equiv="Content-Security-Policy"\s+content="default-src 'none'; """
+        self.assertRegex(text[:1_000], policy)
         self.assertEqual(set(re.findall(r"https?://[^\"' ]*", text)), {"http://www.w3.org/2000/svg"})
         self.assertEqual(
             re.findall(r"(?:src|href)=\"([^\"]*)\"|url\(|@import|fetch\(|XMLHttpRequest", text), ["data:,"]
@@ -292,7 +293,7 @@ class InABrowser(unittest.TestCase):
         self.assert_paper_step(6)
         self.browser.press("ArrowLeft")
         self.browser.wait_for("location.hash === '#5'")
-        for address, step in (("#3", 3), ("#99", 8), ("#x", 0)):
+        for address, step in (("#3", 3), ("#99", 8), ("#x", 0), ("#2.5", 2), ("#-1", 0)):
             self.browser.value(f"location.hash = '{address}'")
             self.browser.wait_for(f"document.body.dataset.step === '{step}'")
             self.assert_paper_step(step)
