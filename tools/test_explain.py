@@ -2,6 +2,7 @@
 
 import os
 import re
+import shlex
 import subprocess
 import sys
 import tempfile
@@ -540,12 +541,12 @@ def value_of(part):
     return eval(re.sub(r"[0-9]+(?:\.[0-9]+)?", lambda found: f"Fraction('{found[0]}')", part.rstrip("."))), above
 
 
-def words_of(of):
+def words_of(of, printed):
     """Every sentence of a lesson's explanation, one by one."""
     opening = model.opening_state(of.day)
     for number, contract in opening.contracts.items():
         yield from contract_terms(number, contract)
-    for step in lesson.play(of, output_of(of.file)):
+    for step in lesson.play(of, printed):
         told = explanation.explained(step)
         for said in told.said:
             yield said.words
@@ -587,15 +588,23 @@ class Arithmetic(unittest.TestCase):
 
     def test_samples(self):
         for path in sorted(SAMPLES.glob("*.txt")):
-            self.assertGreater(self.assert_sums(words_of(lesson.read(str(path)))), 10, path.name)
+            printed = path.with_suffix(".out").read_text()
+            self.assertGreater(self.assert_sums(words_of(lesson.read(str(path)), printed)), 10, path.name)
 
     def test_random_files(self):
+        """With the day runner where it is built, otherwise with the model in its place."""
+        runner = shlex.split(MODEL_AS_RUNNER)
+        if lesson.RUNNER.exists():
+            runner = lesson.find_runner(None)
         sums = 0
         for index in range(FILES):
             of = lesson.lesson_of(f"{index}.day", generate.day_file(SEED, index))
-            if of.day is not None:
-                with self.subTest(seed=SEED, index=index):
-                    sums += self.assert_sums(words_of(of))
+            printed = lesson.printed_by(runner, of)
+            with self.subTest(seed=SEED, index=index):
+                if of.day is None:
+                    lesson.check_broken(of, printed)
+                else:
+                    sums += self.assert_sums(words_of(of, printed))
         self.assertGreater(sums, FILES)
 
 
