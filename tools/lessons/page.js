@@ -286,7 +286,7 @@ function tradeCard(at) {
 
 // --- The picture of prices ---
 
-const PRICES = { width: 420, height: 230, left: 62, right: 12, top: 8, bottom: 26 };
+const PRICES = { width: 360, height: 210, left: 62, right: 12, top: 8, bottom: 26 };
 
 function pricePicture(at, contract) {
   const { width, height, left, right, top, bottom } = PRICES;
@@ -391,8 +391,8 @@ function settlementPrices(at, contract, x, y) {
     const title = drawn("title", {}, `day ${step.day} settles at ${figure(price)}`);
     const mark = drawn("polygon", { class: "settled", points, "data-price": price }, title);
     if (days.length > MOST_DAYS_WITH_FIGURES) return [mark];
-    const beside = { x: x(place) - 9, y: y(price) - 7, "text-anchor": "end" };
-    return [mark, drawn("text", { class: "figure", ...beside }, figure(price))];
+    const below = { x: x(place) + size, y: y(price) + 3 * size, "text-anchor": "end" };
+    return [mark, drawn("text", { class: "figure", ...below }, figure(price))];
   });
 }
 
