@@ -61,7 +61,10 @@ class Read(unittest.TestCase):
         self.assertEqual(lines.read_run(""), lines.Run([]))
 
     def test_days(self):
-        run = lines.read_run("C 1 18 0 0 0\nC 2 0 0 0 0\nP 1 5\nB 1 0 0 0 0\nC 3 18 0 0 0\nC 4 0 0 0 0\nP 1 5\nC 5 1 0 0 0\n")
+        settled = "P 1 5\nB 1 0 0 0 0\n"
+        run = lines.read_run(
+            f"C 1 18 0 0 0\nC 2 0 0 0 0\n{settled}C 3 18 0 0 0\nC 4 0 0 0 0\n{settled}C 5 1 0 0 0\n"
+        )
         self.assertEqual([command.day for command in run.commands], [1, 1, 2, 2, 3])
 
     def test_round_trip(self):
@@ -85,7 +88,8 @@ class Faults(unittest.TestCase):
 
     def test_fields(self):
         wanted = "where C and 5 numbers should stand: command, code, order, traded, rested or removed"
-        for line in ("C 1 0 0 0", "C 1 0 0 0 0 0", "C 1 0 0 0 x", "C 1 0 0 0  0", "C 1 0 0 0 00", "C 1 0 0 0 +1", "C 1 0 0 0 -0"):
+        for end in ("", " 0 0", " x", "  0", " 00", " +1", " -0", " 0 "):
+            line = "C 1 0 0 0" + end
             self.assert_faults(line + "\n", f"line 1: '{line}' {wanted}")
         self.assert_faults("X\n", "line 1: 'X' where X and 1 number should stand: code")
         with self.assertRaises(lines.BadLines):

@@ -28,7 +28,7 @@ def read(name):
 
 
 def decoded(content):
-    """The bytes as text with plain line ends. What is no character of the encoding becomes the replacement character."""
+    """The bytes as text with plain line ends. What is no character of the encoding becomes a replacement character."""
     for mark, encoding in BYTE_ORDER_MARKS:
         if content.startswith(mark):
             text = content[len(mark) :].decode(encoding, errors="replace")
@@ -53,7 +53,7 @@ def write_output(content):
     """All bytes to standard output. Ends the tool where they cannot be written."""
     try:
         if sys.stdout is None:
-            raise OSError(0, "it is closed")
+            sys.exit("standard output is closed")
         sys.stdout.buffer.write(content)
         sys.stdout.buffer.flush()
     except OSError as error:
