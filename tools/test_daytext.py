@@ -1,5 +1,6 @@
 """The text form of day files: every line form, every message, and round trips on generated files."""
 
+import random
 import re
 import subprocess
 import sys
@@ -315,6 +316,33 @@ class Encodings(unittest.TestCase):
         self.assertEqual(faults(textfiles.decoded(b"\xef\xbb\xbfsettle now"))[0][:2], (1, 8))
 
 
+class Damaged(unittest.TestCase):
+    """Bytes changed, lost or put in at random, in lessons of each encoding and in day files: an answer in every case."""
+
+    def damaged(self, rng, content):
+        for _ in range(rng.randint(1, 4)):
+            place = rng.randrange(len(content))
+            some = bytes(rng.choice(b"\0\n #=>-,0179azAZ\x7f\x80\xff") for _ in range(rng.randint(0, 3)))
+            content = content[:place] + some + content[place + rng.randint(0, 3) :]
+        return content
+
+    def test_lessons(self):
+        rng = random.Random("damaged lessons")
+        text = (make_daytests.SAMPLES / "paper-example.txt").read_text()
+        right = 0
+        for _ in range(800):
+            content = self.damaged(rng, text.encode(rng.choice(("utf-8", "utf-8-sig", "utf-16"))))
+            right += not faults(textfiles.decoded(content))
+            self.assertIn(filekinds.kind(content, daytext.LINES)[0], ("lesson", "broken", "other"))
+        self.assertTrue(0 < right < 400, right)
+
+    def test_day_files(self):
+        rng = random.Random("damaged day files")
+        file = (make_daytests.SAMPLES / "paper-example.day").read_bytes()
+        kinds = {filekinds.kind(self.damaged(rng, file), daytext.LINES)[0] for _ in range(2_000)}
+        self.assertEqual(kinds, {"sound", "broken"})
+
+
 class Unpack(unittest.TestCase):
     def test_text(self):
         text = HEAD + "insert 1 contract 1 sell open best lots 5 kill\n raw " + "ff" * 24
@@ -480,6 +508,51 @@ class Expect(unittest.TestCase):
             faults(HEAD.replace("10000", "10000 => code 9")),
             [(2, 18, "of account lines only code 20 can be expected: a broken file")],
         )
+
+    def told(self, first_word, command):
+        """All that can be expected of a command, as its lines tell it."""
+        names = expectations.EXPECTED_OF[first_word]
+        for name in names:
+            if name in expectations.ANSWER_FIELDS:
+                yield name, command.answer[expectations.ANSWER_FIELDS[name]]
+        if "trade" in names:
+            for trade in command.trades:
+                yield f"trade {trade['lots']} at", trade["price"]
+        for price in command.prices:
+            yield f"contract {price['contract']} price", price["settlement_price"]
+        for line in command.accounts:
+            for name, field in expectations.ACCOUNT_FIELDS.items():
+                yield f"account {line['account']} {name}", line[field]
+
+    def test_generated_lessons(self):
+        """A lesson that expects all that the model tells is met; with one number changed that line is not."""
+        rng = random.Random("generated lessons")
+        lessons = told = 0
+        for index in range(60):
+            file = generate.day_file(13, index)
+            run = lines.read_run(model.run(file).decode())
+            texts = [text.partition("#")[0] for text in daytext.unpack(file).split("\n")] if run.commands else []
+            if not texts or len(run.commands) > 300:
+                continue
+            first = len(texts) - 1 - len(run.commands)
+            expected = [
+                (place, name, value)
+                for place, command in enumerate(run.commands, first)
+                for name, value in self.told(texts[place].split()[0], command)
+            ]
+            changed = rng.choice(expected)
+            for wrong in (None, changed):
+                rows = [*texts]
+                for each in expected:
+                    place, name, value = each
+                    arrow = "" if "=>" in rows[place] else "=>"
+                    rows[place] += f"{arrow} {name} {value + (each is wrong)}"
+                unmet = [line for line, _ in self.unmet("\n".join(rows))]
+                self.assertEqual(unmet, [changed[0] + 1] if wrong else [], index)
+            lessons += 1
+            told += len(expected)
+        self.assertGreater(lessons, 20)
+        self.assertGreater(told, 5_000)
 
     def test_every_kind_of_line_is_in_the_table(self):
         self.assertEqual(set(expectations.EXPECTED_OF), set(daytext.LINES) - {"repeat", "end"})
