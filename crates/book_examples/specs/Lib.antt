@@ -1,1 +1,2 @@
+pub mod HoldingExamples
 pub mod Known
