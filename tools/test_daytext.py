@@ -122,7 +122,7 @@ class Messages(unittest.TestCase):
         )
 
     def test_other_words(self):
-        self.assert_message("state 1 7", "'7' where pre-open, continuous, no-trading or closed should stand")
+        self.assert_message("state 1 7", f"'7' where {words.listed(dayfile.STATES)} should stand")
         self.assert_message("insert 1 on 1", "'on' where contract should stand")
         self.assert_message("insert 1 contract 1 spread", "'spread' where buy or sell should stand")
         self.assert_message("insert 1 contract 1 buy limit", "'limit' where open or close should stand")
