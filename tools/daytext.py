@@ -1,12 +1,16 @@
 #!/usr/bin/env python3
 """A text form of day files, easy to read and to write.
 
-    daytext.py pack FILE.txt > FILE.day      text to day file
-    daytext.py unpack FILE.day > FILE.txt    day file to text
+    daytext.py pack LESSON.txt FILE.day      text to day file; written only where the whole text is right
+    daytext.py unpack FILE.day LESSON.txt    day file to text; FILE.txt beside FILE.day is taken where it is its text
+    daytext.py check LESSON.txt ..           all that is wrong in texts, with line and column
+    daytext.py test LESSON.txt ..            what texts expect (see below), held to the day runner's lines
+    daytext.py what FILE                     whether a file is a day file, a lesson or something else; why it is broken
 
-FILE may be - for standard input. The text has one contract, account or command on a line: contracts first, then
-accounts, then commands. Contracts and accounts get the numbers 1, 2, 3 in the order of their lines. A # starts a
-comment; blank lines, spaces before a line and commas in numbers (10,000) are free.
+Without a second file pack and unpack write to standard output; a file to read may be - for standard input. The text may
+be UTF-8 or UTF-16. It has one contract, account or command on a line: contracts first, then accounts, then commands.
+Contracts and accounts get the numbers 1, 2, 3 in the order of their lines. A # starts a comment; blank lines, spaces
+before a line and commas in numbers (10,000) are free.
 
     contract multiplier 10 tick 1 reference 100 band 10 limit 1000 rate 1000
     account 10,000                                       its opening balance
@@ -26,20 +30,42 @@ comment; blank lines, spaces before a line and commas in numbers (10,000) are fr
 Numbers may be outside the rules, as long as the file can hold them: a lesson may want to show what is refused. For the
 same reason a price may stand after market or best. A contract may end with its pairing method: method 0 is the middle
 price, as where none is named, method 1 the average and method 2 first-in.
+
+A line may say what its writer expects of it, behind => on the line or on lines of their own below it:
+
+    insert 2 contract 1 buy open limit 104 lots 3 day    => order 2 traded 3 rested 0 trade 3 at 102
+    insert 2 contract 1 buy open limit 99 lots 1000 day  => code 9
+    cancel 1 contract 1 order 1                          => removed 2
+    settle                                               => contract 1 price 102
+                                                         => account 1 closing -20 holding 0 balance 9,980 margin 102
+
+What is not named is not looked at, but for two things: a command of which no code is expected must be accepted, and
+where one trade is named all must be. On a contract or an account only code 20 can be expected: the file is broken.
 """
 
 import argparse
-import re
+import shlex
+import shutil
+import subprocess
 import sys
 from pathlib import Path
+from typing import NamedTuple
 
 sys.path.insert(0, str(Path(__file__).resolve().parent / "model"))
 
 import dayfile
+import expectations
+import filekinds
+import lines
 import model
+import textfiles
 from bounds import MOST_COMMANDS
+from words import Words, Wrong
 
 BITS_8, BITS_16, BITS_32, BITS_64 = (2**bits - 1 for bits in (8, 16, 32, 64))
+
+# "20: day file broken: count, length or value out of range"
+BROKEN_CODE = 20
 
 # The words of a contract line and the most that each field can hold.
 CONTRACT_WORDS = {
@@ -51,67 +77,30 @@ CONTRACT_WORDS = {
     "rate": BITS_16,
 }
 
-NUMBER = re.compile("[0-9]+|[0-9]{1,3}(,[0-9]{3})+")
+# How much of what is wrong is shown.
+MOST_SHOWN = 100
+
+DAY_RUNNER = Path(__file__).resolve().parents[1] / "target" / "bin" / "dayrun"
+SECONDS_A_FILE = 60
+
+
+class Fault(NamedTuple):
+    """What is wrong in a text, in words for its writer."""
+
+    line: int
+    column: int
+    message: str
+
+    def __str__(self):
+        return f"line {self.line}, column {self.column}: {self.message}"
 
 
 class BadText(Exception):
-    """What is wrong in a text, in words for its writer."""
+    """All that is wrong in a text."""
 
-
-class Words:
-    """The words of one line, taken from left to right."""
-
-    def __init__(self, line):
-        self.words = line.split()
-
-    def __bool__(self):
-        return bool(self.words)
-
-    def take(self, expected):
-        if not self.words:
-            raise BadText(f"the line ends where {expected} should stand")
-        return self.words.pop(0)
-
-    def one_of(self, choices):
-        expected = " or ".join(filter(None, (", ".join(choices[:-1]), choices[-1])))
-        word = self.take(expected)
-        if word not in choices:
-            raise BadText(f"'{word}' where {expected} should stand")
-        return word
-
-    def number(self, name, most):
-        word = self.take(f"a number ({name})")
-        if not NUMBER.fullmatch(word):
-            raise BadText(f"'{word}' where a whole number ({name}) should stand")
-        digits = word.replace(",", "").lstrip("0") or "0"
-        if len(digits) > len(str(most)) or int(digits) > most:
-            raise BadText(f"{name} {word} is more than the file can hold, which is {most:,}")
-        return int(digits)
-
-    def named_number(self, name, most):
-        """The name itself, then its number."""
-        self.one_of([name])
-        return self.number(name, most)
-
-    def optional(self, word):
-        if self.words[:1] == [word]:
-            self.words.pop(0)
-            return True
-        return False
-
-    def optional_number(self, name, most):
-        """The number if one stands next, else 0."""
-        if self.words and self.words[0][0].isdecimal():
-            return self.number(name, most)
-        return 0
-
-    def take_all(self):
-        taken, self.words = self.words, []
-        return taken
-
-    def end(self):
-        if self.words:
-            raise BadText(f"'{self.words[0]}' is one word too many")
+    def __init__(self, faults):
+        super().__init__("\n".join(map(str, faults)))
+        self.faults = faults
 
 
 # --- From text to day file ---
@@ -171,12 +160,15 @@ def read_settle(words):
 
 
 def read_raw(words):
-    try:
-        record = bytes.fromhex(" ".join(words.take_all()))
-    except ValueError:
-        raise BadText("raw takes bytes in hexadecimal, two digits each") from None
+    start = words.column()
+    record = b""
+    for column, word in words.take_all():
+        try:
+            record += bytes.fromhex(word)
+        except ValueError:
+            raise Wrong(column, "raw takes bytes in hexadecimal, two digits each") from None
     if len(record) != dayfile.COMMAND.size:
-        raise BadText(f"raw takes {dayfile.COMMAND.size} bytes, here are {len(record)}")
+        raise Wrong(start, f"raw takes {dayfile.COMMAND.size} bytes, here are {len(record)}")
     return dayfile.Command(*dayfile.COMMAND.unpack(record))
 
 
@@ -192,73 +184,143 @@ COMMANDS = {
 }
 
 LINES = ["contract", "account", *COMMANDS, "repeat", "end"]
+ORDER_OF_LINES = "contracts come first, then accounts, then commands"
+
+
+class Step(NamedTuple):
+    """A line that can be answered: its first word, its command where it is one, and what is expected of it."""
+
+    first_word: str
+    command: object
+    expected: list
+
+
+class Lesson(NamedTuple):
+    """A day and what its writer expects: one list of expectations for each command, and one for the file."""
+
+    day: dayfile.DayFile
+    expected: list
+    expected_of_file: list
+
+    def number_expected(self):
+        """How many expectations the text has, those of a repeat counted once."""
+        all_expected = [self.expected_of_file, *self.expected]
+        return len({(each.line, each.column) for expected in all_expected for each in expected})
 
 
 class Reader:
-    """Collects a text's records line by line."""
+    """Collects a text's records line by line, and all that is wrong in it."""
 
     def __init__(self):
-        self.day = dayfile.DayFile([], [], [])
+        self.contracts = []
+        self.balances = []
+        self.steps = []
+        self.expected_of_file = []
+        self.faults = []
         self.commands_begun = False
-        # Within a repeat: where it began, how often its commands come, and the commands.
-        self.repeat_line = None
+        # The step that an expectation on the next line would be of.
+        self.last_step = None
+        # Within a repeat: the line and column where it began, how often its commands come, and the commands.
+        self.repeat_start = None
         self.times = 1
         self.repeated = []
 
     def read_line(self, number, line):
-        words = Words(line.partition("#")[0])
+        said = line.partition("#")[0]
+        command, arrow, _ = said.partition("=>")
+        self.read_part(number, self.read_record, said, 0, len(command))
+        if arrow:
+            self.read_part(number, self.read_expected, said, len(command) + len(arrow))
+
+    def read_part(self, number, read, said, start, end=None):
+        """Reads a part of a line, and notes what is wrong in it."""
+
+        def note(column, message):
+            self.faults.append(Fault(number, column, message))
+
+        try:
+            read(number, Words(said, note, start, end))
+        except Wrong as wrong:
+            note(wrong.column, str(wrong))
+
+    def read_record(self, number, words):
         if not words:
             return
+        # Of a line that is not understood anything may be expected.
+        self.last_step = Step("raw", None, [])
+        column = words.column()
         first = words.one_of(LINES)
+        self.last_step = Step(first, None, [])
         if first == "contract":
-            self.check_order(first, "an account or a command", self.day.balances or self.commands_begun)
-            self.day.contracts.append(read_contract(words))
+            if self.balances or self.commands_begun:
+                words.note(column, f"contract after an account or a command: {ORDER_OF_LINES}")
+            self.last_step = Step(first, None, self.expected_of_file)
+            self.contracts.append(read_contract(words))
         elif first == "account":
-            self.check_order(first, "a command", self.commands_begun)
-            self.day.balances.append(read_account(words))
+            if self.commands_begun:
+                words.note(column, f"account after a command: {ORDER_OF_LINES}")
+            self.last_step = Step(first, None, self.expected_of_file)
+            self.balances.append(read_account(words))
         else:
             self.commands_begun = True
-            self.read_command(number, first, words)
+            self.read_command(number, column, first, words)
         words.end()
 
-    def check_order(self, first, before, is_late):
-        if is_late:
-            raise BadText(f"{first} after {before}: contracts come first, then accounts, then commands")
-
-    def read_command(self, number, first, words):
+    def read_command(self, number, column, first, words):
         if first == "repeat":
-            self.begin_repeat(number, words)
+            self.begin_repeat(number, column, words)
         elif first == "end":
-            self.end_repeat()
-        elif self.repeat_line:
-            self.repeated.append(COMMANDS[first](words))
+            self.end_repeat(column)
         else:
-            self.day.commands.append(COMMANDS[first](words))
+            self.last_step = self.last_step._replace(command=COMMANDS[first](words))
+            (self.repeated if self.repeat_start else self.steps).append(self.last_step)
 
-    def begin_repeat(self, number, words):
-        if self.repeat_line:
-            raise BadText(f"repeat within the repeat of line {self.repeat_line}")
+    def begin_repeat(self, number, column, words):
+        if self.repeat_start:
+            raise Wrong(column, f"repeat within the repeat of line {self.repeat_start[0]}")
+        self.repeat_start = (number, column)
         self.times = words.number("times", MOST_COMMANDS)
-        self.repeat_line = number
 
-    def end_repeat(self):
-        if not self.repeat_line:
-            raise BadText("end without repeat")
-        self.day.commands.extend(self.repeated * self.times)
-        self.repeat_line, self.repeated = None, []
+    def end_repeat(self, column):
+        if not self.repeat_start:
+            raise Wrong(column, "end without repeat")
+        self.steps.extend(self.repeated * self.times)
+        self.repeat_start, self.repeated = None, []
+
+    def read_expected(self, number, words):
+        first = self.last_step.first_word if self.last_step else None
+        if first not in expectations.EXPECTED_OF:
+            after = f"behind {first}" if first else "before the first line"
+            raise Wrong(words.column(), f"=> {after}, which nothing answers")
+        for expectation in expectations.read_expectations(words, number, first):
+            if first in ("contract", "account") and expectation.value != BROKEN_CODE:
+                message = f"of {first} lines only code {BROKEN_CODE} can be expected: a broken file"
+                raise Wrong(expectation.column, message)
+            self.last_step.expected.append(expectation)
+
+    def lesson(self):
+        if self.repeat_start:
+            self.faults.append(Fault(*self.repeat_start, "repeat without end"))
+        if self.faults:
+            raise BadText(sorted(self.faults))
+        return Lesson(
+            dayfile.DayFile(self.contracts, self.balances, [step.command for step in self.steps]),
+            [step.expected for step in self.steps],
+            self.expected_of_file,
+        )
+
+
+def read_lesson(text):
+    """The lesson that a text tells. Raises BadText with all that is wrong in it."""
+    reader = Reader()
+    for number, line in enumerate(text.split("\n"), 1):
+        reader.read_line(number, line)
+    return reader.lesson()
 
 
 def pack(text):
     """The day file that a text describes."""
-    reader = Reader()
-    for number, line in enumerate(text.split("\n"), 1):
-        try:
-            reader.read_line(number, line)
-        except BadText as bad:
-            raise BadText(f"line {number}: {bad}") from None
-    if reader.repeat_line:
-        raise BadText(f"line {reader.repeat_line}: repeat without end")
-    return dayfile.write(reader.day)
+    return dayfile.write(read_lesson(text).day)
 
 
 # --- From day file to text ---
@@ -267,12 +329,12 @@ def pack(text):
 def unpack(file):
     """The text of a file whose sections are whole. Raises dayfile.Broken for any other."""
     day = dayfile.sections(file)
-    lines = [
+    texts = [
         *(f"{contract_text(contract)}  # contract {number}" for number, contract in enumerate(day.contracts, 1)),
         *(f"account {balance}  # account {number}" for number, balance in enumerate(day.balances, 1)),
         *(f"{command_text(command)}  # C {number}" for number, command in enumerate(day.commands, 1)),
     ]
-    return "".join(line + "\n" for line in lines)
+    return "".join(text + "\n" for text in texts)
 
 
 def contract_text(contract):
@@ -319,34 +381,218 @@ TEXT_OF_KIND = {
 }
 
 
+# --- A lesson held to the runner ---
+
+
+def unmet(lesson, run):
+    """What a lesson expects and the runner's lines do not show."""
+    if run.broken:
+        return [
+            Fault(each.line, each.column, f"the file is broken, code {run.broken}, and no command is carried out")
+            for each in first_expectations(lesson)
+        ]
+    found = {}
+    for each in lesson.expected_of_file:
+        found[each.line, each.column] = [f"the file is sound where code {each.value} is expected"]
+    for number, (expected, command) in enumerate(zip(lesson.expected, run.commands), 1):
+        for each, sentence in expectations.unmet(expected, command) if expected else ():
+            found.setdefault((each.line, each.column), []).append(f"command {number}: {sentence}")
+    return [Fault(*place, sentences[0] + times_more(sentences)) for place, sentences in sorted(found.items())]
+
+
+def first_expectations(lesson):
+    """The first expectation of a command, which stands for all, unless the file is expected to be broken."""
+    if lesson.expected_of_file:
+        return []
+    return [expected[0] for expected in lesson.expected if expected][:1]
+
+
+def times_more(sentences):
+    """Within a repeat an expectation may fail more than once."""
+    return f" (and {len(sentences) - 1:,} more times)" if len(sentences) > 1 else ""
+
+
+def run_day(runner, file):
+    """The run that the day runner's lines tell."""
+    ended = subprocess.run(runner, input=file, stdout=subprocess.PIPE, timeout=SECONDS_A_FILE)
+    return lines.read_run(ended.stdout.decode(errors="replace"))
+
+
 # --- The tool ---
 
 
-def note_if_broken(file):
-    """A packed file may be broken on purpose; its writer should know."""
+def say(message):
+    textfiles.write_output(f"{message}\n".encode())
+
+
+def note(message):
+    print(message, file=sys.stderr)
+
+
+def note_faults(name, faults):
+    for fault in faults[:MOST_SHOWN]:
+        note(f"{name}: {fault}")
+    if len(faults) > MOST_SHOWN:
+        note(f"{name}: and {len(faults) - MOST_SHOWN:,} more")
+
+
+def read_file(name, called=None):
+    """A file's lesson, or None where it has none, of which all is noted."""
+    content = textfiles.read(name)
+    if not filekinds.is_text(content):
+        note(f"{called or name}: no text, and so no lesson")
+        return None
     try:
-        dayfile.read(file)
+        return read_lesson(textfiles.decoded(content))
+    except BadText as bad:
+        note_faults(called or name, bad.faults)
+        return None
+
+
+def pack_file(arguments):
+    lesson = read_file(arguments.file, arguments.called)
+    if not lesson:
+        return False
+    file = dayfile.write(lesson.day)
+    if not arguments.quiet:
+        # A file may be broken on purpose; its writer should know.
+        for fault in dayfile.faults(file):
+            note(f"note: the file is broken for the day runner: {fault}")
+    if not arguments.to:
+        textfiles.write_output(file)
+        return True
+    present = Path(arguments.to)
+    if present.is_file() and present.stat().st_size and filekinds.is_text(present.read_bytes()):
+        note(f"{present}: a text, which stays as it is: name a day file")
+        return False
+    textfiles.write_file(present, file)
+    return True
+
+
+def unpack_file(arguments):
+    file = textfiles.read(arguments.file)
+    if file and filekinds.is_text(file):
+        note(f"{arguments.file}: a text already")
+        return False
+    try:
+        text = unpack(file).encode()
     except dayfile.Broken as broken:
-        print(f"note: the file is broken for the day runner: {broken}", file=sys.stderr)
+        note(f"{arguments.file}: {broken}")
+        return False
+    if arguments.file != "-" and not arguments.plain:
+        text = text_beside(Path(arguments.file), file) or text
+    if not arguments.to:
+        textfiles.write_output(text)
+        return True
+    present = Path(arguments.to)
+    if present.is_file() and present.read_bytes() != text:
+        note(f"{present}: there already with another text, and stays as it is")
+        return False
+    textfiles.write_file(present, text)
+    return True
+
+
+def text_beside(path, file):
+    """The text of the same name, comments and all, where it is the day file's."""
+    beside = path.with_suffix(".txt")
+    if not beside.is_file():
+        return None
+    content = beside.read_bytes()
+    try:
+        if pack(textfiles.decoded(content)) == file:
+            return content
+    except BadText:
+        pass
+    note(f"note: {beside} is not this file's text, and is not taken")
+    return None
+
+
+def check_files(arguments):
+    return all([check_file(name) for name in arguments.files])
+
+
+def check_file(name):
+    lesson = read_file(name)
+    if not lesson:
+        return False
+    say(f"{name}: right: {', '.join(counts(lesson))}")
+    for fault in dayfile.faults(dayfile.write(lesson.day)):
+        say(f"{name}: broken for the day runner: {fault}")
+    return True
+
+
+def counts(lesson):
+    for records, name in zip(lesson.day, ("contract", "account", "command")):
+        yield lines.number_of(len(records), name)
+    yield lines.number_of(lesson.number_expected(), "expectation")
+
+
+def test_files(arguments):
+    runner = [arguments.runner] if Path(arguments.runner).is_file() else shlex.split(arguments.runner)
+    if not shutil.which(runner[0]):
+        note(f"no day runner {runner[0]}; ./run builds target/bin/dayrun")
+        return False
+    return all([test_file(name, runner, arguments) for name in arguments.files])
+
+
+def test_file(name, runner, arguments):
+    called = arguments.called or name
+    lesson = read_file(name, called)
+    if not lesson:
+        return False
+    try:
+        faults = unmet(lesson, run_day(runner, dayfile.write(lesson.day)))
+    except (lines.BadLines, subprocess.TimeoutExpired) as error:
+        note(f"{arguments.runner}: {error}")
+        return False
+    note_faults(called, faults)
+    expected = lesson.number_expected()
+    if not faults and not arguments.quiet:
+        say(f"{called}: {lines.number_of(expected, 'expectation')} met" if expected else f"{called}: expects nothing")
+    return not faults
+
+
+def say_what(arguments):
+    what, words = filekinds.kind(textfiles.read(arguments.file), LINES)
+    say(f"{what}: {words}")
+    return True
+
+
+def parser():
+    made = argparse.ArgumentParser(description=__doc__, formatter_class=argparse.RawDescriptionHelpFormatter)
+    forms = made.add_subparsers(metavar="pack|unpack|check|test|what", required=True)
+
+    def form(name, does, words):
+        added = forms.add_parser(name, help=words)
+        added.set_defaults(does=does)
+        return added
+
+    packing = form("pack", pack_file, "text to day file")
+    unpacking = form("unpack", unpack_file, "day file to text")
+    unpacking.add_argument("--plain", action="store_true", help="from the file alone, without a text beside it")
+    checking = form("check", check_files, "all that is wrong in texts; nothing is written")
+    testing = form("test", test_files, "what texts expect, held to the day runner's lines")
+    testing.add_argument("--runner", default=str(DAY_RUNNER), metavar="COMMAND", help="the day runner's command line")
+    saying = form("what", say_what, "what a file is, and why it is broken")
+    for reading in (packing, testing):
+        reading.add_argument("--quiet", action="store_true", help="say only what is wrong")
+        reading.add_argument("--called", metavar="NAME", help="the text's name in what is said")
+    for reading in (packing, unpacking, saying):
+        reading.add_argument("file", metavar="FILE")
+    for writing in (packing, unpacking):
+        writing.add_argument("to", metavar="TO", nargs="?", help="the file to write")
+    for reading in (checking, testing):
+        reading.add_argument("files", metavar="LESSON", nargs="+")
+    return made
 
 
 def main():
-    parser = argparse.ArgumentParser(description=__doc__, formatter_class=argparse.RawDescriptionHelpFormatter)
-    parser.add_argument("direction", choices=("pack", "unpack"))
-    parser.add_argument("file", metavar="FILE")
-    arguments = parser.parse_args()
+    arguments = parser().parse_args()
     try:
-        given = sys.stdin.buffer.read() if arguments.file == "-" else Path(arguments.file).read_bytes()
-        if arguments.direction == "pack":
-            result = pack(given.decode(errors="replace"))
-            note_if_broken(result)
-        else:
-            result = unpack(given).encode()
+        is_right = arguments.does(arguments)
     except OSError as error:
-        sys.exit(f"{arguments.file}: {error.strerror}")
-    except (BadText, dayfile.Broken) as error:
-        sys.exit(f"{arguments.file}: {error}")
-    sys.stdout.buffer.write(result)
+        sys.exit(f"{error.filename}: {error.strerror}")
+    sys.exit(0 if is_right else 1)
 
 
 if __name__ == "__main__":

@@ -135,11 +135,20 @@ def settle():
 
 
 class Broken(Exception):
-    """The file is broken; `fault` says what is wrong, and the message where."""
+    """The file is broken; `fault` says what is wrong, the message where, and `figures` what was counted."""
 
-    def __init__(self, fault, where=""):
+    def __init__(self, fault, where="", figures=""):
         super().__init__(where + fault)
         self.fault = fault
+        self.figures = figures
+
+
+def faults(file):
+    """All that makes a file broken, in words; nothing for a sound one. Of a file that is cut only the cut is told."""
+    try:
+        return [str(broken) for broken in range_faults(sections(file))]
+    except Broken as broken:
+        return [f"{broken} ({broken.figures})"]
 
 
 def read(file):
@@ -156,7 +165,7 @@ def sections(file):
     commands, rest = section(rest, "commands", COMMAND)
     # "The file ends with the last command."
     if rest:
-        raise Broken("bytes after the last command")
+        raise Broken("bytes after the last command", figures=f"{len(rest):,} of them")
     return DayFile(
         [ContractRecord(*fields) for fields in contracts],
         [balance for (balance,) in accounts],
@@ -167,31 +176,38 @@ def sections(file):
 def section(rest, name, record):
     """The records of the section that the bytes begin with, and the bytes after it."""
     if len(rest) < COUNT.size:
-        raise Broken(f"cut in the count of {name}")
+        raise Broken(f"cut in the count of {name}", figures=f"{len(rest)} of its {COUNT.size} bytes are there")
     (count,) = COUNT.unpack_from(rest)
     end = COUNT.size + count * record.size
     if len(rest) < end:
-        raise Broken(f"cut in the {name}")
+        whole = (len(rest) - COUNT.size) // record.size
+        raise Broken(f"cut in the {name}", figures=f"{count:,} counted, {whole:,} there whole")
     return list(record.iter_unpack(rest[COUNT.size : end])), rest[end:]
 
 
 def check_ranges(day):
     """Raises Broken where a count or value is out of range. "Bad command fields don't break a file." """
+    for broken in range_faults(day):
+        raise broken
+
+
+def range_faults(day):
+    """Each count out of range, then the first value out of range of each contract and account."""
     # "contracts (1 to 4), accounts (1 to 32), commands (0 to 2,000)"
     if not 1 <= len(day.contracts) <= MOST_CONTRACTS:
-        raise Broken("contracts not 1 to 4")
+        yield Broken("contracts not 1 to 4")
     if not 1 <= len(day.balances) <= MOST_ACCOUNTS:
-        raise Broken("accounts not 1 to 32")
+        yield Broken("accounts not 1 to 32")
     if not 0 <= len(day.commands) <= MOST_COMMANDS:
-        raise Broken("commands not 0 to 2,000")
+        yield Broken("commands not 0 to 2,000")
     for number, contract in enumerate(day.contracts, 1):
         fault = contract_fault(contract)
         if fault:
-            raise Broken(fault, f"contract {number}: ")
+            yield Broken(fault, f"contract {number}: ")
     for number, balance in enumerate(day.balances, 1):
         # "opening balance, 0 to 10^18"
         if not 0 <= balance <= TOP_BALANCE:
-            raise Broken("balance not 0 to 10^18", f"account {number}: ")
+            yield Broken("balance not 0 to 10^18", f"account {number}: ")
 
 
 def write(day):

@@ -3,6 +3,8 @@
 import unittest
 
 import make_samples
+import daytext
+import lines
 import model
 from bounds import MOST_ACCOUNTS, MOST_COMMANDS, MOST_CONTRACTS
 from dayfile import read
@@ -24,6 +26,15 @@ class Samples(unittest.TestCase):
         self.assertEqual(make_samples.files_present(), set(self.made))
         for path, content in self.made.items():
             self.assertEqual(path.read_bytes(), content, f"{path.name} is not current: run make_samples.py")
+
+    def test_expectations_are_met(self):
+        expected = 0
+        for path in make_samples.SAMPLES.glob("*.txt"):
+            lesson = daytext.read_lesson(path.read_text())
+            run = lines.read_run(self.made[path.with_suffix(".out")].decode())
+            self.assertEqual(daytext.unmet(lesson, run), [], path.name)
+            expected += lesson.number_expected()
+        self.assertGreater(expected, 0)
 
     def test_every_code_of_a_file(self):
         self.assertEqual(self.codes("every-code"), set(range(20)) - {10})
