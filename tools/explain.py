@@ -199,7 +199,7 @@ def run(arguments, write):
     if lesson.day is None:
         check_broken(lesson, printed)
         write(f"{lesson.name}: the file is broken, so that no command of it is carried out.")
-        write(f"X 20\n{INDENT}{lesson.fault}")
+        write("\n".join(["X 20", *(INDENT + fault for fault in lesson.faults)]))
         return
     check_choice(lesson, arguments.command, arguments.account)
     explained, lines = explain(lesson, printed, write, arguments.command or 0, arguments.account or 0)

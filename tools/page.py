@@ -165,7 +165,8 @@ def run(arguments):
     printed = printed_by(find_runner(arguments.runner), lesson)
     if lesson.day is None:
         check_broken(lesson, printed)
-        raise Unusable(f"{lesson.name}: the file is broken, and nothing of it is carried out: {lesson.fault}")
+        faults = "; ".join(lesson.faults)
+        raise Unusable(f"{lesson.name}: the file is broken, and nothing of it is carried out: {faults}")
     return page(lesson, printed)
 
 

@@ -38,7 +38,7 @@ class Read(unittest.TestCase):
 
     def test_text(self):
         found = lesson.read(self.path("day.txt", b"# A note.\n" + HEAD.encode() + b"settle  # too early\n"))
-        self.assertEqual((found.name, found.notes, found.fault), ("day.txt", ("A note.",), ""))
+        self.assertEqual((found.name, found.notes, found.faults), ("day.txt", ("A note.",), []))
         self.assertEqual(found.day.balances, [10_000, 500])
         self.assertEqual(found.comments["command"], [Comment((), "too early")])
 
@@ -60,7 +60,9 @@ class Read(unittest.TestCase):
         self.assertEqual(lesson.read(day).comments["command"], [Comment((), "too early")])
         for other in (text.replace("500", "501"), "no lesson"):
             self.path("lesson.txt", other.encode())
-            self.assertEqual(lesson.read(day).comments["command"], [Comment()])
+            with mock.patch("sys.stderr", io.StringIO()) as said:
+                self.assertEqual(lesson.read(day).comments["command"], [Comment()])
+            self.assertIn("is not this file's text", said.getvalue())
 
     def test_kind_of_file_by_its_content(self):
         text = HEAD + "settle\n"
@@ -70,11 +72,12 @@ class Read(unittest.TestCase):
 
     def test_broken_file(self):
         found = lesson.read(str(SAMPLES / "broken" / "tick-0.day"))
-        self.assertEqual((found.day, found.fault), (None, "contract 1: tick not 1 to 1,000"))
+        self.assertEqual((found.day, found.faults), (None, ["contract 1: tick not 1 to 1,000"]))
 
     def test_unusable(self):
         for path, message in {
-            self.path("bad.txt", b"settle now"): "'now' is one word too many",
+            self.path("bad.txt", b"settle now"): "line 1, column 8: 'now' is one word too many",
+            self.path("worse.txt", b"settle now\n" * 12): "worse.txt: and 2 more",
             str(Path(self.folder.name, "none.day")): "No such file or directory",
             self.folder.name: "Is a directory",
         }.items():
@@ -210,7 +213,7 @@ class Runner(unittest.TestCase):
         self.assertEqual(str(caught.exception), "no program no-such-program --fast")
         with mock.patch.object(lesson, "RUNNER", Path("nowhere")), self.assertRaises(lesson.Unusable) as caught:
             lesson.find_runner(None)
-        self.assertIn("./run samples/paper-example.day builds it", str(caught.exception))
+        self.assertIn("./run samples/paper-example.txt builds it", str(caught.exception))
 
     @unittest.skipUnless(lesson.RUNNER.exists(), "the day runner is not built")
     def test_samples(self):

@@ -4,10 +4,8 @@ lines that the day runner prints and the state before and after it by the indepe
 The lines are the runner's. Every one of them is compared with the model's, and the run stops at the first difference.
 """
 
-import codecs
 import shlex
 import shutil
-import sys
 from dataclasses import replace
 from pathlib import Path
 from typing import NamedTuple
@@ -15,9 +13,13 @@ from typing import NamedTuple
 import compare
 import dayfile
 import daytext
+import filekinds
 import model
+import textfiles
 
-RUNNER = Path(__file__).resolve().parents[2] / "target" / "bin" / "dayrun"
+RUNNER = daytext.DAY_RUNNER
+# How much of what is wrong in a text is told; `daytext.py check` tells all.
+MOST_FAULTS = 10
 
 
 class Unusable(Exception):
@@ -48,69 +50,54 @@ class Lesson(NamedTuple):
     name: str
     file: bytes
     day: object  # the records; None if the file is broken
-    fault: str  # what is wrong with a broken file
+    faults: list  # what is wrong with a broken file
     notes: tuple  # the comments that the lesson opens with, by paragraphs
     comments: dict  # "contract", "account" or "command": a Comment for each record
 
 
 def read(path):
     """The lesson in a day file or a text; - is standard input."""
+    path = str(path)
     try:
-        given = sys.stdin.buffer.read() if path == "-" else Path(path).read_bytes()
+        given = textfiles.read(path)
     except OSError as error:
         raise Unusable(f"{path}: {error.strerror}") from None
     if is_text(path, given):
-        text = decoded(given)
+        text = textfiles.decoded(given)
         return lesson_of(path, packed(path, text), text)
-    return lesson_of(path, given, text_beside(path, given))
+    beside = daytext.text_beside(Path(path), given) if path != "-" else None
+    return lesson_of(path, given, textfiles.decoded(beside or b""))
 
 
 def is_text(path, given):
-    """By the name where it tells, otherwise by the content: a day file has zero bytes, a text has none."""
+    """By the name where it tells, otherwise by the content."""
     suffix = Path(path).suffix
-    return suffix == ".txt" or suffix != ".day" and (0 not in given or is_utf16(given))
-
-
-def is_utf16(given):
-    return given.startswith((codecs.BOM_UTF16_LE, codecs.BOM_UTF16_BE))
-
-
-def decoded(given):
-    return given.decode("utf-16" if is_utf16(given) else "utf-8-sig", errors="replace")
+    return suffix == ".txt" or suffix != ".day" and filekinds.is_text(given)
 
 
 def packed(path, text):
     try:
         return daytext.pack(text)
-    except daytext.BadText as error:
-        raise Unusable(f"{path}: {error}") from None
-
-
-def text_beside(path, file):
-    """The text that a day file was made from, if it is kept beside the file under the same name."""
-    beside = Path(path).with_suffix(".txt")
-    if path == "-" or not beside.is_file():
-        return ""
-    text = decoded(beside.read_bytes())
-    try:
-        return text if daytext.pack(text) == file else ""
-    except daytext.BadText:
-        return ""
+    except daytext.BadText as bad:
+        faults = [f"{path}: {fault}" for fault in bad.faults[:MOST_FAULTS]]
+        if len(bad.faults) > MOST_FAULTS:
+            faults.append(f"{path}: and {len(bad.faults) - MOST_FAULTS:,} more")
+        raise Unusable("\n".join(faults)) from None
 
 
 def lesson_of(path, file, text=""):
     name = "standard input" if path == "-" else Path(path).name
     notes, comments = comments_of(text)
-    try:
-        day, fault = dayfile.read(file), ""
-    except dayfile.Broken as broken:
-        return Lesson(name, file, None, str(broken), notes, comments)
+    faults = dayfile.faults(file)
+    if faults:
+        return Lesson(name, file, None, faults, notes, comments)
+    day = dayfile.read(file)
     for kind, records in zip(("contract", "account", "command"), day):
         # A day file without its text has no comments at all.
         comments[kind] = comments[kind] or [Comment()] * len(records)
         if len(comments[kind]) != len(records):
             raise Unusable(f"{name}: {len(records)} {kind} records, but comments for {len(comments[kind])}")
-    return Lesson(name, file, day, fault, notes, comments)
+    return Lesson(name, file, day, [], notes, comments)
 
 
 class CommentLines:
@@ -193,12 +180,14 @@ class Step(NamedTuple):
 
 def find_runner(command_line):
     """The runner's words; the one that ./run builds where none is named."""
-    runner = shlex.split(command_line) if command_line else [str(RUNNER)]
+    if not command_line:
+        if RUNNER.exists():
+            return [str(RUNNER)]
+        raise Unusable("the day runner is not built yet: ./run samples/paper-example.txt builds it")
+    runner = [command_line] if Path(command_line).is_file() else shlex.split(command_line)
     if runner and shutil.which(runner[0]):
         return runner
-    if command_line:
-        raise Unusable(f"no program {command_line}")
-    raise Unusable("the day runner is not built yet: ./run samples/paper-example.day builds it")
+    raise Unusable(f"no program {command_line}")
 
 
 def printed_by(runner, lesson):
@@ -234,7 +223,7 @@ def check_broken(lesson, printed):
     """Raises Differs unless the runner too takes a broken file for broken."""
     if printed != "X 20\n":
         first = (printed.splitlines() or ["nothing"])[0]
-        raise Differs(f"the file is broken ({lesson.fault}), and the runner prints {first} where X 20 is due")
+        raise Differs(f"the file is broken ({lesson.faults[0]}), and the runner prints {first} where X 20 is due")
 
 
 def lines_by_command(printed):
