@@ -14,7 +14,6 @@ Its status is 2 where there is nothing to explain: no such file, an error in the
 """
 
 import argparse
-import os
 import sys
 import textwrap
 
@@ -220,15 +219,18 @@ def main():
         finish(2, unusable)
     except Differs as differs:
         finish(1, f"stopped: {differs}")
-    except BrokenPipeError:
-        # The reader has had enough; nothing more is to be written, not even at the end.
-        os.dup2(os.open(os.devnull, os.O_WRONLY), sys.stdout.fileno())
-        sys.exit(1)
+    except OSError as error:
+        # The interpreter would try once more at its end, and complain.
+        sys.stdout = None
+        # A reader that has had enough needs no message.
+        finish(2, None if isinstance(error, BrokenPipeError) else f"standard output: {error.strerror}")
 
 
 def finish(status, message):
-    sys.stdout.flush()
-    print(f"explain: {message}", file=sys.stderr)
+    if sys.stdout:
+        sys.stdout.flush()
+    if message:
+        print(f"explain: {message}", file=sys.stderr)
     sys.exit(status)
 
 

@@ -183,7 +183,9 @@ def main():
     except Differs as differs:
         finish(1, f"no page is made: {differs}")
     except OSError as error:
-        finish(2, f"the page cannot be written: {error.strerror}")
+        # The interpreter would try once more at its end, and complain.
+        sys.stdout = None
+        finish(2, f"standard output: {error.strerror}")
 
 
 def finish(status, message):

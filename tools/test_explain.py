@@ -676,6 +676,15 @@ class Tool(unittest.TestCase):
             (ended.stdout, ended.stderr), (b"every-code.txt: 2 contracts, 4 accounts, 1,901 commands\n", b"")
         )
 
+    @unittest.skipUnless(Path("/dev/full").exists(), "no full device")
+    def test_full_disk(self):
+        for choice in ([], ["--command", "2"]):
+            words = [sys.executable, TOOL, SAMPLES / "paper-example.txt", "--runner", MODEL_AS_RUNNER, *choice]
+            with open("/dev/full", "wb") as full:
+                ended = subprocess.run(words, stdout=full, stderr=subprocess.PIPE)
+            self.assertEqual(ended.returncode, 2)
+            self.assertEqual(ended.stderr, b"explain: standard output: No space left on device\n")
+
     @unittest.skipUnless(lesson.RUNNER.exists(), "the day runner is not built")
     def test_the_runner_itself(self):
         for path in sorted(SAMPLES.glob("*.txt")):

@@ -104,7 +104,7 @@ class Tool(unittest.TestCase):
         with open("/dev/full", "wb") as full:
             ended = subprocess.run(words, stdout=full, stderr=subprocess.PIPE)
         self.assertEqual(ended.returncode, 2)
-        self.assertEqual(ended.stderr, b"page: the page cannot be written: No space left on device\n")
+        self.assertEqual(ended.stderr, b"page: standard output: No space left on device\n")
 
 
 # What is on the page, read as it is shown.
