@@ -20,7 +20,7 @@ use Rattle.rules.specs.declared.Holding.{Holding}
 use Rattle.rules.specs.declared.NewOrder.{NewOrder}
 use Rattle.rules.specs.declared.State.{State}
 use Rattle.rules.proofs.InUse.{used-leg}
-use Rattle.book.specs.Bounds.{HoldingWithin}
+use Rattle.holdings.specs.Bounds.{HoldingWithin}
 use Rattle.margin.specs.Charge.{Chargeable, ChargeableIn, ChargedIs}
 use Rattle.insertion.specs.Insertion.{Present}
 use Rattle.engine.specs.Outcome.{memory, WellFormedState}

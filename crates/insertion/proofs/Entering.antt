@@ -24,7 +24,7 @@ use Rattle.rules.specs.declared.Trade.{Trade}
 use Rattle.rules.proofs.Codecs.{store-trades}
 use Rattle.rules.proofs.Holdings.{length-bookTrades}
 use Rattle.rules.proofs.Terms.{terms}
-use Rattle.book.proofs.Methods.{method-has-tick}
+use Rattle.prices.proofs.Methods.{method-has-tick}
 use Rattle.matching.specs.Entry.{EntryIs}
 use Rattle.matching.specs.declared.entry.Entry.{Entry}
 use Rattle.invariants.proofs.Accepted.{failed}

@@ -17,7 +17,7 @@ use Rattle.rules.specs.declared.NewOrder.{NewOrder}
 use Rattle.rules.specs.declared.Order.{Order}
 use Rattle.rules.proofs.Codecs.{length-queue}
 use Rattle.rules.proofs.Terms.{terms, terms-passed}
-use Rattle.book.specs.Bounds.{HoldingWithin}
+use Rattle.holdings.specs.Bounds.{HoldingWithin}
 use Rattle.invariants.proofs.Clauses.{HoldingOk, ListingOk, order-ok}
 use Rattle.insertion.specs.Insertion.{Facing, QueueRoom, sideArea, sideCount, takerFor}
 use Rattle.engine.proofs.Formed.{Formed, accounts-count, contracts-count, holding-at, listing-at}

@@ -111,7 +111,7 @@ fn money_refused<'a>(
     }
     let c = laws::wide(o.contract) - 1;
     let a = laws::wide(o.account) - 1;
-    let held = book::holdings::book_leg(who, c, o.sell, 0, o.lots);
+    let held = holdings::book_leg(who, c, o.sell, 0, o.lots);
     let balance = who.balance;
     let holdings = held.holdings;
     let contracts = state.contracts;

@@ -24,7 +24,7 @@ pub fn gather(area: &[u32], c: usize, count: usize, t: Taker, lots: u32) -> Gath
             return Gathered { lots, read: i };
         }
         let o = book::queue::order_at(area, c, i);
-        if !book::prices::meets(condition, t.sell, t.best, o.price) {
+        if !prices::meets(condition, t.sell, t.best, o.price) {
             return Gathered {
                 lots: lots - left,
                 read: i + 1,
