@@ -10,6 +10,7 @@ pub mod Margin
 pub mod Settlement
 pub mod Answers
 pub mod Step
+pub mod Kinds
 pub mod Memory
 pub mod Condition3
 pub mod DayFile
