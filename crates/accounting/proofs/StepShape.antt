@@ -1,6 +1,6 @@
 -- What commands do changes neither how many accounts and contracts there are nor how many holdings an account has. Assumes
 -- nothing.
-use mathlib.Core.Path.{_≡_, refl, ap, _∙_}
+use mathlib.Core.Path.{_≡_, refl, sym, ap, _∙_}
 use Prim.Native.Nat.{ℕ, _<_}
 use lib.IntN.{ℤ}
 use lib.ListN.{length, getD, length-set, length-map}
@@ -27,6 +27,9 @@ shape-trans s t = record {
   accounts = t .accounts ∙ s .accounts;
   wide = λ a l. t .wide a (rw (s .accounts) l) ∙ s .wide a l;
 }
+
+pub shape-sym : {x y : Exchange} → SameShape x y → SameShape y x
+shape-sym s = record { listings = sym (s .listings); accounts = sym (s .accounts); wide = λ a l. sym (s .wide a (rw (s .accounts) at l)) }
 
 module _ (x : Exchange) where
   pub listing-replaced : (c : ℕ) (l : Listing) → SameShape x (withListing x c l)
