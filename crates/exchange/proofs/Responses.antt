@@ -9,10 +9,11 @@ use native.Mathlib.Omega.{arith}
 use lib.Dec.{eqb, leb, eqb·suc-zero}
 use lib.ListN.{length, getD}
 use Rattle.laws.specs.Choice.{all, all-ext, allOf, allOf-all, pick}
-use Rattle.rules.specs.Answers.{codeOf, firstOf, refusals, settleRefusals}
+use Rattle.rules.specs.Kinds.{codeOf}
+use Rattle.rules.specs.Answers.{firstOf, refusals, settleRefusals}
 use Rattle.rules.specs.Command.{commandOf, isSettle}
 use Rattle.rules.specs.Exchange.{Listing, listingAt, noContract, noListing}
-use Rattle.rules.specs.Memory.{Memory, exchangeOf, listingIn, put, respond, stepIn, wellFormedMemory}
+use Rattle.rules.specs.Memory.{Memory, exchangeOf, listingIn, put, respond, stepIn, wellFormedMemory, memory, WellFormedState}
 use Rattle.rules.specs.Settlement.{settled}
 use Rattle.rules.specs.Step.{answerOf, carriedOut}
 use Rattle.rules.specs.declared.Command.{Command}
@@ -21,7 +22,7 @@ use Rattle.rules.specs.declared.Record.{Record}
 use Rattle.rules.specs.declared.State.{State}
 use Rattle.engine.proofs.Formed.{Formed, formed, contracts-count, listing-at}
 use Rattle.engine.proofs.Outcomes.{refusal}
-use Rattle.engine.specs.Outcome.{memory, OutcomeIs, WellFormedState, refusedWith}
+use Rattle.engine.specs.Outcome.{OutcomeIs, refusedWith}
 use Rattle.engine.specs.declared.answers.Outcome.{Outcome}
 use Rattle.settlement.specs.Settling.{SettledIs}
 use Rattle.settlement.specs.declared.settle.Settled.{Settled}

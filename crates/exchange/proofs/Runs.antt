@@ -10,13 +10,12 @@ use Rattle.laws.specs.Tabulate.{tabulate, tabulate-last}
 use Rattle.rules.specs.Command.{commandOf}
 use Rattle.rules.specs.Condition3.{run}
 use Rattle.rules.specs.DayFile.{recordFrom}
-use Rattle.rules.specs.Memory.{Declared, Memory, refusedIn, respond, stepIn, wellFormedMemory}
+use Rattle.rules.specs.Memory.{Declared, Memory, refusedIn, respond, stepIn, wellFormedMemory, memory, WellFormedState}
 use Rattle.rules.specs.declared.Record.{Record}
 use Rattle.rules.specs.declared.State.{State}
 use Rattle.accounting.proofs.Declared.{declared-kept}
 use Rattle.invariants.proofs.Condition3.{money-is-kept}
 use Rattle.invariants.proofs.MemoryKeeps.{run-keeps}
-use Rattle.engine.specs.Outcome.{memory, WellFormedState}
 use Rattle.exchange.specs.Run.{RanIs, firstRecords, recordsIn}
 
 run-snoc : (m : Memory) (rs : List Record) (r : Record) → run m (rs ++ (r ∷ [])) ≡ respond (run m rs) r .memory

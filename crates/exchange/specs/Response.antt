@@ -9,15 +9,14 @@ use lib.ListN.{replicate}
 use Rattle.laws.specs.Choice.{pick}
 use Rattle.laws.specs.Tabulate.{tabulate}
 use Rattle.areas.specs.Lists.{padded}
-use Rattle.rules.specs.Answers.{codeOf}
+use Rattle.rules.specs.Kinds.{codeOf}
 use Rattle.rules.specs.Bounds.{maxAccounts, maxContracts}
 use Rattle.rules.specs.Command.{commandOf, isSettle}
 use Rattle.rules.specs.Margin as margin
-use Rattle.rules.specs.Memory.{Memory, Responded, exchangeOf, respond, stepIn, wellFormedMemory}
+use Rattle.rules.specs.Memory.{Memory, Responded, exchangeOf, respond, stepIn, wellFormedMemory, memory}
 use Rattle.rules.specs.Settlement.{closingProfit, holdingProfit, settled, settlementPrice}
 use Rattle.rules.specs.declared.Command.{Command}
 use Rattle.rules.specs.declared.Record.{Record}
-use Rattle.engine.specs.Outcome.{memory}
 use Rattle.engine.specs.declared.answers.Outcome.{Outcome}
 use Rattle.exchange.specs.declared.settling.Report.{Report}
 use Rattle.exchange.specs.declared.settling.Response.{Response}

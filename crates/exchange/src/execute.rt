@@ -1,7 +1,7 @@
 // One command. A call for users: it answers on anything.
 ghost use mathlib.Core.Path.{_≡_};
 ghost use Rattle.rules.specs.DayFile.{recordFrom};
-ghost use Rattle.engine.specs.Outcome.{memory};
+ghost use Rattle.rules.specs.Memory.{memory};
 ghost use Rattle.exchange.specs.Response.{ExecutedIs};
 use crate::settling;
 use crate::settling::Response;

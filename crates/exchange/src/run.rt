@@ -1,6 +1,6 @@
 // A list of commands, each getting the state that the last one left. A call for users: it answers on anything.
 ghost use mathlib.Core.Path.{_≡_};
-ghost use Rattle.engine.specs.Outcome.{memory};
+ghost use Rattle.rules.specs.Memory.{memory};
 ghost use Rattle.exchange.specs.Run.{RanIs};
 use crate::step;
 use rules::State;

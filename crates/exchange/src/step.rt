@@ -4,7 +4,7 @@ ghost use Prim.Native.Nat.{_+_, _≤_};
 ghost use lib.ListN.{length};
 ghost use Rattle.rules.specs.Command.{commandOf};
 ghost use Rattle.rules.specs.DayFile.{recordFrom};
-ghost use Rattle.engine.specs.Outcome.{memory, WellFormedState};
+ghost use Rattle.rules.specs.Memory.{memory, WellFormedState};
 ghost use Rattle.exchange.specs.Response.{ResponseIs};
 use crate::settling;
 use crate::settling::Response;

@@ -8,11 +8,12 @@ use lib.ListN.{length, getD, length-append, length-set}
 use lib.Seq.{getD-set-same}
 use Rattle.laws.specs.Choice.{allOf, allOf-append, ap-pick, both-true, pick}
 use Rattle.areas.specs.Records.{store}
-use Rattle.rules.specs.Answers.{codeOf, insertRefusals, listingOf, refusals, takerOf, tradesNeeded}
+use Rattle.rules.specs.Kinds.{codeOf}
+use Rattle.rules.specs.Answers.{insertRefusals, listingOf, refusals, takerOf, tradesNeeded}
 use Rattle.rules.specs.Exchange.{Exchange, Listing, listingAt, noListing, opposite, own, placeOf, withQueues}
 use Rattle.rules.specs.Holdings.{bookTrades}
 use Rattle.rules.specs.Matching.{Entered, sweep}
-use Rattle.rules.specs.Memory.{Memory, exchangeOf, put, putAccounts, putQueue, putTrades, queueIn, stepIn, tradeWords}
+use Rattle.rules.specs.Memory.{Memory, exchangeOf, put, putAccounts, putQueue, putTrades, queueIn, stepIn, tradeWords, memory, WellFormedState}
 use Rattle.rules.specs.Step.{answerOf, carriedOut, enteredOf, exchangeAfter, inserted, listingAfter}
 use Rattle.rules.specs.WellFormed.{tradeInRange}
 use Rattle.rules.specs.declared.Command.the-variants.{Insert}
@@ -33,7 +34,7 @@ use Rattle.invariants.proofs.Insert.{insert-counted, insert-keeps}
 use Rattle.invariants.proofs.InsertAccepted.{Passes, passes}
 use Rattle.invariants.proofs.MemoryKeeps.{sound}
 use Rattle.insertion.specs.Insertion.{Arrived, Arriving, Present, enteredFor, lastIn, sideArea, sideCount, takerFor, termsIn, withEntry}
-use Rattle.engine.specs.Outcome.{memory, OutcomeIs, WellFormedState, acceptedWith}
+use Rattle.engine.specs.Outcome.{OutcomeIs, acceptedWith}
 use Rattle.engine.specs.declared.answers.Outcome.{Outcome}
 use Rattle.engine.proofs.Accounts.{TradesUsed, put-trades-booked}
 use Rattle.engine.proofs.Formed.{Formed, accounts-count, contracts-count, few-accounts, formed, no-account, no-contract, wide}

@@ -8,10 +8,11 @@ use borrow.Author.Tests.{leb-true, ne-eqb, not-false}
 use lib.Dec.{eqb, leb, ltb}
 use lib.ListN.{length, getD}
 use Rattle.laws.specs.Choice.{both-true, pick}
-use Rattle.rules.specs.Answers.{Refusal, codeOf, firstOf, fillableLots, holdingRefused, insertRefusals, listingOf, mark, moneyRefused, overHolding, overLimit, refusals, takerOf, tradesNeeded}
+use Rattle.rules.specs.Kinds.{codeOf}
+use Rattle.rules.specs.Answers.{Refusal, firstOf, fillableLots, holdingRefused, insertRefusals, listingOf, mark, moneyRefused, overHolding, overLimit, refusals, takerOf, tradesNeeded}
 use Rattle.rules.specs.Bounds.{maxLots, termsInRange, within}
 use Rattle.rules.specs.Exchange.{Exchange, accountAt, holdingAt, noAccount, noContract, noHolding, opposite, own, placeOf, resting}
-use Rattle.rules.specs.Memory.{Memory, exchangeOf, queueIn}
+use Rattle.rules.specs.Memory.{Memory, exchangeOf, queueIn, memory, WellFormedState}
 use Rattle.rules.specs.declared.Account.{Account}
 use Rattle.rules.specs.declared.Command.the-variants.{Insert}
 use Rattle.rules.specs.declared.NewOrder.{NewOrder}
@@ -22,7 +23,7 @@ use Rattle.rules.proofs.Codecs.{length-queue}
 use Rattle.rules.proofs.Fillable.{trades-counted}
 use Rattle.invariants.proofs.Accepted.{failed}
 use Rattle.insertion.specs.Insertion.{Facing, Present, QueueRoom, accountRefusals, bookRefusals, lotsRefused, sideArea, sideCount, takerFor, termsRefusals}
-use Rattle.engine.specs.Outcome.{isAbsent, memory, WellFormedState}
+use Rattle.engine.specs.Outcome.{isAbsent}
 use Rattle.engine.proofs.Formed.{Formed, formed, holding-at, no-account, no-contract}
 use Rattle.engine.proofs.Puts.{trades-count}
 use Rattle.engine.proofs.Refusals.{first-append}

@@ -1,6 +1,6 @@
 -- How the state lies in memory: the declared State and the three areas lent with it; what room beyond a count is; the
 -- counts and the room that a well-formed state needs; the whole step on it. Assumes nothing.
-use mathlib.Core.Bool.{Bool, _&&_}
+use mathlib.Core.Bool.{Bool, true, _&&_}
 use mathlib.Core.List.{List, [], _∷_, _++_, map}
 use mathlib.Core.Path.{_≡_}
 use Prim.Native.Nat.{ℕ, zero, suc, _*_, _<_}
@@ -72,6 +72,10 @@ pub record Memory : Type 0 where
   pub buys : List ℕ
   pub sells : List ℕ
   pub trades : List ℕ
+
+-- a state with the areas lent with it
+abbrev pub memory : State → List ℕ → List ℕ → List ℕ → Memory
+memory state buys sells trades = record { state = state; buys = buys; sells = sells; trades = trades }
 
 -- the arrays have the places of their types: so it is with every state of the engine, and a proof may need it said
 pub record Declared (s : State) : Type 0 where
@@ -179,6 +183,11 @@ hasRoom m =
 
 unfoldable pub wellFormedMemory : Memory → Bool
 wellFormedMemory m = countsInRange (m .state) && hasRoom m && wellFormedContents (exchangeOf m)
+
+-- a state whose arrays have the places of their types, well formed with its areas
+pub record WellFormedState (state : State) (buys sells trades : List ℕ) : Type 0 where
+  pub declared : Declared state
+  pub formed : wellFormedMemory (memory state buys sells trades) ≡ true
 
 -- ---- the whole step: code 21 before all others, then the rules
 

@@ -14,11 +14,12 @@ use Rattle.laws.specs.Tabulate.{tabulate, length-tabulate, getD-tabulate, tabul
 use Rattle.laws.specs.Written.{length-written}
 use Rattle.areas.specs.Lists.{padded}
 use Rattle.areas.proofs.Lists.{getD-padded}
-use Rattle.rules.specs.Answers.{codeOf, refusals, settleRefusals}
+use Rattle.rules.specs.Kinds.{codeOf}
+use Rattle.rules.specs.Answers.{refusals, settleRefusals}
 use Rattle.rules.specs.Bounds.{maxSettlements}
 use Rattle.rules.specs.Exchange.{Exchange, Listing, noListing, listingAt, holdingAt}
 use Rattle.rules.specs.Margin as margin
-use Rattle.rules.specs.Memory.{Memory, exchangeOf, listingIn, put, putState, putFirst, putAccounts, putQueues, putTrades, wellFormedMemory}
+use Rattle.rules.specs.Memory.{Memory, exchangeOf, listingIn, put, putState, putFirst, putAccounts, putQueues, putTrades, wellFormedMemory, memory}
 use Rattle.rules.specs.Settlement.{dayOf, holdingGain, settlementPrice, closingProfit, holdingProfit, settledAccount, settledContract, settledListing, settled}
 use Rattle.rules.specs.Step.{carriedOut}
 use Rattle.rules.specs.declared.Account.{Account}
@@ -31,7 +32,6 @@ use Rattle.rules.proofs.InUse.{contracts-in-use, listing-in-use, account-in-use
 use Rattle.invariants.proofs.Accepted.{failed}
 use Rattle.invariants.proofs.MemoryKeeps.{accepted-read, accepted-keeps}
 use Rattle.invariants.proofs.MemoryRoom.{memory-ok}
-use Rattle.margin.specs.Charge.{memoryOf}
 use Rattle.settlement.specs.Settling.{Settleable, SettledIs, contractIn, holdingIn, dayIn, closingTo, holdingTo, AllPayable, paidAccount, BooksIs, AllClearable, ClearedAre, AllChargeable, ChargesAre, nextDay}
 use Rattle.dayprofit.specs.Sides.{dayOver}
 use Rattle.settlement.proofs.Formed.{accounts-declared, contracts-four, accounts-few, contract-at, price-high, holding-starts, legs-covered, chargeable, sized-trades, balance-within, accounts-counted}
@@ -63,7 +63,7 @@ put-queues-ext area counts f g (suc n) h = rw (put-queues-ext area counts f g n 
 
 module _ (s : State) (buys sells trades : List ℕ) (g : Settleable s buys sells trades) where
   abbrev m : Memory
-  m = memoryOf s buys sells trades
+  m = memory s buys sells trades
 
   abbrev x : Exchange
   x = exchangeOf m
@@ -229,7 +229,7 @@ module _ (s : State) (buys sells trades : List ℕ) (g : Settleable s buys sells
           }
 
       module _ (buys′ sells′ trades′ : List ℕ) (h : ClearedAre s buys sells trades buys′ sells′ trades′) where
-        memory-is : memoryOf (nextDay s accounts prices) buys′ sells′ trades′ ≡ put m (settled x)
+        memory-is : memory (nextDay s accounts prices) buys′ sells′ trades′ ≡ put m (settled x)
         unfolding put
         memory-is =
             let b : buys′ ≡ putQueues buys (s .buys) (λ c. listingAt (settled x) c .buys) (s .contractcount) =
@@ -249,10 +249,10 @@ module _ (s : State) (buys sells trades : List ℕ) (g : Settleable s buys sells
         unfolding carriedOut
         after-is = refl
 
-        well-formed-after : wellFormedMemory (memoryOf (nextDay s accounts prices) buys′ sells′ trades′) ≡ true
+        well-formed-after : wellFormedMemory (memory (nextDay s accounts prices) buys′ sells′ trades′) ≡ true
         well-formed-after = rw (memory-is, ← after-is) (accepted-keeps m (g .formed) Settle (g .accepted))
 
-        read-after : exchangeOf (memoryOf (nextDay s accounts prices) buys′ sells′ trades′) ≡ settled x
+        read-after : exchangeOf (memory (nextDay s accounts prices) buys′ sells′ trades′) ≡ settled x
         read-after = rw (memory-is, ← after-is) (accepted-read m (g .formed) Settle (g .accepted))
 
         room-after : s .accountcount ≤ length accounts
@@ -265,7 +265,7 @@ module _ (s : State) (buys sells trades : List ℕ) (g : Settleable s buys sells
             rw e
             (record {
               accounts = accounts-few m room (g .formed);
-              each = chargeable (memoryOf (nextDay s accounts prices) buys′ sells′ trades′) room-after well-formed-after;
+              each = chargeable (memory (nextDay s accounts prices) buys′ sells′ trades′) room-after well-formed-after;
             })
 
         charged-is : (charged : List ℕ) → ChargesAre (nextDay s accounts prices) buys′ sells′ charged
@@ -278,7 +278,7 @@ module _ (s : State) (buys sells trades : List ℕ) (g : Settleable s buys sells
             → SettledIs m (record { state = next; prices = prices; closing = closing; holding = holding; charged = charged }) buys′ sells′ trades′
         settled-is next closing holding charged n b k =
             record {
-              memory = ap (λ (t : State). memoryOf t buys′ sells′ trades′) n ∙ memory-is;
+              memory = ap (λ (t : State). memory t buys′ sells′ trades′) n ∙ memory-is;
               prices = e;
               closing = b .closing ∙ ap (padded 32 (pos 0)) (tabulate-below (s .accountcount) (λ a. closingTo s trades a (s .contractcount)) (closingProfit x) closing-is);
               holding = b .holding ∙ ap (padded 32 (pos 0)) (tabulate-below (s .accountcount) (λ a. holdingTo s trades prices a (s .contractcount)) (holdingProfit x) holding-is);

@@ -9,8 +9,7 @@ use borrow.Author.Tests.{not-true, not-false}
 use denote.Ref.{now}
 use lib.ListN.{length}
 use Rattle.rules.specs.Condition3.{run}
-use Rattle.rules.specs.Memory.{Declared, wellFormedMemory}
-use Rattle.engine.specs.Outcome.{memory}
+use Rattle.rules.specs.Memory.{Declared, wellFormedMemory, memory}
 use Rattle.engine.proofs.Declared.{declared}
 use Rattle.exchange.specs.Run.{firstRecords}
 use Rattle.exchange.proofs.Runs.{refused-ran, running, one-turn, all-ran, none-ran}

@@ -1,7 +1,7 @@
 use Prim.Native.Nat.{_-_, _≤_}
 use native.Mathlib.Omega.{arith}
 use Rattle.laws.specs.Written.{writing-none, writing-more}
-use Rattle.margin.specs.Charge.{memoryOf}
+use Rattle.rules.specs.Memory.{memory}
 use Rattle.settlement.proofs.Formed.{accounts-declared, contracts-four, priceable}
 use Rattle.settlement.proofs.Report.{PricesSoFar, price-in-use, prices-done}
 use Rattle.settlement.proofs.settle.prices.Statement.{statement}
@@ -11,7 +11,7 @@ use Rattle.settlement.proofs.settle.prices.Lts as lts
 use Rattle.dayprofit.proofs.price.settlement_price.Reads as settlement-price-reads
 
 abbrev Inv-loop : tie.InvT-loop
-Inv-loop buys sells trades state contracts count prices₀ c₀ prices c = PricesSoFar (memoryOf state buys sells trades) c prices
+Inv-loop buys sells trades state contracts count prices₀ c₀ prices c = PricesSoFar (memory state buys sells trades) c prices
 
 abbrev μ-loop : tie.MeasureT-loop
 μ-loop buys sells trades state contracts count prices₀ c₀ prices c = contracts - c
