@@ -110,7 +110,7 @@ module _ (m : Memory) (w : wellFormedMemory m ≡ true) (command : Command) wher
     pub accepted-read : exchangeOf (written m stages) ≡ lastOf x stages
     accepted-read = left .read
 
-    accepted-keeps : wellFormedMemory (written m stages) ≡ true
+    pub accepted-keeps : wellFormedMemory (written m stages) ≡ true
     accepted-keeps =
         memory-test (written m stages)
         (record {

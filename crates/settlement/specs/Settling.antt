@@ -13,7 +13,7 @@ use Rattle.rules.specs.Kinds.{codeOf}
 use Rattle.rules.specs.Bounds.{maxContracts, maxAccounts}
 use Rattle.rules.specs.Exchange.{noAccount, noContract, noHolding}
 use Rattle.rules.specs.Margin as margin
-use Rattle.rules.specs.Memory.{Memory, Declared, exchangeOf, put, putAccounts, putFirst, putQueues, putTrades, recordedTrades, wellFormedMemory, memory}
+use Rattle.rules.specs.Memory.{Declared, Memory, exchangeOf, put, putAccounts, putFirst, putQueues, putTrades, recordedTrades, memory, WellFormedState}
 use Rattle.rules.specs.Settlement.{Day, holdingGain, settlementPrice, closingProfit, holdingProfit, carriedHolding, settledContract, settled}
 use Rattle.rules.specs.declared.Account.{Account}
 use Rattle.rules.specs.declared.Command.the-variants.{Settle}
@@ -29,8 +29,7 @@ use Rattle.settlement.specs.declared.settle.Settled.{Settled}
 -- ---- THE SETTLEMENT: asked for on a well-formed state whose answer is code 0
 
 pub record Settleable (s : State) (buys sells trades : List ℕ) : Type 0 where
-  pub declared : Declared s
-  pub formed : wellFormedMemory (memory s buys sells trades) ≡ true
+  pub state : WellFormedState s buys sells trades
   pub accepted : codeOf (exchangeOf (memory s buys sells trades)) Settle ≡ 0
 
 -- the state and all three areas; the prices, each account's closing and holding profit, and its charged margin afterwards,

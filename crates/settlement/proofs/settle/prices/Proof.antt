@@ -17,7 +17,7 @@ abbrev μ-loop : tie.MeasureT-loop
 μ-loop buys sells trades state contracts count prices₀ c₀ prices c = contracts - c
 
 few : (c : tie.Start Inv-loop μ-loop) → c .args .t1 .contractcount ≤ 4
-few c = contracts-four _ (accounts-declared _ (c .pre .declared) (c .pre .formed)) (c .pre .formed)
+few c = contracts-four _ (accounts-declared _ (c .pre .state .declared) (c .pre .state .formed)) (c .pre .state .formed)
 
 -- src/settle.rt:33:5
 loop-holds : tie.Need-loop-holds Inv-loop μ-loop
@@ -49,7 +49,7 @@ element-copy-out-sellcount c = omega (arith, few (c .before .before .before .bef
 
 -- src/settle.rt:37:21
 settlement-price-requires : tie.Need-settlement-price-requires Inv-loop μ-loop
-settlement-price-requires c κs = priceable _ (accounts-declared _ (c .before .before .before .before .before .before .before .before .pre .declared) (c .before .before .before .before .before .before .before .before .pre .formed)) (c .before .before .before .before .before .before .before .before .pre .formed) _ (c .before .before .before .loop-test .taken)
+settlement-price-requires c κs = priceable _ (accounts-declared _ (c .before .before .before .before .before .before .before .before .pre .state .declared) (c .before .before .before .before .before .before .before .before .pre .state .formed)) (c .before .before .before .before .before .before .before .before .pre .state .formed) _ (c .before .before .before .loop-test .taken)
 
 -- src/settle.rt:37:9
 mul-prices : tie.Need-mul-prices Inv-loop μ-loop
