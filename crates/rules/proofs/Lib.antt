@@ -9,3 +9,4 @@ pub mod Rest
 pub mod InUse
 pub mod Terms
 pub mod Stages
+pub mod EachKind

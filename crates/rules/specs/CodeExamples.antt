@@ -153,6 +153,9 @@ codes =
     -- code 1 before all: an unknown state, bits 6 and 7, an unused field, a kind that does not exist
     ∷ (codeOf open′ (commandOf (raw 6 0 9 4 0)) gives 1)
     ∷ (codeOf open′ (commandOf (raw 6 0 9 3 0)) gives 3)
+    -- .. also where no bytes give it
+    ∷ (codeOf open′ (Phase 9 4) gives 1)
+    ∷ (codeOf open′ (Phase 9 3) gives 3)
     ∷ (codeOf open′ (commandOf (raw 3 0 0 64 0)) gives 1)
     ∷ (codeOf open′ (commandOf (raw 3 0 0 48 0)) gives 1)
     ∷ (codeOf open′ (commandOf (raw 3 0 0 12 0)) gives 1)
