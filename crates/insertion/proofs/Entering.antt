@@ -8,12 +8,13 @@ use lib.ListN.{length, getD, length-append, length-set}
 use lib.Seq.{getD-set-same}
 use Rattle.laws.specs.Choice.{allOf, allOf-append, ap-pick, both-true, pick}
 use Rattle.areas.specs.Records.{store}
-use Rattle.rules.specs.Answers.{codeOf, insertRefusals, listingOf, refusals, takerOf, tradesNeeded}
+use Rattle.rules.specs.Kinds.{codeOf, done, kindOf}
+use Rattle.rules.specs.Answers.{insertRefusals, listingOf, takerOf, tradesNeeded}
 use Rattle.rules.specs.Exchange.{Exchange, Listing, listingAt, noListing, opposite, own, placeOf, withQueues}
 use Rattle.rules.specs.Holdings.{bookTrades}
 use Rattle.rules.specs.Matching.{Entered, sweep}
-use Rattle.rules.specs.Memory.{Memory, exchangeOf, put, putAccounts, putQueue, putTrades, queueIn, stepIn, tradeWords}
-use Rattle.rules.specs.Step.{answerOf, carriedOut, enteredOf, exchangeAfter, inserted, listingAfter}
+use Rattle.rules.specs.Memory.{Memory, exchangeOf, put, putAccounts, putQueue, putTrades, queueIn, stepIn, tradeWords, memory, WellFormedState, written}
+use Rattle.rules.specs.Step.{answerOf, enteredOf, exchangeAfter, inserted, listingAfter}
 use Rattle.rules.specs.WellFormed.{tradeInRange}
 use Rattle.rules.specs.declared.Command.the-variants.{Insert}
 use Rattle.rules.specs.declared.Contract.{Contract}
@@ -33,7 +34,7 @@ use Rattle.invariants.proofs.Insert.{insert-counted, insert-keeps}
 use Rattle.invariants.proofs.InsertAccepted.{Passes, passes}
 use Rattle.invariants.proofs.MemoryKeeps.{sound}
 use Rattle.insertion.specs.Insertion.{Arrived, Arriving, Present, enteredFor, lastIn, sideArea, sideCount, takerFor, termsIn, withEntry}
-use Rattle.engine.specs.Outcome.{memory, OutcomeIs, WellFormedState, acceptedWith}
+use Rattle.engine.specs.Outcome.{OutcomeIs, acceptedWith}
 use Rattle.engine.specs.declared.answers.Outcome.{Outcome}
 use Rattle.engine.proofs.Accounts.{TradesUsed, put-trades-booked}
 use Rattle.engine.proofs.Formed.{Formed, accounts-count, contracts-count, few-accounts, formed, no-account, no-contract, wide}
@@ -85,10 +86,11 @@ module _ {s : State} {buys sells trades : List ℕ} (w : WellFormedState s buys 
   c = placeOf (o .contract)
 
   passed : Passes x o
+  unfolding codeOf kindOf
   passed = passes x o accepted
 
   pub here : Present s o
-  unfolding codeOf refusals insertRefusals
+  unfolding codeOf kindOf insertRefusals
   here =
       let tests = failed (insertRefusals x o) (omega arith) accepted in
       present w o (sym (no-account m f (o .account)) ∙ tests .0) (sym (no-contract m f (o .contract)) ∙ tests .1 .0)
@@ -136,11 +138,11 @@ module _ {s : State} {buys sells trades : List ℕ} (w : WellFormedState s buys 
   there = rw (contracts-count m f) (here .contract)
 
   after-counted : Counted after
-  unfolding carriedOut inserted
+  unfolding codeOf kindOf inserted
   after-counted = rw (← entered-is) (insert-counted x o accepted (f .contents) (sound m (w .formed) .counts))
 
   after-formed : WellFormed after
-  unfolding carriedOut inserted
+  unfolding codeOf kindOf inserted
   after-formed = rw (← entered-is) (insert-keeps x o accepted (f .contents))
 
   after-contracts : length (after .listings) ≡ s .contractcount
@@ -232,13 +234,13 @@ module _ {s : State} {buys sells trades : List ℕ} (w : WellFormedState s buys 
     entry : EntryIs entered c (sideArea (o .sell) buys sells) (sideCount (o .sell) s c) (sideArea (not (o .sell)) buys sells) (sideCount (not (o .sell)) s c) trades (s .tradecount) (lastIn s o) (s .accounts) r owns′ opposites′ area′
     entry = rw (← es, is) at (arrived .entry)
 
-    answer-is : carriedOut x (Insert o) .answer ≡ answerOf 0 (s .next) (r .traded) (r .rested)
-    unfolding carriedOut inserted exchangeOf
+    answer-is : done (kindOf x (Insert o) .effect) .answer ≡ answerOf 0 (s .next) (r .traded) (r .rested)
+    unfolding kindOf inserted exchangeOf
     answer-is = rw (entered-is, entry .traded, entry .rested)
 
-    state-is : put m (carriedOut x (Insert o) .exchange)
+    state-is : written m (kindOf x (Insert o) .effect .stages)
         ≡ memory (withEntry s (k - 1) (pick side (r .opposite) (r .own)) (pick side (r .own) (r .opposite)) r) (pick side opposites′ owns′) (pick side owns′ opposites′) area′
-    unfolding carriedOut inserted
+    unfolding kindOf inserted
     state-is = rw (← es, is, entered-is) (lies entry)
 
     pub insert-accepted : {next : State} {result : Outcome} → next ≡ withEntry s (k - 1) (pick side (r .opposite) (r .own)) (pick side (r .own) (r .opposite)) r

@@ -1,10 +1,10 @@
 // Insert. For our own crates: it asks for a well-formed state.
 ghost use Prim.Native.Nat.{_<_};
 ghost use mathlib.Core.Path.{_≡_};
-ghost use Rattle.rules.specs.Memory.{stepIn};
+ghost use Rattle.rules.specs.Memory.{stepIn, memory, WellFormedState};
 ghost use Rattle.rules.specs.declared.Command.the-variants.{Insert};
 ghost use Rattle.insertion.specs.Insertion.{Arriving, Arrived, withEntry};
-ghost use Rattle.engine.specs.Outcome.{memory, OutcomeIs, WellFormedState};
+ghost use Rattle.engine.specs.Outcome.{OutcomeIs};
 use engine::answers;
 use engine::answers::Outcome;
 use matching::entry;

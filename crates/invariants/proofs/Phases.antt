@@ -1,49 +1,27 @@
 -- A change of a contract's state keeps the exchange's state well formed. Assumes nothing.
-use mathlib.Core.Bool.{Bool, true, false, false≢true}
+use mathlib.Core.Bool.{true, not}
 use mathlib.Core.List.{[], _∷_}
-use mathlib.Core.Path.{_≡_, refl}
+use mathlib.Core.Path.{_≡_}
 use Prim.Native.Nat.{ℕ, _<_, _≤_}
 use native.Mathlib.Nat.{le-refl}
 use native.Mathlib.Omega.{arith}
-use borrow.Author.Tests.{leb-true, leb-false, le-leb, ne-eqb, not-false}
-use lib.Dec.{leb, eqb}
+use borrow.Author.Tests.{leb-true, le-leb, not-false}
+use lib.Dec.{leb}
 use lib.ListN.{length}
-use Rattle.laws.specs.Choice.{both-false}
 use Rattle.laws.specs.Chains.{passed, join}
-use Rattle.rules.specs.Answers.{codeOf, refusals, phaseRefusals, changeListed}
+use Rattle.rules.specs.Answers.{_when_, firstOf, phaseRefusals}
 use Rattle.rules.specs.Bounds.{termsInRange, tickMultiple, allowedToday, dayLow, dayHigh}
+use Rattle.rules.specs.Command.{phaseKnown}
 use Rattle.rules.specs.Exchange.{Exchange, Listing, placeOf, own}
-use Rattle.rules.specs.Step.{withContract, withPhase, phaseChanged, carriedOut}
+use Rattle.rules.specs.Kinds.{lastOf}
+use Rattle.rules.specs.Step.{withContract, withPhase, phaseChanged}
 use Rattle.rules.specs.WellFormed.{contractInRange}
 use Rattle.rules.specs.declared.Contract.{Contract}
-use Rattle.rules.specs.declared.Command.the-variants.{Phase}
 use Rattle.invariants.proofs.Accepted.{failed, present}
 use Rattle.invariants.proofs.Carry.{Allows, orders-carried}
 use Rattle.invariants.proofs.Clauses.{ListingOk, WellFormed, Counted}
 use Rattle.invariants.proofs.Numbers.{usesIn}
 use Rattle.invariants.proofs.OneListing.{relisted-keeps, relisted-counted}
-
--- a listed change leads to one of the four states
-known : (from to : ℕ) → changeListed from to ≡ true → to ≤ 3
-unfolding changeListed
-known from to h = go (leb to 3) refl
-  where
-    other : (n : ℕ) → 3 < to → n ≤ 3 → eqb to n ≡ false
-    other n l k = ne-eqb to n (λ e. let z : _≡_ {A = ℕ} to n = e in absurd (omega arith))
-
-    go : (b : Bool) → leb to 3 ≡ b → to ≤ 3
-    go true e = leb-true to 3 e
-    go false e =
-        let l = leb-false to 3 e in
-        absurd (false≢true (rw (
-          other 1 l (omega arith),
-          other 2 l (omega arith),
-          other 3 l (omega arith),
-          both-false (eqb from 0) false refl,
-          both-false
-              (eqb from 1) false refl,
-          both-false (eqb from 2) false refl,
-        ) at h))
 
 -- the prices allowed do not depend on the state
 pub allows-phase : (c : Contract) (phase : ℕ) → Allows c (withPhase c phase)
@@ -68,15 +46,15 @@ module _ (accounts next : ℕ) (m : Listing) (phase : ℕ) (l : phase ≤ 3) whe
             (allows-phase (m .contract) phase) (own sell m) (k .orders sell);
       }
 
-module _ (x : Exchange) (contract phase : ℕ) (e : codeOf x (Phase contract phase) ≡ 0) where
+module _ (x : Exchange) (contract phase : ℕ) (e : firstOf ((1 when not (phaseKnown phase)) ∷ phaseRefusals x contract phase) ≡ 0) where
   passes : (placeOf contract < length (x .listings)) × (phase ≤ 3)
-  unfolding codeOf refusals phaseRefusals
+  unfolding phaseRefusals
   passes =
-      let f = failed (phaseRefusals x contract phase) (omega arith) e in
-      (present contract (x .listings) (f .0), known _ phase (not-false _ (f .1 .0)))
+      let f = failed ((1 when not (phaseKnown phase)) ∷ phaseRefusals x contract phase) (omega arith) e in
+      (present contract (x .listings) (f .1 .0), leb-true phase 3 (not-false (phaseKnown phase) (f .0)))
 
-  pub phase-keeps : WellFormed x → WellFormed (carriedOut x (Phase contract phase) .exchange)
-  unfolding carriedOut phaseChanged usesIn
+  pub phase-keeps : WellFormed x → WellFormed (lastOf x (phaseChanged x (placeOf contract) phase .stages))
+  unfolding phaseChanged usesIn
   phase-keeps k =
       relisted-keeps x k (placeOf contract) (passes .0) _
       (listing-phase _ _ _ phase (passes .1) (k .listing (placeOf contract) (passes .0)))
@@ -84,6 +62,6 @@ module _ (x : Exchange) (contract phase : ℕ) (e : codeOf x (Phase contract pha
       (λ a h q. record { startlong = q .startlong; startshort = q .startshort; opens = q .opens; closes = q .closes })
       (λ n. le-refl _)
 
-  pub phase-counted : Counted x → Counted (carriedOut x (Phase contract phase) .exchange)
-  unfolding carriedOut phaseChanged
+  pub phase-counted : Counted x → Counted (lastOf x (phaseChanged x (placeOf contract) phase .stages))
+  unfolding phaseChanged
   phase-counted n = relisted-counted x (placeOf contract) (passes .0) _ n (λ sell. le-refl _)

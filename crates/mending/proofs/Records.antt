@@ -1,22 +1,22 @@
 -- The records kept and dropped, one more a turn. Assumes nothing.
 use mathlib.Core.Bool.{Bool, true, false}
-use mathlib.Core.List.{List, [], _∷_, _++_, append-nil}
+use mathlib.Core.List.{List, [], _++_, append-nil}
 use mathlib.Core.Path.{_≡_, refl, sym, ap, _∙_}
 use Prim.Native.Nat.{ℕ, zero, suc, _+_, _-_, _*_, _≤_, _<_}
-use native.Mathlib.Nat.{add-zero, le-refl}
+use native.Mathlib.Nat.{add-zero}
 use native.Mathlib.Numerals.{add-one}
 use native.Mathlib.Omega.{arith}
-use lib.Dec.{leb, eqb}
+use lib.Dec.{eqb}
 use lib.ListN.{length, take, drop, length-append}
 use borrow.Author.Tests.{le-leb, lt-leb, ne-eqb}
 use Rattle.laws.specs.Choice.{pick}
 use Rattle.lines.specs.Written.{Written}
 use Rattle.lines.proofs.Text.{then, looser, no-byte}
-use Rattle.rules.specs.Command.{commandOf}
+use Rattle.rules.specs.Command.{commandOf, isMalformed}
 use Rattle.rules.specs.DayFile.{recordFrom}
 use Rattle.rules.specs.declared.Command.{Command}
 use Rattle.rules.specs.declared.Record.{Record}
-use Rattle.mending.specs.Mend.{isMalformed, reason, kept, keptBytes, dropped, entry}
+use Rattle.mending.specs.Mend.{reason, kept, keptBytes, dropped, entry}
 use Rattle.mending.proofs.Writing.{length-part, length-entry}
 
 -- ---- a record's verdict, from what the code reads

@@ -8,3 +8,5 @@ pub mod Holdings
 pub mod Rest
 pub mod InUse
 pub mod Terms
+pub mod Stages
+pub mod EachKind

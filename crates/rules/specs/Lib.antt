@@ -10,12 +10,14 @@ pub mod Margin
 pub mod Settlement
 pub mod Answers
 pub mod Step
+pub mod Kinds
 pub mod Memory
 pub mod Condition3
 pub mod DayFile
 pub mod Lines
 pub mod Examples
 pub mod CodeExamples
+pub mod Condition3Examples
 pub mod MarginExamples
 pub mod MatchingExamples
 pub mod MethodExamples

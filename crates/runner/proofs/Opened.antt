@@ -12,11 +12,10 @@ use Rattle.areas.proofs.Lists.{length-padded}
 use Rattle.rules.specs.Condition3.{Opening}
 use Rattle.rules.specs.DayFile.{accountsIn, contractsIn, opening, openingAccount, sound}
 use Rattle.rules.specs.Exchange.{Exchange, accountAt, holdingAt, noAccount, noContract, noHolding}
-use Rattle.rules.specs.Memory.{Declared, Memory, exchangeOf}
+use Rattle.rules.specs.Memory.{Declared, Memory, exchangeOf, WellFormedState}
 use Rattle.rules.specs.declared.Account.{Account}
 use Rattle.rules.specs.declared.Holding.{Holding}
 use Rattle.invariants.proofs.Opening.{opening-well-formed}
-use Rattle.engine.specs.Outcome.{WellFormedState}
 use Rattle.dayfile.specs.Opening.{accountWith, openingAccounts, openingContract, openingContracts, openingHolder, openingState}
 use Rattle.dayfile.proofs.Places.{sound-layout}
 use Rattle.dayfile.proofs.Start.{opening-exchange}
@@ -92,8 +91,6 @@ module _ (file : List ℕ) where
     opens-empty =
         record {
           no-trades = no-trade;
-          no-long = λ a c. ap (λ (v : Holding). v .long) (held a c);
-          no-short = λ a c. ap (λ (v : Holding). v .short) (held a c);
-          no-startlong = λ a c. ap (λ (v : Holding). v .startlong) (held a c);
-          no-startshort = λ a c. ap (λ (v : Holding). v .startshort) (held a c);
+          no-long = λ a c l k. ap (λ (v : Holding). v .long) (held a c);
+          no-short = λ a c l k. ap (λ (v : Holding). v .short) (held a c);
         }

@@ -4,10 +4,10 @@ use mathlib.Core.Bool.{true, false}
 use mathlib.Core.Path.{_≡_, sym, _∙_}
 use Prim.Native.Nat.{_-_, _<_}
 use native.Mathlib.Omega.{arith}
-use Rattle.rules.specs.Answers.{codeOf}
-use Rattle.rules.specs.Memory.{exchangeOf}
+use Rattle.rules.specs.Kinds.{codeOf}
+use Rattle.rules.specs.Memory.{exchangeOf, memory}
 use Rattle.rules.specs.declared.Command.the-variants.{Insert}
-use Rattle.engine.specs.Outcome.{isAbsent, memory}
+use Rattle.engine.specs.Outcome.{isAbsent}
 use Rattle.engine.proofs.Outcomes.{refusal}
 use Rattle.insertion.specs.Insertion.{Present}
 use Rattle.insertion.proofs.Entering.{here as present-accepted, next-low, arriving, insert-accepted}
