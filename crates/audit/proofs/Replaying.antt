@@ -16,7 +16,7 @@ use Rattle.rules.specs.declared.Account.{Account}
 use Rattle.rules.specs.declared.Holding.{Holding}
 use Rattle.rules.specs.declared.Trade.{Trade}
 use Rattle.rules.proofs.Codecs.{trade-at}
-use Rattle.book.specs.Bounds.{HoldingWithin}
+use Rattle.holdings.specs.Bounds.{HoldingWithin}
 use Rattle.audit.specs.Parts.{Booked, replayed}
 use Rattle.audit.proofs.TestedTrades.{next-trade, no-trades}
 use Rattle.audit.proofs.UsedAccounts.{leg-booked, leg-read, length-day, one-leg, start-at, used-day}

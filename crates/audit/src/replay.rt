@@ -9,7 +9,6 @@ ghost use Rattle.rules.specs.Holdings as holdings;
 ghost use Rattle.rules.specs.Memory.{recordedTrades, used};
 ghost use Rattle.rules.specs.WellFormed as wellformed;
 ghost use Rattle.audit.specs.Parts.{replayed, Booked};
-use book::holdings;
 use book::trades;
 use rules::Account;
 use rules::Holding;

@@ -1,5 +1,3 @@
-pub mod Bookings
-pub mod Methods
 pub mod Pulls
 pub mod Queues
 pub mod Recorded

@@ -1,4 +1,2 @@
-pub mod Bounds
-pub mod Methods
 pub mod Removal
 pub mod Side

@@ -1,6 +1,4 @@
-// The order book of every contract, in areas that the caller lends: queues, prices, scans, holdings, recorded trades.
-pub mod holdings;
-pub mod prices;
+// The order book of every contract, in areas that the caller lends: queues, scans, removals, recorded trades.
 pub mod queue;
 pub mod removal;
 pub mod scan;

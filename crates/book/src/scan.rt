@@ -7,7 +7,6 @@ ghost use lib.ListN.{length};
 ghost use Rattle.rules.specs.EarlyStop as early;
 ghost use Rattle.rules.specs.Exchange as exchange;
 ghost use Rattle.rules.specs.Memory.{queueIn};
-use crate::prices;
 use crate::queue;
 use rules::Order;
 use rules::Taker;

@@ -18,7 +18,7 @@ use Rattle.rules.specs.declared.Trade.{Trade}
 use Rattle.rules.proofs.Codecs.{length-queue, order-at, order-words}
 use Rattle.rules.proofs.Fillable.{trades-counted}
 use Rattle.rules.proofs.Queue.{length-restIn}
-use Rattle.book.specs.Bounds.{HoldingWithin}
+use Rattle.holdings.specs.Bounds.{HoldingWithin}
 use Rattle.matching.specs.Entry.{EntryReady}
 use Rattle.book_examples.specs.Known.{AccountsKnown, noHoldings}
 

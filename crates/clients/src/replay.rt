@@ -5,7 +5,6 @@ ghost use mathlib.Core.Path.{_≡_};
 ghost use Prim.Native.Nat.{_<_};
 ghost use Rattle.rules.specs.Holdings.{legCovered};
 ghost use Rattle.clients.specs.Parts.{Replayable, ReplayIs};
-use book::holdings;
 use book::trades;
 use rules::Account;
 

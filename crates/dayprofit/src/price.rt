@@ -7,7 +7,6 @@ ghost use lib.ListN.{length};
 ghost use Rattle.rules.specs.Memory.{queueIn, recordedTrades};
 ghost use Rattle.rules.specs.Settlement.{quotedPrice, priceFrom, tradesIn};
 ghost use Rattle.dayprofit.specs.Day.{Sized, SizedTrades, TurnoverIs, Quotes, Priceable};
-use book::prices;
 use book::queue;
 use book::trades;
 use rules::Contract;

@@ -25,7 +25,7 @@ use Rattle.rules.specs.declared.Trade.{Trade}
 use Rattle.rules.proofs.Codecs.{store-trades}
 use Rattle.rules.proofs.Holdings.{length-bookTrades}
 use Rattle.rules.proofs.Terms.{terms}
-use Rattle.book.proofs.Methods.{method-has-tick}
+use Rattle.prices.proofs.Methods.{method-has-tick}
 use Rattle.matching.specs.Entry.{EntryIs}
 use Rattle.matching.specs.declared.entry.Entry.{Entry}
 use Rattle.invariants.proofs.Accepted.{failed}
@@ -33,15 +33,16 @@ use Rattle.invariants.proofs.Clauses.{Counted, WellFormed, trade-ok}
 use Rattle.invariants.proofs.Insert.{insert-counted, insert-keeps}
 use Rattle.invariants.proofs.InsertAccepted.{Passes, passes}
 use Rattle.invariants.proofs.MemoryKeeps.{sound}
-use Rattle.insertion.specs.Insertion.{Arrived, Arriving, Present, enteredFor, lastIn, sideArea, sideCount, takerFor, termsIn, withEntry}
+use Rattle.refusals.specs.Insertion.{Present, sideArea, sideCount, takerFor}
+use Rattle.insertion.specs.Arrival.{Arrived, Arriving, enteredFor, lastIn, termsIn, withEntry}
 use Rattle.engine.specs.Outcome.{OutcomeIs, acceptedWith}
 use Rattle.engine.specs.declared.answers.Outcome.{Outcome}
 use Rattle.engine.proofs.Accounts.{TradesUsed, put-trades-booked}
 use Rattle.engine.proofs.Formed.{Formed, accounts-count, contracts-count, few-accounts, formed, no-account, no-contract, wide}
-use Rattle.insertion.proofs.Inserting.{present}
+use Rattle.refusals.proofs.Inserting.{present}
 use Rattle.engine.proofs.Outcomes.{acceptance}
 use Rattle.engine.proofs.Puts.{put-one-listing, trades-count}
-use Rattle.insertion.proofs.Sides.{contract-is, contract-terms, held-low, opposite-is, side-account, side-is, side-long, side-room}
+use Rattle.refusals.proofs.Sides.{contract-is, contract-terms, held-low, opposite-is, side-account, side-is, side-long, side-room}
 
 -- ---- the two queues of a listing, by the side of an order
 

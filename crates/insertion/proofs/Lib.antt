@@ -1,5 +1,1 @@
-pub mod Affording
-pub mod Arrivals
 pub mod Entering
-pub mod Inserting
-pub mod Sides

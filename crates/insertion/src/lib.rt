@@ -3,17 +3,16 @@ ghost use Prim.Native.Nat.{_<_};
 ghost use mathlib.Core.Path.{_≡_};
 ghost use Rattle.rules.specs.Memory.{stepIn, memory, WellFormedState};
 ghost use Rattle.rules.specs.declared.Command.the-variants.{Insert};
-ghost use Rattle.insertion.specs.Insertion.{Arriving, Arrived, withEntry};
+ghost use Rattle.insertion.specs.Arrival.{Arriving, Arrived, withEntry};
 ghost use Rattle.engine.specs.Outcome.{OutcomeIs};
 use engine::answers;
 use engine::answers::Outcome;
 use matching::entry;
 use matching::entry::Entry;
+use refusals::codes;
+use refusals::orders;
 use rules::NewOrder;
 use rules::State;
-
-pub mod codes;
-pub mod orders;
 
 // The order enters on its own side, against the opposite one.
 fn enter(

@@ -23,9 +23,9 @@ use Rattle.rules.specs.declared.Trade.{Trade}
 use Rattle.rules.proofs.Codecs.{trade-codec, length-queue, order-at, put-queue}
 use Rattle.rules.proofs.Fillable.{traded-nil, traded-cons, trades-counted, count-met}
 use Rattle.rules.proofs.Sweep.{trade-lots, trade-price, sweep-end, sweep-used, sweep-unmet, sweep-part, sweep-full}
-use Rattle.book.specs.Bounds.{HeldWithin}
+use Rattle.holdings.specs.Bounds.{HeldWithin}
 use Rattle.matching.specs.Sweep.{Parties, FilledIs}
-use Rattle.book.proofs.Bookings.{held-more, held-trade}
+use Rattle.holdings.proofs.Bookings.{held-more, held-trade}
 use Rattle.book.proofs.Queues.{next-order, no-more}
 
 -- ---- what the loop ends with

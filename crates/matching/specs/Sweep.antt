@@ -10,8 +10,8 @@ use Rattle.rules.specs.Matching.{Swept, sweep, tradedLots, lastPrice}
 use Rattle.rules.specs.Memory.{queueIn, putQueue, tradeWords}
 use Rattle.rules.specs.declared.Account.{Account}
 use Rattle.rules.specs.declared.Taker.{Taker}
-use Rattle.book.specs.Bounds.{HeldWithin}
-use Rattle.book.specs.Methods.{HasTick}
+use Rattle.holdings.specs.Bounds.{HeldWithin}
+use Rattle.prices.specs.Methods.{HasTick}
 use Rattle.matching.specs.declared.sweep.Filled.{Filled}
 
 -- the arriving order's account and those of the queue's orders are in use, and no account in use holds more than b lots of the

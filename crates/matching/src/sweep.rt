@@ -3,8 +3,6 @@
 ghost use Rattle.rules.specs.Matching as matching;
 ghost use Rattle.rules.specs.Memory.{queueIn};
 ghost use Rattle.matching.specs.Sweep.{FilledIs, SweepReady};
-use book::holdings;
-use book::prices;
 use book::queue;
 use book::trades;
 use rules::Account;

@@ -21,8 +21,8 @@ use Rattle.rules.proofs.EachKind.{inserts-its-order}
 use Rattle.rules.proofs.Fillable.{swept-fillable}
 use Rattle.engine.specs.Outcome.{isAbsent}
 use Rattle.engine.proofs.Formed.{Formed, formed, no-account, no-contract}
-use Rattle.insertion.specs.Insertion.{Facing, Present, QueueRoom, fieldsRefusals, sideArea, sideCount, takerFor}
-use Rattle.insertion.proofs.Sides.{contract-is, opposite-facing, opposite-is}
+use Rattle.refusals.specs.Insertion.{Facing, Present, QueueRoom, fieldsRefusals, sideArea, sideCount, takerFor}
+use Rattle.refusals.proofs.Sides.{contract-is, opposite-facing, opposite-is}
 use Rattle.query.specs.Gettable.{GatheredIs, askRefusals, gettableNow, lotsNow, orderReading, orderRefusals, readNow, readingWith, refusedReading}
 use Rattle.query.specs.declared.Reading.{Reading}
 use Rattle.query.specs.declared.scan.Gathered.{Gathered}

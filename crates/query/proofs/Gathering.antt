@@ -17,8 +17,8 @@ use Rattle.rules.specs.declared.Order.{Order}
 use Rattle.rules.specs.declared.Taker.{Taker}
 use Rattle.rules.proofs.Fillable.{front-end, front-met, front-unmet}
 use Rattle.book.proofs.Queues.{tally-none, tally-on, tally-stop, tally-end}
-use Rattle.insertion.specs.Insertion.{Facing}
-use Rattle.insertion.proofs.Arrivals.{facing-fillable}
+use Rattle.refusals.specs.Insertion.{Facing}
+use Rattle.refusals.proofs.Arrivals.{facing-fillable}
 use Rattle.query.specs.Gettable.{GatheredIs, ordersRead}
 
 -- ---- turns of the orders read

@@ -1,7 +1,7 @@
 // The queue read for an order that is only asked about. For our own crates: it asks for the queue's room and order.
 ghost use mathlib.Core.Path.{_≡_};
 ghost use Rattle.rules.specs.Memory.{queueIn};
-ghost use Rattle.insertion.specs.Insertion.{Facing};
+ghost use Rattle.refusals.specs.Insertion.{Facing};
 ghost use Rattle.query.specs.Gettable.{GatheredIs};
 use rules::Taker;
 
@@ -24,7 +24,7 @@ pub fn gather(area: &[u32], c: usize, count: usize, t: Taker, lots: u32) -> Gath
             return Gathered { lots, read: i };
         }
         let o = book::queue::order_at(area, c, i);
-        if !book::prices::meets(condition, t.sell, t.best, o.price) {
+        if !prices::meets(condition, t.sell, t.best, o.price) {
             return Gathered {
                 lots: lots - left,
                 read: i + 1,

@@ -5,17 +5,20 @@ use mathlib.Core.List.{List, [], _∷_}
 use mathlib.Core.Path.{_≡_, refl}
 use Prim.Native.Nat.{ℕ, _+_, _*_, _^_}
 use lib.IntN.{ℤ, pos, negℤ}
+use lib.ListN.{replicate}
 use Rattle.laws.specs.Choice.{all, allOf}
 use Rattle.laws.specs.Sums.{sumOf}
-use Rattle.rules.specs.Bounds.{allowedToday, dayHigh, dayLow, onTick, termsInRange, tickMultiple}
+use Rattle.rules.specs.Bounds.{allowedToday, dayHigh, dayLow, onTick, termsInRange, tickMultiple, within}
 use Rattle.rules.specs.Examples.{Row, _gives_, allRight}
 use Rattle.rules.specs.Exchange.{Exchange, accountAt, holdingAt, listingAt, lotsWhere, resting}
 use Rattle.rules.specs.Holdings.{afterLeg, bookLeg, bookTrade, bookTrades, legCovered, neverBelowZero, sameHoldings, sameLots, startOfDay}
 use Rattle.rules.specs.Answers.{mark}
+use Rattle.rules.specs.Memory.{Memory, countsInRange, hasRoom}
 use Rattle.rules.specs.WellFormed.{ahead, aheadOfFirst, allNumbers, balanceInRange, contractInRange, countersInRange, holdingInRange, holdingsInRange, listingInRange, numbers, orderInRange, replays, sorted, tradeInRange, uncrossed, usedOnce, wellFormedContents}
 use Rattle.rules.specs.declared.Account.{Account}
 use Rattle.rules.specs.declared.Contract.{Contract}
 use Rattle.rules.specs.declared.Order.{Order}
+use Rattle.rules.specs.declared.State.{State}
 use Rattle.rules.specs.declared.Trade.{Trade}
 
 contract : ℕ → Contract
@@ -91,3 +94,53 @@ table =
 pub well-formed-examples : allRight table ≡ true
 unfolding allRight table contract order trade account asked buys sells trades test all allOf sumOf accountAt afterLeg ahead aheadOfFirst allNumbers allowedToday balanceInRange bookLeg bookTrade bookTrades contractInRange countersInRange dayHigh dayLow holdingAt holdingInRange holdingsInRange legCovered listingAt listingInRange lotsWhere neverBelowZero numbers onTick orderInRange replays resting sameHoldings sameLots sorted startOfDay termsInRange tickMultiple tradeInRange uncrossed usedOnce wellFormedContents
 well-formed-examples = refl
+
+-- ---- counts and room, on a state as it lies, and the replay of closes
+
+-- one contract with so many sells, two accounts
+counted : ℕ → State
+counted orders =
+    record {
+      contracts = contract 110 ∷ [];
+      accounts = account (pos 0) 0 0 0 0 ∷ account (pos 0) 0 0 0 0 ∷ [];
+      buys = 0 ∷ [];
+      sells = orders ∷ [];
+      contractcount = 1;
+      accountcount = 2;
+      tradecount = 0;
+      next = 1;
+      settlements = 0;
+    }
+
+-- areas of so many words
+lying : ℕ → ℕ → Memory
+lying queue day =
+    record { state = counted 0; buys = replicate queue 0; sells = replicate queue 0; trades = replicate day 0 }
+
+-- account 1 starts with 2 long and 3 short and sells so many to close, account 2 buys them to open
+closed : ℕ → Exchange
+closed lots =
+    record {
+      listings = record { contract = contract 110; buys = []; sells = [] } ∷ [];
+      accounts = account (pos 0) 0 3 2 3 ∷ account (pos 0) lots 0 0 0 ∷ [];
+      trades = record { contract = 0; price = 110; lots = lots; buyorder = 1; sellorder = 2; buyer = 1; seller = 0; buyclose = 0; sellclose = 1 } ∷ [];
+      next = 3;
+      settlements = 0;
+    }
+
+pub laid : List Row
+laid =
+    (mark (countsInRange (counted 64)) gives 1)
+    ∷ (mark (countsInRange (counted 65)) gives 0)
+    -- 64 orders of five words, 1,024 trades of nine, and a word less
+    ∷ (mark (hasRoom (lying 320 9_216)) gives 1)
+    ∷ (mark (hasRoom (lying 319 9_216)) gives 0)
+    ∷ (mark (hasRoom (lying 320 9_215)) gives 0)
+    -- a close of what is held, and of one lot more: the short lots do not cover it
+    ∷ (mark (replays (closed 2)) gives 1)
+    ∷ (mark (replays (closed 3)) gives 0)
+    ∷ []
+
+pub laid-examples : allRight laid ≡ true
+unfolding allRight laid contract account counted lying closed all sumOf accountAt afterLeg bookLeg bookTrade bookTrades countsInRange hasRoom holdingAt legCovered neverBelowZero replays sameHoldings sameLots startOfDay
+laid-examples = refl

@@ -9,9 +9,9 @@ use Rattle.rules.specs.Memory.{exchangeOf, memory}
 use Rattle.rules.specs.declared.Command.the-variants.{Insert}
 use Rattle.engine.specs.Outcome.{isAbsent}
 use Rattle.engine.proofs.Outcomes.{refusal}
-use Rattle.insertion.specs.Insertion.{Present}
+use Rattle.refusals.specs.Insertion.{Present}
 use Rattle.insertion.proofs.Entering.{here as present-accepted, next-low, arriving, insert-accepted}
-use Rattle.insertion.proofs.Inserting.{code-account, holder-fits, holder-low, place-fits}
+use Rattle.refusals.proofs.Inserting.{code-account, holder-fits, holder-low, place-fits}
 use borrow.Author.Needs.{needs}
 use Rattle.insertion.proofs.insert.Statement.{statement}
 use Rattle.insertion.proofs.insert.Tie as tie

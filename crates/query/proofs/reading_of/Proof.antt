@@ -4,8 +4,8 @@ use mathlib.Core.Path.{_≡_, sym, _∙_}
 use native.Mathlib.Omega.{arith}
 use borrow.Author.Needs.{needs}
 use Rattle.engine.specs.Outcome.{isAbsent}
-use Rattle.insertion.specs.Insertion.{Present}
-use Rattle.insertion.proofs.Inserting.{present, place-fits, terms-in-range}
+use Rattle.refusals.specs.Insertion.{Present}
+use Rattle.refusals.proofs.Inserting.{present, place-fits, terms-in-range}
 use Rattle.query.proofs.Asking.{answered, facing, no-such-account, no-such-contract, refused-fields, room}
 use Rattle.query.proofs.reading_of.Statement.{statement}
 use Rattle.query.proofs.reading_of.Tie as tie

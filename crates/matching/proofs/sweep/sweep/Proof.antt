@@ -9,7 +9,7 @@ use borrow.Author.Needs.{needs}
 use borrow.Author.Tests.{eqb-true, eqb-false, not-true, not-false}
 use lib.ListN.{length, set}
 use Rattle.rules.specs.Holdings.{bookTrade}
-use Rattle.book.proofs.Bookings.{held-more, holding-read, buyer-held, trade-booked}
+use Rattle.holdings.proofs.Bookings.{held-more, holding-read, buyer-held, trade-booked}
 use Rattle.matching.proofs.Turns.{Going, Meeting, order-read, trade-size, trade-contract, trade-parties, parties-with, stopped, queue-ended, lots-used, no-counterpart, trade-room, going-on, part-filled}
 use Rattle.matching.proofs.sweep.sweep.Statement.{statement}
 use Rattle.matching.proofs.sweep.sweep.Tie as tie

@@ -1,0 +1,191 @@
+-- An insert's code: the tests as the code makes them, one part after the other, are the rules' list. Assumes nothing.
+use mathlib.Core.Bool.{Bool, true, false, not}
+use mathlib.Core.List.{List, _++_}
+use mathlib.Core.Path.{_≡_, refl, sym, _∙_}
+use Prim.Native.Nat.{ℕ, _+_, _-_, _*_, _<_, _≤_}
+use native.Mathlib.Omega.{arith}
+use borrow.Author.Tests.{leb-true, ne-eqb, not-false}
+use lib.Dec.{eqb, leb, ltb}
+use lib.ListN.{length, getD}
+use Rattle.laws.specs.Choice.{both-true, pick}
+use Rattle.rules.specs.Kinds.{codeOf, kindOf}
+use Rattle.rules.specs.Answers.{Refusal, firstOf, fillableLots, holdingRefused, insertRefusals, listingOf, mark, moneyRefused, overHolding, overLimit, takerOf, tradesNeeded}
+use Rattle.rules.specs.Bounds.{maxLots, termsInRange, within}
+use Rattle.rules.specs.Exchange.{Exchange, accountAt, holdingAt, noAccount, noContract, noHolding, opposite, own, placeOf, resting}
+use Rattle.rules.specs.Memory.{Memory, exchangeOf, queueIn, memory, WellFormedState}
+use Rattle.rules.specs.declared.Account.{Account}
+use Rattle.rules.specs.declared.Command.the-variants.{Insert}
+use Rattle.rules.specs.declared.NewOrder.{NewOrder}
+use Rattle.rules.specs.declared.Order.{Order}
+use Rattle.rules.specs.declared.State.{State}
+use Rattle.rules.specs.declared.Taker.{Taker}
+use Rattle.rules.proofs.Codecs.{length-queue}
+use Rattle.rules.proofs.Fillable.{trades-counted}
+use Rattle.invariants.proofs.Accepted.{failed}
+use Rattle.refusals.specs.Insertion.{Facing, Present, QueueRoom, accountRefusals, bookRefusals, lotsRefused, sideArea, sideCount, takerFor, termsRefusals}
+use Rattle.engine.specs.Outcome.{isAbsent}
+use Rattle.engine.proofs.Formed.{Formed, formed, holding-at, no-account, no-contract}
+use Rattle.engine.proofs.Puts.{trades-count}
+use Rattle.engine.proofs.Refusals.{first-append}
+use Rattle.refusals.proofs.Sides.{contract-is, contract-terms, opposite-facing, opposite-is, resting-low, side-is, side-room}
+use Rattle.engine.proofs.Tests.{place-below}
+
+-- an account's resting lots of the order's own kind serve for both cases of code 8
+lots-by-mark : (close : Bool) (long short limit lots a : ℕ) (queue : List Order)
+    → pick close (ltb long (resting 1 a queue + lots)) (ltb limit (short + resting 0 a queue + lots))
+    ≡ pick close (ltb long (resting (mark close) a queue + lots)) (ltb limit (short + resting (mark close) a queue + lots))
+lots-by-mark true long short limit lots a queue = refl
+lots-by-mark false long short limit lots a queue = refl
+
+module _ {s : State} {buys sells trades : List ℕ} (w : WellFormedState s buys sells trades) (o : NewOrder) where
+  abbrev m : Memory
+  m = memory s buys sells trades
+
+  abbrev x : Exchange
+  x = exchangeOf m
+
+  f : Formed m
+  f = formed w
+
+  abbrev c : ℕ
+  c = placeOf (o .contract)
+
+  abbrev opposing : List Order
+  opposing = queueIn (sideArea (not (o .sell)) buys sells) c (sideCount (not (o .sell)) s c)
+
+  -- ---- the list in its parts
+
+  termsPart : List Refusal
+  termsPart = termsRefusals (listingOf x o .contract) o
+
+  bookPart : List Refusal
+  bookPart =
+      bookRefusals (x .next) (length (x .trades)) (length (own (o .sell) (listingOf x o))) (takerOf x o) (opposite (o .sell) (listingOf x o)) o
+
+  in-parts : codeOf x (Insert o) ≡ pick (isAbsent (o .account) (s .accountcount)) 2 (pick (isAbsent (o .contract) (s .contractcount)) 3 (firstOf (termsPart ++ (accountRefusals x o ++ bookPart))))
+  unfolding codeOf kindOf insertRefusals firstOf termsRefusals accountRefusals bookRefusals fillableLots tradesNeeded termsPart bookPart
+  in-parts = rw (no-account m f (o .account), no-contract m f (o .contract), trades-counted)
+
+  terms-first : firstOf (termsPart ++ (accountRefusals x o ++ bookPart)) ≡ pick (eqb (firstOf termsPart) 0) (firstOf (accountRefusals x o ++ bookPart)) (firstOf termsPart)
+  unfolding termsPart termsRefusals
+  terms-first = first-append termsPart (accountRefusals x o ++ bookPart) (omega arith)
+
+  account-first : firstOf (accountRefusals x o ++ bookPart) ≡ pick (eqb (firstOf (accountRefusals x o)) 0) (firstOf bookPart) (firstOf (accountRefusals x o))
+  unfolding accountRefusals
+  account-first = first-append (accountRefusals x o) bookPart (omega arith)
+
+  -- ---- 2 and 3
+
+  pub code-account : isAbsent (o .account) (s .accountcount) ≡ true → 2 ≡ codeOf x (Insert o)
+  code-account e = sym (rw (in-parts, e))
+
+  pub code-contract : isAbsent (o .account) (s .accountcount) ≡ false → isAbsent (o .contract) (s .contractcount) ≡ true → 3 ≡ codeOf x (Insert o)
+  code-contract e g = sym (rw (in-parts, e, g))
+
+  -- the account's place; j is its number as the code widens it
+  pub holder-low : isAbsent (o .account) (s .accountcount) ≡ false → {j : ℕ} → j ≡ o .account → 1 ≤ j
+  holder-low e ej = omega (arith, place-below (o .account) (s .accountcount) e .0)
+
+  pub holder-fits : isAbsent (o .account) (s .accountcount) ≡ false → {j : ℕ} → j ≡ o .account → j - 1 < 32
+  holder-fits e ej = omega (arith, place-below (o .account) (s .accountcount) e .1, f .accounts-high)
+
+  pub present : isAbsent (o .account) (s .accountcount) ≡ false → isAbsent (o .contract) (s .contractcount) ≡ false → Present s o
+  present e g =
+      let a = place-below (o .account) (s .accountcount) e in
+      let b = place-below (o .contract) (s .contractcount) g in
+      record { account-low = a .0; account = a .1; contract-low = b .0; contract = b .1 }
+
+  -- ---- an order whose account and contract are in use; k is its contract's number as the code widens it
+
+  module _ (p : Present s o) {k : ℕ} (is : k ≡ o .contract) where
+    pub place-fits : k - 1 < 4
+    place-fits = omega (arith, p .contract, f .contracts-high)
+
+    pub terms-in-range : termsInRange (getD (s .contracts) (k - 1) noContract) ≡ true
+    terms-in-range = rw is (contract-terms m f c (p .contract))
+
+    -- 8
+    module _ {own₁ : List ℕ} {count : ℕ} (ea : own₁ ≡ sideArea (o .sell) buys sells) (ec : count ≡ sideCount (o .sell) s (k - 1)) where
+      pub own-room : (count ≤ 64) × (320 * (k - 1) + 5 * count ≤ length own₁)
+      own-room =
+          let r = side-room m f c (p .contract) (o .sell) in
+          rw (ec, ea, is) (r .few, r .room)
+
+      module _ {mark₁ rested : ℕ} (em : mark₁ ≡ mark (o .close)) (er : rested ≡ resting mark₁ (o .account - 1) (queueIn own₁ (k - 1) count)) where
+        rested-is : rested ≡ resting (mark (o .close)) (o .account - 1) (queueIn (sideArea (o .sell) buys sells) c (sideCount (o .sell) s c))
+        rested-is = er ∙ rw (em, ec, ea, is)
+
+        pub rested-low : rested ≤ 1_000_000
+        rested-low = rw rested-is (resting-low m f c (p .contract) (o .account - 1) (p .account) (o .sell) (o .close))
+
+        module _ {who : Account} (ew : getD (s .accounts) (o .account - 1) noAccount ≡ who) {r : Bool}
+            (el : r ≡ lotsRefused (getD (s .contracts) (k - 1) noContract) (getD (who .holdings) (k - 1) noHolding) rested o) where
+          holding-is : r ≡ holdingRefused x o
+          unfolding holdingRefused overHolding overLimit lotsRefused listingOf holdingAt accountAt
+          holding-is =
+              el
+              ∙ rw (rested-is, ← ew, is, contract-is m f c (p .contract), side-is m f c (p .contract) (o .sell), holding-at m f (o .account - 1) c (p .account) (p .contract))
+              (sym (lots-by-mark (o .close) _ _ _ (o .lots) (o .account - 1) _))
+
+          pub account-lots : r ≡ true → 8 ≡ firstOf (accountRefusals x o)
+          unfolding firstOf accountRefusals
+          account-lots t = rw (← holding-is, t)
+
+          -- 9
+          module _ (t : r ≡ false) {q : Bool} (eq : q ≡ moneyRefused x o) where
+            pub account-money : q ≡ true → 9 ≡ firstOf (accountRefusals x o)
+            unfolding firstOf accountRefusals
+            account-money u = rw (← holding-is, t, ← eq, u)
+
+            pub account-clear : q ≡ false → 0 ≡ firstOf (accountRefusals x o)
+            unfolding firstOf accountRefusals
+            account-clear u = rw (← holding-is, t, ← eq, u)
+
+    -- ---- the parts one after the other
+
+    module _ (e : isAbsent (o .account) (s .accountcount) ≡ false) (g : isAbsent (o .contract) (s .contractcount) ≡ false) where
+      terms-is : firstOf (termsRefusals (getD (s .contracts) (k - 1) noContract) o) ≡ firstOf termsPart
+      unfolding termsPart listingOf
+      terms-is = rw (is, contract-is m f c (p .contract))
+
+      -- 4 to 7
+      module _ {fields : ℕ} (et : fields ≡ firstOf (termsRefusals (getD (s .contracts) (k - 1) noContract) o)) where
+        pub code-terms : (fields ≡ 0 → ⊥) → fields ≡ codeOf x (Insert o)
+        code-terms some = sym (rw (in-parts, e, g, terms-first, ← terms-is, ← et, ne-eqb fields 0 some))
+
+        -- 5
+        pub lots-few : fields ≡ 0 → o .lots ≤ 1_000
+        unfolding termsRefusals
+        lots-few passed =
+            let tests = failed (termsRefusals (getD (s .contracts) (k - 1) noContract) o) (omega arith) (sym et ∙ passed) in
+            leb-true (o .lots) maxLots (both-true (leb 1 (o .lots)) (leb (o .lots) maxLots) (not-false (within 1 maxLots (o .lots)) (tests .1 .0)) .1)
+
+        -- 8 and 9
+        module _ (passed : fields ≡ 0) {account : ℕ} (ex : account ≡ firstOf (accountRefusals x o)) where
+          on-to-account : codeOf x (Insert o) ≡ firstOf (accountRefusals x o ++ bookPart)
+          on-to-account = rw (in-parts, e, g, terms-first, ← terms-is, ← et, passed)
+
+          pub code-lots-or-money : (account ≡ 0 → ⊥) → account ≡ codeOf x (Insert o)
+          code-lots-or-money some = sym (on-to-account ∙ rw (account-first, ← ex, ne-eqb account 0 some))
+
+          -- 10 to 13
+          module _ (clear : account ≡ 0) {own₁ count : ℕ} {area : List ℕ} (eo : own₁ ≡ sideCount (o .sell) s (k - 1)) (ea : area ≡ sideArea (not (o .sell)) buys sells)
+              (ec : count ≡ sideCount (not (o .sell)) s (k - 1)) where
+            pub opposite-room : QueueRoom area (o .contract - 1) count
+            opposite-room = rw (ec, ea, is) (side-room m f c (p .contract) (not (o .sell)))
+
+            module _ {t : Taker} (er : t ≡ takerFor (s .next) (getD (s .contracts) (k - 1) noContract) (queueIn area (o .contract - 1) count) o) where
+              pub facing : Facing t area (k - 1) count
+              facing = rw (er, ec, ea, is) (opposite-facing m f c (p .contract) (s .next) _ o)
+
+              pub recorded-few : s .tradecount ≤ 1_024
+              recorded-few = f .trades-high
+
+              book-is : firstOf (bookRefusals (s .next) (s .tradecount) own₁ t (queueIn area (k - 1) count) o) ≡ firstOf bookPart
+              unfolding bookPart listingOf takerOf exchangeOf
+              book-is =
+                  rw (er, eo, ec, ea, is, trades-count m f, side-is m f c (p .contract) (o .sell), length-queue, opposite-is m f c (p .contract) (o .sell), contract-is m f c (p .contract))
+
+              pub code-book : {book : ℕ} → book ≡ firstOf (bookRefusals (s .next) (s .tradecount) own₁ t (queueIn area (k - 1) count) o)
+                  → book ≡ codeOf x (Insert o)
+              code-book eb = eb ∙ book-is ∙ sym (on-to-account ∙ rw (account-first, ← ex, clear))

@@ -1,0 +1,4 @@
+pub mod Affording
+pub mod Arrivals
+pub mod Inserting
+pub mod Sides

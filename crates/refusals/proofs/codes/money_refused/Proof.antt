@@ -1,0 +1,52 @@
+-- `codes::money_refused` meets its contract: the account can be charged with the order's lots, and what is charged is the rules'. Assumes nothing.
+use mathlib.Core.Path.{_∙_}
+use Prim.Native.Nat.{_^_, _*_}
+use native.Mathlib.Omega.{arith}
+use Rattle.laws.proofs.Signed.{back}
+use Rattle.refusals.proofs.Affording.{close-free, can-hold, can-charge, balance-fits, money-is}
+use Rattle.refusals.proofs.Inserting.{place-fits}
+use borrow.Author.Needs.{needs}
+use Rattle.refusals.proofs.codes.money_refused.Statement.{statement}
+use Rattle.refusals.proofs.codes.money_refused.Tie as tie
+
+returns : tie.Need-returns
+returns c = close-free (c .before .before .before .before .pre .0) (c .before .before .before .before .args .o) (c .before .before .before .before .pre .1) (c .if1 .taken)
+
+wide-requires : tie.Need-wide-requires
+wide-requires c κs = search needs
+
+sub-c : tie.Need-sub-c
+sub-c c = search needs
+
+wide-requires-2 : tie.Need-wide-requires-2
+wide-requires-2 c κs = search needs
+
+sub-a : tie.Need-sub-a
+sub-a c = search needs
+
+book-leg-requires : tie.Need-book-leg-requires
+book-leg-requires c κs = (place-fits (c .before .before .before .before .before .before .pre .0) (c .before .before .before .before .before .before .args .o) (c .before .before .before .before .before .before .pre .1) (c .before .wide .ensures), c .before .before .before .before .before .before .pre .2, can-hold (c .before .before .before .before .before .before .pre .0) (c .before .before .before .before .before .before .args .o) (c .before .before .before .before .before .before .pre .1) (c .before .before .before .before .before .before .pre .2) (c .before .wide .ensures) (c .wide2 .ensures) (c .before .before .before .before .before .before .pre .3))
+
+charged-requires : tie.Need-charged-requires
+charged-requires c κs = can-charge (c .before .before .before .before .before .before .before .before .before .before .before .before .pre .0) (c .before .before .before .before .before .before .before .before .before .before .before .before .args .o) (c .before .before .before .before .before .before .before .before .before .before .before .before .pre .1) (c .before .before .before .before .before .before .before .before .before .before .before .before .pre .2) (c .before .before .before .before .before .before .before .wide .ensures) (c .before .before .before .before .before .before .wide2 .ensures) (c .before .before .before .before .before .before .before .before .before .before .before .before .pre .3) (c .before .before .before .before .before .book-leg .ensures)
+
+too-little-requires : tie.Need-too-little-requires
+too-little-requires c κs = search needs
+
+returns-2 : tie.Need-returns-2
+returns-2 c = money-is (c .before .before .before .before .before .before .before .before .before .before .before .before .before .before .pre .0) (c .before .before .before .before .before .before .before .before .before .before .before .before .before .before .args .o) (c .before .before .before .before .before .before .before .before .before .before .before .before .before .before .pre .1) (c .before .before .before .before .before .before .before .before .before .before .before .before .before .before .pre .2) (c .before .before .before .before .before .before .before .before .before .wide .ensures) (c .before .before .before .before .before .before .before .before .wide2 .ensures) (c .before .before .before .before .before .before .before .before .before .before .before .before .before .before .pre .3) (c .before .before .before .before .before .before .before .book-leg .ensures) (c .before .charged .ensures) (c .before .before .before .before .before .before .before .before .before .before .if1 .left)
+    (c .too-little .ensures ∙ rw (back (2 * 10 ^ 18) (omega arith) (balance-fits (c .before .before .before .before .before .before .before .before .before .before .before .before .before .before .pre .0) (c .before .before .before .before .before .before .before .before .before .before .before .before .before .before .args .o) (c .before .before .before .before .before .before .before .before .before .before .before .before .before .before .pre .1) (c .before .before .before .before .before .before .before .before .before .before .before .before .before .before .pre .2) (c .before .before .before .before .before .before .before .before .before .wide .ensures) (c .before .before .before .before .before .before .before .before .wide2 .ensures) (c .before .before .before .before .before .before .before .before .before .before .before .before .before .before .pre .3))))
+
+pub money-refused-spec : {M : Type 1} → statement M
+money-refused-spec =
+    tie.close
+    (tie.spec
+    returns
+    wide-requires
+    sub-c
+    wide-requires-2
+    sub-a
+    book-leg-requires
+    charged-requires
+    too-little-requires
+    returns-2)

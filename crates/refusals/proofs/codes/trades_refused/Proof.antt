@@ -1,0 +1,22 @@
+-- `codes::trades_refused` meets its contract: few recorded trades leave room for one trade with each order. Assumes nothing.
+use mathlib.Core.Path.{sym}
+use native.Mathlib.Omega.{arith}
+use borrow.Author.Needs.{needs}
+use Rattle.refusals.proofs.Arrivals.{few-trades, trades-fit}
+use Rattle.refusals.proofs.codes.trades_refused.Statement.{statement}
+use Rattle.refusals.proofs.codes.trades_refused.Tie as tie
+
+returns : tie.Need-returns
+returns c = sym (trades-fit _ _ (c .before .before .pre .0) _ (c .if1 .taken))
+
+count-trades-requires : tie.Need-count-trades-requires
+count-trades-requires c κs = search needs
+
+add-result : tie.Need-add-result
+add-result c = omega (arith, c .count-trades .ensures, few-trades (c .before .before .before .args .t) (c .before .before .before .args .lots) (c .before .before .before .pre .0), c .before .before .before .pre .1)
+
+returns-2 : tie.Need-returns-2
+returns-2 c = rw (c .count-trades .ensures)
+
+pub trades-refused-spec : {M : Type 1} → statement M
+trades-refused-spec = tie.close (tie.spec returns count-trades-requires add-result returns-2)

@@ -1,0 +1,291 @@
+// The code of an insert: the refusals 3 to 13 in their order. For our own crates: `code_of` asks for a well-formed state and an order
+// whose account is in use, the others for what they read of it.
+ghost use mathlib.Core.Bool.{true};
+ghost use mathlib.Core.Path.{_≡_};
+ghost use Prim.Native.Nat.{_-_, _≤_};
+ghost use lib.Dec.{ltb};
+ghost use lib.ListN.{getD};
+ghost use Rattle.rules.specs.Answers as answer;
+ghost use Rattle.rules.specs.Bounds.{termsInRange};
+ghost use Rattle.rules.specs.Exchange.{noAccount};
+ghost use Rattle.rules.specs.Matching as matching;
+ghost use Rattle.rules.specs.Kinds.{codeOf};
+ghost use Rattle.rules.specs.Memory.{exchangeOf, queueIn, memory, WellFormedState};
+ghost use Rattle.rules.specs.declared.Command.the-variants.{Insert};
+ghost use Rattle.refusals.specs.Insertion.{dayWithoutLimit, fieldsRefusals, termsRefusals, lotsRefused, killRefused, tradesRefused, fullRefused, accountRefusals, bookRefusals, Present, OwnedBy, QueueRoom, Facing};
+use crate::orders;
+use engine::answers;
+use rules::Account;
+use rules::Contract;
+use rules::Holding;
+use rules::NewOrder;
+use rules::PriceCondition;
+use rules::State;
+use rules::Taker;
+use rules::TimeCondition;
+
+// 6: "market or best with good for day".
+fn is_day_without_limit(condition: PriceCondition, time: TimeCondition) -> bool
+    ensures { λ r. ⌜ r ≡ dayWithoutLimit condition time ⌝ }
+{
+    if orders::is_limit(condition) {
+        return false;
+    }
+    orders::is_day(time)
+}
+
+// 7: a limit must be allowed today, market and best have no price.
+fn price_refused(terms: Contract, condition: PriceCondition, price: u32) -> bool
+    requires { ⌜ termsInRange terms ≡ true ⌝ }
+    ensures { λ r. ⌜ r ≡ answer.priceRefusedBy terms condition price ⌝ }
+{
+    match condition {
+        PriceCondition::Limit(limit) => !terms::allowed_today(terms, limit),
+        PriceCondition::Market => price != 0,
+        PriceCondition::Best => price != 0,
+    }
+}
+
+// Codes 5 to 7, 0 where none holds: what an order's own fields are refused for, whatever its contract's state. Another crate asks
+// for it too.
+pub fn fields_code(terms: Contract, o: NewOrder) -> u32
+    requires { ⌜ termsInRange terms ≡ true ⌝ }
+    ensures { λ r. ⌜ r ≡ answer.firstOf (fieldsRefusals terms o) ⌝ }
+{
+    let condition = o.condition;
+    let time = o.time;
+    if !terms::within(1, 1000, o.lots) {
+        return 5;
+    }
+    if is_day_without_limit(condition, time) {
+        return 6;
+    }
+    if price_refused(terms, condition, o.price) {
+        return 7;
+    }
+    0
+}
+
+// Codes 4 to 7, 0 where none holds.
+fn terms_code(terms: Contract, o: NewOrder) -> u32
+    requires { ⌜ termsInRange terms ≡ true ⌝ }
+    ensures { λ r. ⌜ r ≡ answer.firstOf (termsRefusals terms o) ⌝ }
+{
+    if terms.phase != 1 {
+        return 4;
+    }
+    fields_code(terms, o)
+}
+
+// 8: an open may not lift holding and resting opens above the limit, a close may not exceed what is held less resting closes.
+// `rested` are the account's resting lots on the order's side, opens of an open and closes of a close.
+fn lots_refused(terms: Contract, h: Holding, rested: u64, o: NewOrder) -> bool
+    requires { ⌜ rested ≤ 1000000 ⌝ }
+    ensures { λ r. ⌜ r ≡ lotsRefused terms h rested o ⌝ }
+{
+    let lots = laws::wide32(o.lots);
+    let close = o.close;
+    if close {
+        let held = orders::by_side(o.sell, h.long, h.short);
+        return laws::wide32(held) < rested + lots;
+    }
+    let held = orders::by_side(o.sell, h.short, h.long);
+    laws::wide32(terms.limit) < laws::wide32(held) + rested + lots
+}
+
+// 9: an open passes if all charged margin, its lots included, is at most the balance. A close is never refused for money. `who` is
+// the order's account.
+fn money_refused<'a>(
+    state: State,
+    who: Account,
+    buys: &'a [u32],
+    sells: &'a [u32],
+    trades: &'a [u32],
+    o: NewOrder,
+) -> bool
+    requires { ⌜ WellFormedState state (now buys) (now sells) (now trades) × Present state o × (o .lots ≤ 1000) × (getD (state .accounts) (o .account - 1) noAccount ≡ who) ⌝ }
+    ensures { λ r. ⌜ r ≡ answer.moneyRefused (exchangeOf (memory state (now (buys .entry)) (now (sells .entry)) (now (trades .entry)))) o ⌝ }
+{
+    if o.close {
+        return false;
+    }
+    let c = laws::wide(o.contract) - 1;
+    let a = laws::wide(o.account) - 1;
+    let held = holdings::book_leg(who, c, o.sell, 0, o.lots);
+    let balance = who.balance;
+    let holdings = held.holdings;
+    let contracts = state.contracts;
+    let bids = state.buys;
+    let offers = state.sells;
+    let charged = margin::charged(
+        holdings,
+        contracts,
+        state.contractcount,
+        buys,
+        bids,
+        sells,
+        offers,
+        a,
+    );
+    margin::too_little(balance, charged)
+}
+
+// Codes 8 and 9, 0 where neither holds. `who` is the order's account.
+fn account_code<'a>(
+    state: State,
+    who: Account,
+    buys: &'a [u32],
+    sells: &'a [u32],
+    trades: &'a [u32],
+    o: NewOrder,
+) -> u32
+    requires { ⌜ WellFormedState state (now buys) (now sells) (now trades) × Present state o × (o .lots ≤ 1000) × (getD (state .accounts) (o .account - 1) noAccount ≡ who) ⌝ }
+    ensures { λ r. ⌜ r ≡ answer.firstOf (accountRefusals (exchangeOf (memory state (now (buys .entry)) (now (sells .entry)) (now (trades .entry)))) o) ⌝ }
+{
+    let c = laws::wide(o.contract) - 1;
+    let contracts = state.contracts;
+    let terms = contracts[c];
+    let h = who.holdings[c];
+    let own = orders::side_area(o.sell, buys, sells);
+    let count = orders::side_count(o.sell, state, c);
+    let rested = book::scan::resting(own, c, count, o.account - 1, orders::mark(o.close));
+    if lots_refused(terms, h, rested, o) {
+        return 8;
+    }
+    if money_refused(state, who, buys, sells, trades, o) {
+        return 9;
+    }
+    0
+}
+
+// Whether an order would not be filled at once.
+fn is_short(area: &[u32], c: usize, count: usize, t: Taker, lots: u32) -> bool
+    requires { ⌜ Facing t (now area) c count ⌝ }
+    ensures { λ r. ⌜ r ≡ ltb (matching.fillable t (queueIn (now (area .entry)) c count)) lots ⌝ }
+{
+    book::scan::fillable(area, c, count, t) < laws::wide32(lots)
+}
+
+// 11: "fill or kill: fillable lots below lots".
+fn kill_refused(
+    area: &[u32],
+    c: usize,
+    count: usize,
+    t: Taker,
+    lots: u32,
+    time: TimeCondition,
+) -> bool
+    requires { ⌜ Facing t (now area) c count ⌝ }
+    ensures { λ r. ⌜ r ≡ killRefused t (queueIn (now (area .entry)) c count) lots time ⌝ }
+{
+    if !orders::is_kill(time) {
+        return false;
+    }
+    is_short(area, c, count, t, lots)
+}
+
+// 12: more trades than the day has room for. An order trades at most once with each order of the opposite queue, so up to 960
+// recorded trades nothing needs to be counted.
+fn trades_refused(
+    recorded: usize,
+    area: &[u32],
+    c: usize,
+    count: usize,
+    t: Taker,
+    lots: u32,
+) -> bool
+    requires { ⌜ QueueRoom (now area) c count × (recorded ≤ 1024) ⌝ }
+    ensures { λ r. ⌜ r ≡ tradesRefused recorded t (queueIn (now (area .entry)) c count) lots ⌝ }
+{
+    if recorded <= 960 {
+        return false;
+    }
+    1024 < recorded + book::scan::count_trades(area, c, count, t, lots)
+}
+
+// 13: "good for day, own side has 64, fillable lots below lots". `own` is the number of orders on the own side.
+fn full_refused(
+    own: usize,
+    area: &[u32],
+    c: usize,
+    count: usize,
+    t: Taker,
+    lots: u32,
+    time: TimeCondition,
+) -> bool
+    requires { ⌜ Facing t (now area) c count ⌝ }
+    ensures { λ r. ⌜ r ≡ fullRefused own t (queueIn (now (area .entry)) c count) lots time ⌝ }
+{
+    if !orders::is_day(time) {
+        return false;
+    }
+    if own < 64 {
+        return false;
+    }
+    is_short(area, c, count, t, lots)
+}
+
+// Codes 10 to 13, 0 where none holds: the order as it meets the opposite queue, with so many orders on its own side.
+fn book_code(
+    state: State,
+    own: usize,
+    area: &[u32],
+    c: usize,
+    count: usize,
+    t: Taker,
+    o: NewOrder,
+) -> u32
+    requires { ⌜ Facing t (now area) c count × (state .tradecount ≤ 1024) ⌝ }
+    ensures { λ r. ⌜ r ≡ answer.firstOf (bookRefusals (state .next) (state .tradecount) own t (queueIn (now (area .entry)) c count) o) ⌝ }
+{
+    let time = o.time;
+    let lots = o.lots;
+    if 1000000 <= state.next {
+        return 10;
+    }
+    if kill_refused(area, c, count, t, lots, time) {
+        return 11;
+    }
+    if trades_refused(state.tradecount, area, c, count, t, lots) {
+        return 12;
+    }
+    if full_refused(own, area, c, count, t, lots, time) {
+        return 13;
+    }
+    0
+}
+
+// The code of the first refusal that holds, 0 where none does. `who` is the order's account, which its caller has read: no copy of all
+// accounts is made to read one.
+pub fn code_of<'a>(
+    state: State,
+    who: Account,
+    buys: &'a [u32],
+    sells: &'a [u32],
+    trades: &'a [u32],
+    o: NewOrder,
+) -> u32
+    requires { ⌜ WellFormedState state (now buys) (now sells) (now trades) × OwnedBy state o who ⌝ }
+    ensures { λ r. ⌜ r ≡ codeOf (exchangeOf (memory state (now (buys .entry)) (now (sells .entry)) (now (trades .entry)))) (Insert o) ⌝ }
+{
+    if answers::is_absent(o.contract, state.contractcount) {
+        return 3;
+    }
+    let c = laws::wide(o.contract) - 1;
+    let contracts = state.contracts;
+    let terms = contracts[c];
+    let fields = terms_code(terms, o);
+    if fields != 0 {
+        return fields;
+    }
+    // read before margin is charged, as in `insert`
+    let own = orders::side_count(o.sell, state, c);
+    let count = orders::side_count(!o.sell, state, c);
+    let account = account_code(state, who, buys, sells, trades, o);
+    if account != 0 {
+        return account;
+    }
+    let area = orders::side_area(!o.sell, buys, sells);
+    let t = orders::taker_of(state.next, terms, area, count, o);
+    book_code(state, own, area, c, count, t, o)
+}
