@@ -6,7 +6,7 @@ use mathlib.Core.Path.{_≡_}
 use Prim.Native.Nat.{ℕ, _+_, _-_, min}
 use lib.Dec.{eqb, ltb}
 use Rattle.laws.specs.Choice.{pick}
-use Rattle.rules.specs.Answers.{Refusal, _when_, fillableLots, firstOf, isGoodForDay, isLimit, listingOf, priceRefused, takerOf}
+use Rattle.rules.specs.Answers.{Refusal, _when_, dayWithoutLimit, fillableLots, firstOf, listingOf, priceRefused, takerOf}
 use Rattle.rules.specs.Bounds.{maxLots, within}
 use Rattle.rules.specs.Command.{commandOf, newOrder}
 use Rattle.rules.specs.Exchange.{Exchange, absent, opposite}
@@ -46,8 +46,8 @@ orderRefusals x o =
     ∷ (3 when absent (o .contract) (x .listings))
     -- "lots outside 1 to 1,000"
     ∷ (5 when not (within 1 maxLots (o .lots)))
-    -- "market or best with good for day"
-    ∷ (6 when (not (isLimit (o .condition)) && isGoodForDay (o .time)))
+    -- "market or best with good for day", "in every state": auction's own 6 is no part of it (02, ticket 4)
+    ∷ (6 when dayWithoutLimit (o .condition) (o .time))
     -- "limit price off tick or outside low to high; market or best with a price not 0"
     ∷ (7 when priceRefused (listingOf x o .contract) o)
     ∷ []

@@ -10,6 +10,7 @@ use lib.IntN.{ℤ, pos, _+ℤ_, _-ℤ_, _*ℤ_}
 use lib.ListN.{length}
 use Rattle.laws.specs.Choice.{pick}
 use Rattle.laws.specs.Sums.{sumOf, sumTo}
+use Rattle.rules.specs.Auction.{matchOf}
 use Rattle.rules.specs.Command.{commandOf, isSettle}
 use Rattle.rules.specs.Exchange.{Exchange, listingAt, accountAt, holdingAt, placeOf}
 use Rattle.rules.specs.Memory.{Memory, exchangeOf, respond}
@@ -69,7 +70,7 @@ tradesOf x (Withdraw account amount) = []
 tradesOf x (Insert o) = enteredOf x o .trades
 tradesOf x (Cancel account contract operator number) = []
 tradesOf x (Pull account contract operator) = []
-tradesOf x (Phase contract phase) = []
+tradesOf x (Phase contract phase) = matchOf x (placeOf contract) .trades
 tradesOf x Settle = []
 
 unfoldable pub tradesMade : Memory → List Record → List Trade

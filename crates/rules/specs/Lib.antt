@@ -8,6 +8,7 @@ pub mod EarlyStop
 pub mod Places
 pub mod Margin
 pub mod Settlement
+pub mod Auction
 pub mod Answers
 pub mod Step
 pub mod Memory
@@ -18,6 +19,7 @@ pub mod Examples
 pub mod CodeExamples
 pub mod MarginExamples
 pub mod MatchingExamples
+pub mod AuctionExamples
 pub mod MethodExamples
 pub mod ProfitExamples
 pub mod WellFormedExamples

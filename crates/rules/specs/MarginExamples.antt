@@ -7,7 +7,7 @@ use Prim.Native.Nat.{ℕ}
 use lib.IntN.{ℤ, pos, negsuc}
 use Rattle.laws.specs.Choice.{pick}
 use Rattle.laws.specs.Sums.{sumOf}
-use Rattle.rules.specs.Answers.{amountRefused, codeOf, fillableLots, firstOf, holdingRefused, insertRefusals, leavesTooLittle, listingOf, moneyRefused, overHolding, overLimit, priceRefusedBy, refusals, takerOf, tradesNeeded, withdrawRefusals}
+use Rattle.rules.specs.Answers.{amountRefused, codeOf, conditionsRefused, fillableLots, firstOf, holdingRefused, insertRefusals, leavesTooLittle, listingOf, moneyRefused, overHolding, overLimit, priceRefusedBy, refusals, takerOf, takesOrders, tradesNeeded, withdrawRefusals}
 use Rattle.rules.specs.Bounds.{allowedToday, dayHigh, dayLow, onTick}
 use Rattle.rules.specs.Examples.{Row, _gives_, allRight}
 use Rattle.rules.specs.Exchange.{Exchange, absent, accountAt, bestPrice, holdingAt, listingAt, lotsWhere, noHolding, resting}
@@ -127,5 +127,5 @@ table =
     ∷ []
 
 pub margin-examples : allRight table ≡ true
-unfolding allRight table contract order held account x insert buyOpen sellOpen absent accountAt afterLeg allowedToday amountRefused bestPrice bookLeg chargeOf chargedLots chargedTo codeOf dayHigh dayLow fillable fillableLots firstOf holdingAt holdingRefused insertRefusals leavesTooLittle listingAt listingOf lotsWhere meets methodOf middle moneyRefused onTick overHolding overLimit pairedPrice priceRefusedBy refusals resting stays sumOf sweep takerOf tradePrice tradeWith tradesNeeded withdrawRefusals
+unfolding allRight table contract order held account x insert buyOpen sellOpen absent accountAt afterLeg allowedToday amountRefused bestPrice bookLeg chargeOf chargedLots chargedTo codeOf conditionsRefused dayHigh dayLow fillable fillableLots firstOf holdingAt holdingRefused insertRefusals leavesTooLittle listingAt listingOf lotsWhere meets methodOf middle moneyRefused onTick overHolding overLimit pairedPrice priceRefusedBy refusals resting stays sumOf sweep takerOf takesOrders tradePrice tradeWith tradesNeeded withdrawRefusals
 margin-examples = refl

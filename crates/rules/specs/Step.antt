@@ -7,9 +7,11 @@ use lib.IntN.{ℤ, pos, _+ℤ_, _-ℤ_}
 use lib.ListN.{set}
 use Rattle.laws.specs.Choice.{pick}
 use Rattle.rules.specs.Answers.{codeOf, takerOf, listingOf, isGoodForDay}
+use Rattle.rules.specs.Auction.{Matched, matchOf}
+use Rattle.rules.specs.Bounds.{inAuction}
 use Rattle.rules.specs.Exchange.{Exchange, Listing, listingAt, accountAt, placeOf, own, opposite, withQueues, lotsWhere}
 use Rattle.rules.specs.Holdings.{bookTrades}
-use Rattle.rules.specs.Matching.{Entered, enter, tradedLots, lastPrice}
+use Rattle.rules.specs.Matching.{Entered, enter, restWhole, tradedLots, lastPrice}
 use Rattle.rules.specs.Settlement.{settled}
 use Rattle.rules.specs.declared.Account.{Account}
 use Rattle.rules.specs.declared.Answer.{Answer}
@@ -83,11 +85,14 @@ limitOf (Limit limit) = limit
 limitOf Market = 0
 limitOf Best = 0
 
+-- "In auction, limit good-for-day orders rest without matching" (02, ticket 4)
 unfoldable pub enteredOf : Exchange → NewOrder → Entered
 enteredOf x o =
-    enter (takerOf x o) (o .lots) (limitOf (o .condition)) (isGoodForDay (o .time)) (listingOf x o .contract .last)
+    pick (inAuction (listingOf x o .contract))
+    (restWhole (takerOf x o) (o .lots) (limitOf (o .condition)) (own (o .sell) (listingOf x o)) (opposite (o .sell) (listingOf x o)))
+    (enter (takerOf x o) (o .lots) (limitOf (o .condition)) (isGoodForDay (o .time)) (listingOf x o .contract .last)
     (own (o .sell) (listingOf x o))
-    (opposite (o .sell) (listingOf x o))
+    (opposite (o .sell) (listingOf x o)))
 
 -- the listing with an order entered, and the state
 unfoldable pub listingAfter : Listing → Bool → Entered → Listing
@@ -139,8 +144,28 @@ pulled x a c = removed x c (isOf a) 0
 
 -- ---- state and settle
 
+-- the listing in its new state, and after the match where the change makes one: "The last price .. becomes each trade's price"
+unfoldable pub listingMatched : Listing → ℕ → Matched → Listing
+listingMatched l phase m =
+    record {
+      contract = withPhase (withLast (l .contract) (lastPrice (l .contract .last) (m .trades))) phase;
+      buys = m .buys;
+      sells = m .sells;
+    }
+
+unfoldable pub exchangeMatched : Exchange → ℕ → ℕ → Matched → Exchange
+exchangeMatched x c phase m =
+    record {
+      listings = set (x .listings) c (listingMatched (listingAt x c) phase m);
+      accounts = bookTrades (x .accounts) (m .trades);
+      trades = x .trades ++ m .trades;
+      next = x .next;
+      settlements = x .settlements;
+    }
+
+-- its trades "appear after the state command's C line, whose traded field is their lots" (02, ticket 4): none but the match's
 unfoldable pub phaseChanged : Exchange → ℕ → ℕ → Stepped
-phaseChanged x c phase = accepted 0 0 0 (withListing x c (withContract (listingAt x c) (withPhase (listingAt x c .contract) phase)))
+phaseChanged x c phase = accepted 0 (tradedLots (matchOf x c .trades)) 0 (exchangeMatched x c phase (matchOf x c))
 
 -- what an accepted command does
 unfoldable pub carriedOut : Exchange → Command → Stepped

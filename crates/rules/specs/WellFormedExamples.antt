@@ -7,7 +7,7 @@ use Prim.Native.Nat.{ℕ, _+_, _*_, _^_}
 use lib.IntN.{ℤ, pos, negℤ}
 use Rattle.laws.specs.Choice.{all, allOf}
 use Rattle.laws.specs.Sums.{sumOf}
-use Rattle.rules.specs.Bounds.{allowedToday, dayHigh, dayLow, onTick, termsInRange, tickMultiple}
+use Rattle.rules.specs.Bounds.{allowedToday, auction, closed, continuous, dayHigh, dayLow, noTrading, onTick, preOpen, termsInRange, tickMultiple}
 use Rattle.rules.specs.Examples.{Row, _gives_, allRight}
 use Rattle.rules.specs.Exchange.{Exchange, accountAt, holdingAt, listingAt, lotsWhere, resting}
 use Rattle.rules.specs.Holdings.{afterLeg, bookLeg, bookTrade, bookTrades, legCovered, neverBelowZero, sameHoldings, sameLots, startOfDay}
@@ -18,8 +18,8 @@ use Rattle.rules.specs.declared.Contract.{Contract}
 use Rattle.rules.specs.declared.Order.{Order}
 use Rattle.rules.specs.declared.Trade.{Trade}
 
-contract : ℕ → Contract
-contract last = record { multiplier = 10; tick = 2; reference = 110; band = 10; limit = 10; rate = 1_000; method = 0; phase = 1; last = last }
+contract : ℕ → ℕ → Contract
+contract phase last = record { multiplier = 10; tick = 2; reference = 110; band = 10; limit = 10; rate = 1_000; method = 0; phase = phase; last = last }
 
 order : ℕ → ℕ → ℕ → ℕ → Order
 order number price lots close = record { price = price; number = number; account = 0; lots = lots; close = close }
@@ -34,10 +34,10 @@ account balance long short startlong startshort =
     record { balance = balance; holdings = record { long = long; short = short; startlong = startlong; startshort = startshort } ∷ [] }
 
 -- account 1 starts with 2 long, account 2 with 2 short
-asked : ℕ → List Order → List Order → List Trade → ℕ → ℕ → ℤ → Exchange
-asked last buys sells trades short next balance =
+asked : ℕ → ℕ → List Order → List Order → List Trade → ℕ → ℕ → ℤ → Exchange
+asked phase last buys sells trades short next balance =
     record {
-      listings = record { contract = contract last; buys = buys; sells = sells } ∷ [];
+      listings = record { contract = contract phase last; buys = buys; sells = sells } ∷ [];
       accounts = account balance 2 short 2 0 ∷ account (pos 0) 3 2 0 2 ∷ [];
       trades = trades;
       next = next;
@@ -53,9 +53,13 @@ sells = order 5 110 7 0 ∷ order 7 112 2 1 ∷ []
 trades : List Trade
 trades = trade 110 3 2 ∷ []
 
--- the state with the given parts, 1 where it is well formed
+-- the state with the given parts, in continuous, 1 where it is well formed
 test : ℕ → List Order → List Order → List Trade → ℕ → ℕ → ℤ → ℕ
-test last b s t short next balance = mark (wellFormedContents (asked last b s t short next balance))
+test last b s t short next balance = mark (wellFormedContents (asked continuous last b s t short next balance))
+
+-- a contract's state with its buys
+testIn : ℕ → List Order → ℕ
+testIn phase b = mark (wellFormedContents (asked phase 110 b sells trades 3 8 (pos 0)))
 
 pub table : List Row
 table =
@@ -68,6 +72,13 @@ table =
     ∷ (test 110 (order 6 106 1 1 ∷ order 3 108 4 0 ∷ []) sells trades 3 8 (pos 0) gives 0)
     ∷ (test 110 (order 4 108 4 0 ∷ order 3 108 4 0 ∷ []) sells trades 3 8 (pos 0) gives 0)
     ∷ (test 110 (order 3 110 4 0 ∷ []) sells trades 3 8 (pos 0) gives 0)
+    -- that in auction, the one state in which it may be; a queue out of order in auction; a state that is unknown
+    ∷ (testIn auction (order 3 110 4 0 ∷ []) gives 1)
+    ∷ (testIn preOpen (order 3 110 4 0 ∷ []) gives 0)
+    ∷ (testIn noTrading (order 3 110 4 0 ∷ []) gives 0)
+    ∷ (testIn closed (order 3 110 4 0 ∷ []) gives 0)
+    ∷ (testIn auction (order 4 112 1 0 ∷ order 3 112 1 0 ∷ []) gives 0)
+    ∷ (testIn 5 buys gives 0)
     -- no lots, a price past the band, a third mark, a number used twice
     ∷ (test 110 (order 3 108 0 0 ∷ []) sells trades 3 8 (pos 0) gives 0)
     ∷ (test 110 buys (order 5 122 1 0 ∷ []) trades 3 8 (pos 0) gives 0)
@@ -89,5 +100,5 @@ table =
     ∷ []
 
 pub well-formed-examples : allRight table ≡ true
-unfolding allRight table contract order trade account asked buys sells trades test all allOf sumOf accountAt afterLeg ahead aheadOfFirst allNumbers allowedToday balanceInRange bookLeg bookTrade bookTrades contractInRange countersInRange dayHigh dayLow holdingAt holdingInRange holdingsInRange legCovered listingAt listingInRange lotsWhere neverBelowZero numbers onTick orderInRange replays resting sameHoldings sameLots sorted startOfDay termsInRange tickMultiple tradeInRange uncrossed usedOnce wellFormedContents
+unfolding allRight table contract order trade account asked buys sells trades test testIn all allOf sumOf accountAt afterLeg ahead aheadOfFirst allNumbers allowedToday balanceInRange bookLeg bookTrade bookTrades contractInRange countersInRange dayHigh dayLow holdingAt holdingInRange holdingsInRange legCovered listingAt listingInRange lotsWhere neverBelowZero numbers onTick orderInRange replays resting sameHoldings sameLots sorted startOfDay termsInRange tickMultiple tradeInRange uncrossed usedOnce wellFormedContents
 well-formed-examples = refl
