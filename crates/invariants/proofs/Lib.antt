@@ -14,6 +14,7 @@ pub mod Settle
 pub mod Legs
 pub mod SweptHoldings
 pub mod SweptTrades
+pub mod Traded
 pub mod InsertAccepted
 pub mod InsertQueues
 pub mod InsertListing

@@ -11,7 +11,7 @@ use lib.ListN.{length}
 use Rattle.laws.specs.Choice.{both-false}
 use Rattle.laws.specs.Chains.{passed, join}
 use Rattle.rules.specs.Answers.{codeOf, refusals, phaseRefusals, changeListed}
-use Rattle.rules.specs.Bounds.{termsInRange, tickMultiple, allowedToday, dayLow, dayHigh}
+use Rattle.rules.specs.Bounds.{maxPhase, termsInRange, tickMultiple, allowedToday, dayLow, dayHigh}
 use Rattle.rules.specs.Exchange.{Exchange, Listing, placeOf, own}
 use Rattle.rules.specs.Step.{withContract, withPhase, phaseChanged, carriedOut}
 use Rattle.rules.specs.WellFormed.{contractInRange}
@@ -53,8 +53,8 @@ allows-phase c phase price h = h
 contract-phase : (c : Contract) (phase : ℕ) → phase ≤ 3 → contractInRange c ≡ true → contractInRange (withPhase c phase) ≡ true
 unfolding contractInRange termsInRange
 contract-phase c phase l h =
-    let p = passed (termsInRange c) (leb (c .phase) 3 ∷ tickMultiple (c .tick) (c .last) ∷ []) h in
-    join (termsInRange c) (leb phase 3 ∷ tickMultiple (c .tick) (c .last) ∷ []) (p .0, (le-leb phase 3 l, p .1 .1))
+    let p = passed (termsInRange c) (leb (c .phase) maxPhase ∷ tickMultiple (c .tick) (c .last) ∷ []) h in
+    join (termsInRange c) (leb phase maxPhase ∷ tickMultiple (c .tick) (c .last) ∷ []) (p .0, (le-leb phase maxPhase l, p .1 .1))
 
 module _ (accounts next : ℕ) (m : Listing) (phase : ℕ) (l : phase ≤ 3) where
   listing-phase : ListingOk accounts next m → ListingOk accounts next (withContract m (withPhase (m .contract) phase))
