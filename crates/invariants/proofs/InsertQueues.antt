@@ -113,13 +113,11 @@ module _ (t : Taker) (price : ℕ) where
       more true = h
       more false = omega arith
 
--- ---- the opposite queue: an order that traded a part of its lots stays in range
+-- ---- an order that traded a part of its lots stays in range
 
-pub rest-orders : (accounts next : ℕ) (c : Contract) (t : Taker) (left last : ℕ) (os : List Order) →
-    allOf (orderInRange accounts next c) os ≡ true → allOf (orderInRange accounts next c) (sweep t left last os .rest) ≡ true
-rest-orders accounts next c =
-    rest-all (orderInRange accounts next c)
-    (λ o lots low high h.
+pub order-fewer : (accounts next : ℕ) (c : Contract) (o : Order) (lots : ℕ) → 1 ≤ lots → lots ≤ o .lots →
+    orderInRange accounts next c o ≡ true → orderInRange accounts next c (withLots o lots) ≡ true
+order-fewer accounts next c o lots low high h =
     let k = order-ok accounts next c o h in
     order-test accounts next c (withLots o lots)
     (record {
@@ -130,4 +128,8 @@ rest-orders accounts next c =
       number-low = k .number-low;
       number-high = k .number-high;
       close = k .close;
-    }))
+    })
+
+pub rest-orders : (accounts next : ℕ) (c : Contract) (t : Taker) (left last : ℕ) (os : List Order) →
+    allOf (orderInRange accounts next c) os ≡ true → allOf (orderInRange accounts next c) (sweep t left last os .rest) ≡ true
+rest-orders accounts next c = rest-all (orderInRange accounts next c) (order-fewer accounts next c)

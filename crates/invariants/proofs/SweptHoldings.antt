@@ -67,7 +67,7 @@ module _ (accounts limit price : ℕ) (account contract close number best : ℕ)
 abbrev pub Fewer : List Order → List Order → Type 0
 Fewer queue′ queue = (close a : ℕ) → resting close a queue′ ≤ resting close a queue
 
-fewer-kept : (accounts limit c : ℕ) (l : List Account) (buys buys′ sells sells′ : List Order) → Fewer buys′ buys → Fewer sells′ sells →
+pub fewer-kept : (accounts limit c : ℕ) (l : List Account) (buys buys′ sells sells′ : List Order) → Fewer buys′ buys → Fewer sells′ sells →
     Kept accounts limit c l buys sells → Kept accounts limit c l buys′ sells′
 fewer-kept accounts limit c l buys buys′ sells sells′ f g k a h =
     let p = k a h in
@@ -85,7 +85,7 @@ fewer-by false accounts limit c l own own′ opposite opposite′ f g = fewer-ke
 fewer-by true accounts limit c l own own′ opposite opposite′ f g = fewer-kept accounts limit c l opposite opposite′ own own′ g f
 
 -- an order without lots counts for nothing
-fewer-none : (o : Order) (os : List Order) → Fewer os (o ∷ os)
+pub fewer-none : (o : Order) (os : List Order) → Fewer os (o ∷ os)
 fewer-none o os close a = omega (arith, resting-cons close a o os)
 
 fewer-same : (os : List Order) → Fewer os os
