@@ -9,6 +9,7 @@ use native.Mathlib.Omega.{arith}
 use borrow.Author.Tests.{eqb-true, leb-true, leb-false, le-leb, lt-ltb, ltb-false, ne-eqb, not-false}
 use lib.Dec.{leb, eqb}
 use lib.ListN.{length}
+use lib.Seq.{getD-set-same}
 use Rattle.laws.specs.Choice.{pick, allOf, allOf-imp, both-false}
 use Rattle.laws.specs.Chains.{passed, join}
 use Rattle.laws.specs.Sums.{sumOf-at}
@@ -281,6 +282,14 @@ module _ (x : Exchange) (contract phase : ℕ) (e : codeOf x (Phase contract pha
   pub phase-keeps : WellFormed (carriedOut x (Phase contract phase) .exchange)
   unfolding carriedOut phaseChanged
   phase-keeps = changed-keeps x k (placeOf contract) (passes .0) phase (passes .1 .0)
+
+  -- THE BOOK IS UNCROSSED AFTER A CHANGE OF STATE, out of auction too
+  pub phase-uncrossed : uncrossed (listingAt (carriedOut x (Phase contract phase) .exchange) (placeOf contract) .buys)
+      (listingAt (carriedOut x (Phase contract phase) .exchange) (placeOf contract) .sells) ≡ true
+  unfolding carriedOut phaseChanged exchangeMatched listingMatched listingAt
+  phase-uncrossed =
+      rw (getD-set-same (x .listings) (placeOf contract) (listingMatched (listingAt x (placeOf contract)) phase (matchOf x (placeOf contract))) noListing (passes .0))
+      (match-ok x k (placeOf contract) (passes .0) .apart)
 
   pub phase-counted : Counted x → Counted (carriedOut x (Phase contract phase) .exchange)
   unfolding carriedOut phaseChanged
