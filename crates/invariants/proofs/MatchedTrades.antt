@@ -1,6 +1,6 @@
 -- The trades of an auction's match are in range: accounts and contract exist, the two order numbers differ since each is used once,
 -- the price is allowed today since it is a resting one, the lots are 1 to 1,000. Assumes nothing.
-use mathlib.Core.Bool.{Bool, true, false, not, _&&_}
+use mathlib.Core.Bool.{Bool, true, not, _&&_}
 use mathlib.Core.List.{List, [], _∷_}
 use mathlib.Core.Path.{_≡_, refl, ap}
 use Prim.Native.Nat.{ℕ, _+_, _<_, _≤_}
@@ -8,7 +8,7 @@ use native.Mathlib.Omega.{arith}
 use borrow.Author.Tests.{eq-eqb, le-leb, leb-true, ne-eqb}
 use lib.Dec.{leb, eqb}
 use lib.ListN.{length}
-use Rattle.laws.specs.Choice.{pick, allOf, allOf-imp, both-true, true-both}
+use Rattle.laws.specs.Choice.{allOf, allOf-imp, both-true, true-both}
 use Rattle.laws.specs.Sums.{sumOf}
 use Rattle.rules.specs.Auction.{matchAt, tradeAt}
 use Rattle.rules.specs.Bounds.{allowedToday}

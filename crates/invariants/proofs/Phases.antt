@@ -1,8 +1,8 @@
 -- A change of a contract's state keeps the exchange's state well formed, the match of an auction with it: the book that the auction
 -- leaves is uncrossed. Assumes nothing.
-use mathlib.Core.Bool.{Bool, true, false, _&&_, false≢true}
+use mathlib.Core.Bool.{Bool, true, false, false≢true}
 use mathlib.Core.List.{List, [], _∷_}
-use mathlib.Core.Path.{_≡_, refl, sym, ap, subst, _∙_}
+use mathlib.Core.Path.{_≡_, refl, sym, ap, subst}
 use Prim.Native.Nat.{ℕ, _+_, _<_, _≤_}
 use native.Mathlib.Nat.{le-refl}
 use native.Mathlib.Omega.{arith}
@@ -18,7 +18,6 @@ use Rattle.rules.specs.Auction.{Matched, auctionMatch, chosenPrice, matchAt, ma
 use Rattle.rules.specs.Bounds.{inAuction, preOpen, continuous, noTrading, auction, maxPhase, maxResting, maxTrades, termsInRange, tickMultiple, allowedToday, dayLow, dayHigh}
 use Rattle.rules.specs.Exchange.{Exchange, Listing, listingAt, holdingAt, noListing, placeOf, own}
 use Rattle.rules.specs.Holdings.{bookTrades}
-use Rattle.rules.specs.Matching.{lastPrice}
 use Rattle.rules.specs.Step.{withLast, withPhase, withTrades, listingMatched, exchangeMatched, phaseChanged, carriedOut}
 use Rattle.rules.specs.WellFormed.{allNumbers, contractInRange, orderInRange, sorted, tradeInRange, uncrossed}
 use Rattle.rules.specs.declared.Contract.{Contract}
@@ -36,7 +35,7 @@ use Rattle.invariants.proofs.Carry.{Allows, orders-carried}
 use Rattle.invariants.proofs.Clauses.{order-ok, ListingOk, HoldingOk, WellFormed, Counted}
 use Rattle.invariants.proofs.InsertListing.{contract-traded}
 use Rattle.invariants.proofs.InsertQueues.{order-fewer}
-use Rattle.invariants.proofs.Legs.{Kept, KeptAt}
+use Rattle.invariants.proofs.Legs.{Kept}
 use Rattle.invariants.proofs.MatchedHoldings.{MatchKept, match-kept, unmatched-kept}
 use Rattle.invariants.proofs.MatchedTrades.{matched-in-range}
 use Rattle.invariants.proofs.Numbers.{all-uses, once-count, uses, usesIn}

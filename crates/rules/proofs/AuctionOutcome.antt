@@ -10,7 +10,7 @@ use native.Mathlib.Omega.{arith}
 use borrow.Author.Tests.{eq-eqb, eqb-true, lt-ltb, ltb-true, ltb-false}
 use lib.Dec.{ltb, eqb}
 use lib.ListN.{length}
-use Rattle.laws.specs.Choice.{pick, pick-true, pick-false, allOf, allOf-append, allOf-imp, both-true, true-both}
+use Rattle.laws.specs.Choice.{pick, pick-either, pick-true, allOf, allOf-append, allOf-imp, both-true, true-both}
 use Rattle.rules.specs.Auction.{Matched, auctionMatch, auctionPrice, chosenPrice, lotsReaching, matchAt, prices, restingPrices, unmatched, volume}
 use Rattle.rules.specs.Matching.{lastPrice, tradedLots}
 use Rattle.rules.specs.WellFormed.{sorted, uncrossed}
@@ -42,11 +42,10 @@ module _ (contract last : ℕ) (buys sells : List Order) where
   pub auction-either : (P : Matched → Type 0) → (volume buys sells (chosenPrice last buys sells) ≡ 0 → P (unmatched buys sells))
       → (0 < volume buys sells (chosenPrice last buys sells) → P (matchAt contract (chosenPrice last buys sells) buys sells))
       → P (auctionMatch contract last buys sells)
-  auction-either P none some = cases (ltb 0 (volume buys sells price)) refl
-    where
-      cases : (any : Bool) → ltb 0 (volume buys sells price) ≡ any → P (auctionMatch contract last buys sells)
-      cases true e = let h = ltb-true 0 (volume buys sells price) e in rw (auction-some h) (some h)
-      cases false e = let z : volume buys sells price ≡ 0 = omega (arith, ltb-false 0 (volume buys sells price) e) in rw (auction-none z) (none z)
+  unfolding auctionMatch
+  auction-either P none some =
+      pick-either P (ltb 0 (volume buys sells price)) _ _ (λ e. some (ltb-true 0 (volume buys sells price) e))
+      (λ e. none (omega (arith, ltb-false 0 (volume buys sells price) e)))
 
   -- there are no more trades than orders
   pub auction-count : length (auctionMatch contract last buys sells .trades) ≤ length buys + length sells
