@@ -5,13 +5,14 @@ use mathlib.Core.Path.{_≡_, refl, sym, ap, ap₂, _∙_}
 use Prim.Native.Nat.{ℕ, zero, suc, _<_}
 use native.Mathlib.Omega.{arith}
 use lib.Dec.{eqb}
-use lib.IntN.{ℤ, pos, _+ℤ_, _-ℤ_, _*ℤ_, +ℤ-assoc, +ℤ-idl, +ℤ-idr, *ℤ-zero}
+use lib.IntN.{ℤ, pos, negℤ, _+ℤ_, _-ℤ_, _*ℤ_, +ℤ-assoc, +ℤ-idl, +ℤ-idr, *ℤ-zero}
 use Rattle.laws.specs.Choice.{pick}
 use Rattle.laws.specs.Ring.{split, d-eq, ring, *ℤ-add}
 use Rattle.laws.specs.Sums.{sumTo, sumTo-ext, sumTo-add, sumTo-mul, sumTo-zero}
-use Rattle.rules.specs.Condition3.{netHolding}
+use Rattle.rules.specs.Condition3.{netHolding, madeBy, made}
+use Rattle.rules.specs.Kinds.{Move, paysIn, paysOut, makes, settles}
 use Rattle.rules.specs.declared.Trade.{Trade}
-use Rattle.accounting.specs.Books.{Books, Move, pays, makes, settles, marked, after, Same, Reached, stay, move, paidBy, madeBy, paid, made, cash, position, brought, Level}
+use Rattle.accounting.specs.Books.{Books, marked, paidTo, after, Same, Reached, stay, move, paidBy, paid, cash, position, brought, Level}
 use Rattle.accounting.specs.Money.{proceeds, AllKnown}
 use Rattle.accounting.proofs.Trades.{sumTo-sub, proceeds-nil, proceeds-append, netHolding-nil, netHolding-append, zero-proceeds, zero-net}
 
@@ -51,8 +52,8 @@ module _ (contracts : ℕ) (s : Books) (a : ℕ) where
   kept : ℕ → ℤ
   kept c = pos (s .multiplier c) *ℤ (proceeds a c (s .trades) -ℤ pos (s .reference c) *ℤ s .start a c)
 
-  cash-pays : (u : ℕ) (z : ℤ) → cash contracts (after contracts s (pays u z)) a ≡ cash contracts s a +ℤ (pick (eqb u a) z (pos 0) +ℤ pos 0)
-  unfolding cash after
+  cash-pays : (u : ℕ) (z : ℤ) → cash contracts (paidTo s u z) a ≡ cash contracts s a +ℤ (pick (eqb u a) z (pos 0) +ℤ pos 0)
+  unfolding cash
   cash-pays u z = pays-algebra (s .balance a) (pick (eqb u a) z (pos 0)) (sumTo contracts _)
 
   cash-makes : (ts : List Trade) → cash contracts (after contracts s (makes ts)) a ≡ cash contracts s a +ℤ (pos 0 +ℤ brought contracts s a ts)
@@ -77,14 +78,16 @@ module _ (contracts : ℕ) (s : Books) (a : ℕ) where
       ∙ nothing-more (s .balance a +ℤ sumTo contracts kept)
 
   cash-after : (m : Move) → cash contracts (after contracts s m) a ≡ cash contracts s a +ℤ (paidBy a m +ℤ brought contracts s a (madeBy m))
-  unfolding paidBy madeBy
-  cash-after (pays u z) = rw (brought-nil contracts s a) (cash-pays u z)
+  unfolding paidBy madeBy after
+  cash-after (paysIn u n) = rw (brought-nil contracts s a) (cash-pays u (pos n))
+  cash-after (paysOut u n) = rw (brought-nil contracts s a) (cash-pays u (negℤ (pos n)))
   cash-after (makes ts) = cash-makes ts
   cash-after (settles price) = rw (brought-nil contracts s a) (cash-settles price)
 
   position-after : (m : Move) (c : ℕ) → position (after contracts s m) a c ≡ position s a c +ℤ netHolding a c (madeBy m)
   unfolding position after madeBy
-  position-after (pays u z) c = rw (netHolding-nil a c) (sym (+ℤ-idr (position s a c)))
+  position-after (paysIn u n) c = rw (netHolding-nil a c) (sym (+ℤ-idr (position s a c)))
+  position-after (paysOut u n) c = rw (netHolding-nil a c) (sym (+ℤ-idr (position s a c)))
   position-after (makes ts) c = rw (netHolding-append a c (s .trades) ts) (sym (+ℤ-assoc (s .start a c) (netHolding a c (s .trades)) (netHolding a c ts)))
   position-after (settles price) c = refl
 
@@ -126,7 +129,8 @@ module _ (accounts contracts : ℕ) (s : Books) (known : AllKnown accounts (s .t
   total-after : (m : Move) →
       sumTo accounts (after contracts s m .balance) ≡ sumTo accounts (s .balance) +ℤ sumTo accounts (λ a. paidBy a m)
   unfolding after paidBy
-  total-after (pays u z) = sumTo-add accounts (s .balance) (λ a. pick (eqb u a) z (pos 0))
+  total-after (paysIn u n) = sumTo-add accounts (s .balance) (λ a. pick (eqb u a) (pos n) (pos 0))
+  total-after (paysOut u n) = sumTo-add accounts (s .balance) (λ a. pick (eqb u a) (negℤ (pos n)) (pos 0))
   total-after (makes ts) = rw (sumTo-zero accounts) (sym (+ℤ-idr (sumTo accounts (s .balance))))
   total-after (settles price) =
       sumTo-add accounts (s .balance) (λ a. sumTo contracts (λ c. pos (s .multiplier c) *ℤ marked s (price c) a c))
@@ -134,7 +138,8 @@ module _ (accounts contracts : ℕ) (s : Books) (known : AllKnown accounts (s .t
 
   level-after : (m : Move) → Level accounts contracts (after contracts s m)
   unfolding Level after
-  level-after (pays u z) = level
+  level-after (paysIn u n) = level
+  level-after (paysOut u n) = level
   level-after (makes ts) = level
   level-after (settles price) = λ c l.
       sumTo-add accounts (λ a. s .start a c) (λ a. netHolding a c (s .trades))
@@ -167,13 +172,15 @@ module _ (accounts contracts : ℕ) (s s′ : Books) (e : Same accounts contract
 -- no move changes a multiplier
 brought-after : (contracts : ℕ) (s : Books) (m : Move) (a : ℕ) (ts : List Trade) → brought contracts (after contracts s m) a ts ≡ brought contracts s a ts
 unfolding brought after
-brought-after contracts s (pays u z) a ts = refl
+brought-after contracts s (paysIn u n) a ts = refl
+brought-after contracts s (paysOut u n) a ts = refl
 brought-after contracts s (makes us) a ts = refl
 brought-after contracts s (settles price) a ts = refl
 
 multiplier-after : (contracts : ℕ) (s : Books) (m : Move) (c : ℕ) → after contracts s m .multiplier c ≡ s .multiplier c
 unfolding after
-multiplier-after contracts s (pays u z) c = refl
+multiplier-after contracts s (paysIn u n) c = refl
+multiplier-after contracts s (paysOut u n) c = refl
 multiplier-after contracts s (makes us) c = refl
 multiplier-after contracts s (settles price) c = refl
 

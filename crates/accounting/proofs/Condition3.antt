@@ -1,325 +1,129 @@
--- CONDITION 3: marking to market never makes or loses money. Proved of the rules for every list of commands, from every opening
--- state whose arrays have the places of their types, well formed or not. It rests on two facts about one command, `kept` and
--- `read-back`, which are parameters of the last section. Assumes nothing else.
-use mathlib.Core.Bool.{Bool, true, false, _&&_, false≢true}
-use mathlib.Core.List.{List, [], _∷_, _++_}
+-- CONDITION 3: marking to market never makes or loses money. Proved of the rules for every list of commands, from every memory
+-- without recorded trades whose long and short totals are equal and whose arrays have the places of their types, well formed or
+-- not; an opening without holdings is the case of nothing held. What the holdings were marked at is taken off the balance to give
+-- the cash, and no settlement changes cash and position (Books.antt). It rests on the two facts that Runs.antt rests on. Assumes
+-- nothing else.
+use mathlib.Core.Bool.{Bool, true, false}
+use mathlib.Core.List.{List, [], _∷_}
 use mathlib.Core.Path.{_≡_, refl, sym, ap, ap₂, _∙_}
-use Prim.Native.Nat.{ℕ, _+_, _<_}
+use Prim.Native.Nat.{ℕ, _<_}
 use native.Mathlib.Omega.{arith}
-use lib.Dec.{eqb}
-use lib.IntN.{ℤ, pos, negℤ, _+ℤ_, _-ℤ_, _*ℤ_, +ℤ-assoc, +ℤ-idl, +ℤ-idr}
-use lib.ListN.{length}
-use Rattle.laws.specs.Choice.{pick, both-true}
+use lib.IntN.{ℤ, pos, negℤ, _+ℤ_, _-ℤ_, _*ℤ_, +ℤ-assoc, +ℤ-idr}
 use Rattle.laws.specs.Ring.{split, d-eq, ring, *ℤ-add}
 use Rattle.laws.specs.Sums.{sumTo, sumTo-ext, sumTo-add, sumTo-zero}
-use Rattle.rules.specs.Answers.{firstOf, refusals, codeOf}
-use Rattle.rules.specs.Command.{commandOf, isSettle}
-use Rattle.rules.specs.Condition3.{run, isAccepted, depositTo, withdrawalFrom, paidIn, paidOut, tradesOf, tradesMade, netHolding, worth, balanceIn, accountsOf, contractsOf, Opening, EndsSettled, Condition3}
-use Rattle.rules.specs.Exchange.{Exchange, holdingAt, placeOf}
-use Rattle.rules.specs.Memory.{Memory, exchangeOf, Declared, countsInRange, hasRoom, wellFormedMemory, refusedIn, inMemory, stepIn, respond}
+use Rattle.rules.specs.Condition3.{run, moveOf, movesOf, paidIn, paidOut, tradesMade, sales, costs, netHolding, balanceIn, accountsOf, contractsOf, holdingIn, netIn, multiplierIn, referenceIn, Start, opened, Opening, loadedWorth, loaded, Loaded, worth, EndsSettled, Condition3, MoneyKept}
+use Rattle.rules.specs.Exchange.{Exchange}
+use Rattle.rules.specs.Kinds.{settles, kindOf, step}
+use Rattle.rules.specs.Memory.{Memory, exchangeOf, Declared, wellFormedMemory, respond}
 use Rattle.rules.specs.Settlement.{settlementPrice}
-use Rattle.rules.specs.Step.{deposited, withdrawn, inserted, removed, cancelled, pulled, phaseChanged, carriedOut, step}
-use Rattle.rules.specs.WellFormed.{wellFormedContents}
-use Rattle.rules.specs.declared.Record.{Record}
 use Rattle.rules.specs.declared.Trade.{Trade}
 use Rattle.rules.specs.declared.Command.{Command}
-use Rattle.rules.specs.declared.Command.the-variants.{Malformed, Deposit, Withdraw, Insert, Cancel, Pull, Phase, Settle}
-use Rattle.accounting.specs.Books.{Books, makes, settles, after, Same, Reached, stay, move, paidBy, madeBy, paid, made, cash, position, brought, Level}
-use Rattle.accounting.specs.Money.{proceeds, netAtStart, netNow, AllKnown}
-use Rattle.accounting.specs.Moves.{booksOf, moveBy, moveOf, movesOf}
-use Rattle.accounting.specs.Shape.{Shaped}
+use Rattle.rules.specs.declared.Command.the-variants.{Settle}
+use Rattle.accounting.specs.Books.{Books, booksOf, after, Same, Reached, paid, cash, position, brought, Level}
+use Rattle.accounting.specs.Money.{proceeds, netAtStart, netNow}
 use Rattle.accounting.proofs.BooksLaws.{reached-cash, reached-position, reached-total, reached-multiplier, balance-is}
-use Rattle.accounting.proofs.Declared.{declared-shaped, declared-kept}
-use Rattle.accounting.proofs.Facts.{facts, known-trades}
-use Rattle.accounting.proofs.Identity.{net-moves, placed}
-use Rattle.accounting.proofs.StepMoves.{Makes, unchanged, step-moves}
-use Rattle.accounting.proofs.StepShape.{SameShape, same-shape, shape-trans, step-shape}
-use Rattle.accounting.proofs.Trades.{sumTo-sub, known-nil, netHolding-nil}
+use Rattle.accounting.proofs.Runs.{Sound, formed-sound, paid-is, made-is, run-last, run-stays, none-accepted, nothing-paid-in, nothing-paid-out, nothing-traded, one-move, end-declared, end-shape, end-sound, end-reached}
+use Rattle.accounting.proofs.Trades.{sumTo-sub, netHolding-nil}
 
--- ---- acceptance
+-- ---- integers
 
-carried-code : (x : Exchange) (command : Command) → eqb (codeOf x command) 0 ≡ true → eqb (carriedOut x command .answer .code) 0 ≡ true
-unfolding codeOf refusals firstOf carriedOut deposited withdrawn inserted cancelled pulled removed phaseChanged
-carried-code x Malformed e = e
-carried-code x (Deposit account amount) e = refl
-carried-code x (Withdraw account amount) e = refl
-carried-code x (Insert o) e = refl
-carried-code x (Cancel account contract operator number) e = refl
-carried-code x (Pull account contract operator) e = refl
-carried-code x (Phase contract phase) e = refl
-carried-code x Settle e = refl
+itself : (x : ℤ) → x -ℤ x ≡ pos 0
+itself x = rw (split x) (simp ring (d-eq _ _ _ _ (omega arith)))
 
-stepIn-code : (m : Memory) (command : Command) → eqb (stepIn m command .answer .code) 0 ≡ eqb (codeOf (exchangeOf m) command) 0
-unfolding stepIn
-stepIn-code m command = by (eqb (codeOf (exchangeOf m) command) 0) refl
+-- what stands beside a sum is its whole less the other part
+other-part : (b c w : ℤ) → b ≡ c +ℤ w → c ≡ b -ℤ w
+other-part b c w e = rw e (apart c w)
   where
-    by : (accepted : Bool) → eqb (codeOf (exchangeOf m) command) 0 ≡ accepted →
-        eqb (pick accepted (inMemory m (carriedOut (exchangeOf m) command)) (refusedIn m (codeOf (exchangeOf m) command)) .answer .code) 0 ≡ accepted
-    by true e = carried-code (exchangeOf m) command e
-    by false e = e
-
-module _ (m : Memory) (r : Record) where
-  accepted-is : wellFormedMemory m ≡ true → isAccepted m r ≡ eqb (codeOf (exchangeOf m) (commandOf r)) 0
-  unfolding isAccepted respond
-  accepted-is w = rw w (stepIn-code m (commandOf r))
-
-  -- a state that is not well formed accepts nothing and stays as it is
-  never-accepted : wellFormedMemory m ≡ false → isAccepted m r ≡ false
-  unfolding isAccepted respond
-  never-accepted w = rw w
-
-  stays-so : wellFormedMemory m ≡ false → respond m r .memory ≡ m
-  unfolding respond
-  stays-so w = rw w
-
-in-wellformed : (m : Memory) → wellFormedMemory m ≡ true → wellFormedContents (exchangeOf m) ≡ true
-unfolding wellFormedMemory
-in-wellformed m w = both-true (countsInRange (m .state) && hasRoom m) (wellFormedContents (exchangeOf m)) w .1
-
--- ---- what a run keeps of its states: trades are between accounts in use, and the holdings are the positions
-
-record Sound (x : Exchange) : Type 0 where
-  known : AllKnown (length (x .accounts)) (x .trades)
-  net : (a c : ℕ) → a < length (x .accounts) → c < length (x .listings) → netNow x a c ≡ position (booksOf x) a c
-
-sound : (x : Exchange) → wellFormedContents x ≡ true → Shaped x → Sound x
-unfolding position booksOf
-sound x w h = record {
-  known = known-trades x (x .trades) (facts x w .trades);
-  net = λ a c l k. net-moves x (facts x w .replay) a c (placed x h a c l k);
-}
-
-opening-sound : (m : Memory) → Opening m → Sound (exchangeOf m)
-unfolding position booksOf netNow netAtStart
-opening-sound m o = record {
-  known = rw (o .no-trades) (known-nil _);
-  net = λ a c l k. rw (o .no-long a c, o .no-short a c, o .no-startlong a c, o .no-startshort a c, o .no-trades, netHolding-nil a c);
-}
-
--- ---- a settlement's move
-
-settle-moves : (x : Exchange) (command : Command) → isSettle command ≡ true → moveBy x command ≡ settles (settlementPrice x)
-unfolding moveBy
-settle-moves x Malformed e = absurd (false≢true e)
-settle-moves x (Deposit account amount) e = absurd (false≢true e)
-settle-moves x (Withdraw account amount) e = absurd (false≢true e)
-settle-moves x (Insert o) e = absurd (false≢true e)
-settle-moves x (Cancel account contract operator number) e = absurd (false≢true e)
-settle-moves x (Pull account contract operator) e = absurd (false≢true e)
-settle-moves x (Phase contract phase) e = absurd (false≢true e)
-settle-moves x Settle e = refl
-
--- ---- payments and trades of a run are those of its moves
-
-less-none : (x y u v : ℕ) → pos x -ℤ pos y +ℤ (pos u -ℤ pos v) ≡ pos (x + u) -ℤ pos (y + v)
-less-none x y u v = simp ring (d-eq _ _ _ _ (omega arith))
-
-paid-command : (a : ℕ) (x : Exchange) (command : Command) → paidBy a (moveBy x command) ≡ pos (depositTo a command) -ℤ pos (withdrawalFrom a command)
-unfolding paidBy moveBy
-paid-command a x Malformed = refl
-paid-command a x (Deposit account amount) = by (eqb (placeOf account) a)
-  where
-    by : (whose : Bool) → pick whose (pos amount) (pos 0) ≡ pos (pick whose amount 0) -ℤ pos 0
-    by true = sym (+ℤ-idr (pos amount))
-    by false = refl
-paid-command a x (Withdraw account amount) = by (eqb (placeOf account) a)
-  where
-    by : (whose : Bool) → pick whose (negℤ (pos amount)) (pos 0) ≡ pos 0 -ℤ pos (pick whose amount 0)
-    by true = sym (+ℤ-idl (negℤ (pos amount)))
-    by false = refl
-paid-command a x (Insert o) = refl
-paid-command a x (Cancel account contract operator number) = refl
-paid-command a x (Pull account contract operator) = refl
-paid-command a x (Phase contract phase) = refl
-paid-command a x Settle = refl
-
-paid-record : (a : ℕ) (m : Memory) (r : Record) →
-    paidBy a (moveOf m r) ≡ pos (pick (isAccepted m r) (depositTo a (commandOf r)) 0) -ℤ pos (pick (isAccepted m r) (withdrawalFrom a (commandOf r)) 0)
-unfolding moveOf paidBy
-paid-record a m r = by (isAccepted m r)
-  where
-    by : (accepted : Bool) →
-        paidBy a (pick accepted (moveBy (exchangeOf m) (commandOf r)) (makes []))
-        ≡ pos (pick accepted (depositTo a (commandOf r)) 0) -ℤ pos (pick accepted (withdrawalFrom a (commandOf r)) 0)
-    by true = paid-command a (exchangeOf m) (commandOf r)
-    by false = refl
-
-paid-is : (a : ℕ) (m : Memory) (rs : List Record) → paid a (movesOf m rs) ≡ pos (paidIn a m rs) -ℤ pos (paidOut a m rs)
-unfolding paid movesOf paidIn paidOut
-paid-is a m [] = refl
-paid-is a m (r ∷ rs) =
-    ap₂ (λ (u v : ℤ). u +ℤ v) (paid-record a m r) (paid-is a (respond m r .memory) rs)
-    ∙ less-none (pick (isAccepted m r) (depositTo a (commandOf r)) 0) (pick (isAccepted m r) (withdrawalFrom a (commandOf r)) 0)
-    (paidIn a (respond m r .memory) rs) (paidOut a (respond m r .memory) rs)
-
-made-command : (x : Exchange) (command : Command) → madeBy (moveBy x command) ≡ tradesOf x command
-unfolding madeBy moveBy
-made-command x Malformed = refl
-made-command x (Deposit account amount) = refl
-made-command x (Withdraw account amount) = refl
-made-command x (Insert o) = refl
-made-command x (Cancel account contract operator number) = refl
-made-command x (Pull account contract operator) = refl
-made-command x (Phase contract phase) = refl
-made-command x Settle = refl
-
-made-record : (m : Memory) (r : Record) → madeBy (moveOf m r) ≡ pick (isAccepted m r) (tradesOf (exchangeOf m) (commandOf r)) []
-unfolding moveOf madeBy
-made-record m r = by (isAccepted m r)
-  where
-    by : (accepted : Bool) →
-        madeBy (pick accepted (moveBy (exchangeOf m) (commandOf r)) (makes [])) ≡ pick accepted (tradesOf (exchangeOf m) (commandOf r)) []
-    by true = made-command (exchangeOf m) (commandOf r)
-    by false = refl
-
-made-is : (m : Memory) (rs : List Record) → made (movesOf m rs) ≡ tradesMade m rs
-unfolding made movesOf tradesMade
-made-is m [] = refl
-made-is m (r ∷ rs) = ap₂ (λ (ts us : List Trade). ts ++ us) (made-record m r) (made-is (respond m r .memory) rs)
-
-run-last : (m : Memory) (before : List Record) (r : Record) → run m (before ++ (r ∷ [])) ≡ respond (run m before) r .memory
-unfolding run
-run-last m [] r = refl
-run-last m (q ∷ before) r = run-last (respond m q .memory) before r
+    apart : (c w : ℤ) → c ≡ c +ℤ w -ℤ w
+    apart c w = rw (split c, split w) (simp ring (d-eq _ _ _ _ (omega arith)))
 
 regroup : (b : ℤ) (i o : ℕ) (t w : ℤ) → b +ℤ (pos i -ℤ pos o +ℤ t) +ℤ w ≡ b +ℤ pos i -ℤ pos o +ℤ (t +ℤ w)
 regroup b i o t w = rw (split b, split t, split w) (simp ring (d-eq _ _ _ _ (omega arith)))
 
+-- ---- where the list starts: without trades the start of the day is the net holding now
+
+module _ (m : Memory) (o : Loaded m) (s : Sound (exchangeOf m)) where
+  loaded-position : (a c : ℕ) → a < accountsOf m → c < contractsOf m → position (booksOf (exchangeOf m)) a c ≡ netIn m a c
+  unfolding netNow
+  loaded-position a c l k = sym (s .net a c l k)
+
+  loaded-start : (a c : ℕ) → a < accountsOf m → c < contractsOf m → booksOf (exchangeOf m) .start a c ≡ netIn m a c
+  unfolding position booksOf
+  loaded-start a c l k =
+      sym (ap (λ (ts : List Trade). netAtStart (exchangeOf m) a c +ℤ netHolding a c ts) (o .no-trades)
+      ∙ ap (λ (z : ℤ). netAtStart (exchangeOf m) a c +ℤ z) (netHolding-nil a c)
+      ∙ +ℤ-idr (netAtStart (exchangeOf m) a c))
+      ∙ loaded-position a c l k
+
+  loaded-level : Level (accountsOf m) (contractsOf m) (booksOf (exchangeOf m))
+  unfolding Level
+  loaded-level c k =
+      sumTo-ext (accountsOf m) _ (netOf c) (λ a l. loaded-start a c l k)
+      ∙ sumTo-sub (accountsOf m) (λ a. pos (holdingIn m a c .long)) (λ a. pos (holdingIn m a c .short))
+      ∙ ap (λ (z : ℤ). z -ℤ sumTo (accountsOf m) (λ a. pos (holdingIn m a c .short))) (o .totals c k)
+      ∙ itself (sumTo (accountsOf m) (λ a. pos (holdingIn m a c .short)))
+    where
+      netOf : ℕ → ℕ → ℤ
+      netOf c a = netIn m a c
+
+  -- the cash is the balance without the net holding at the reference
+  loaded-cash : (a : ℕ) → a < accountsOf m → cash (contractsOf m) (booksOf (exchangeOf m)) a ≡ balanceIn m a -ℤ loadedWorth m a
+  unfolding booksOf loadedWorth
+  loaded-cash a l =
+      other-part (balanceIn m a) (cash (contractsOf m) (booksOf (exchangeOf m)) a) (loadedWorth m a)
+      (balance-is (contractsOf m) (booksOf (exchangeOf m)) a (o .no-trades)
+      ∙ ap (λ (z : ℤ). cash (contractsOf m) (booksOf (exchangeOf m)) a +ℤ z)
+      (sumTo-ext (contractsOf m) _ _ (λ c k. ap (λ (z : ℤ). pos (multiplierIn m c) *ℤ (pos (referenceIn m c) *ℤ z)) (loaded-start a c l k))))
+
 -- ---- the run
 
--- the state that a command leaves
-abbrev next : Memory → Record → Exchange
-next m r = exchangeOf (respond m r .memory)
-
 module _
-    (kept : (m : Memory) (r : Record) → Declared (m .state) → wellFormedMemory m ≡ true → wellFormedMemory (respond m r .memory) ≡ true)
-    (read-back : (m : Memory) (r : Record) → Declared (m .state) → wellFormedMemory m ≡ true →
-    exchangeOf (respond m r .memory) ≡ step (exchangeOf m) (commandOf r) .exchange) where
-  module _ (m : Memory) (r : Record) (d : Declared (m .state)) where
-    one-shape : SameShape (exchangeOf m) (next m r)
-    one-shape = by (wellFormedMemory m) refl
-      where
-        by : (w : Bool) → wellFormedMemory m ≡ w → SameShape (exchangeOf m) (next m r)
-        by true w = rw (read-back m r d w) (step-shape (exchangeOf m) (commandOf r))
-        by false w = rw (stays-so m r w) (same-shape (exchangeOf m))
-
-    next-sound : Sound (exchangeOf m) → Sound (next m r)
-    next-sound s = by (wellFormedMemory m) refl
-      where
-        by : (w : Bool) → wellFormedMemory m ≡ w → Sound (next m r)
-        by true w =
-            let k = kept m r d w in
-            sound _ (in-wellformed (respond m r .memory) k) (declared-shaped (respond m r .memory) (declared-kept m r d) k)
-        by false w = rw (stays-so m r w) s
-
-    one-move : Makes (exchangeOf m) (moveOf m r) (next m r)
-    unfolding moveOf
-    one-move = by (wellFormedMemory m) refl
-      where
-        by : (w : Bool) → wellFormedMemory m ≡ w →
-            Makes (exchangeOf m) (pick (isAccepted m r) (moveBy (exchangeOf m) (commandOf r)) (makes [])) (next m r)
-        by true w =
-            rw (read-back m r d w, accepted-is m r w)
-            (step-moves (exchangeOf m) (facts (exchangeOf m) (in-wellformed m w) .replay) (declared-shaped m d w) (commandOf r))
-        by false w = rw (stays-so m r w, never-accepted m r w) (unchanged (exchangeOf m))
-
-  end-declared : (m : Memory) (rs : List Record) → Declared (m .state) → Declared (run m rs .state)
-  unfolding run
-  end-declared m [] d = d
-  end-declared m (r ∷ rs) d = end-declared (respond m r .memory) rs (declared-kept m r d)
-
-  end-shape : (m : Memory) (rs : List Record) → Declared (m .state) → SameShape (exchangeOf m) (exchangeOf (run m rs))
-  unfolding run
-  end-shape m [] d = same-shape (exchangeOf m)
-  end-shape m (r ∷ rs) d = shape-trans (one-shape m r d) (end-shape (respond m r .memory) rs (declared-kept m r d))
-
-  end-sound : (m : Memory) (rs : List Record) → Declared (m .state) → Sound (exchangeOf m) → Sound (exchangeOf (run m rs))
-  unfolding run
-  end-sound m [] d s = s
-  end-sound m (r ∷ rs) d s = end-sound (respond m r .memory) rs (declared-kept m r d) (next-sound m r d s)
-
-  end-reached : (accounts contracts : ℕ) (m : Memory) (rs : List Record) → accountsOf m ≡ accounts → contractsOf m ≡ contracts →
-      Declared (m .state) → Sound (exchangeOf m) → Reached accounts contracts (booksOf (exchangeOf m)) (movesOf m rs) (booksOf (exchangeOf (run m rs)))
-  unfolding run movesOf booksOf
-  end-reached accounts contracts m [] e f d s = stay
-  end-reached accounts contracts m (r ∷ rs) e f d s =
-      move (rw e at (s .known)) (rw (e, f) at (one-move m r d))
-      (end-reached accounts contracts (respond m r .memory) rs (one-shape m r d .accounts ∙ e) (one-shape m r d .listings ∙ f) (declared-kept m r d) (next-sound m r d s))
-
-  -- ---- from an opening
-
-  module _ (m : Memory) (d : Declared (m .state)) (o : Opening m) (rs : List Record) where
+    (kept : (m : Memory) (c : Command) → wellFormedMemory m ≡ true → wellFormedMemory (respond m c .memory) ≡ true)
+    (read-back : (m : Memory) (c : Command) → wellFormedMemory m ≡ true → exchangeOf (respond m c .memory) ≡ step (exchangeOf m) c) where
+  module _ (m : Memory) (d : Declared (m .state)) (o : Loaded m) (s : Sound (exchangeOf m)) (cs : List Command) where
     first : Books
     first = booksOf (exchangeOf m)
 
     last : Books
-    last = booksOf (exchangeOf (run m rs))
+    last = booksOf (exchangeOf (run m cs))
 
-    reached : Reached (accountsOf m) (contractsOf m) first (movesOf m rs) last
+    reached : Reached (accountsOf m) (contractsOf m) first (movesOf m cs) last
     unfolding first last
-    reached = end-reached (accountsOf m) (contractsOf m) m rs refl refl d (opening-sound m o)
-
-    no-start : (a c : ℕ) → first .start a c ≡ pos 0
-    unfolding first booksOf netAtStart
-    no-start a c = rw (o .no-startlong a c, o .no-startshort a c)
-
-    opening-level : Level (accountsOf m) (contractsOf m) first
-    unfolding Level
-    opening-level c l = sumTo-ext (accountsOf m) (λ a. first .start a c) (λ a. pos 0) (λ a k. no-start a c) ∙ sumTo-zero (accountsOf m)
-
-    opening-position : (a c : ℕ) → position first a c ≡ pos 0
-    unfolding position first booksOf
-    opening-position a c =
-        ap₂ (λ (u : ℤ) (ts : List Trade). u +ℤ netHolding a c ts) (no-start a c) (o .no-trades) ∙ ap (λ (z : ℤ). pos 0 +ℤ z) (netHolding-nil a c)
-
-    nothing-held : (a : ℕ) → sumTo (contractsOf m) (λ c. pos (first .multiplier c) *ℤ (pos (first .reference c) *ℤ first .start a c)) ≡ pos 0
-    nothing-held a =
-        sumTo-ext (contractsOf m) (λ c. pos (first .multiplier c) *ℤ (pos (first .reference c) *ℤ first .start a c)) (λ c. pos 0)
-        (λ c l. rw (no-start a c) (nothing (first .multiplier c) (first .reference c)))
-        ∙ sumTo-zero (contractsOf m)
-      where
-        nothing : (k n : ℕ) → pos k *ℤ (pos n *ℤ pos 0) ≡ pos 0
-        nothing k n = simp ring (d-eq _ _ _ _ (omega arith))
-
-    opening-cash : (a : ℕ) → cash (contractsOf m) first a ≡ balanceIn m a
-    unfolding first booksOf
-    opening-cash a =
-        sym (+ℤ-idr (cash (contractsOf m) first a))
-        ∙ ap (λ (z : ℤ). cash (contractsOf m) first a +ℤ z) (sym (nothing-held a))
-        ∙ sym (balance-is (contractsOf m) first a (o .no-trades))
+    reached = end-reached kept read-back (accountsOf m) (contractsOf m) m cs refl refl d s
 
     -- "all balances together equal money paid in minus money paid out, opening money counted as paid in"
     together :
-        sumTo (accountsOf m) (balanceIn (run m rs))
-        ≡ (sumTo (accountsOf m) (balanceIn m) +ℤ sumTo (accountsOf m) (λ a. pos (paidIn a m rs))) -ℤ sumTo (accountsOf m) (λ a. pos (paidOut a m rs))
+        sumTo (accountsOf m) (balanceIn (run m cs))
+        ≡ (sumTo (accountsOf m) (balanceIn m) +ℤ sumTo (accountsOf m) (λ a. pos (paidIn a m cs))) -ℤ sumTo (accountsOf m) (λ a. pos (paidOut a m cs))
     unfolding first last booksOf
     together =
-        reached-total (accountsOf m) (contractsOf m) reached opening-level
+        reached-total (accountsOf m) (contractsOf m) reached (loaded-level m o s)
         ∙ ap (λ (z : ℤ). sumTo (accountsOf m) (balanceIn m) +ℤ z)
-        (sumTo-ext (accountsOf m) (λ a. paid a (movesOf m rs)) (λ a. pos (paidIn a m rs) -ℤ pos (paidOut a m rs)) (λ a l. paid-is a m rs)
-        ∙ sumTo-sub (accountsOf m) (λ a. pos (paidIn a m rs)) (λ a. pos (paidOut a m rs)))
-        ∙ sym (+ℤ-assoc (sumTo (accountsOf m) (balanceIn m)) (sumTo (accountsOf m) (λ a. pos (paidIn a m rs))) (negℤ (sumTo (accountsOf m) (λ a. pos (paidOut a m rs)))))
+        (sumTo-ext (accountsOf m) (λ a. paid a (movesOf m cs)) (λ a. pos (paidIn a m cs) -ℤ pos (paidOut a m cs)) (λ a l. paid-is a m cs)
+        ∙ sumTo-sub (accountsOf m) (λ a. pos (paidIn a m cs)) (λ a. pos (paidOut a m cs)))
+        ∙ sym (+ℤ-assoc (sumTo (accountsOf m) (balanceIn m)) (sumTo (accountsOf m) (λ a. pos (paidIn a m cs))) (negℤ (sumTo (accountsOf m) (λ a. pos (paidOut a m cs)))))
 
-    -- the position at the end is what the trades bought less what they sold
-    end-position : (a c : ℕ) → a < accountsOf m → c < contractsOf m → position last a c ≡ netHolding a c (tradesMade m rs)
+    -- the net holding at the end: the one at the start, and what the trades bought less what they sold
+    endNet : ℕ → ℕ → ℤ
+    endNet a c = netIn m a c +ℤ netHolding a c (tradesMade m cs)
+
+    end-position : (a c : ℕ) → a < accountsOf m → c < contractsOf m → position last a c ≡ endNet a c
+    unfolding first endNet
     end-position a c l k =
         reached-position (accountsOf m) (contractsOf m) reached a c l k
-        ∙ ap₂ (λ (u : ℤ) (ts : List Trade). u +ℤ netHolding a c ts) (opening-position a c) (made-is m rs)
-        ∙ +ℤ-idl (netHolding a c (tradesMade m rs))
+        ∙ ap₂ (λ (u : ℤ) (ts : List Trade). u +ℤ netHolding a c ts) (loaded-position m o s a c l k) (made-is m cs)
 
     -- "it equals the engine's long less short"
-    net : (a c : ℕ) → a < accountsOf m → c < contractsOf m →
-        pos (holdingAt (exchangeOf (run m rs) .accounts) a c .long) -ℤ pos (holdingAt (exchangeOf (run m rs) .accounts) a c .short)
-        ≡ netHolding a c (tradesMade m rs)
+    net : (a c : ℕ) → a < accountsOf m → c < contractsOf m → netIn (run m cs) a c ≡ endNet a c
     unfolding netNow last
     net a c l k =
-        let s = end-shape m rs d in
-        end-sound m rs d (opening-sound m o) .net a c (rw (s .accounts) l) (rw (s .listings) k)
+        let h = end-shape kept read-back m cs d in
+        end-sound kept read-back m cs d s .net a c (rw (h .accounts) l) (rw (h .listings) k)
         ∙ end-position a c l k
 
     -- ---- a list that ends with an accepted settlement
 
-    module _ (before : List Record) (r : Record) (e : EndsSettled m rs before r) where
+    module _ (before : List Command) (e : EndsSettled m cs before) where
       -- the state that the settlement finds, and its prices
       found : Exchange
       found = exchangeOf (run m before)
@@ -327,23 +131,27 @@ module _
       price : ℕ → ℕ
       price = settlementPrice found
 
-      settlement-moves : moveOf (run m before) r ≡ settles price
-      unfolding moveOf price found
-      settlement-moves = rw (e .accepted) (settle-moves (exchangeOf (run m before)) (commandOf r) (e .settles))
+      settlement-moves : moveOf (run m before) Settle ≡ settles price
+      unfolding moveOf price found kindOf
+      settlement-moves = rw (e .accepted)
 
       last-settled : Same (accountsOf m) (contractsOf m) (after (contractsOf m) (booksOf found) (settles price)) last
       unfolding found last
       last-settled =
-          let s = end-shape m before d in
-          rw (settlement-moves, s .accounts, s .listings, ← (run-last m before r), ← (e .ends))
-          at (one-move (run m before) r (end-declared m before d))
+          let h = end-shape kept read-back m before d in
+          rw (settlement-moves, h .accounts, h .listings, ← (run-last m before Settle), ← (e .ends))
+          at (one-move kept read-back (run m before) Settle (end-declared kept read-back m before d))
 
       no-trades : last .trades ≡ []
       unfolding after
       no-trades = sym (last-settled .trades)
 
       -- at the end each contract is marked at its settlement price, and the start of the next day is the position
-      last-start : (a c : ℕ) → a < accountsOf m → c < contractsOf m → last .start a c ≡ netHolding a c (tradesMade m rs)
+      last-reference : (c : ℕ) → c < contractsOf m → last .reference c ≡ price c
+      unfolding after
+      last-reference c k = sym (last-settled .reference c k)
+
+      last-start : (a c : ℕ) → a < accountsOf m → c < contractsOf m → last .start a c ≡ endNet a c
       unfolding position
       last-start a c l k =
           sym (ap (λ (ts : List Trade). last .start a c +ℤ netHolding a c ts) no-trades
@@ -353,50 +161,137 @@ module _
 
       last-marked : (a : ℕ) → a < accountsOf m →
           sumTo (contractsOf m) (λ c. pos (last .multiplier c) *ℤ (pos (last .reference c) *ℤ last .start a c))
-          ≡ sumTo (contractsOf m) (λ c. pos (first .multiplier c) *ℤ (pos (price c) *ℤ netHolding a c (tradesMade m rs)))
-      unfolding after
+          ≡ sumTo (contractsOf m) (λ c. pos (first .multiplier c) *ℤ (pos (price c) *ℤ endNet a c))
       last-marked a l =
           sumTo-ext (contractsOf m) _ _
-          (λ c k. rw (reached-multiplier (accountsOf m) (contractsOf m) reached c k, ← (last-settled .reference c k), last-start a c l k))
+          (λ c k. rw (reached-multiplier (accountsOf m) (contractsOf m) reached c k, last-reference c k, last-start a c l k))
 
       last-cash : (a : ℕ) → a < accountsOf m →
           cash (contractsOf m) last a
-          ≡ balanceIn m a +ℤ (pos (paidIn a m rs) -ℤ pos (paidOut a m rs) +ℤ brought (contractsOf m) first a (tradesMade m rs))
+          ≡ balanceIn m a -ℤ loadedWorth m a +ℤ (pos (paidIn a m cs) -ℤ pos (paidOut a m cs) +ℤ brought (contractsOf m) first a (tradesMade m cs))
+      unfolding first
       last-cash a l =
           reached-cash (accountsOf m) (contractsOf m) reached a l
-          ∙ ap₂ (λ (u v : ℤ). u +ℤ v) (opening-cash a)
-          (ap₂ (λ (u : ℤ) (ts : List Trade). u +ℤ brought (contractsOf m) first a ts) (paid-is a m rs) (made-is m rs))
+          ∙ ap₂ (λ (u v : ℤ). u +ℤ v) (loaded-cash m o s a l)
+          (ap₂ (λ (u : ℤ) (ts : List Trade). u +ℤ brought (contractsOf m) first a ts) (paid-is a m cs) (made-is m cs))
 
-      -- what the trades brought in, and the positions at the settlement prices
+      -- what the trades brought in, and the net holdings at the settlement prices
       worth-is : (a : ℕ) →
-          brought (contractsOf m) first a (tradesMade m rs)
-          +ℤ sumTo (contractsOf m) (λ c. pos (first .multiplier c) *ℤ (pos (price c) *ℤ netHolding a c (tradesMade m rs)))
-          ≡ worth (exchangeOf m) found a (tradesMade m rs)
-      unfolding brought worth first booksOf proceeds price
+          brought (contractsOf m) first a (tradesMade m cs)
+          +ℤ sumTo (contractsOf m) (λ c. pos (first .multiplier c) *ℤ (pos (price c) *ℤ endNet a c))
+          ≡ worth m found a (tradesMade m cs) (λ c. netIn m a c +ℤ netHolding a c (tradesMade m cs))
+      unfolding brought worth first booksOf proceeds price endNet
       worth-is a =
-          sym (sumTo-add (contractsOf m) (λ c. pos (first .multiplier c) *ℤ proceeds a c (tradesMade m rs))
-          (λ c. pos (first .multiplier c) *ℤ (pos (price c) *ℤ netHolding a c (tradesMade m rs))))
+          sym (sumTo-add (contractsOf m) (λ c. pos (first .multiplier c) *ℤ proceeds a c (tradesMade m cs))
+          (λ c. pos (first .multiplier c) *ℤ (pos (price c) *ℤ endNet a c)))
           ∙ sumTo-ext (contractsOf m) _ _
-          (λ c k. sym (*ℤ-add (pos (first .multiplier c)) (proceeds a c (tradesMade m rs)) (pos (price c) *ℤ netHolding a c (tradesMade m rs))))
+          (λ c k. sym (*ℤ-add (pos (first .multiplier c)) (proceeds a c (tradesMade m cs)) (pos (price c) *ℤ endNet a c)))
 
       -- "each account's balance equals opening money + accepted deposits - accepted withdrawals + what its trades sold for - what
       -- they cost + its net holding at that day's settlement price"
       each : (a : ℕ) → a < accountsOf m →
-          balanceIn (run m rs) a
-          ≡ ((balanceIn m a +ℤ pos (paidIn a m rs)) -ℤ pos (paidOut a m rs)) +ℤ worth (exchangeOf m) (exchangeOf (run m before)) a (tradesMade m rs)
+          balanceIn (run m cs) a
+          ≡ (((balanceIn m a -ℤ loadedWorth m a) +ℤ pos (paidIn a m cs)) -ℤ pos (paidOut a m cs))
+          +ℤ worth m (exchangeOf (run m before)) a (tradesMade m cs) (λ c. netIn m a c +ℤ netHolding a c (tradesMade m cs))
       unfolding last booksOf found
       each a l =
           balance-is (contractsOf m) last a no-trades
           ∙ ap₂ (λ (u v : ℤ). u +ℤ v) (last-cash a l) (last-marked a l)
-          ∙ regroup (balanceIn m a) (paidIn a m rs) (paidOut a m rs) (brought (contractsOf m) first a (tradesMade m rs))
-          (sumTo (contractsOf m) (λ c. pos (first .multiplier c) *ℤ (pos (price c) *ℤ netHolding a c (tradesMade m rs))))
-          ∙ ap (λ (z : ℤ). balanceIn m a +ℤ pos (paidIn a m rs) -ℤ pos (paidOut a m rs) +ℤ z) (worth-is a)
+          ∙ regroup (balanceIn m a -ℤ loadedWorth m a) (paidIn a m cs) (paidOut a m cs) (brought (contractsOf m) first a (tradesMade m cs))
+          (sumTo (contractsOf m) (λ c. pos (first .multiplier c) *ℤ (pos (price c) *ℤ endNet a c)))
+          ∙ ap (λ (z : ℤ). balanceIn m a -ℤ loadedWorth m a +ℤ pos (paidIn a m cs) -ℤ pos (paidOut a m cs) +ℤ z) (worth-is a)
 
-  -- ---- THE CLAIM
+  sound-kept : (m : Memory) → Declared (m .state) → Loaded m → Sound (exchangeOf m) → (cs : List Command) → Condition3 (loaded m) m cs (run m cs)
+  unfolding endNet
+  sound-kept m d o s cs = record {
+    together = together m d o s cs;
+    each = λ before e a l. each m d o s cs before e a l;
+    net = net m d o s cs;
+  }
 
-  pub condition3 : (m : Memory) → Declared (m .state) → Opening m → (rs : List Record) → Condition3 m rs
-  condition3 m d o rs = record {
-    together = together m d o rs;
-    each = λ before r e a l. each m d o rs before r e a l;
-    net = net m d o rs;
+  -- ---- a state that is not well formed
+
+  nothing-moved : (m : Memory) → wellFormedMemory m ≡ false → (cs : List Command) → Condition3 (loaded m) m cs (run m cs)
+  nothing-moved m w cs = record {
+    together =
+        ap (λ (k : Memory). sumTo (accountsOf m) (balanceIn k)) (run-stays m w cs)
+        ∙ sym (ap₂ (λ (u v : ℤ). (total +ℤ u) -ℤ v)
+        (sumTo-ext (accountsOf m) _ _ (λ a l. ap pos (nothing-paid-in m w a cs)) ∙ sumTo-zero (accountsOf m))
+        (sumTo-ext (accountsOf m) _ _ (λ a l. ap pos (nothing-paid-out m w a cs)) ∙ sumTo-zero (accountsOf m))
+        ∙ +ℤ-idr (total +ℤ pos 0) ∙ +ℤ-idr total);
+    each = λ before e a l. absurd (none-accepted m w before Settle (e .accepted));
+    net = λ a c l k.
+        ap (λ (k : Memory). netIn k a c) (run-stays m w cs)
+        ∙ sym (ap (λ (ts : List Trade). netIn m a c +ℤ netHolding a c ts) (nothing-traded m w cs)
+        ∙ ap (λ (z : ℤ). netIn m a c +ℤ z) (netHolding-nil a c)
+        ∙ +ℤ-idr (netIn m a c));
+  }
+    where
+      total : ℤ
+      total = sumTo (accountsOf m) (balanceIn m)
+
+  -- FROM A LOADED STATE
+  from-loaded : (m : Memory) → Declared (m .state) → Loaded m → (cs : List Command) → Condition3 (loaded m) m cs (run m cs)
+  from-loaded m d o cs = whether (wellFormedMemory m) refl
+    where
+      whether : (w : Bool) → wellFormedMemory m ≡ w → Condition3 (loaded m) m cs (run m cs)
+      whether true w = sound-kept m d o (formed-sound m d w) cs
+      whether false w = nothing-moved m w cs
+
+-- ---- an opening is the loaded state whose holdings are nothing
+
+nothing-worth : (k n : ℕ) → pos k *ℤ (pos n *ℤ pos 0) ≡ pos 0
+nothing-worth k n = simp ring (d-eq _ _ _ _ (omega arith))
+
+module _ (m : Memory) (o : Opening m) where
+  opening-loaded : Loaded m
+  opening-loaded = record {
+    no-trades = o .no-trades;
+    totals = λ c k. sumTo-ext (accountsOf m) _ _ (λ a l. ap pos (o .no-long a c l k ∙ sym (o .no-short a c l k)));
+  }
+
+  opening-net : (a c : ℕ) → a < accountsOf m → c < contractsOf m → netIn m a c ≡ pos 0
+  opening-net a c l k = rw (o .no-long a c l k, o .no-short a c l k)
+
+  opening-worth : (a : ℕ) → a < accountsOf m → loadedWorth m a ≡ pos 0
+  unfolding loadedWorth
+  opening-worth a l =
+      sumTo-ext (contractsOf m) _ (λ c. pos 0)
+      (λ c k. ap (λ (z : ℤ). pos (multiplierIn m c) *ℤ (pos (referenceIn m c) *ℤ z)) (opening-net a c l k) ∙ nothing-worth (multiplierIn m c) (referenceIn m c))
+      ∙ sumTo-zero (contractsOf m)
+
+  opening-money : (a : ℕ) → a < accountsOf m → loaded m .money a ≡ opened m .money a
+  opening-money a l = ap (λ (z : ℤ). balanceIn m a -ℤ z) (opening-worth a l) ∙ +ℤ-idr (balanceIn m a)
+
+-- two starts that agree on the accounts and contracts in use give the same claim
+module _ (m : Memory) (s t : Start) (money : (a : ℕ) → a < accountsOf m → s .money a ≡ t .money a)
+    (held : (a c : ℕ) → a < accountsOf m → c < contractsOf m → s .held a c ≡ t .held a c) where
+  worth-as : (found : Exchange) (a : ℕ) (ts : List Trade) → a < accountsOf m →
+      worth m found a ts (λ c. s .held a c +ℤ netHolding a c ts) ≡ worth m found a ts (λ c. t .held a c +ℤ netHolding a c ts)
+  unfolding worth
+  worth-as found a ts l =
+      sumTo-ext (contractsOf m) _ _
+      (λ c k. ap (λ (z : ℤ). pos (multiplierIn m c) *ℤ ((pos (sales a c ts) -ℤ pos (costs a c ts)) +ℤ pos (settlementPrice found c) *ℤ (z +ℤ netHolding a c ts)))
+      (held a c l k))
+
+  start-as : (cs : List Command) (m′ : Memory) → Condition3 s m cs m′ → Condition3 t m cs m′
+  start-as cs m′ claim = record {
+    together = claim .together;
+    each = λ before e a l.
+        claim .each before e a l
+        ∙ ap₂ (λ (u v : ℤ). ((u +ℤ pos (paidIn a m cs)) -ℤ pos (paidOut a m cs)) +ℤ v) (money a l)
+        (worth-as (exchangeOf (run m before)) a (tradesMade m cs) l);
+    net = λ a c l k. claim .net a c l k ∙ ap (λ (z : ℤ). z +ℤ netHolding a c (tradesMade m cs)) (held a c l k);
+  }
+
+-- THE CLAIM
+module _
+    (kept : (m : Memory) (c : Command) → wellFormedMemory m ≡ true → wellFormedMemory (respond m c .memory) ≡ true)
+    (read-back : (m : Memory) (c : Command) → wellFormedMemory m ≡ true → exchangeOf (respond m c .memory) ≡ step (exchangeOf m) c) where
+  pub condition3 : (m : Memory) → Declared (m .state) → (cs : List Command) → MoneyKept m cs (run m cs)
+  condition3 m d cs = record {
+    from-nothing = λ o.
+        start-as m (loaded m) (opened m) (opening-money m o) (opening-net m o) cs (run m cs)
+        (from-loaded kept read-back m d (opening-loaded m o) cs);
+    from-loaded = λ o. from-loaded kept read-back m d o cs;
   }

@@ -7,23 +7,23 @@ use Prim.Native.Nat.{ℕ, zero, suc, _<_, _≤_, min}
 use native.Mathlib.Nat.{le-of-suc-le-suc, not-suc-le-zero}
 use native.Mathlib.Omega.{arith}
 use borrow.Author.Tests.{leb-true}
-use lib.Dec.{leb, eqb}
+use lib.Dec.{leb}
 use lib.ListN.{length, getD, take, drop, length-append, length-take, length-drop, length-map}
-use Rattle.laws.specs.Choice.{pick, all, both-true}
+use Rattle.laws.specs.Choice.{all, both-true}
 use Rattle.laws.specs.Chains.{passed}
-use Rattle.rules.specs.Answers.{codeOf}
 use Rattle.rules.specs.Bounds.{within, maxContracts, maxAccounts, maxTrades, maxResting}
-use Rattle.rules.specs.Command.{commandOf}
 use Rattle.rules.specs.Exchange.{Exchange, Listing, noAccount, accountAt}
-use Rattle.rules.specs.Memory.{Memory, Declared, inUse, exchangeOf, putFirst, putAccounts, putState, put, countsInRange, hasRoom, wellFormedMemory, refusedIn, inMemory, stepIn, respond}
-use Rattle.rules.specs.Step.{carriedOut}
+use Rattle.rules.specs.Kinds.{kindOf}
+use Rattle.rules.specs.Memory.{Memory, Declared, inUse, exchangeOf, putFirst, putAccounts, putState, put, countsInRange, hasRoom, wellFormedMemory, written, stepIn, respond}
 use Rattle.rules.specs.WellFormed.{wellFormedContents}
 use Rattle.rules.specs.declared.Account.{Account}
-use Rattle.rules.specs.declared.Record.{Record}
+use Rattle.rules.specs.declared.Command.{Command}
 use Rattle.rules.specs.declared.State.{State}
 use Rattle.rules.proofs.InUse.{account-in-use, contracts-in-use}
+use Rattle.rules.proofs.Stages.{decided, Each}
 use Rattle.accounting.specs.Shape.{Shaped}
-use Rattle.accounting.proofs.StepShape.{SameShape, carried-shape}
+use Rattle.accounting.proofs.EachKind.{kind-shape}
+use Rattle.accounting.proofs.StepShape.{SameShape}
 
 -- ---- the counts of a well-formed state
 
@@ -55,14 +55,17 @@ module _ (m : Memory) (d : Declared (m .state)) where
       ∙ length-take (m .state .accountcount) (m .state .accounts)
       ∙ ap (λ (n : ℕ). min (m .state .accountcount) n) (d .accounts)
 
-  pub declared-shaped : wellFormedMemory m ≡ true → Shaped (exchangeOf m)
+  counted-shaped : Counts (m .state) → Shaped (exchangeOf m)
   unfolding Shaped accountAt
-  declared-shaped w = λ a l.
+  counted-shaped few = λ a l.
       let k : a < m .state .accountcount = omega (arith, accounts-in-use, l) in
       ap (λ (v : Account). length (v .holdings)) (account-in-use m a k)
       ∙ length-take (m .state .contractcount) (accountAt (m .state .accounts) a .holdings)
-      ∙ omega (arith, d .holdings a (omega (arith, accounts-in-use, l)), counts m w .contracts)
+      ∙ omega (arith, d .holdings a (omega (arith, accounts-in-use, l)), few .contracts)
       ∙ sym (contracts-in-use m)
+
+  pub declared-shaped : wellFormedMemory m ≡ true → Shaped (exchangeOf m)
+  declared-shaped w = counted-shaped (counts m w)
 
 -- ---- a state written back keeps the lengths of its arrays
 
@@ -86,42 +89,62 @@ wide-putAccounts n (x ∷ as′) (room ∷ rooms) f g zero l =
 wide-putAccounts n (x ∷ as′) (room ∷ rooms) f g (suc a) l =
     wide-putAccounts n as′ rooms (λ i k. f (suc i) (omega arith)) (λ i k. g (suc i) (omega arith)) a (le-of-suc-le-suc l)
 
-module _ (m : Memory) (d : Declared (m .state)) (w : wellFormedMemory m ≡ true) (x : Exchange) (s : SameShape (exchangeOf m) x) where
-  listings-fit : length (x .listings) ≤ maxContracts
-  listings-fit = omega (arith, s .listings, contracts-in-use m, counts m w .contracts)
+-- a state that the arrays have places for
+record Fits (x : Exchange) : Type 0 where
+  listings : length (x .listings) ≤ maxContracts
+  accounts : length (x .accounts) ≤ maxAccounts
+  holdings : (a : ℕ) → a < length (x .accounts) → length (accountAt (x .accounts) a .holdings) ≤ maxContracts
 
-  accounts-fit : length (x .accounts) ≤ maxAccounts
-  accounts-fit = omega (arith, s .accounts, accounts-in-use m d)
-
-  holdings-fit : (a : ℕ) → a < length (x .accounts) → length (accountAt (x .accounts) a .holdings) ≤ maxContracts
-  unfolding Shaped
-  holdings-fit a l =
-      let k : a < length (exchangeOf m .accounts) = rw (s .accounts) at l in
-      omega (arith, s .wide a k, declared-shaped m d w a k, contracts-in-use m, counts m w .contracts)
-
-  array-kept : {A : Type 0} (f : Listing → A) (room : List A) → length room ≡ maxContracts → length (putFirst (map f (x .listings)) room) ≡ maxContracts
-  array-kept f room e =
-      length-putFirst (map f (x .listings)) room (omega (arith, length-map (x .listings) f, listings-fit)) ∙ e
+module _ (m : Memory) (d : Declared (m .state)) (x : Exchange) (f : Fits x) where
+  array-kept : {A : Type 0} (g : Listing → A) (room : List A) → length room ≡ maxContracts → length (putFirst (map g (x .listings)) room) ≡ maxContracts
+  array-kept g room e =
+      length-putFirst (map g (x .listings)) room (omega (arith, length-map (x .listings) g, f .listings)) ∙ e
 
   put-declared : Declared (put m x .state)
   unfolding put putState accountAt
   put-declared = record {
     contracts = array-kept (λ l. l .contract) (m .state .contracts) (d .contracts);
-    accounts = length-putAccounts (x .accounts) (m .state .accounts) (omega (arith, accounts-fit, d .accounts)) ∙ d .accounts;
+    accounts = length-putAccounts (x .accounts) (m .state .accounts) (omega (arith, f .accounts, d .accounts)) ∙ d .accounts;
     buys = array-kept (λ l. length (l .buys)) (m .state .buys) (d .buys);
     sells = array-kept (λ l. length (l .sells)) (m .state .sells) (d .sells);
     holdings = λ a l.
-        wide-putAccounts maxContracts (x .accounts) (m .state .accounts) holdings-fit
+        wide-putAccounts maxContracts (x .accounts) (m .state .accounts) (f .holdings)
         (λ b k. d .holdings b (rw (d .accounts) at k)) a (rw (d .accounts) l);
   }
 
+written-declared : (m : Memory) → Declared (m .state) → (ys : List Exchange) → Each Fits ys → Declared (written m ys .state)
+written-declared m d [] f = d
+written-declared m d (y ∷ ys) f = written-declared (put m y) (put-declared m d y (f .0)) ys (f .1)
+
+-- ---- stages of the state's shape fit
+
+module _ (m : Memory) (d : Declared (m .state)) (few : Counts (m .state)) where
+  shaped-fits : (x : Exchange) → SameShape (exchangeOf m) x → Fits x
+  unfolding Shaped
+  shaped-fits x s = record {
+    listings = omega (arith, s .listings, contracts-in-use m, few .contracts);
+    accounts = omega (arith, s .accounts, accounts-in-use m d);
+    holdings = λ a l.
+        let k : a < length (exchangeOf m .accounts) = rw (s .accounts) at l in
+        omega (arith, s .wide a k, counted-shaped m d few a k, contracts-in-use m, few .contracts);
+  }
+
+  each-fits : (ys : List Exchange) → Each (SameShape (exchangeOf m)) ys → Each Fits ys
+  each-fits [] s = tt
+  each-fits (y ∷ ys) s = (shaped-fits y (s .0), each-fits ys (s .1))
+
 -- no command changes the lengths of the arrays
-pub declared-kept : (m : Memory) (r : Record) → Declared (m .state) → Declared (respond m r .memory .state)
+pub declared-kept : (m : Memory) (command : Command) → Declared (m .state) → Declared (respond m command .memory .state)
 unfolding respond stepIn
-declared-kept m r d = by (wellFormedMemory m) refl (eqb (codeOf (exchangeOf m) (commandOf r)) 0)
+declared-kept m command d = by (wellFormedMemory m) refl
   where
-    by : (w : Bool) → wellFormedMemory m ≡ w → (accepted : Bool) →
-        Declared (pick w (pick accepted (inMemory m (carriedOut (exchangeOf m) (commandOf r))) (refusedIn m (codeOf (exchangeOf m) (commandOf r)))) (refusedIn m 21) .memory .state)
-    by true w true = put-declared m d w (carriedOut (exchangeOf m) (commandOf r) .exchange) (carried-shape (exchangeOf m) (commandOf r))
-    by true w false = d
-    by false w accepted = d
+    stages : List Exchange
+    stages = kindOf (exchangeOf m) command .effect .stages
+
+    by : (w : Bool) → wellFormedMemory m ≡ w → Declared (respond m command .memory .state)
+    by true w =
+        rw w
+        (decided (λ e. Declared (written m (e .stages) .state)) (exchangeOf m) command
+        (λ e. written-declared m d stages (each-fits m d (counts m w) stages (kind-shape (exchangeOf m) command)))
+        (λ e. d))
+    by false w = rw w d

@@ -12,5 +12,7 @@ pub mod ProfitBound
 pub mod BooksLaws
 pub mod StepMoves
 pub mod StepShape
+pub mod EachKind
 pub mod Declared
+pub mod Runs
 pub mod Condition3

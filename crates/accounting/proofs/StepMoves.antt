@@ -1,5 +1,5 @@
--- Each command makes the move of money that the rules give it: the books after a step are the books before it after that move.
--- Assumes nothing.
+-- What commands do makes the moves of money that the rules give them: the books after it are the books before it after the
+-- move. Assumes nothing.
 use mathlib.Core.Bool.{Bool, true, false}
 use mathlib.Core.List.{List, [], append-nil}
 use mathlib.Core.Path.{_≡_, refl, sym, ap, subst, _∙_}
@@ -14,21 +14,19 @@ use Rattle.laws.specs.Ring.{*ℤ-add}
 use Rattle.laws.specs.Sums.{sumTo, sumTo-ext, sumTo-add}
 use Rattle.laws.specs.Tabulate.{getD-tabulate}
 use Rattle.laws.specs.Lists.{kept-at}
-use Rattle.rules.specs.Answers.{codeOf, listingOf}
+use Rattle.rules.specs.Answers.{listingOf}
 use Rattle.rules.specs.Auction.{matchOf}
 use Rattle.rules.specs.Exchange.{Exchange, Listing, noAccount, noHolding, noListing, listingAt, accountAt, holdingAt, placeOf}
+use Rattle.rules.specs.Kinds.{Move, paysIn, paysOut, makes, settles, nothing}
 use Rattle.rules.specs.Settlement.{dayOf, holdingGain, settlementPrice, closingProfit, holdingProfit, carriedHolding, settledAccount, settledContract, settledListing, settled}
-use Rattle.rules.specs.Step.{withListing, withTrades, withBalance, paid, deposited, withdrawn, enteredOf, listingAfter, exchangeAfter, inserted, removed, cancelled, pulled, listingMatched, exchangeMatched, phaseChanged, refused, carriedOut, step}
+use Rattle.rules.specs.Step.{withListing, withTrades, withBalance, paid, enteredOf, listingAfter, exchangeAfter, listingMatched, exchangeMatched}
 use Rattle.rules.specs.WellFormed.{replays}
 use Rattle.rules.specs.declared.Account.{Account}
 use Rattle.rules.specs.declared.Holding.{Holding}
 use Rattle.rules.specs.declared.NewOrder.{NewOrder}
 use Rattle.rules.specs.declared.Trade.{Trade}
-use Rattle.rules.specs.declared.Command.{Command}
-use Rattle.rules.specs.declared.Command.the-variants.{Malformed, Deposit, Withdraw, Insert, Cancel, Pull, Phase, Settle}
-use Rattle.accounting.specs.Books.{Move, pays, makes, settles, marked, after, Same, Level}
+use Rattle.accounting.specs.Books.{booksOf, marked, paidTo, after, Same, Level}
 use Rattle.accounting.specs.Money.{netAtStart, netNow, AllKnown}
-use Rattle.accounting.specs.Moves.{booksOf, moveBy}
 use Rattle.accounting.specs.Shape.{Shaped}
 use Rattle.accounting.proofs.Booking.{all-booked-balance, all-booked-start}
 use Rattle.accounting.proofs.BooksLaws.{marked-nothing}
@@ -41,9 +39,9 @@ Makes x m x′ = Same (length (x .accounts)) (length (x .listings)) (after (leng
 -- ---- nothing moves
 
 -- a listing replaced by one with the same reference and multiplier
-same-listing : (x : Exchange) (c : ℕ) (l : Listing) →
+pub same-listing : (x : Exchange) (c : ℕ) (l : Listing) →
     l .contract .reference ≡ listingAt x c .contract .reference → l .contract .multiplier ≡ listingAt x c .contract .multiplier →
-    Makes x (makes []) (withListing x c l)
+    Makes x nothing (withListing x c l)
 unfolding after booksOf listingAt netAtStart
 same-listing x c l r m = record {
   balance = λ a k. refl;
@@ -53,7 +51,7 @@ same-listing x c l r m = record {
   trades = append-nil (x .trades);
 }
 
-pub unchanged : (x : Exchange) → Makes x (makes []) x
+pub unchanged : (x : Exchange) → Makes x nothing x
 unfolding after booksOf
 unchanged x = record {
   balance = λ a k. refl;
@@ -88,15 +86,24 @@ paid-start x u b a c =
     sym (kept-at (λ (k : Account). pos (getD (k .holdings) c noHolding .startlong) -ℤ pos (getD (k .holdings) c noHolding .startshort))
     (x .accounts) u _ noAccount refl a)
 
-paid-moves : (x : Exchange) (u : ℕ) (z : ℤ) → Makes x (pays u z) (paid x u (accountAt (x .accounts) u .balance +ℤ z))
-unfolding after booksOf paid listingAt
-paid-moves x u z = record {
+paid-books : (x : Exchange) (u : ℕ) (z : ℤ) →
+    Same (length (x .accounts)) (length (x .listings)) (paidTo (booksOf x) u z) (booksOf (paid x u (accountAt (x .accounts) u .balance +ℤ z)))
+unfolding booksOf paid listingAt
+paid-books x u z = record {
   balance = λ a l. paid-balance (x .accounts) u a z l;
   start = λ a c l k. paid-start x u _ a c;
   reference = λ c k. refl;
   multiplier = λ c k. refl;
   trades = refl;
 }
+
+pub paid-in-moves : (x : Exchange) (u n : ℕ) → Makes x (paysIn u n) (paid x u (accountAt (x .accounts) u .balance +ℤ pos n))
+unfolding after
+paid-in-moves x u n = paid-books x u (pos n)
+
+pub paid-out-moves : (x : Exchange) (u n : ℕ) → Makes x (paysOut u n) (paid x u (accountAt (x .accounts) u .balance -ℤ pos n))
+unfolding after
+paid-out-moves x u n = paid-books x u (negℤ (pos n))
 
 -- ---- trades are made
 
@@ -113,11 +120,11 @@ traded-moves x c l ts next r m = record {
   trades = refl;
 }
 
-inserted-moves : (x : Exchange) (o : NewOrder) → Makes x (makes (enteredOf x o .trades)) (exchangeAfter x o (enteredOf x o))
+pub inserted-moves : (x : Exchange) (o : NewOrder) → Makes x (makes (enteredOf x o .trades)) (exchangeAfter x o (enteredOf x o))
 unfolding exchangeAfter listingAfter listingOf
 inserted-moves x o = traded-moves x (placeOf (o .contract)) _ (enteredOf x o .trades) (x .next + 1) refl refl
 
-matched-moves : (x : Exchange) (c phase : ℕ) → Makes x (makes (matchOf x c .trades)) (exchangeMatched x c phase (matchOf x c))
+pub matched-moves : (x : Exchange) (c phase : ℕ) → Makes x (makes (matchOf x c .trades)) (exchangeMatched x c phase (matchOf x c))
 unfolding exchangeMatched listingMatched
 matched-moves x c phase = traded-moves x c _ (matchOf x c .trades) (x .next) refl refl
 
@@ -180,7 +187,7 @@ module _ (x : Exchange) (r : replays x ≡ true) (shaped : Shaped x) where
   unfolding settled
   settled-trades = refl
 
-  settled-moves : Makes x (settles (settlementPrice x)) (settled x)
+  pub settled-moves : Makes x (settles (settlementPrice x)) (settled x)
   unfolding after booksOf
   settled-moves = record {
     balance = settled-balance;
@@ -189,26 +196,3 @@ module _ (x : Exchange) (r : replays x ≡ true) (shaped : Shaped x) where
     multiplier = settled-multiplier;
     trades = settled-trades;
   }
-
-  -- ---- EACH COMMAND, accepted or refused
-
-  carried-moves : (command : Command) → Makes x (moveBy x command) (carriedOut x command .exchange)
-  unfolding moveBy carriedOut deposited withdrawn inserted cancelled pulled removed phaseChanged
-  carried-moves Malformed = unchanged x
-  carried-moves (Deposit account amount) = paid-moves x (placeOf account) (pos amount)
-  carried-moves (Withdraw account amount) = paid-moves x (placeOf account) (negℤ (pos amount))
-  carried-moves (Insert o) = inserted-moves x o
-  carried-moves (Cancel account contract operator number) = same-listing x (placeOf contract) _ refl refl
-  carried-moves (Pull account contract operator) = same-listing x (placeOf contract) _ refl refl
-  carried-moves (Phase contract phase) = matched-moves x (placeOf contract) phase
-  carried-moves Settle = settled-moves
-
-  pub step-moves : (command : Command) →
-      Makes x (pick (eqb (codeOf x command) 0) (moveBy x command) (makes [])) (step x command .exchange)
-  unfolding step
-  step-moves command = by (eqb (codeOf x command) 0)
-    where
-      by : (accepted : Bool) →
-          Makes x (pick accepted (moveBy x command) (makes [])) (pick accepted (carriedOut x command) (refused x (codeOf x command)) .exchange)
-      by true = carried-moves command
-      by false = unchanged x

@@ -1,16 +1,18 @@
--- The money side of a run, whatever the commands are called: what of a state is money, the three moves that a command can make
--- of it, and the states that a list of moves leads to. A kind of command added later owes its move, and that its step makes
--- it. Assumes nothing.
+-- The money side of a run, whatever the commands are called: what of a state is money, what the moves of the rules' Kinds.antt
+-- make of it, and the states that a list of moves leads to. A kind of command added later owes that its step makes its move
+-- (proofs/EachKind.antt). Assumes nothing.
 use mathlib.Core.List.{List, [], _∷_, _++_}
 use mathlib.Core.Path.{_≡_}
 use Prim.Native.Nat.{ℕ, _<_}
 use lib.Dec.{eqb}
-use lib.IntN.{ℤ, pos, _+ℤ_, _-ℤ_, _*ℤ_}
+use lib.IntN.{ℤ, pos, negℤ, _+ℤ_, _-ℤ_, _*ℤ_}
 use Rattle.laws.specs.Choice.{pick}
 use Rattle.laws.specs.Sums.{sumTo}
 use Rattle.rules.specs.Condition3.{netHolding}
+use Rattle.rules.specs.Exchange.{Exchange, listingAt, accountAt}
+use Rattle.rules.specs.Kinds.{Move, paysIn, paysOut, makes, settles}
 use Rattle.rules.specs.declared.Trade.{Trade}
-use Rattle.accounting.specs.Money.{proceeds, AllKnown}
+use Rattle.accounting.specs.Money.{proceeds, netAtStart, AllKnown}
 
 -- balances by account, net holdings at the start of the day by account and contract, references and multipliers by contract,
 -- the day's trades
@@ -21,12 +23,15 @@ pub record Books : Type 0 where
   pub multiplier : ℕ → ℕ
   pub trades : List Trade
 
--- one account is paid (or pays: less than nothing); trades are made (none: nothing moves); all is settled, at a price for each
--- contract
-pub data Move : Type 0 where
-  pays : (account : ℕ) (amount : ℤ) → Move
-  makes : List Trade → Move
-  settles : (ℕ → ℕ) → Move
+unfoldable pub booksOf : Exchange → Books
+booksOf x =
+    record {
+      balance = λ a. accountAt (x .accounts) a .balance;
+      start = netAtStart x;
+      reference = λ c. listingAt x c .contract .reference;
+      multiplier = λ c. listingAt x c .contract .multiplier;
+      trades = x .trades;
+    }
 
 -- what a settlement pays for one contract, before the multiplier: today's proceeds, and the net holding at the settlement price
 -- now less that at the reference before
@@ -34,9 +39,9 @@ unfoldable pub marked : Books → ℕ → ℕ → ℕ → ℤ
 marked s price a c =
     proceeds a c (s .trades) +ℤ pos price *ℤ (s .start a c +ℤ netHolding a c (s .trades)) -ℤ pos (s .reference c) *ℤ s .start a c
 
--- the books after a move, in a market of so many contracts
-unfoldable pub after : ℕ → Books → Move → Books
-after contracts s (pays account amount) =
+-- the books with one account paid (or paying: less than nothing)
+abbrev pub paidTo : Books → ℕ → ℤ → Books
+paidTo s account amount =
     record {
       balance = λ a. s .balance a +ℤ pick (eqb account a) amount (pos 0);
       start = s .start;
@@ -44,6 +49,11 @@ after contracts s (pays account amount) =
       multiplier = s .multiplier;
       trades = s .trades;
     }
+
+-- the books after a move, in a market of so many contracts
+unfoldable pub after : ℕ → Books → Move → Books
+after contracts s (paysIn account amount) = paidTo s account (pos amount)
+after contracts s (paysOut account amount) = paidTo s account (negℤ (pos amount))
 after contracts s (makes ts) =
     record { balance = s .balance; start = s .start; reference = s .reference; multiplier = s .multiplier; trades = s .trades ++ ts }
 after contracts s (settles price) =
@@ -70,25 +80,17 @@ pub data Reached (accounts contracts : ℕ) : Books → List Move → Books → 
       AllKnown accounts (s .trades) → Same accounts contracts (after contracts s m) s₁ → Reached accounts contracts s₁ ms s₂ →
       Reached accounts contracts s (m ∷ ms) s₂
 
--- ---- what the moves pay an account, and the trades that they make
+-- ---- what the moves pay an account
 
 unfoldable pub paidBy : ℕ → Move → ℤ
-paidBy a (pays account amount) = pick (eqb account a) amount (pos 0)
+paidBy a (paysIn account amount) = pick (eqb account a) (pos amount) (pos 0)
+paidBy a (paysOut account amount) = pick (eqb account a) (negℤ (pos amount)) (pos 0)
 paidBy a (makes ts) = pos 0
 paidBy a (settles price) = pos 0
-
-unfoldable pub madeBy : Move → List Trade
-madeBy (pays account amount) = []
-madeBy (makes ts) = ts
-madeBy (settles price) = []
 
 unfoldable pub paid : ℕ → List Move → ℤ
 paid a [] = pos 0
 paid a (m ∷ ms) = paidBy a m +ℤ paid a ms
-
-unfoldable pub made : List Move → List Trade
-made [] = []
-made (m ∷ ms) = madeBy m ++ made ms
 
 -- ---- what no settlement changes
 

@@ -4,4 +4,3 @@ pub mod PairingExamples
 pub mod Shape
 pub mod Money
 pub mod Books
-pub mod Moves

@@ -12,7 +12,7 @@ use Rattle.laws.specs.Choice.{all, allOf, all-at, all-ext, allOf-all, allOf-at,
 use Rattle.laws.specs.Tabulate.{tabulate, length-tabulate, getD-tabulate}
 use Rattle.rules.specs.Bounds.{within, termsInRange}
 use Rattle.rules.specs.Exchange.{Exchange, Listing, listingAt, holdingAt, noContract, noListing, noTrade}
-use Rattle.rules.specs.Memory.{Memory, exchangeOf, inUse, listingIn, recordedTrades, countsInRange, hasRoom, wellFormedMemory, used}
+use Rattle.rules.specs.Memory.{Memory, exchangeOf, inUse, listingIn, recordedTrades, countsInRange, hasRoom, wellFormedMemory, used, memory}
 use Rattle.rules.specs.WellFormed.{countersInRange, listingInRange, allNumbers, usedOnce, tradeInRange, replays, holdingInRange, holdingsInRange, balanceInRange, wellFormedContents}
 use Rattle.rules.specs.declared.State.{State}
 use Rattle.rules.specs.declared.Trade.{Trade}
@@ -21,7 +21,7 @@ use Rattle.rules.proofs.InUse.{length-used, used-holding}
 use Rattle.rules.proofs.Terms.{terms, terms-passed}
 use Rattle.invariants.proofs.Clauses.{holding-ok, listing-ok, trade-ok}
 use Rattle.invariants.proofs.MemoryRoom.{counts-ok, room-ok}
-use Rattle.audit.specs.Parts.{Booked, Ready, listing, memory, replayed, tested}
+use Rattle.audit.specs.Parts.{Booked, Ready, listing, replayed, tested}
 use Rattle.audit.proofs.Chains.{Chain}
 
 -- ---- tests of every element

@@ -7,15 +7,11 @@ use Prim.Native.Nat.{ℕ, _*_, _<_, _≤_}
 use lib.ListN.{length, getD, replicate}
 use Rattle.laws.specs.Tabulate.{tabulate}
 use Rattle.rules.specs.Exchange.{Exchange, Listing, noAccount, noContract}
-use Rattle.rules.specs.Memory.{Memory, countsInRange, listingIn}
+use Rattle.rules.specs.Memory.{countsInRange, listingIn, memory}
 use Rattle.rules.specs.declared.Account.{Account}
 use Rattle.rules.specs.declared.Contract.{Contract}
 use Rattle.rules.specs.declared.State.{State}
 use Rattle.rules.specs.declared.Trade.{Trade}
-
--- a state and the areas lent with it
-abbrev pub memory : State → List ℕ → List ℕ → List ℕ → Memory
-memory state buys sells trades = record { state = state; buys = buys; sells = sells; trades = trades }
 
 -- a contract in use with its queues: the trade area plays no part
 abbrev pub listing : State → List ℕ → List ℕ → ℕ → Listing

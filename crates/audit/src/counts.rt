@@ -6,8 +6,7 @@ ghost use lib.Dec.{leb};
 ghost use lib.ListN.{getD};
 ghost use Rattle.laws.specs.Choice.{all};
 ghost use Rattle.rules.specs.Bounds.{within};
-ghost use Rattle.rules.specs.Memory.{countsInRange, hasRoom};
-ghost use Rattle.audit.specs.Parts.{memory};
+ghost use Rattle.rules.specs.Memory.{countsInRange, hasRoom, memory};
 use rules::State;
 
 // Of the contracts in use none has more than 64 orders on a side.

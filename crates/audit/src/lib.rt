@@ -1,9 +1,8 @@
 // Whether a state and the areas lent with it are well formed: the test of code 21, for anything at all.
 ghost use mathlib.Core.Bool.{true};
 ghost use mathlib.Core.Path.{_≡_};
-ghost use Rattle.rules.specs.Memory.{countsInRange, exchangeOf, hasRoom, wellFormedMemory};
+ghost use Rattle.rules.specs.Memory.{countsInRange, exchangeOf, hasRoom, wellFormedMemory, memory};
 ghost use Rattle.rules.specs.WellFormed.{wellFormedContents};
-ghost use Rattle.audit.specs.Parts.{memory};
 
 mod accounts;
 mod counts;

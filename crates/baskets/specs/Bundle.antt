@@ -9,10 +9,9 @@ use Rattle.laws.specs.Choice.{pick}
 use Rattle.areas.specs.Records.{store}
 use Rattle.rules.specs.Answers.{firstOf, _when_}
 use Rattle.rules.specs.Condition3.{Condition3, Opening, run}
-use Rattle.rules.specs.Memory.{Memory, respond, wellFormedMemory}
+use Rattle.rules.specs.Memory.{Memory, respond, wellFormedMemory, memory}
 use Rattle.rules.specs.declared.Answer.{Answer}
 use Rattle.rules.specs.declared.Record.{Record}
-use Rattle.engine.specs.Outcome.{memory}
 use Rattle.exchange.specs.Run.{recordsIn}
 use Rattle.baskets.specs.declared.basket.Receipt.{Receipt}
 

@@ -4,7 +4,7 @@ ghost use Prim.Native.Nat.{_*_, _≤_};
 ghost use lib.ListN.{length};
 ghost use Rattle.areas.specs.Records.{store};
 ghost use Rattle.rules.specs.Condition3.{run};
-ghost use Rattle.engine.specs.Outcome.{memory, WellFormedState};
+ghost use Rattle.rules.specs.Memory.{memory, WellFormedState};
 ghost use Rattle.exchange.specs.Run.{firstRecords, recordsIn};
 ghost use Rattle.baskets.specs.Bundle.{BundleIs, answerWords, answersTo};
 use crate::answers::put_answer;

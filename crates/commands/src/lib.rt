@@ -2,7 +2,7 @@
 // document 01 gives code 1 is `Malformed`.
 ghost use mathlib.Core.Path.{_≡_};
 ghost use mathlib.Core.List.{[], _∷_};
-ghost use Rattle.rules.specs.Command.{zeros, priceCondition, timeCondition, insertFlags, newOrder, depositOf, withdrawOf, insertOf, cancelOf, pullOf, phaseOf, settleOf, commandOf};
+ghost use Rattle.rules.specs.Command.{zeros, priceCondition, timeCondition, insertFlags, newOrder, depositOf, withdrawOf, insertOf, cancelOf, pullOf, phaseOf, settleOf, commandOf, kindNumber, isMalformed, isSettle};
 use rules::Command;
 use rules::NewOrder;
 use rules::PriceCondition;
@@ -218,4 +218,50 @@ pub fn command_of(r: Record) -> Command
         7 => settle_of(r),
         _ => Command::Malformed,
     }
+}
+
+// The number of a command's kind, 0 for `Malformed`.
+pub fn kind_of(command: Command) -> u32
+    ensures { λ r. ⌜ r ≡ kindNumber command ⌝ }
+{
+    match command {
+        Command::Malformed => 0,
+        Command::Deposit {
+            account: _,
+            amount: _,
+        } => 1,
+        Command::Withdraw {
+            account: _,
+            amount: _,
+        } => 2,
+        Command::Insert(_) => 3,
+        Command::Cancel {
+            account: _,
+            contract: _,
+            operator: _,
+            number: _,
+        } => 4,
+        Command::Pull {
+            account: _,
+            contract: _,
+            operator: _,
+        } => 5,
+        Command::Phase {
+            contract: _,
+            phase: _,
+        } => 6,
+        Command::Settle => 7,
+    }
+}
+
+pub fn is_malformed(command: Command) -> bool
+    ensures { λ r. ⌜ r ≡ isMalformed command ⌝ }
+{
+    kind_of(command) == 0
+}
+
+pub fn is_settle(command: Command) -> bool
+    ensures { λ r. ⌜ r ≡ isSettle command ⌝ }
+{
+    kind_of(command) == 7
 }

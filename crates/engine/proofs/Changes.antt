@@ -10,13 +10,15 @@ use borrow.Author.Tests.{ne-eqb}
 use lib.Dec.{eqb}
 use lib.ListN.{getD}
 use Rattle.laws.specs.Choice.{pick}
-use Rattle.rules.specs.Answers.{changeListed, codeOf, firstOf, phaseRefusals, refusals}
+use Rattle.rules.specs.Kinds.{codeOf, kindOf}
+use Rattle.rules.specs.Answers.{changeListed, firstOf, phaseRefusals}
+use Rattle.rules.specs.Command.{phaseKnown}
 use Rattle.rules.specs.Exchange.{Listing, listingAt, noContract}
-use Rattle.rules.specs.Memory.{Memory, exchangeOf, listingIn, put, stepIn}
-use Rattle.rules.specs.Step.{carriedOut, phaseChanged, withPhase}
+use Rattle.rules.specs.Memory.{Memory, exchangeOf, listingIn, put, stepIn, memory, WellFormedState, written}
+use Rattle.rules.specs.Step.{phaseChanged, withPhase}
 use Rattle.rules.specs.declared.Command.the-variants.{Phase}
 use Rattle.rules.specs.declared.State.{State}
-use Rattle.engine.specs.Outcome.{isAbsent, memory, WellFormedState, OutcomeIs, refusedWith, acceptedWith, withPhaseAt}
+use Rattle.engine.specs.Outcome.{isAbsent, OutcomeIs, refusedWith, acceptedWith, withPhaseAt}
 use Rattle.engine.specs.declared.answers.Outcome.{Outcome}
 use Rattle.engine.proofs.Formed.{Formed, formed, listing-at, no-contract}
 use Rattle.engine.proofs.Outcomes.{refusal, acceptance}
@@ -67,18 +69,21 @@ module _ {s : State} {buys sells trades : List ℕ} (w : WellFormedState s buys 
   ChangeIs r = OutcomeIs (stepIn m (Phase contract phase)) r buys sells trades
 
   phase-code : codeOf (exchangeOf m) (Phase contract phase)
-      ≡ pick (isAbsent contract (s .contractcount)) 3 (pick (not (changeListed (listingAt (exchangeOf m) (contract - 1) .contract .phase) phase)) 17 0)
-  unfolding codeOf refusals phaseRefusals firstOf
+      ≡ pick (not (phaseKnown phase)) 1 (pick (isAbsent contract (s .contractcount)) 3 (pick (not (changeListed (listingAt (exchangeOf m) (contract - 1) .contract .phase) phase)) 17 0))
+  unfolding codeOf kindOf phaseRefusals firstOf
   phase-code = rw (no-contract m f contract)
 
   phase-refused : (code : ℕ) {r : Outcome} → 0 < code → codeOf (exchangeOf m) (Phase contract phase) ≡ code → r ≡ refusedWith s code → ChangeIs r
   phase-refused code h = refusal s buys sells trades (Phase contract phase) code h
 
-  pub phase-absent : {r : Outcome} → isAbsent contract (s .contractcount) ≡ true → r ≡ refusedWith s 3 → ChangeIs r
-  phase-absent e = phase-refused 3 (omega arith) (rw (phase-code, e))
+  pub phase-unknown : {r : Outcome} → phaseKnown phase ≡ false → r ≡ refusedWith s 1 → ChangeIs r
+  phase-unknown e = phase-refused 1 (omega arith) (rw (phase-code, e))
+
+  pub phase-absent : {r : Outcome} → phaseKnown phase ≡ true → isAbsent contract (s .contractcount) ≡ true → r ≡ refusedWith s 3 → ChangeIs r
+  phase-absent known e = phase-refused 3 (omega arith) (rw (phase-code, known, e))
 
   -- k is the contract's number as the code widens it
-  module _ (present : isAbsent contract (s .contractcount) ≡ false) {k : ℕ} (is : k ≡ contract) where
+  module _ (known : phaseKnown phase ≡ true) (present : isAbsent contract (s .contractcount) ≡ false) {k : ℕ} (is : k ≡ contract) where
     here : contract - 1 < s .contractcount
     here = place-below contract (s .contractcount) present .1
 
@@ -87,13 +92,13 @@ module _ {s : State} {buys sells trades : List ℕ} (w : WellFormedState s buys 
     terms-are = rw is (ap (λ (l : Listing). l .contract) (listing-at m f (contract - 1) here))
 
     pub phase-unlisted : {r : Outcome} → changeListed (getD (s .contracts) (k - 1) noContract .phase) phase ≡ false → r ≡ refusedWith s 17 → ChangeIs r
-    phase-unlisted h = phase-refused 17 (omega arith) (rw (phase-code, present, terms-are, h))
+    phase-unlisted h = phase-refused 17 (omega arith) (rw (phase-code, known, present, terms-are, h))
 
-    phase-lies : put m (carriedOut (exchangeOf m) (Phase contract phase) .exchange) ≡ memory (withPhaseAt s (k - 1) phase) buys sells trades
-    unfolding carriedOut phaseChanged
+    phase-lies : written m (kindOf (exchangeOf m) (Phase contract phase) .effect .stages) ≡ memory (withPhaseAt s (k - 1) phase) buys sells trades
+    unfolding kindOf phaseChanged
     phase-lies =
         put-contract m f (contract - 1) here (withPhase (listingAt (exchangeOf m) (contract - 1) .contract) phase) ∙ rw (terms-are, is)
 
     pub phase-accepted : {r : Outcome} {next : State} → changeListed (getD (s .contracts) (k - 1) noContract .phase) phase ≡ true → next ≡ withPhaseAt s (k - 1) phase → r ≡ acceptedWith next 0 0 0 → ChangeIs r
-    unfolding carriedOut phaseChanged
-    phase-accepted h n e = acceptance s buys sells trades (Phase contract phase) (rw (phase-code, present, terms-are, h)) refl (phase-lies ∙ rw n) e
+    unfolding kindOf phaseChanged
+    phase-accepted h n e = acceptance s buys sells trades (Phase contract phase) (rw (phase-code, known, present, terms-are, h)) refl (phase-lies ∙ rw n) e

@@ -11,18 +11,19 @@ use lib.ListN.{getD, set}
 use lib.Signed.{ltZ}
 use Rattle.laws.specs.Bound.{Within}
 use Rattle.laws.specs.Choice.{both-true, pick}
-use Rattle.rules.specs.Answers.{amountRefused, codeOf, depositRefusals, firstOf, leavesTooLittle, liftsTooHigh, refusals, withdrawRefusals}
+use Rattle.rules.specs.Kinds.{codeOf, kindOf}
+use Rattle.rules.specs.Answers.{amountRefused, depositRefusals, firstOf, leavesTooLittle, liftsTooHigh, withdrawRefusals}
 use Rattle.rules.specs.Bounds.{within, maxAmount}
 use Rattle.rules.specs.Exchange.{accountAt, noAccount}
 use Rattle.rules.specs.Margin.{charged}
-use Rattle.rules.specs.Memory.{Memory, exchangeOf, inUse, put, stepIn}
-use Rattle.rules.specs.Step.{carriedOut, deposited, paid, withBalance, withdrawn}
+use Rattle.rules.specs.Memory.{Memory, exchangeOf, inUse, put, stepIn, memory, WellFormedState, written}
+use Rattle.rules.specs.Step.{deposited, paid, withBalance, withdrawn}
 use Rattle.rules.specs.declared.Account.{Account}
 use Rattle.rules.specs.declared.Command.the-variants.{Deposit, Withdraw}
 use Rattle.rules.specs.declared.State.{State}
 use Rattle.margin.specs.Charge.{ChargeableAt, ChargedAt}
 use Rattle.margin.proofs.Charging.{charged-at}
-use Rattle.engine.specs.Outcome.{isAbsent, memory, WellFormedState, OutcomeIs, refusedWith, acceptedWith, withBalanceAt}
+use Rattle.engine.specs.Outcome.{isAbsent, OutcomeIs, refusedWith, acceptedWith, withBalanceAt}
 use Rattle.engine.specs.declared.answers.Outcome.{Outcome}
 use Rattle.engine.proofs.Formed.{Formed, formed, no-account, account-at, account-put, balance-within}
 use Rattle.engine.proofs.Margins.{chargeable}
@@ -81,7 +82,7 @@ module _ {s : State} {buys sells trades : List ℕ} (w : WellFormedState s buys 
     DepositIs r = OutcomeIs (stepIn m (Deposit account amount)) r buys sells trades
 
     deposit-code : codeOf (exchangeOf m) (Deposit account amount) ≡ pick (isAbsent account (s .accountcount)) 2 (pick (amountRefused amount || liftsTooHigh (exchangeOf m) account amount) 16 0)
-    unfolding codeOf refusals depositRefusals firstOf
+    unfolding codeOf kindOf depositRefusals firstOf
     deposit-code = rw (no-account m f account)
 
     deposit-refused : (code : ℕ) {r : Outcome} → 0 < code → codeOf (exchangeOf m) (Deposit account amount) ≡ code → r ≡ refusedWith s code → DepositIs r
@@ -105,12 +106,12 @@ module _ {s : State} {buys sells trades : List ℕ} (w : WellFormedState s buys 
         pub deposit-high : {r : Outcome} → ltZ (pos (10 ^ 18)) lifted ≡ true → r ≡ refusedWith s 16 → DepositIs r
         deposit-high h = deposit-refused 16 (omega arith) (rw (deposit-code, present, right, lifts-is, h))
 
-        deposit-lies : put m (carriedOut (exchangeOf m) (Deposit account amount) .exchange) ≡ memory (withBalanceAt s (k - 1) lifted) buys sells trades
-        unfolding carriedOut deposited
+        deposit-lies : written m (kindOf (exchangeOf m) (Deposit account amount) .effect .stages) ≡ memory (withBalanceAt s (k - 1) lifted) buys sells trades
+        unfolding kindOf deposited
         deposit-lies = rw (is, balance-is present) (paid-lies present (getD (s .accounts) (account - 1) noAccount .balance +ℤ pos amount))
 
         pub deposit-accepted : {r : Outcome} {next : State} → ltZ (pos (10 ^ 18)) lifted ≡ false → next ≡ withBalanceAt s (k - 1) lifted → r ≡ acceptedWith next 0 0 0 → DepositIs r
-        unfolding carriedOut deposited
+        unfolding kindOf deposited
         deposit-accepted h n e = acceptance s buys sells trades (Deposit account amount) (rw (deposit-code, present, right, lifts-is, h)) refl (deposit-lies ∙ rw n) e
 
     -- ---- withdraw
@@ -120,7 +121,7 @@ module _ {s : State} {buys sells trades : List ℕ} (w : WellFormedState s buys 
 
     withdraw-code : codeOf (exchangeOf m) (Withdraw account amount)
         ≡ pick (isAbsent account (s .accountcount)) 2 (pick (amountRefused amount) 16 (pick (leavesTooLittle (exchangeOf m) account amount) 9 0))
-    unfolding codeOf refusals withdrawRefusals firstOf
+    unfolding codeOf kindOf withdrawRefusals firstOf
     withdraw-code = rw (no-account m f account)
 
     withdraw-refused : (code : ℕ) {r : Outcome} → 0 < code → codeOf (exchangeOf m) (Withdraw account amount) ≡ code → r ≡ refusedWith s code → WithdrawIs r
@@ -145,10 +146,10 @@ module _ {s : State} {buys sells trades : List ℕ} (w : WellFormedState s buys 
           pub withdraw-short : {r : Outcome} → ltZ left (pos total) ≡ true → r ≡ refusedWith s 9 → WithdrawIs r
           withdraw-short h = withdraw-refused 9 (omega arith) (rw (withdraw-code, present, right, leaves-is, h))
 
-          withdraw-lies : put m (carriedOut (exchangeOf m) (Withdraw account amount) .exchange) ≡ memory (withBalanceAt s (k - 1) left) buys sells trades
-          unfolding carriedOut withdrawn
+          withdraw-lies : written m (kindOf (exchangeOf m) (Withdraw account amount) .effect .stages) ≡ memory (withBalanceAt s (k - 1) left) buys sells trades
+          unfolding kindOf withdrawn
           withdraw-lies = rw (is, balance-is present) (paid-lies present (getD (s .accounts) (account - 1) noAccount .balance -ℤ pos amount))
 
           pub withdraw-accepted : {r : Outcome} {next : State} → ltZ left (pos total) ≡ false → next ≡ withBalanceAt s (k - 1) left → r ≡ acceptedWith next 0 0 0 → WithdrawIs r
-          unfolding carriedOut withdrawn
+          unfolding kindOf withdrawn
           withdraw-accepted h n e = acceptance s buys sells trades (Withdraw account amount) (rw (withdraw-code, present, right, leaves-is, h)) refl (withdraw-lies ∙ rw n) e

@@ -14,12 +14,13 @@ use Rattle.laws.specs.Choice.{pick, allOf, allOf-at}
 use Rattle.laws.specs.Sums.{sumOf-bound}
 use Rattle.areas.specs.Lists.{removeAt}
 use Rattle.areas.proofs.Lists.{length-removeAt}
-use Rattle.rules.specs.Answers.{_when_, cancelRefusals, codeOf, firstOf, noSuchOrder, numbered, ofAnother, pullRefusals, refusals, removalRefused, restingOrder}
+use Rattle.rules.specs.Kinds.{codeOf, done, kindOf}
+use Rattle.rules.specs.Answers.{_when_, cancelRefusals, firstOf, noSuchOrder, numbered, ofAnother, pullRefusals, removalRefused, restingOrder}
 use Rattle.rules.specs.Bounds.{maxLots}
 use Rattle.rules.specs.Exchange.{Listing, listingAt, lotsWhere, noContract, noListing, noOrder}
-use Rattle.rules.specs.Memory.{Memory, exchangeOf, listingIn, orderFrom, put, putQueue, queueIn, stepIn}
+use Rattle.rules.specs.Memory.{Memory, exchangeOf, listingIn, orderFrom, put, putQueue, queueIn, stepIn, memory, WellFormedState}
 use Rattle.rules.specs.Places.{firstWhere, indexOf}
-use Rattle.rules.specs.Step.{Stepped, answerOf, carriedOut, cancelled, hasNumber, isOf, listingWithout, pulled, removed, withListing, without}
+use Rattle.rules.specs.Step.{Effect, answerOf, cancelled, hasNumber, isOf, listingWithout, pulled, removed, withListing, without}
 use Rattle.rules.specs.WellFormed.{allNumbers, numbers, orderInRange, usedOnce}
 use Rattle.rules.specs.declared.Command.{Command}
 use Rattle.rules.specs.declared.Command.the-variants.{Cancel, Pull}
@@ -32,7 +33,7 @@ use Rattle.book.specs.Removal.{PulledIs}
 use Rattle.book.specs.declared.removal.Pulled.{Pulled}
 use Rattle.invariants.proofs.Accepted.{failed}
 use Rattle.invariants.proofs.Clauses.{ListingOk, OrderOk, order-ok}
-use Rattle.engine.specs.Outcome.{isAbsent, memory, WellFormedState, OutcomeIs, refusedWith, acceptedWith, withCountsIn}
+use Rattle.engine.specs.Outcome.{isAbsent, OutcomeIs, refusedWith, acceptedWith, withCountsIn}
 use Rattle.engine.specs.Removal.{removalCode, cancelCode, RemovedIs, CancelledIs}
 use Rattle.engine.specs.declared.answers.Outcome.{Outcome}
 use Rattle.engine.specs.declared.removal.Cancelled.{Cancelled}
@@ -185,12 +186,12 @@ module _ {s : State} {buys sells trades : List ℕ} (w : WellFormedState s buys 
       go false e = rw (listing-at m f (contract - 1) (place-below contract (s .contractcount) e .1))
 
   pull-code : codeOf (exchangeOf m) (Pull account contract operator) ≡ removalCode s account contract operator
-  unfolding codeOf refusals
+  unfolding codeOf kindOf
   pull-code = shared-code
 
   cancel-code : (number : ℕ) → codeOf (exchangeOf m) (Cancel account contract operator number)
       ≡ pick (eqb (removalCode s account contract operator) 0) (cancelCode (account - 1) (restingOrder (listingAt (exchangeOf m) (contract - 1)) number)) (removalCode s account contract operator)
-  unfolding codeOf refusals cancelRefusals pullRefusals cancelCode
+  unfolding codeOf kindOf cancelRefusals pullRefusals cancelCode
   cancel-code number =
       let l : Listing = listingAt (exchangeOf m) (contract - 1) in
       first-append (pullRefusals (exchangeOf m) account contract operator)
@@ -272,16 +273,16 @@ module _ {s : State} {buys sells trades : List ℕ} (w : WellFormedState s buys 
             (put-queues m f (k - 1) here (without test (orders false)) (without test (orders true)) (short false) (short true)
             ∙ rw (b .queue, b .count, o .queue, o .count))
 
-        answer : {number lots : ℕ} → lots ≡ bid + offer → removed (exchangeOf m) (contract - 1) test number .answer ≡ answerOf 0 number 0 lots
+        answer : {number lots : ℕ} → lots ≡ bid + offer → done (removed (exchangeOf m) (contract - 1) test number) .answer ≡ answerOf 0 number 0 lots
         unfolding removed listingIn
         answer l = rw (listing-is, l, b .lots, o .lots)
 
         pub removal-accepted : (command : Command) {r : Outcome} {next : State} {number lots : ℕ} → codeOf (exchangeOf m) command ≡ 0
-            → carriedOut (exchangeOf m) command ≡ removed (exchangeOf m) (contract - 1) test number
+            → kindOf (exchangeOf m) command .effect ≡ removed (exchangeOf m) (contract - 1) test number
             → next ≡ withCountsIn s (set (s .buys) (k - 1) bought) (set (s .sells) (k - 1) sold) → lots ≡ bid + offer → r ≡ acceptedWith next number 0 lots
             → OutcomeIs (stepIn m command) r buys′ sells′ trades
         unfolding removed
-        removal-accepted command e c n l a = acceptance s buys sells trades command e (ap (λ (t : Stepped). t .answer) c ∙ answer l) (rw (c, n) lies) a
+        removal-accepted command e c n l a = acceptance s buys sells trades command e (ap (λ (t : Effect). done t .answer) c ∙ answer l) (rw (c, n) lies) a
 
       -- ---- cancel
 
@@ -304,7 +305,7 @@ module _ {s : State} {buys sells trades : List ℕ} (w : WellFormedState s buys 
 
           pub bid-done : {r : Outcome} {next : State} → bid .code ≡ 0
               → next ≡ withCountsIn s (set (s .buys) (k - 1) (bid .count)) (set (s .sells) (k - 1) (count true)) → r ≡ acceptedWith next number 0 (bid .lots) → CancelIs r buys′ sells
-          unfolding carriedOut cancelled
+          unfolding kindOf cancelled
           bid-done e n a =
               removal-accepted (hasNumber number) (b .done e)
               (removed-none (hasNumber number) sells (k - 1) (count true) (side-room true) (apart number (found-code (account - 1) number (orders false) (λ z. omega (arith, b .code, e, z)))))
@@ -326,7 +327,7 @@ module _ {s : State} {buys sells trades : List ℕ} (w : WellFormedState s buys 
 
             pub offer-done : {r : Outcome} {next : State} → offer .code ≡ 0
                 → next ≡ withCountsIn s (set (s .buys) (k - 1) (count false)) (set (s .sells) (k - 1) (offer .count)) → r ≡ acceptedWith next number 0 (offer .lots) → CancelIs r buys′ sells′
-            unfolding carriedOut cancelled
+            unfolding kindOf cancelled
             offer-done e n a =
                 rw (b .kept p)
                 (removal-accepted (hasNumber number) (removed-none (hasNumber number) buys (k - 1) (count false) (side-room false) missing) (o .done e)
@@ -351,7 +352,7 @@ module _ {s : State} {buys sells trades : List ℕ} (w : WellFormedState s buys 
           → PulledIs (account - 1) buys (k - 1) (count false) bid buys′ → PulledIs (account - 1) sells (k - 1) (count true) offer sells′
           → next ≡ withCountsIn s (set (s .buys) (k - 1) (bid .count)) (set (s .sells) (k - 1) (offer .count)) → lots ≡ bid .lots + offer .lots
           → r ≡ acceptedWith next 0 0 lots → OutcomeIs (stepIn m (Pull account contract operator)) r buys′ sells′ trades
-      unfolding carriedOut pulled
+      unfolding kindOf pulled
       pull-accepted b o n l a =
           removal-accepted (isOf (account - 1)) (record { queue = b .queue; count = b .count; lots = b .lots }) (record { queue = o .queue; count = o .count; lots = o .lots })
           (Pull account contract operator) (pull-code ∙ none) refl n l a

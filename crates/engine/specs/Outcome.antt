@@ -1,5 +1,5 @@
--- What a kind asks for, and what it gives and leaves, against the rules' response. Assumes nothing.
-use mathlib.Core.Bool.{Bool, true, _||_}
+-- What a kind gives and leaves, against the rules' response. Assumes nothing.
+use mathlib.Core.Bool.{Bool, _||_}
 use mathlib.Core.List.{List}
 use mathlib.Core.Path.{_≡_}
 use Prim.Native.Nat.{ℕ}
@@ -8,20 +8,11 @@ use lib.IntN.{ℤ}
 use lib.ListN.{getD, set}
 use Rattle.rules.specs.Exchange.{noAccount, noContract}
 use Rattle.rules.specs.Step.{answerOf, withBalance, withPhase}
-use Rattle.rules.specs.Memory.{Declared, Memory, Responded, wellFormedMemory}
+use Rattle.rules.specs.Memory.{Responded, memory}
 use Rattle.rules.specs.declared.Account.{Account}
 use Rattle.rules.specs.declared.Contract.{Contract}
 use Rattle.rules.specs.declared.State.{State}
 use Rattle.engine.specs.declared.answers.Outcome.{Outcome}
-
--- a state with the areas lent with it
-abbrev pub memory : State → List ℕ → List ℕ → List ℕ → Memory
-memory state buys sells trades = record { state = state; buys = buys; sells = sells; trades = trades }
-
--- a state whose arrays have the places of their types, well formed with its areas
-pub record WellFormedState (state : State) (buys sells trades : List ℕ) : Type 0 where
-  pub declared : Declared state
-  pub formed : wellFormedMemory (memory state buys sells trades) ≡ true
 
 -- the answer, the state, and the full content of the three areas
 pub record OutcomeIs (response : Responded) (r : Outcome) (buys sells trades : List ℕ) : Type 0 where

@@ -2,9 +2,10 @@
 ghost use mathlib.Core.Path.{_≡_};
 ghost use Prim.Native.Nat.{_<_};
 ghost use Rattle.rules.specs.Answers.{changeListed};
-ghost use Rattle.rules.specs.Memory.{stepIn};
+ghost use Rattle.rules.specs.Command.{phaseKnown};
+ghost use Rattle.rules.specs.Memory.{stepIn, memory, WellFormedState};
 ghost use Rattle.rules.specs.declared.Command.the-variants.{Phase};
-ghost use Rattle.engine.specs.Outcome.{memory, OutcomeIs, WellFormedState, withPhaseAt};
+ghost use Rattle.engine.specs.Outcome.{OutcomeIs, withPhaseAt};
 use crate::answers;
 use crate::answers::Outcome;
 use rules::State;
@@ -23,6 +24,13 @@ fn is_listed(from: u32, to: u32) -> bool
         return to == 1 || to == 3;
     }
     false
+}
+
+// "above 3 unknown"
+fn is_known(phase: u32) -> bool
+    ensures { λ r. ⌜ r ≡ phaseKnown phase ⌝ }
+{
+    phase <= 3
 }
 
 // The state with another phase at one contract's place.
@@ -50,6 +58,9 @@ pub fn change(
     requires { ⌜ WellFormedState state (now buys) (now sells) (now trades) ⌝ }
     ensures { λ r. ⌜ OutcomeIs (stepIn (memory state (now (buys .entry)) (now (sells .entry)) (now (trades .entry))) (Phase contract phase)) r (now (buys .entry)) (now (sells .entry)) (now (trades .entry)) ⌝ }
 {
+    if !is_known(phase) {
+        return answers::refused(state, 1);
+    }
     if answers::is_absent(contract, state.contractcount) {
         return answers::refused(state, 3);
     }

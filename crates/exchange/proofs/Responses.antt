@@ -9,19 +9,19 @@ use native.Mathlib.Omega.{arith}
 use lib.Dec.{eqb, leb, eqb·suc-zero}
 use lib.ListN.{length, getD}
 use Rattle.laws.specs.Choice.{all, all-ext, allOf, allOf-all, pick}
-use Rattle.rules.specs.Answers.{codeOf, firstOf, refusals, settleRefusals}
-use Rattle.rules.specs.Command.{commandOf, isSettle}
+use Rattle.rules.specs.Kinds.{codeOf, decide, kindOf}
+use Rattle.rules.specs.Answers.{firstOf, settleRefusals}
+use Rattle.rules.specs.Command.{isSettle}
 use Rattle.rules.specs.Exchange.{Listing, listingAt, noContract, noListing}
-use Rattle.rules.specs.Memory.{Memory, exchangeOf, listingIn, put, respond, stepIn, wellFormedMemory}
+use Rattle.rules.specs.Memory.{Memory, exchangeOf, listingIn, put, respond, stepIn, wellFormedMemory, memory, WellFormedState}
 use Rattle.rules.specs.Settlement.{settled}
-use Rattle.rules.specs.Step.{answerOf, carriedOut}
+use Rattle.rules.specs.Step.{answerOf, settledAll}
 use Rattle.rules.specs.declared.Command.{Command}
 use Rattle.rules.specs.declared.Command.the-variants.{Malformed, Settle}
-use Rattle.rules.specs.declared.Record.{Record}
 use Rattle.rules.specs.declared.State.{State}
 use Rattle.engine.proofs.Formed.{Formed, formed, contracts-count, listing-at}
 use Rattle.engine.proofs.Outcomes.{refusal}
-use Rattle.engine.specs.Outcome.{memory, OutcomeIs, WellFormedState, refusedWith}
+use Rattle.engine.specs.Outcome.{OutcomeIs, refusedWith}
 use Rattle.engine.specs.declared.answers.Outcome.{Outcome}
 use Rattle.settlement.specs.Settling.{SettledIs}
 use Rattle.settlement.specs.declared.settle.Settled.{Settled}
@@ -41,7 +41,7 @@ plain-response m command o r buys sells trades n k e =
 
 -- "kind, flag value or unused field is wrong"
 pub malformed-code : (m : Memory) → codeOf (exchangeOf m) Malformed ≡ 1
-unfolding codeOf refusals firstOf
+unfolding codeOf kindOf firstOf
 malformed-code m = refl
 
 -- ---- the codes of a settlement
@@ -61,15 +61,15 @@ module _ {s : State} {buys sells trades : List ℕ} (k : WellFormedState s buys 
       ∙ all-ext _ _ (s .contractcount) (λ c h. ap (λ (l : Listing). eqb (l .contract .phase) 3) (listing-at m f c h))
 
   pub settle-open : all (λ c. eqb (getD (s .contracts) c noContract .phase) 3) (s .contractcount) ≡ false → codeOf (exchangeOf m) Settle ≡ 18
-  unfolding codeOf refusals settleRefusals firstOf
+  unfolding codeOf kindOf settleRefusals firstOf
   settle-open e = rw (closed-test, e)
 
   pub settle-many : all (λ c. eqb (getD (s .contracts) c noContract .phase) 3) (s .contractcount) ≡ true → 250 ≤ s .settlements → codeOf (exchangeOf m) Settle ≡ 19
-  unfolding codeOf refusals settleRefusals firstOf exchangeOf
+  unfolding codeOf kindOf settleRefusals firstOf exchangeOf
   settle-many e h = rw (closed-test, e, le-leb 250 (s .settlements) h)
 
   pub settle-none : all (λ c. eqb (getD (s .contracts) c noContract .phase) 3) (s .contractcount) ≡ true → s .settlements < 250 → codeOf (exchangeOf m) Settle ≡ 0
-  unfolding codeOf refusals settleRefusals firstOf exchangeOf
+  unfolding codeOf kindOf settleRefusals firstOf exchangeOf
   settle-none e h = rw (closed-test, e, lt-leb 250 (s .settlements) h)
 
   -- a settlement refused, and one made
@@ -91,7 +91,7 @@ module _ {s : State} {buys sells trades : List ℕ} (k : WellFormedState s buys 
 
   pub settle-made : (t : Settled) (buys′ sells′ trades′ : List ℕ) → codeOf (exchangeOf m) Settle ≡ 0 → SettledIs m t buys′ sells′ trades′
       → ResponseIs m Settle (record { answer = answerOf 0 0 0 0; state = t .state; report = record { prices = t .prices; closing = t .closing; holding = t .holding; charged = t .charged } }) buys′ sells′ trades′
-  unfolding reportOf settlementReport stepIn carriedOut
+  unfolding reportOf settlementReport stepIn decide kindOf settledAll
   settle-made t buys′ sells′ trades′ e k′ =
       record {
         answer = rw e;
@@ -117,17 +117,17 @@ malformed-as s buys sells trades o e g f =
 
 -- ---- any state: code 21, and the command of a well-formed one
 
-pub executed-refused : (s : State) (buys sells trades : List ℕ) (bytes : Record) (o : Outcome) {r : Response} → wellFormedMemory (memory s buys sells trades) ≡ false
-    → o ≡ refusedWith s 21 → r ≡ withReport o noReport → ExecutedIs (memory s buys sells trades) bytes r buys sells trades
+pub executed-refused : (s : State) (buys sells trades : List ℕ) (command : Command) (o : Outcome) {r : Response} → wellFormedMemory (memory s buys sells trades) ≡ false
+    → o ≡ refusedWith s 21 → r ≡ withReport o noReport → ExecutedIs (memory s buys sells trades) command r buys sells trades
 unfolding respond
-executed-refused s buys sells trades bytes o w g h =
+executed-refused s buys sells trades command o w g h =
     record {
       answer = ap (λ (v : Response). v .answer) h ∙ ap (λ (v : Outcome). v .answer) g ∙ rw w;
       memory = ap (λ (v : Response). memory (v .state) buys sells trades) h ∙ ap (λ (v : Outcome). memory (v .state) buys sells trades) g ∙ rw w;
       report = ap (λ (v : Response). v .report) h ∙ rw w;
     }
 
-pub executed : (m : Memory) (bytes : Record) {r : Response} {buys sells trades : List ℕ} → wellFormedMemory m ≡ true → ResponseIs m (commandOf bytes) r buys sells trades
-    → ExecutedIs m bytes r buys sells trades
+pub executed : (m : Memory) (command : Command) {r : Response} {buys sells trades : List ℕ} → wellFormedMemory m ≡ true → ResponseIs m command r buys sells trades
+    → ExecutedIs m command r buys sells trades
 unfolding respond
-executed m bytes w k = record { answer = rw w (k .answer); memory = rw w (k .memory); report = rw w (k .report) }
+executed m command w k = record { answer = rw w (k .answer); memory = rw w (k .memory); report = rw w (k .report) }

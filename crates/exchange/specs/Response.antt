@@ -9,15 +9,13 @@ use lib.ListN.{replicate}
 use Rattle.laws.specs.Choice.{pick}
 use Rattle.laws.specs.Tabulate.{tabulate}
 use Rattle.areas.specs.Lists.{padded}
-use Rattle.rules.specs.Answers.{codeOf}
+use Rattle.rules.specs.Kinds.{codeOf}
 use Rattle.rules.specs.Bounds.{maxAccounts, maxContracts}
-use Rattle.rules.specs.Command.{commandOf, isSettle}
+use Rattle.rules.specs.Command.{isSettle}
 use Rattle.rules.specs.Margin as margin
-use Rattle.rules.specs.Memory.{Memory, Responded, exchangeOf, respond, stepIn, wellFormedMemory}
+use Rattle.rules.specs.Memory.{Memory, Responded, exchangeOf, respond, stepIn, wellFormedMemory, memory}
 use Rattle.rules.specs.Settlement.{closingProfit, holdingProfit, settled, settlementPrice}
 use Rattle.rules.specs.declared.Command.{Command}
-use Rattle.rules.specs.declared.Record.{Record}
-use Rattle.engine.specs.Outcome.{memory}
 use Rattle.engine.specs.declared.answers.Outcome.{Outcome}
 use Rattle.exchange.specs.declared.settling.Report.{Report}
 use Rattle.exchange.specs.declared.settling.Response.{Response}
@@ -49,8 +47,8 @@ pub record ResponseIs (m : Memory) (command : Command) (r : Response) (buys sell
   pub memory : memory (r .state) buys sells trades ≡ stepIn m command .memory
   pub report : r .report ≡ reportOf m command
 
--- the same of 24 bytes on any state: a state that is not well formed is answered 21 and reports nothing
-pub record ExecutedIs (m : Memory) (bytes : Record) (r : Response) (buys sells trades : List ℕ) : Type 0 where
-  pub answer : r .answer ≡ respond m bytes .answer
-  pub memory : memory (r .state) buys sells trades ≡ respond m bytes .memory
-  pub report : r .report ≡ pick (wellFormedMemory m) (reportOf m (commandOf bytes)) noReport
+-- the same on any state: a state that is not well formed is answered 21 and reports nothing
+pub record ExecutedIs (m : Memory) (command : Command) (r : Response) (buys sells trades : List ℕ) : Type 0 where
+  pub answer : r .answer ≡ respond m command .answer
+  pub memory : memory (r .state) buys sells trades ≡ respond m command .memory
+  pub report : r .report ≡ pick (wellFormedMemory m) (reportOf m command) noReport

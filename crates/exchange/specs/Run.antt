@@ -4,20 +4,19 @@ use mathlib.Core.Path.{_≡_}
 use Prim.Native.Nat.{ℕ, _*_, _/_}
 use lib.ListN.{length}
 use Rattle.laws.specs.Tabulate.{tabulate}
-use Rattle.rules.specs.Condition3.{Condition3, Opening, run}
-use Rattle.rules.specs.DayFile.{recordFrom}
+use Rattle.rules.specs.Condition3.{MoneyKept, run}
+use Rattle.rules.specs.DayFile.{commandFrom}
 use Rattle.rules.specs.Memory.{Memory}
-use Rattle.rules.specs.declared.Record.{Record}
+use Rattle.rules.specs.declared.Command.{Command}
 
--- the first k records of a list of bytes, and all whole ones
-unfoldable pub firstRecords : List ℕ → ℕ → List Record
-firstRecords bytes k = tabulate k (λ i. recordFrom bytes (24 * i))
+-- the commands of the first k records of a list of bytes, and of all whole ones
+unfoldable pub firstCommands : List ℕ → ℕ → List Command
+firstCommands bytes k = tabulate k (λ i. commandFrom bytes (24 * i))
 
-abbrev pub recordsIn : List ℕ → List Record
-recordsIn bytes = firstRecords bytes (length bytes / 24)
+abbrev pub wholeCommands : List ℕ → List Command
+wholeCommands bytes = firstCommands bytes (length bytes / 24)
 
--- the state and all areas are those of the rules' run; and of a state that opens without holdings or recorded trades,
--- condition 3 holds of it
-pub record RanIs (m : Memory) (bytes : List ℕ) (m′ : Memory) : Type 0 where
-  pub memory : m′ ≡ run m (recordsIn bytes)
-  pub money : Opening m → Condition3 m (recordsIn bytes)
+-- the state and all areas are those of the rules' run, and condition 3 holds of them
+pub record RanIs (m : Memory) (cs : List Command) (m′ : Memory) : Type 0 where
+  pub memory : m′ ≡ run m cs
+  pub money : MoneyKept m cs m′

@@ -1,7 +1,7 @@
 // One command. A call for users: it answers on anything.
 ghost use mathlib.Core.Path.{_≡_};
-ghost use Rattle.rules.specs.DayFile.{recordFrom};
-ghost use Rattle.engine.specs.Outcome.{memory};
+ghost use Rattle.rules.specs.DayFile.{commandFrom};
+ghost use Rattle.rules.specs.Memory.{memory};
 ghost use Rattle.exchange.specs.Response.{ExecutedIs};
 use crate::settling;
 use crate::settling::Response;
@@ -17,7 +17,7 @@ pub fn execute(
     trades: &mut [u32],
     bytes: [u8; 24],
 ) -> Response
-    ensures { λ r. ⌜ ExecutedIs (memory state (now (buys .entry)) (now (sells .entry)) (now (trades .entry))) (recordFrom bytes 0) r (now (buys .exit)) (now (sells .exit)) (now (trades .exit)) ⌝ }
+    ensures { λ r. ⌜ ExecutedIs (memory state (now (buys .entry)) (now (sells .entry)) (now (trades .entry))) (commandFrom bytes 0) r (now (buys .exit)) (now (sells .exit)) (now (trades .exit)) ⌝ }
 {
     if !audit::well_formed(state, &buys[..], &sells[..], &trades[..]) {
         return settling::plain(answers::refused(state, 21));

@@ -1,7 +1,7 @@
 // A list of commands, each getting the state that the last one left. A call for users: it answers on anything.
 ghost use mathlib.Core.Path.{_≡_};
-ghost use Rattle.engine.specs.Outcome.{memory};
-ghost use Rattle.exchange.specs.Run.{RanIs};
+ghost use Rattle.rules.specs.Memory.{memory};
+ghost use Rattle.exchange.specs.Run.{RanIs, wholeCommands};
 use crate::step;
 use rules::State;
 
@@ -14,7 +14,7 @@ pub fn run(
     trades: &mut [u32],
     bytes: &[u8],
 ) -> State
-    ensures { λ r. ⌜ RanIs (memory state (now (buys .entry)) (now (sells .entry)) (now (trades .entry))) (now (bytes .entry)) (memory r (now (buys .exit)) (now (sells .exit)) (now (trades .exit))) ⌝ }
+    ensures { λ r. ⌜ RanIs (memory state (now (buys .entry)) (now (sells .entry)) (now (trades .entry))) (wholeCommands (now (bytes .entry))) (memory r (now (buys .exit)) (now (sells .exit)) (now (trades .exit))) ⌝ }
 {
     if !audit::well_formed(state, &buys[..], &sells[..], &trades[..]) {
         return state;

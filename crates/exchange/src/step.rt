@@ -2,9 +2,8 @@
 ghost use mathlib.Core.Path.{_≡_};
 ghost use Prim.Native.Nat.{_+_, _≤_};
 ghost use lib.ListN.{length};
-ghost use Rattle.rules.specs.Command.{commandOf};
-ghost use Rattle.rules.specs.DayFile.{recordFrom};
-ghost use Rattle.engine.specs.Outcome.{memory, WellFormedState};
+ghost use Rattle.rules.specs.DayFile.{commandFrom};
+ghost use Rattle.rules.specs.Memory.{memory, WellFormedState};
 ghost use Rattle.exchange.specs.Response.{ResponseIs};
 use crate::settling;
 use crate::settling::Response;
@@ -94,7 +93,7 @@ pub fn step_at(
     at: usize,
 ) -> Response
     requires { ⌜ WellFormedState state (now buys) (now sells) (now trades) × (at + 24 ≤ length (now bytes)) ⌝ }
-    ensures { λ r. ⌜ ResponseIs (memory state (now (buys .entry)) (now (sells .entry)) (now (trades .entry))) (commandOf (recordFrom (now (bytes .entry)) at)) r (now (buys .exit)) (now (sells .exit)) (now (trades .exit)) ⌝ }
+    ensures { λ r. ⌜ ResponseIs (memory state (now (buys .entry)) (now (sells .entry)) (now (trades .entry))) (commandFrom (now (bytes .entry)) at) r (now (buys .exit)) (now (sells .exit)) (now (trades .exit)) ⌝ }
 {
     let record = dayfile::bytes::record_at(bytes, at);
     let command = commands::command_of(record);

@@ -3,10 +3,9 @@ use mathlib.Core.List.{List}
 use mathlib.Core.Path.{_≡_, ap, _∙_}
 use Prim.Native.Nat.{ℕ}
 use Rattle.rules.specs.Condition3.{run}
-use Rattle.rules.specs.Memory.{Memory}
+use Rattle.rules.specs.Memory.{Memory, memory}
 use Rattle.rules.specs.declared.State.{State}
 use Rattle.dayfile.specs.Opening.{openingState}
-use Rattle.engine.specs.Outcome.{memory}
 use Rattle.exchange.specs.Run.{RanIs, recordsIn}
 use Rattle.exchange_exports.specs.Probes.{probeOf, ranOf, ProbedIs}
 use Rattle.exchange_exports.specs.declared.Probe.{Probe}

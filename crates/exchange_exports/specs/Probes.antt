@@ -5,10 +5,9 @@ use Prim.Native.Nat.{ℕ}
 use lib.ListN.{getD}
 use Rattle.rules.specs.Condition3.{run}
 use Rattle.rules.specs.Exchange.{noAccount, noContract, noHolding}
-use Rattle.rules.specs.Memory.{Memory}
+use Rattle.rules.specs.Memory.{Memory, memory}
 use Rattle.rules.specs.declared.State.{State}
 use Rattle.dayfile.specs.Opening.{openingState}
-use Rattle.engine.specs.Outcome.{memory}
 use Rattle.exchange.specs.Run.{recordsIn}
 use Rattle.exchange_exports.specs.declared.Probe.{Probe}
 

@@ -14,7 +14,7 @@ use Rattle.rules.specs.Answers.{moneyRefused}
 use Rattle.rules.specs.Exchange.{Exchange, accountAt, holdingAt, noAccount, noContract, noHolding, placeOf}
 use Rattle.rules.specs.Holdings.{afterLeg, bookLeg, withHolding}
 use Rattle.rules.specs.Margin.{charged, chargedWith, withOpen}
-use Rattle.rules.specs.Memory.{Memory, exchangeOf, listingIn}
+use Rattle.rules.specs.Memory.{Memory, exchangeOf, listingIn, memory, WellFormedState}
 use Rattle.rules.specs.declared.Account.{Account}
 use Rattle.rules.specs.declared.Holding.{Holding}
 use Rattle.rules.specs.declared.NewOrder.{NewOrder}
@@ -23,7 +23,6 @@ use Rattle.rules.proofs.InUse.{used-leg}
 use Rattle.book.specs.Bounds.{HoldingWithin}
 use Rattle.margin.specs.Charge.{Chargeable, ChargeableIn, ChargedIs}
 use Rattle.insertion.specs.Insertion.{Present}
-use Rattle.engine.specs.Outcome.{memory, WellFormedState}
 use Rattle.engine.proofs.Formed.{Formed, account-at, balance-within, few-accounts, formed}
 use Rattle.engine.proofs.Margins.{chargeable, in-contract}
 

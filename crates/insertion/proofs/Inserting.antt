@@ -8,10 +8,11 @@ use borrow.Author.Tests.{leb-true, ne-eqb, not-false}
 use lib.Dec.{eqb, leb, ltb}
 use lib.ListN.{length, getD}
 use Rattle.laws.specs.Choice.{both-true, pick}
-use Rattle.rules.specs.Answers.{Refusal, codeOf, firstOf, fillableLots, holdingRefused, insertRefusals, listingOf, mark, moneyRefused, overHolding, overLimit, refusals, takerOf, tradesNeeded}
+use Rattle.rules.specs.Kinds.{codeOf, kindOf}
+use Rattle.rules.specs.Answers.{Refusal, firstOf, fillableLots, holdingRefused, insertRefusals, listingOf, mark, moneyRefused, overHolding, overLimit, takerOf, tradesNeeded}
 use Rattle.rules.specs.Bounds.{maxLots, termsInRange, within}
 use Rattle.rules.specs.Exchange.{Exchange, accountAt, holdingAt, noAccount, noContract, noHolding, opposite, own, placeOf, resting}
-use Rattle.rules.specs.Memory.{Memory, exchangeOf, queueIn}
+use Rattle.rules.specs.Memory.{Memory, exchangeOf, queueIn, memory, WellFormedState}
 use Rattle.rules.specs.declared.Account.{Account}
 use Rattle.rules.specs.declared.Command.the-variants.{Insert}
 use Rattle.rules.specs.declared.NewOrder.{NewOrder}
@@ -22,7 +23,7 @@ use Rattle.rules.proofs.Codecs.{length-queue}
 use Rattle.rules.proofs.Fillable.{trades-counted}
 use Rattle.invariants.proofs.Accepted.{failed}
 use Rattle.insertion.specs.Insertion.{Facing, Present, QueueRoom, accountRefusals, bookRefusals, lotsRefused, sideArea, sideCount, takerFor, termsRefusals}
-use Rattle.engine.specs.Outcome.{isAbsent, memory, WellFormedState}
+use Rattle.engine.specs.Outcome.{isAbsent}
 use Rattle.engine.proofs.Formed.{Formed, formed, holding-at, no-account, no-contract}
 use Rattle.engine.proofs.Puts.{trades-count}
 use Rattle.engine.proofs.Refusals.{first-append}
@@ -62,7 +63,7 @@ module _ {s : State} {buys sells trades : List ℕ} (w : WellFormedState s buys 
       bookRefusals (x .next) (length (x .trades)) (length (own (o .sell) (listingOf x o))) (takerOf x o) (opposite (o .sell) (listingOf x o)) o
 
   in-parts : codeOf x (Insert o) ≡ pick (isAbsent (o .account) (s .accountcount)) 2 (pick (isAbsent (o .contract) (s .contractcount)) 3 (firstOf (termsPart ++ (accountRefusals x o ++ bookPart))))
-  unfolding codeOf refusals insertRefusals firstOf termsRefusals accountRefusals bookRefusals fillableLots tradesNeeded termsPart bookPart
+  unfolding codeOf kindOf insertRefusals firstOf termsRefusals accountRefusals bookRefusals fillableLots tradesNeeded termsPart bookPart
   in-parts = rw (no-account m f (o .account), no-contract m f (o .contract), trades-counted)
 
   terms-first : firstOf (termsPart ++ (accountRefusals x o ++ bookPart)) ≡ pick (eqb (firstOf termsPart) 0) (firstOf (accountRefusals x o ++ bookPart)) (firstOf termsPart)

@@ -9,10 +9,10 @@ ghost use Rattle.rules.specs.Answers as answer;
 ghost use Rattle.rules.specs.Bounds.{termsInRange};
 ghost use Rattle.rules.specs.Exchange.{noAccount};
 ghost use Rattle.rules.specs.Matching as matching;
-ghost use Rattle.rules.specs.Memory.{exchangeOf, queueIn};
+ghost use Rattle.rules.specs.Kinds.{codeOf};
+ghost use Rattle.rules.specs.Memory.{exchangeOf, queueIn, memory, WellFormedState};
 ghost use Rattle.rules.specs.declared.Command.the-variants.{Insert};
 ghost use Rattle.insertion.specs.Insertion.{dayWithoutLimit, fieldsRefusals, termsRefusals, lotsRefused, killRefused, tradesRefused, fullRefused, accountRefusals, bookRefusals, Present, OwnedBy, QueueRoom, Facing};
-ghost use Rattle.engine.specs.Outcome.{memory, WellFormedState};
 use crate::orders;
 use engine::answers;
 use rules::Account;
@@ -266,7 +266,7 @@ pub fn code_of<'a>(
     o: NewOrder,
 ) -> u32
     requires { ⌜ WellFormedState state (now buys) (now sells) (now trades) × OwnedBy state o who ⌝ }
-    ensures { λ r. ⌜ r ≡ answer.codeOf (exchangeOf (memory state (now (buys .entry)) (now (sells .entry)) (now (trades .entry)))) (Insert o) ⌝ }
+    ensures { λ r. ⌜ r ≡ codeOf (exchangeOf (memory state (now (buys .entry)) (now (sells .entry)) (now (trades .entry)))) (Insert o) ⌝ }
 {
     if answers::is_absent(o.contract, state.contractcount) {
         return 3;

@@ -5,14 +5,12 @@ use mathlib.Core.Logic.{_≢_}
 use mathlib.Core.Path.{_≡_, refl}
 use Prim.Native.Nat.{ℕ, _<_}
 use native.Mathlib.Omega.{arith}
-use borrow.Author.Tests.{eqb-true, eqb-false, ltb-false}
+use borrow.Author.Tests.{eqb-false, ltb-false}
 use lib.Dec.{ltb, eqb}
 use lib.ListN.{length}
 use Rattle.laws.specs.Choice.{either-false}
-use Rattle.rules.specs.Answers.{Refusal, _when_, firstOf, codeOf}
-use Rattle.rules.specs.Exchange.{Exchange, absent, placeOf}
-use Rattle.rules.specs.Step.{step, carriedOut}
-use Rattle.rules.specs.declared.Command.{Command}
+use Rattle.rules.specs.Answers.{Refusal, _when_, firstOf}
+use Rattle.rules.specs.Exchange.{absent, placeOf}
 
 -- ---- the tests of a list of refusals all failed
 
@@ -39,15 +37,3 @@ present number places e =
     let l = ltb-false (length places) number (p .1) in
     let n : number ≢ 0 = eqb-false number 0 (p .0) in
     omega arith
-
--- ---- a step is either a refusal, which changes nothing, or what the command does
-
-pub by-code :
-    (P : Exchange → Type 0) (x : Exchange) (command : Command) → P x →
-    (codeOf x command ≡ 0 → P (carriedOut x command .exchange)) → P (step x command .exchange)
-unfolding step
-by-code P x command same done = go (eqb (codeOf x command) 0) refl
-  where
-    go : (b : Bool) → eqb (codeOf x command) 0 ≡ b → P (step x command .exchange)
-    go true e = rw e (done (eqb-true (codeOf x command) 0 e))
-    go false e = rw e same

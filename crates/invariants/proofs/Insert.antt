@@ -9,15 +9,15 @@ use borrow.Author.Tests.{eqb-true, leb-true, leb-false}
 use lib.Dec.{leb, eqb}
 use lib.ListN.{length}
 use Rattle.laws.specs.Choice.{pick, allOf}
-use Rattle.rules.specs.Answers.{codeOf, isGoodForDay, mark, listingOf, takerOf, fillableLots}
+use Rattle.rules.specs.Answers.{firstOf, insertRefusals, isGoodForDay, mark, listingOf, takerOf, fillableLots}
 use Rattle.rules.specs.Bounds.{inAuction, maxResting}
 use Rattle.rules.specs.Exchange.{Exchange, Listing, listingAt, holdingAt, placeOf, own, opposite, withQueues, restingOpens, restingCloses}
 use Rattle.rules.specs.Holdings.{bookTrades}
+use Rattle.rules.specs.Kinds.{lastOf}
 use Rattle.rules.specs.Matching.{Swept, tradedLots, remainder, restLots, restWhole, restedLots, enter}
-use Rattle.rules.specs.Step.{withTrades, limitOf, enteredOf, listingAfter, exchangeAfter, inserted, carriedOut}
+use Rattle.rules.specs.Step.{withTrades, limitOf, enteredOf, listingAfter, exchangeAfter, inserted}
 use Rattle.rules.specs.WellFormed.{allNumbers, orderInRange, tradeInRange}
 use Rattle.rules.specs.declared.Account.{Account}
-use Rattle.rules.specs.declared.Command.the-variants.{Insert}
 use Rattle.rules.specs.declared.Contract.{Contract}
 use Rattle.rules.specs.declared.Holding.{Holding}
 use Rattle.rules.specs.declared.NewOrder.{NewOrder}
@@ -296,11 +296,11 @@ module _ (x : Exchange) (k : WellFormed x) (o : NewOrder) (p : Passes x o) where
       traded-counted x place after (lots-swept .trades) (x .next + 1) (p .contract) (queue-after (λ s. n .queues place s (p .contract)))
       (omega (arith, p .trades, trades-needed x o)) n
 
-module _ (x : Exchange) (o : NewOrder) (e : codeOf x (Insert o) ≡ 0) (k : WellFormed x) where
-  pub insert-keeps : WellFormed (carriedOut x (Insert o) .exchange)
-  unfolding carriedOut inserted
+module _ (x : Exchange) (o : NewOrder) (e : firstOf (insertRefusals x o) ≡ 0) (k : WellFormed x) where
+  pub insert-keeps : WellFormed (lastOf x (inserted x o .stages))
+  unfolding inserted
   insert-keeps = inserted-keeps x k o (passes x o e)
 
-  pub insert-counted : Counted x → Counted (carriedOut x (Insert o) .exchange)
-  unfolding carriedOut inserted
+  pub insert-counted : Counted x → Counted (lastOf x (inserted x o .stages))
+  unfolding inserted
   insert-counted = inserted-counted x k o (passes x o e)

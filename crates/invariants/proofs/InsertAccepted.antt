@@ -7,11 +7,10 @@ use native.Mathlib.Omega.{arith}
 use borrow.Author.Tests.{leb-true, leb-false, ltb-false, le-leb, not-false}
 use lib.Dec.{leb, ltb}
 use lib.ListN.{length}
-use Rattle.laws.specs.Choice.{pick, pick-true, pick-false, both-true, either-false, true-both}
-use Rattle.rules.specs.Answers.{codeOf, conditionsRefused, dayWithoutLimit, refusals, insertRefusals, isGoodForDay, isLimit, listingOf, priceRefusedBy, holdingRefused, overLimit, overHolding, fillableLots, tradesNeeded}
-use Rattle.rules.specs.Bounds.{within, allowedToday, inAuction, numbersEnd, maxLots, maxTrades, maxResting}
+use Rattle.laws.specs.Choice.{pick, pick-true, pick-false, both-true, true-both, either-false}
+use Rattle.rules.specs.Answers.{firstOf, insertRefusals, isGoodForDay, isLimit, listingOf, priceRefusedBy, holdingRefused, overLimit, overHolding, fillableLots, tradesNeeded, conditionsRefused, dayWithoutLimit}
+use Rattle.rules.specs.Bounds.{within, allowedToday, numbersEnd, maxLots, maxTrades, maxResting, inAuction}
 use Rattle.rules.specs.Exchange.{Exchange, placeOf, own, holdingAt, restingOpens, restingCloses}
-use Rattle.rules.specs.declared.Command.the-variants.{Insert}
 use Rattle.rules.specs.declared.Contract.{Contract}
 use Rattle.rules.specs.declared.Holding.{Holding}
 use Rattle.rules.specs.declared.NewOrder.{NewOrder}
@@ -96,8 +95,8 @@ module _ (x : Exchange) (o : NewOrder) (e : holdingRefused x o ≡ false) where
   unfolding holdingRefused overHolding
   close-lots q = rw (← other-side (o .sell) (itsHolding x o)) (ltb-false _ _ (sym (pick-true (o .close) _ _ q) ∙ e))
 
-pub passes : (x : Exchange) (o : NewOrder) → codeOf x (Insert o) ≡ 0 → Passes x o
-unfolding codeOf refusals insertRefusals
+pub passes : (x : Exchange) (o : NewOrder) → firstOf (insertRefusals x o) ≡ 0 → Passes x o
+unfolding insertRefusals
 passes x o e =
     let f = failed (insertRefusals x o) (omega arith) e in
     let lots = both-true (leb 1 (o .lots)) (leb (o .lots) maxLots) (not-false (within 1 maxLots (o .lots)) (f .1 .1 .1 .0)) in

@@ -1,27 +1,24 @@
 -- EVERY COMMAND KEEPS A WELL-FORMED MEMORY WELL FORMED, and leaves in it just what the rules say. Assumes nothing.
 use mathlib.Core.Bool.{Bool, true, false}
 use mathlib.Core.List.{List, [], _∷_}
-use mathlib.Core.Path.{_≡_, refl}
+use mathlib.Core.Path.{_≡_, refl, _∙_}
 use Prim.Native.Nat.{ℕ, _<_, _≤_}
-use borrow.Author.Tests.{eqb-true}
-use lib.Dec.{eqb}
 use lib.ListN.{length, getD}
 use Rattle.laws.specs.Tabulate.{length-tabulate, getD-tabulate}
-use Rattle.rules.specs.Answers.{codeOf}
 use Rattle.rules.specs.Bounds.{maxResting}
-use Rattle.rules.specs.Command.{commandOf}
 use Rattle.rules.specs.Condition3.{run}
 use Rattle.rules.specs.Exchange.{Exchange, listingAt, own, noListing}
-use Rattle.rules.specs.Memory.{Memory, listingIn, exchangeOf, put, wellFormedMemory, stepIn, respond}
-use Rattle.rules.specs.Step.{carriedOut, step}
+use Rattle.rules.specs.Kinds.{kindOf, codeOf, lastOf, step}
+use Rattle.rules.specs.Memory.{Memory, listingIn, exchangeOf, put, written, wellFormedMemory, stepIn, respond}
 use Rattle.rules.specs.declared.Command.{Command}
-use Rattle.rules.specs.declared.Record.{Record}
 use Rattle.rules.proofs.Codecs.{length-queue, length-trades}
-use Rattle.accounting.proofs.StepShape.{carried-shape}
+use Rattle.rules.proofs.Stages.{Each, decided}
+use Rattle.accounting.proofs.EachKind.{kind-shape}
+use Rattle.accounting.proofs.StepShape.{SameShape, shape-trans, shape-sym}
 use Rattle.invariants.proofs.Clauses.{Counted, well-formed, well-formed-test}
-use Rattle.invariants.proofs.Keeps.{Sound, carried-keeps}
+use Rattle.invariants.proofs.Keeps.{Sound, kind-keeps, kind-counted}
 use Rattle.invariants.proofs.MemoryLaws.{exchange-put, length-buys, length-sells, length-tradeArea, put-room, put-counts}
-use Rattle.invariants.proofs.MemoryRoom.{CountsOk, MemoryOk, memory-ok, memory-test}
+use Rattle.invariants.proofs.MemoryRoom.{CountsOk, RoomOk, memory-ok, memory-test}
 
 -- ---- what is in use of a well-formed memory is sound
 
@@ -45,7 +42,7 @@ counted m k =
 pub sound : (m : Memory) → wellFormedMemory m ≡ true → Sound (exchangeOf m)
 sound m w = let k = memory-ok m w in record { contents = well-formed (exchangeOf m) (k .contents); counts = counted m (k .counts) }
 
--- ---- one command
+-- ---- the stages of one command, each written over the last
 
 -- the areas are as long as they were
 pub record SameLengths (m m′ : Memory) : Type 0 where
@@ -53,87 +50,113 @@ pub record SameLengths (m m′ : Memory) : Type 0 where
   pub sells : length (m′ .sells) ≡ length (m .sells)
   pub trades : length (m′ .trades) ≡ length (m .trades)
 
-same-lengths : (m : Memory) → SameLengths m m
+pub same-lengths : (m : Memory) → SameLengths m m
 same-lengths m = record { buys = refl; sells = refl; trades = refl }
 
+lengths-trans : {m m′ m″ : Memory} → SameLengths m m′ → SameLengths m′ m″ → SameLengths m m″
+lengths-trans s t = record { buys = t .buys ∙ s .buys; sells = t .sells ∙ s .sells; trades = t .trades ∙ s .trades }
+
+-- a stage is there to be written: it has the state's shape, and its counts are in range
+abbrev Writable : Exchange → Exchange → Type 0
+Writable x y = SameShape x y × Counted y
+
+-- what stages of the shape of x leave in the memory, whose contents are x
+record Left (m : Memory) (x : Exchange) (ys : List Exchange) : Type 0 where
+  read : exchangeOf (written m ys) ≡ lastOf x ys
+  counts : CountsOk (written m ys .state)
+  room : RoomOk (written m ys)
+  lengths : SameLengths m (written m ys)
+
+-- stages of the shape of x have the shape of the first of them
+shaped-as : (x y : Exchange) → SameShape x y → (zs : List Exchange) → Each (Writable x) zs → Each (Writable y) zs
+shaped-as x y s [] h = tt
+shaped-as x y s (z ∷ zs) h = ((shape-trans (shape-sym s) (h .0 .0), h .0 .1), shaped-as x y s zs (h .1))
+
+stages-left : (m : Memory) → CountsOk (m .state) → RoomOk m → (x : Exchange) → exchangeOf m ≡ x → (ys : List Exchange) → Each (Writable x) ys → Left m x ys
+stages-left m k r x e [] h = record { read = e; counts = k; room = r; lengths = same-lengths m }
+stages-left m k r x e (y ∷ ys) h =
+    let s : SameShape (exchangeOf m) y = rw e (h .0 .0) in
+    let one = exchange-put m k r y s (h .0 .1) in
+    let rest = stages-left (put m y) (put-counts m k r y s (h .0 .1)) (put-room m k r y s (h .0 .1)) y one ys (shaped-as x y (h .0 .0) ys (h .1)) in
+    record {
+      read = rest .read;
+      counts = rest .counts;
+      room = rest .room;
+      lengths =
+          lengths-trans
+          (record { buys = length-buys m k r y s (h .0 .1); sells = length-sells m k r y s (h .0 .1); trades = length-tradeArea m k r y s (h .0 .1) })
+          (rest .lengths);
+    }
+
+both-each : (x : Exchange) (ys : List Exchange) → Each (SameShape x) ys → Each Counted ys → Each (Writable x) ys
+both-each x [] s c = tt
+both-each x (y ∷ ys) s c = ((s .0, c .0), both-each x ys (s .1) (c .1))
+
+-- ---- one command
+
 module _ (m : Memory) (w : wellFormedMemory m ≡ true) (command : Command) where
-  abbrev after : Exchange
-  after = carriedOut (exchangeOf m) command .exchange
+  abbrev x : Exchange
+  x = exchangeOf m
 
-  module _ (e : codeOf (exchangeOf m) command ≡ 0) where
-    its : MemoryOk m
-    its = memory-ok m w
+  abbrev stages : List Exchange
+  stages = kindOf x command .effect .stages
 
-    sound-after : Sound after
-    sound-after = carried-keeps (exchangeOf m) command (sound m w) e
+  module _ (e : codeOf x command ≡ 0) where
+    left : Left m x stages
+    left =
+        let its = memory-ok m w in
+        stages-left m (its .counts) (its .room) x refl stages (both-each x stages (kind-shape x command) (kind-counted x command (sound m w) e))
 
-    pub accepted-read : exchangeOf (put m after) ≡ after
-    accepted-read = exchange-put m (its .counts) (its .room) after (carried-shape (exchangeOf m) command) (sound-after .counts)
+    pub accepted-read : exchangeOf (written m stages) ≡ lastOf x stages
+    accepted-read = left .read
 
-    pub accepted-keeps : wellFormedMemory (put m after) ≡ true
+    pub accepted-keeps : wellFormedMemory (written m stages) ≡ true
     accepted-keeps =
-        memory-test (put m after)
+        memory-test (written m stages)
         (record {
-          counts = put-counts m (its .counts) (its .room) after (carried-shape (exchangeOf m) command) (sound-after .counts);
-          room = put-room m (its .counts) (its .room) after (carried-shape (exchangeOf m) command) (sound-after .counts);
-          contents = rw accepted-read (well-formed-test after (sound-after .contents));
+          counts = left .counts;
+          room = left .room;
+          contents = rw (left .read) (well-formed-test (lastOf x stages) (kind-keeps x command (sound m w) e));
         })
 
-    pub accepted-lengths : SameLengths m (put m after)
-    accepted-lengths =
-        record {
-          buys = length-buys m (its .counts) (its .room) after (carried-shape (exchangeOf m) command) (sound-after .counts);
-          sells = length-sells m (its .counts) (its .room) after (carried-shape (exchangeOf m) command) (sound-after .counts);
-          trades = length-tradeArea m (its .counts) (its .room) after (carried-shape (exchangeOf m) command) (sound-after .counts);
-        }
+    pub accepted-lengths : SameLengths m (written m stages)
+    accepted-lengths = left .lengths
 
   pub step-in-keeps : wellFormedMemory (stepIn m command .memory) ≡ true
   unfolding stepIn
-  step-in-keeps = go (eqb (codeOf (exchangeOf m) command) 0) refl
-    where
-      go : (b : Bool) → eqb (codeOf (exchangeOf m) command) 0 ≡ b → wellFormedMemory (stepIn m command .memory) ≡ true
-      go true q = rw q (accepted-keeps (eqb-true (codeOf (exchangeOf m) command) 0 q))
-      go false q = rw q w
+  step-in-keeps = decided (λ d. wellFormedMemory (written m (d .stages)) ≡ true) x command accepted-keeps (λ e. w)
 
-  pub step-in-read : exchangeOf (stepIn m command .memory) ≡ step (exchangeOf m) command .exchange
+  pub step-in-read : exchangeOf (stepIn m command .memory) ≡ step x command
   unfolding stepIn step
-  step-in-read = go (eqb (codeOf (exchangeOf m) command) 0) refl
-    where
-      go : (b : Bool) → eqb (codeOf (exchangeOf m) command) 0 ≡ b → exchangeOf (stepIn m command .memory) ≡ step (exchangeOf m) command .exchange
-      go true q = rw q (accepted-read (eqb-true (codeOf (exchangeOf m) command) 0 q))
-      go false q = rw q
+  step-in-read = decided (λ d. exchangeOf (written m (d .stages)) ≡ lastOf x (d .stages)) x command accepted-read (λ e. refl)
 
   pub step-in-lengths : SameLengths m (stepIn m command .memory)
   unfolding stepIn
-  step-in-lengths = go (eqb (codeOf (exchangeOf m) command) 0) refl
-    where
-      go : (b : Bool) → eqb (codeOf (exchangeOf m) command) 0 ≡ b → SameLengths m (stepIn m command .memory)
-      go true q = rw q (accepted-lengths (eqb-true (codeOf (exchangeOf m) command) 0 q))
-      go false q = rw q (same-lengths m)
+  step-in-lengths = decided (λ d. SameLengths m (written m (d .stages))) x command accepted-lengths (λ e. same-lengths m)
 
--- ---- the whole step, on 24 bytes
+-- ---- the whole step
 
-module _ (m : Memory) (r : Record) (w : wellFormedMemory m ≡ true) where
-  pub memory-keeps : wellFormedMemory (respond m r .memory) ≡ true
+module _ (m : Memory) (c : Command) (w : wellFormedMemory m ≡ true) where
+  pub memory-keeps : wellFormedMemory (respond m c .memory) ≡ true
   unfolding respond
-  memory-keeps = rw w (step-in-keeps m w (commandOf r))
+  memory-keeps = rw w (step-in-keeps m w c)
 
-  pub read-back : exchangeOf (respond m r .memory) ≡ step (exchangeOf m) (commandOf r) .exchange
+  pub read-back : exchangeOf (respond m c .memory) ≡ step (exchangeOf m) c
   unfolding respond
-  read-back = rw w (step-in-read m w (commandOf r))
+  read-back = rw w (step-in-read m w c)
 
 -- of any memory, well formed or not
-pub respond-lengths : (m : Memory) (r : Record) → SameLengths m (respond m r .memory)
+pub respond-lengths : (m : Memory) (c : Command) → SameLengths m (respond m c .memory)
 unfolding respond
-respond-lengths m r = go (wellFormedMemory m) refl
+respond-lengths m c = by (wellFormedMemory m) refl
   where
-    go : (b : Bool) → wellFormedMemory m ≡ b → SameLengths m (respond m r .memory)
-    go true w = rw w (step-in-lengths m w (commandOf r))
-    go false w = rw w (same-lengths m)
+    by : (b : Bool) → wellFormedMemory m ≡ b → SameLengths m (respond m c .memory)
+    by true w = rw w (step-in-lengths m w c)
+    by false w = rw w (same-lengths m)
 
 -- ---- a run: well formed at its start is well formed throughout
 
-pub run-keeps : (m : Memory) (rs : List Record) → wellFormedMemory m ≡ true → wellFormedMemory (run m rs) ≡ true
+pub run-keeps : (m : Memory) (cs : List Command) → wellFormedMemory m ≡ true → wellFormedMemory (run m cs) ≡ true
 unfolding run
 run-keeps m [] w = w
-run-keeps m (r ∷ rs) w = run-keeps (respond m r .memory) rs (memory-keeps m r w)
+run-keeps m (c ∷ cs) w = run-keeps (respond m c .memory) cs (memory-keeps m c w)

@@ -14,15 +14,15 @@ use Rattle.laws.specs.Bound.{within-abs, within-d, abs-within}
 use Rattle.laws.specs.Choice.{either-false}
 use Rattle.laws.specs.Lists.{map-set, at-set}
 use Rattle.laws.specs.Ring.{d, d-ind, posPart, negPart, split, ring, ltZ-d}
-use Rattle.rules.specs.Answers.{depositRefusals, withdrawRefusals, codeOf, refusals, liftsTooHigh, leavesTooLittle, amountRefused}
+use Rattle.rules.specs.Answers.{firstOf, depositRefusals, withdrawRefusals, liftsTooHigh, leavesTooLittle, amountRefused}
 use Rattle.rules.specs.Bounds.{maxBalance, maxDayProfit}
 use Rattle.rules.specs.Exchange.{Exchange, listingAt, accountAt, holdingAt, placeOf, noAccount, noHolding}
 use Rattle.rules.specs.Holdings.{bookTrades, startAccount, startOfDay}
+use Rattle.rules.specs.Kinds.{lastOf}
 use Rattle.rules.specs.Margin.{charged}
-use Rattle.rules.specs.Step.{withBalance, paid, deposited, withdrawn, carriedOut}
+use Rattle.rules.specs.Step.{withBalance, paid, deposited, withdrawn}
 use Rattle.rules.specs.declared.Account.{Account}
 use Rattle.rules.specs.declared.Holding.{Holding}
-use Rattle.rules.specs.declared.Command.the-variants.{Deposit, Withdraw}
 use Rattle.invariants.proofs.Accepted.{failed, present}
 use Rattle.invariants.proofs.Carry.{trades-carried}
 use Rattle.invariants.proofs.Clauses.{WellFormed, Counted}
@@ -99,8 +99,8 @@ withdraw-bound b amount margin n h e =
 -- ---- the two steps
 
 module _ (x : Exchange) (k : WellFormed x) (account amount : ℕ) where
-  pub deposit-keeps : codeOf x (Deposit account amount) ≡ 0 → WellFormed (carriedOut x (Deposit account amount) .exchange)
-  unfolding codeOf refusals depositRefusals carriedOut deposited liftsTooHigh
+  pub deposit-keeps : firstOf (depositRefusals x account amount) ≡ 0 → WellFormed (lastOf x (deposited x (placeOf account) amount .stages))
+  unfolding depositRefusals deposited liftsTooHigh
   deposit-keeps e =
       let f = failed (depositRefusals x account amount) (omega arith) e in
       let there = present account (x .accounts) (f .0) in
@@ -108,8 +108,8 @@ module _ (x : Exchange) (k : WellFormed x) (account amount : ℕ) where
       paid-keeps x k (placeOf account) there _
       (deposit-bound (accountAt (x .accounts) (placeOf account) .balance) amount maxBalance _ (k .balance _ there) (omega arith) low)
 
-  pub withdraw-keeps : codeOf x (Withdraw account amount) ≡ 0 → WellFormed (carriedOut x (Withdraw account amount) .exchange)
-  unfolding codeOf refusals withdrawRefusals carriedOut withdrawn leavesTooLittle
+  pub withdraw-keeps : firstOf (withdrawRefusals x account amount) ≡ 0 → WellFormed (lastOf x (withdrawn x (placeOf account) amount .stages))
+  unfolding withdrawRefusals withdrawn leavesTooLittle
   withdraw-keeps e =
       let f = failed (withdrawRefusals x account amount) (omega arith) e in
       let there = present account (x .accounts) (f .0) in
@@ -117,10 +117,10 @@ module _ (x : Exchange) (k : WellFormed x) (account amount : ℕ) where
       (withdraw-bound (accountAt (x .accounts) (placeOf account) .balance) amount (charged x (placeOf account)) _ (k .balance _ there) (f .1 .1 .0))
 
 module _ (x : Exchange) (account amount : ℕ) where
-  pub deposit-counted : Counted x → Counted (carriedOut x (Deposit account amount) .exchange)
-  unfolding carriedOut deposited
+  pub deposit-counted : Counted x → Counted (lastOf x (deposited x (placeOf account) amount .stages))
+  unfolding deposited
   deposit-counted n = paid-counted x (placeOf account) _ n
 
-  pub withdraw-counted : Counted x → Counted (carriedOut x (Withdraw account amount) .exchange)
-  unfolding carriedOut withdrawn
+  pub withdraw-counted : Counted x → Counted (lastOf x (withdrawn x (placeOf account) amount .stages))
+  unfolding withdrawn
   withdraw-counted n = paid-counted x (placeOf account) _ n

@@ -1,6 +1,6 @@
 -- A change of a contract's state keeps the exchange's state well formed, the match of an auction with it: the book that the auction
 -- leaves is uncrossed. Assumes nothing.
-use mathlib.Core.Bool.{Bool, true, false, false≢true}
+use mathlib.Core.Bool.{Bool, true, false, not}
 use mathlib.Core.List.{List, [], _∷_}
 use mathlib.Core.Path.{_≡_, refl, sym, ap, subst}
 use Prim.Native.Nat.{ℕ, _+_, _<_, _≤_}
@@ -13,15 +13,16 @@ use lib.Seq.{getD-set-same}
 use Rattle.laws.specs.Choice.{pick, allOf, allOf-imp, both-false}
 use Rattle.laws.specs.Chains.{passed, join}
 use Rattle.laws.specs.Sums.{sumOf-at}
-use Rattle.rules.specs.Answers.{codeOf, refusals, phaseRefusals, changeListed}
+use Rattle.rules.specs.Answers.{_when_, firstOf, phaseRefusals}
 use Rattle.rules.specs.Auction.{Matched, auctionMatch, chosenPrice, matchAt, matchOf, volume}
-use Rattle.rules.specs.Bounds.{inAuction, preOpen, continuous, noTrading, auction, maxPhase, maxResting, maxTrades, termsInRange, tickMultiple, allowedToday, dayLow, dayHigh}
+use Rattle.rules.specs.Bounds.{inAuction, maxPhase, maxResting, maxTrades, termsInRange, tickMultiple, allowedToday, dayLow, dayHigh}
+use Rattle.rules.specs.Command.{phaseKnown}
 use Rattle.rules.specs.Exchange.{Exchange, Listing, listingAt, holdingAt, noListing, placeOf, own}
 use Rattle.rules.specs.Holdings.{bookTrades}
-use Rattle.rules.specs.Step.{withLast, withPhase, withTrades, listingMatched, exchangeMatched, phaseChanged, carriedOut}
+use Rattle.rules.specs.Kinds.{lastOf}
+use Rattle.rules.specs.Step.{withLast, withPhase, withTrades, listingMatched, exchangeMatched, phaseChanged}
 use Rattle.rules.specs.WellFormed.{allNumbers, contractInRange, orderInRange, sorted, tradeInRange, uncrossed}
 use Rattle.rules.specs.declared.Contract.{Contract}
-use Rattle.rules.specs.declared.Command.the-variants.{Phase}
 use Rattle.rules.specs.declared.Holding.{Holding}
 use Rattle.rules.specs.declared.Order.{Order}
 use Rattle.rules.proofs.AuctionOutcome.{auction-either, auction-price-passes, auction-taken, auction-uncrosses}
@@ -43,29 +44,6 @@ use Rattle.invariants.proofs.SweptTrades.{ofContract}
 use Rattle.invariants.proofs.Traded.{TradesOk, traded-accounts, traded-allows, traded-counted, traded-keeps, traded-listings}
 
 -- ---- the contract
-
--- a listed change leads to one of the five states
-known : (from to : ℕ) → changeListed from to ≡ true → to ≤ maxPhase
-unfolding changeListed
-known from to h = go (leb to maxPhase) refl
-  where
-    other : (n : ℕ) → maxPhase < to → n ≤ maxPhase → eqb to n ≡ false
-    other n l k = ne-eqb to n (λ e. let z : _≡_ {A = ℕ} to n = e in absurd (omega arith))
-
-    go : (b : Bool) → leb to maxPhase ≡ b → to ≤ maxPhase
-    go true e = leb-true to maxPhase e
-    go false e =
-        let l = leb-false to maxPhase e in
-        absurd (false≢true (rw (
-          other 1 l (omega arith),
-          other 2 l (omega arith),
-          other 3 l (omega arith),
-          other 4 l (omega arith),
-          both-false (eqb from preOpen) false refl,
-          both-false (eqb from continuous) false refl,
-          both-false (eqb from noTrading) false refl,
-          both-false (eqb from auction) false refl,
-        ) at h))
 
 -- the prices allowed do not depend on the state, nor on the last price
 allows-changed : (c : Contract) (last phase : ℕ) → Allows c (withPhase (withLast c last) phase)
@@ -271,25 +249,25 @@ module _ (x : Exchange) (k : WellFormed x) (c : ℕ) (there : c < length (x .lis
 
 -- ---- an accepted change
 
-module _ (x : Exchange) (contract phase : ℕ) (e : codeOf x (Phase contract phase) ≡ 0) (k : WellFormed x) where
+module _ (x : Exchange) (contract phase : ℕ) (e : firstOf ((1 when not (phaseKnown phase)) ∷ phaseRefusals x contract phase) ≡ 0) (k : WellFormed x) where
   passes : (placeOf contract < length (x .listings)) × ((phase ≤ maxPhase) × (length (x .trades) + length (matchOf x (placeOf contract) .trades) ≤ maxTrades))
-  unfolding codeOf refusals phaseRefusals
+  unfolding phaseRefusals
   passes =
-      let f = failed (phaseRefusals x contract phase) (omega arith) e in
-      (present contract (x .listings) (f .0), (known _ phase (not-false _ (f .1 .0)), ltb-false _ _ (f .1 .1 .0)))
+      let f = failed ((1 when not (phaseKnown phase)) ∷ phaseRefusals x contract phase) (omega arith) e in
+      (present contract (x .listings) (f .1 .0), (leb-true phase maxPhase (not-false (phaseKnown phase) (f .0)), ltb-false _ _ (f .1 .1 .1 .0)))
 
-  pub phase-keeps : WellFormed (carriedOut x (Phase contract phase) .exchange)
-  unfolding carriedOut phaseChanged
+  pub phase-keeps : WellFormed (lastOf x (phaseChanged x (placeOf contract) phase .stages))
+  unfolding phaseChanged
   phase-keeps = changed-keeps x k (placeOf contract) (passes .0) phase (passes .1 .0)
 
   -- THE BOOK IS UNCROSSED AFTER A CHANGE OF STATE, out of auction too
-  pub phase-uncrossed : uncrossed (listingAt (carriedOut x (Phase contract phase) .exchange) (placeOf contract) .buys)
-      (listingAt (carriedOut x (Phase contract phase) .exchange) (placeOf contract) .sells) ≡ true
-  unfolding carriedOut phaseChanged exchangeMatched listingMatched listingAt
+  pub phase-uncrossed : uncrossed (listingAt (lastOf x (phaseChanged x (placeOf contract) phase .stages)) (placeOf contract) .buys)
+      (listingAt (lastOf x (phaseChanged x (placeOf contract) phase .stages)) (placeOf contract) .sells) ≡ true
+  unfolding phaseChanged exchangeMatched listingMatched listingAt
   phase-uncrossed =
       rw (getD-set-same (x .listings) (placeOf contract) (listingMatched (listingAt x (placeOf contract)) phase (matchOf x (placeOf contract))) noListing (passes .0))
       (match-ok x k (placeOf contract) (passes .0) .apart)
 
-  pub phase-counted : Counted x → Counted (carriedOut x (Phase contract phase) .exchange)
-  unfolding carriedOut phaseChanged
+  pub phase-counted : Counted x → Counted (lastOf x (phaseChanged x (placeOf contract) phase .stages))
+  unfolding phaseChanged
   phase-counted = changed-counted x k (placeOf contract) (passes .0) phase (passes .1 .0) (passes .1 .1)

@@ -9,13 +9,13 @@ use lib.Dec.{eqb}
 use lib.ListN.{length}
 use Rattle.laws.specs.Choice.{pick, allOf, allOf-imp, both-true, true-both}
 use Rattle.laws.specs.Sums.{sumOf}
-use Rattle.rules.specs.Answers.{codeOf, refusals, cancelRefusals, pullRefusals}
+use Rattle.rules.specs.Answers.{firstOf, cancelRefusals, pullRefusals}
 use Rattle.rules.specs.Exchange.{Exchange, Listing, listingAt, placeOf, own, lotsWhere, resting}
-use Rattle.rules.specs.Step.{without, listingWithout, hasNumber, isOf, removed, cancelled, pulled, carriedOut}
+use Rattle.rules.specs.Kinds.{lastOf}
+use Rattle.rules.specs.Step.{without, listingWithout, hasNumber, isOf, removed, cancelled, pulled}
 use Rattle.rules.specs.WellFormed.{ahead, sorted, orderInRange}
 use Rattle.rules.specs.declared.Order.{Order}
 use Rattle.rules.specs.declared.Holding.{Holding}
-use Rattle.rules.specs.declared.Command.the-variants.{Cancel, Pull}
 use Rattle.rules.proofs.Queue.{length-without}
 use Rattle.rules.proofs.Sorted.{sorted-tail}
 use Rattle.invariants.proofs.Accepted.{failed, present}
@@ -101,41 +101,41 @@ module _ (test : Order → Bool) where
   fewer m n = omega (arith, without-sum (λ o. pick (eqb n (o .number)) 1 0) (m .buys), without-sum (λ o. pick (eqb n (o .number)) 1 0) (m .sells))
 
   module _ (x : Exchange) (c : ℕ) (there : c < length (x .listings)) (number : ℕ) where
-    removed-keeps : WellFormed x → WellFormed (removed x c test number .exchange)
+    removed-keeps : WellFormed x → WellFormed (lastOf x (removed x c test number .stages))
     unfolding removed
     removed-keeps k =
         relisted-keeps x k c there (listingWithout test (listingAt x c)) (listing-without _ _ _ (k .listing c there)) (λ p h. h)
         (λ a h. holding-without (listingAt x c) a h) (fewer (listingAt x c))
 
-    removed-counted : Counted x → Counted (removed x c test number .exchange)
+    removed-counted : Counted x → Counted (lastOf x (removed x c test number .stages))
     unfolding removed
     removed-counted n =
         relisted-counted x c there (listingWithout test (listingAt x c)) n
         (λ sell. rw (own-without (listingAt x c) sell) (length-without test (own sell (listingAt x c))))
 
 module _ (x : Exchange) (account contract : ℕ) (operator : Bool) where
-  module _ (number : ℕ) (e : codeOf x (Cancel account contract operator number) ≡ 0) where
+  module _ (number : ℕ) (e : firstOf (cancelRefusals x account contract operator number) ≡ 0) where
     cancel-there : placeOf contract < length (x .listings)
-    unfolding codeOf refusals cancelRefusals
+    unfolding cancelRefusals
     cancel-there = present contract (x .listings) (failed (cancelRefusals x account contract operator number) (omega arith) e .1 .0)
 
-    pub cancel-keeps : WellFormed x → WellFormed (carriedOut x (Cancel account contract operator number) .exchange)
-    unfolding carriedOut cancelled
+    pub cancel-keeps : WellFormed x → WellFormed (lastOf x (cancelled x (placeOf contract) number .stages))
+    unfolding cancelled
     cancel-keeps = removed-keeps (hasNumber number) x (placeOf contract) cancel-there number
 
-    pub cancel-counted : Counted x → Counted (carriedOut x (Cancel account contract operator number) .exchange)
-    unfolding carriedOut cancelled
+    pub cancel-counted : Counted x → Counted (lastOf x (cancelled x (placeOf contract) number .stages))
+    unfolding cancelled
     cancel-counted = removed-counted (hasNumber number) x (placeOf contract) cancel-there number
 
-  module _ (e : codeOf x (Pull account contract operator) ≡ 0) where
+  module _ (e : firstOf (pullRefusals x account contract operator) ≡ 0) where
     pull-there : placeOf contract < length (x .listings)
-    unfolding codeOf refusals pullRefusals
+    unfolding pullRefusals
     pull-there = present contract (x .listings) (failed (pullRefusals x account contract operator) (omega arith) e .1 .0)
 
-    pub pull-keeps : WellFormed x → WellFormed (carriedOut x (Pull account contract operator) .exchange)
-    unfolding carriedOut pulled
+    pub pull-keeps : WellFormed x → WellFormed (lastOf x (pulled x (placeOf account) (placeOf contract) .stages))
+    unfolding pulled
     pull-keeps = removed-keeps (isOf (placeOf account)) x (placeOf contract) pull-there 0
 
-    pub pull-counted : Counted x → Counted (carriedOut x (Pull account contract operator) .exchange)
-    unfolding carriedOut pulled
+    pub pull-counted : Counted x → Counted (lastOf x (pulled x (placeOf account) (placeOf contract) .stages))
+    unfolding pulled
     pull-counted = removed-counted (isOf (placeOf account)) x (placeOf contract) pull-there 0

@@ -11,15 +11,15 @@ use lib.ListN.{length, getD, List·getD-map}
 use Rattle.laws.specs.Choice.{pick, allOf, allOf-imp, both-true, true-both}
 use Rattle.laws.specs.Sums.{sumOf}
 use Rattle.laws.specs.Chains.{passed, join}
-use Rattle.rules.specs.Answers.{codeOf, refusals, settleRefusals}
-use Rattle.rules.specs.Bounds.{within, preOpen, maxPhase, tickMultiple, termsInRange, maxPrice, maxSettlements}
+use Rattle.rules.specs.Answers.{firstOf, settleRefusals}
+use Rattle.rules.specs.Bounds.{within, tickMultiple, termsInRange, maxPrice, maxSettlements, preOpen, maxPhase}
 use Rattle.rules.specs.Exchange.{Exchange, listingAt, accountAt, holdingAt, own, noHolding}
 use Rattle.rules.specs.Holdings.{startHolding, startAccount}
 use Rattle.rules.specs.Matching.{tradedLots}
+use Rattle.rules.specs.Kinds.{lastOf}
 use Rattle.rules.specs.Settlement.{tradesIn, quotedPrice, priceFrom, settlementPrice, carriedHolding, settledAccount, settledContract, settledListing, settled}
-use Rattle.rules.specs.Step.{carriedOut}
+use Rattle.rules.specs.Step.{settledAll}
 use Rattle.rules.specs.WellFormed.{contractInRange, orderInRange, tradeInRange}
-use Rattle.rules.specs.declared.Command.the-variants.{Settle}
 use Rattle.rules.specs.declared.Contract.{Contract}
 use Rattle.rules.specs.declared.Holding.{Holding}
 use Rattle.rules.specs.declared.Order.{Order}
@@ -173,11 +173,11 @@ module _ (x : Exchange) (k : WellFormed x) (n : Counted x) where
 
 -- ---- the step
 
-module _ (x : Exchange) (e : codeOf x Settle ≡ 0) where
-  pub settle-keeps : WellFormed x → Counted x → WellFormed (carriedOut x Settle .exchange)
-  unfolding codeOf refusals settleRefusals carriedOut
+module _ (x : Exchange) (e : firstOf (settleRefusals x) ≡ 0) where
+  pub settle-keeps : WellFormed x → Counted x → WellFormed (lastOf x (settledAll x .stages))
+  unfolding settleRefusals settledAll
   settle-keeps k n = settled-keeps x k n (leb-false maxSettlements (x .settlements) (failed (settleRefusals x) (omega arith) e .1 .0))
 
-  pub settle-counted : WellFormed x → Counted x → Counted (carriedOut x Settle .exchange)
-  unfolding carriedOut
+  pub settle-counted : WellFormed x → Counted x → Counted (lastOf x (settledAll x .stages))
+  unfolding settledAll
   settle-counted k n = settled-counted x k n

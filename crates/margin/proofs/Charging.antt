@@ -11,12 +11,12 @@ use mir.Syntax.{w64}
 use mir.Val.{Fits}
 use Rattle.rules.specs.Exchange.{noAccount, noContract, noHolding, restingOpens}
 use Rattle.rules.specs.Margin.{chargeOf, charge, chargedLots, chargedTo, charged}
-use Rattle.rules.specs.Memory.{Memory, exchangeOf, listingIn, queueIn}
+use Rattle.rules.specs.Memory.{Memory, exchangeOf, listingIn, queueIn, memory}
 use Rattle.rules.specs.declared.Contract.{Contract}
 use Rattle.rules.specs.declared.Holding.{Holding}
 use Rattle.rules.specs.declared.State.{State}
 use Rattle.rules.proofs.InUse.{contracts-in-use, listing-in-use, holding-in-use}
-use Rattle.margin.specs.Charge.{memoryOf, listingOf, ChargeTerms, ChargeableIn, Chargeable, Has, ChargedIs, ChargedAt}
+use Rattle.margin.specs.Charge.{listingOf, ChargeTerms, ChargeableIn, Chargeable, Has, ChargedIs, ChargedAt}
 
 -- ---- one contract
 
@@ -93,20 +93,20 @@ module _ (holdings : List Holding) (terms : List Contract) (buys bids sells offe
 -- of a state it is the rules' margin
 pub charged-first : (s : State) (buys sells trades : List ℕ) (a n : ℕ) → a < s .accountcount → n ≤ s .contractcount
     → chargedFirst (getD (s .accounts) a noAccount .holdings) (s .contracts) buys (s .buys) sells (s .sells) a n
-    ≡ chargedTo (exchangeOf (memoryOf s buys sells trades)) a n
+    ≡ chargedTo (exchangeOf (memory s buys sells trades)) a n
 unfolding chargedFirst
-charged-first s buys sells trades a zero la h = charged-none (memoryOf s buys sells trades) a la
+charged-first s buys sells trades a zero la h = charged-none (memory s buys sells trades) a la
 charged-first s buys sells trades a (suc n) la h =
-    charged-more (memoryOf s buys sells trades) a la n _ _ h (charged-first s buys sells trades a n la (omega arith)) refl
-    ∙ ap (chargedTo (exchangeOf (memoryOf s buys sells trades)) a) (add-one n)
+    charged-more (memory s buys sells trades) a la n _ _ h (charged-first s buys sells trades a n la (omega arith)) refl
+    ∙ ap (chargedTo (exchangeOf (memory s buys sells trades)) a) (add-one n)
 
 -- once all contracts are in
 all-charged : (s : State) (buys sells trades : List ℕ) (a : ℕ) → a < s .accountcount
     → chargedFirst (getD (s .accounts) a noAccount .holdings) (s .contracts) buys (s .buys) sells (s .sells) a (s .contractcount)
-    ≡ charged (exchangeOf (memoryOf s buys sells trades)) a
+    ≡ charged (exchangeOf (memory s buys sells trades)) a
 all-charged s buys sells trades a la =
     charged-first s buys sells trades a (s .contractcount) la (omega arith)
-    ∙ ap (chargedTo (exchangeOf (memoryOf s buys sells trades)) a) (sym (contracts-in-use (memoryOf s buys sells trades)))
+    ∙ ap (chargedTo (exchangeOf (memory s buys sells trades)) a) (sym (contracts-in-use (memory s buys sells trades)))
 
 module _ (holdings : List Holding) (terms : List Contract) (contracts : ℕ) (buys bids sells offers : List ℕ) (a : ℕ)
     (g : Chargeable holdings terms contracts buys bids sells offers a) where
@@ -144,11 +144,11 @@ module _ (holdings : List Holding) (terms : List Contract) (contracts : ℕ) (bu
       at-end = w .margin ∙ ap (chargedFirst holdings terms buys bids sells offers a) (omega (arith, w .within, stop))
 
       of-state : (s : State) (trades : List ℕ) → Has s holdings terms contracts bids offers a
-          → chargedFirst holdings terms buys bids sells offers a contracts ≡ charged (exchangeOf (memoryOf s buys sells trades)) a
+          → chargedFirst holdings terms buys bids sells offers a contracts ≡ charged (exchangeOf (memory s buys sells trades)) a
       of-state s trades h = rw (← h .held, ← h .listed, ← h .count, ← h .bought, ← h .sold) (all-charged s buys sells trades a (h .account))
 
 -- what is charged by what a state has is the state's charged margin
 pub charged-at : (s : State) (buys sells : List ℕ) (a r : ℕ) → a < s .accountcount → ChargedAt s buys sells a r → (trades : List ℕ)
-    → r ≡ charged (exchangeOf (memoryOf s buys sells trades)) a
+    → r ≡ charged (exchangeOf (memory s buys sells trades)) a
 charged-at s buys sells a r la e trades =
     e .charged s trades (record { account = la; held = refl; listed = refl; count = refl; bought = refl; sold = refl })

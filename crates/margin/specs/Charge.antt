@@ -5,14 +5,10 @@ use Prim.Native.Nat.{ℕ, _+_, _*_, _<_, _≤_}
 use lib.ListN.{length, getD}
 use Rattle.rules.specs.Exchange.{Listing, noAccount, noContract, noHolding, restingOpens}
 use Rattle.rules.specs.Margin as margin
-use Rattle.rules.specs.Memory.{Memory, exchangeOf, queueIn}
+use Rattle.rules.specs.Memory.{exchangeOf, memory, queueIn}
 use Rattle.rules.specs.declared.Contract.{Contract}
 use Rattle.rules.specs.declared.Holding.{Holding}
 use Rattle.rules.specs.declared.State.{State}
-
--- the state with the three areas lent with it
-abbrev pub memoryOf : State → List ℕ → List ℕ → List ℕ → Memory
-memoryOf s buys sells trades = record { state = s; buys = buys; sells = sells; trades = trades }
 
 -- a contract with the first orders of its two queues
 abbrev pub listingOf : Contract → List ℕ → ℕ → List ℕ → ℕ → ℕ → Listing
@@ -53,7 +49,7 @@ pub record Has (s : State) (holdings : List Holding) (terms : List Contract) (co
 
 -- the charged margin of the account in any state that has these, whatever trades the day has; it is small
 pub record ChargedIs (holdings : List Holding) (terms : List Contract) (contracts : ℕ) (buys bids sells offers : List ℕ) (a r : ℕ) : Type 0 where
-  pub charged : (s : State) (trades : List ℕ) → Has s holdings terms contracts bids offers a → r ≡ margin.charged (exchangeOf (memoryOf s buys sells trades)) a
+  pub charged : (s : State) (trades : List ℕ) → Has s holdings terms contracts bids offers a → r ≡ margin.charged (exchangeOf (memory s buys sells trades)) a
   pub small : r ≤ 1_000_000_000_000_000
 
 -- the same of what a state has

@@ -15,7 +15,7 @@ use Rattle.rules.specs.Answers.{fillableLots, firstOf, listingOf, takerOf}
 use Rattle.rules.specs.Command.{commandOf, cancelOf, depositOf, insertOf, newOrder, phaseOf, pullOf, settleOf, withdrawOf}
 use Rattle.rules.specs.Exchange.{Exchange, listingAt, noContract, opposite, placeOf}
 use Rattle.rules.specs.Matching.{sweep, tradedLots}
-use Rattle.rules.specs.Memory.{Memory, exchangeOf, queueIn, wellFormedMemory}
+use Rattle.rules.specs.Memory.{Memory, exchangeOf, queueIn, wellFormedMemory, memory, WellFormedState}
 use Rattle.rules.specs.declared.Command.{Command}
 use Rattle.rules.specs.declared.Command.the-variants.{Malformed, Deposit, Withdraw, Insert, Cancel, Pull, Phase, Settle}
 use Rattle.rules.specs.declared.NewOrder.{NewOrder}
@@ -24,7 +24,7 @@ use Rattle.rules.specs.declared.State.{State}
 use Rattle.rules.specs.declared.Taker.{Taker}
 use Rattle.rules.proofs.Command.{the-type}
 use Rattle.rules.proofs.Fillable.{swept-fillable}
-use Rattle.engine.specs.Outcome.{isAbsent, memory, WellFormedState}
+use Rattle.engine.specs.Outcome.{isAbsent}
 use Rattle.engine.proofs.Formed.{Formed, formed, no-account, no-contract}
 use Rattle.insertion.specs.Insertion.{Facing, Present, QueueRoom, fieldsRefusals, sideArea, sideCount, takerFor}
 use Rattle.insertion.proofs.Sides.{contract-is, opposite-facing, opposite-is}

@@ -2,8 +2,7 @@
 // changed.
 ghost use mathlib.Core.Path.{_≡_};
 ghost use Rattle.rules.specs.DayFile.{recordFrom};
-ghost use Rattle.rules.specs.Memory.{exchangeOf};
-ghost use Rattle.engine.specs.Outcome.{memory, WellFormedState};
+ghost use Rattle.rules.specs.Memory.{exchangeOf, memory, WellFormedState};
 ghost use Rattle.query.specs.Gettable.{gettableNow, orderReading, refusedReading};
 use engine::answers;
 use insertion::codes;

@@ -8,6 +8,8 @@ pub mod Holdings
 pub mod Rest
 pub mod InUse
 pub mod Terms
+pub mod Stages
+pub mod EachKind
 pub mod AuctionTurns
 pub mod AuctionTaken
 pub mod AuctionPrice

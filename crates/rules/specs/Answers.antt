@@ -1,5 +1,6 @@
 -- "Numbers given back": the table of answers, and for each kind the order in which its refusals are tried. A refusal stands
--- in a kind's list as `code when test`; the code given is the first whose test holds. Assumes nothing.
+-- in a kind's list as `code when test`; the code given is the first whose test holds. Code 1 stands in Kinds.antt. Assumes
+-- nothing.
 use mathlib.Core.Bool.{Bool, true, false, not, _&&_, _||_}
 use mathlib.Core.List.{List, [], _∷_, _++_}
 use Prim.Native.Nat.{ℕ, _+_}
@@ -22,8 +23,6 @@ use Rattle.rules.specs.declared.PriceCondition.the-variants.{Limit, Mark
 use Rattle.rules.specs.declared.TimeCondition.{TimeCondition}
 use Rattle.rules.specs.declared.TimeCondition.the-variants.{GoodForDay, ImmediateOrCancel, FillOrKill}
 use Rattle.rules.specs.declared.Taker.{Taker}
-use Rattle.rules.specs.declared.Command.{Command}
-use Rattle.rules.specs.declared.Command.the-variants.{Malformed, Deposit, Withdraw, Insert, Cancel, Pull, Phase, Settle}
 
 infix 20 _when_
 pub data Refusal : Type 0 where
@@ -248,18 +247,3 @@ settleRefusals x =
     (18 when not (allOf (λ l. eqb (l .contract .phase) closed) (x .listings)))
     ∷ (19 when leb maxSettlements (x .settlements))
     ∷ []
-
--- 1 comes first of all but 21: a malformed command has no other refusal
-unfoldable pub refusals : Exchange → Command → List Refusal
-refusals x Malformed = (1 when true) ∷ []
-refusals x (Deposit account amount) = depositRefusals x account amount
-refusals x (Withdraw account amount) = withdrawRefusals x account amount
-refusals x (Insert o) = insertRefusals x o
-refusals x (Cancel account contract operator number) = cancelRefusals x account contract operator number
-refusals x (Pull account contract operator) = pullRefusals x account contract operator
-refusals x (Phase contract phase) = phaseRefusals x contract phase
-refusals x Settle = settleRefusals x
-
--- the code that a command gets
-unfoldable pub codeOf : Exchange → Command → ℕ
-codeOf x command = firstOf (refusals x command)

@@ -13,8 +13,9 @@ use Rattle.rules.specs.Bounds.{auction, continuous}
 use Rattle.rules.specs.Examples.{Row, _gives_, allRight}
 use Rattle.rules.specs.Exchange.{Exchange, Listing, accountAt, bestPrice, holdingAt, listingAt, lotsWhere, noHolding, noTrade}
 use Rattle.rules.specs.Holdings.{afterLeg, bookLeg, bookTrade, bookTrades}
+use Rattle.rules.specs.Kinds.{lastOf}
 use Rattle.rules.specs.Matching.{Entered, enter, lastPrice, meets, methodOf, middle, pairedPrice, remainder, restIn, restLots, restWhole, restedLots, stays, sweep, tradePrice, tradeWith, tradedLots}
-use Rattle.rules.specs.Step.{Stepped, enteredOf, exchangeMatched, listingMatched, phaseChanged}
+use Rattle.rules.specs.Step.{Effect, enteredOf, exchangeMatched, listingMatched, phaseChanged}
 use Rattle.rules.specs.declared.Account.{Account}
 use Rattle.rules.specs.declared.Holding.{Holding}
 use Rattle.rules.specs.declared.Order.{Order}
@@ -103,14 +104,18 @@ entered phase =
     (record { account = 2; contract = 1; sell = false; close = false; lots = 2; price = 105; condition = Limit 105; time = GoodForDay })
 
 -- the change to continuous with these buys resting
-changed : ℕ → List Order → Stepped
+changed : ℕ → List Order → Effect
 changed phase buys = phaseChanged (asked phase buys) 0 continuous
 
-opened : Stepped
+opened : Effect
 opened = changed auction (of (order 1 105 2) 1 0 ∷ [])
 
-holding : Stepped → ℕ → Holding
-holding s a = holdingAt (s .exchange .accounts) a 0
+-- the state that it leaves
+after : Effect → Exchange
+after e = lastOf (asked auction []) (e .stages)
+
+holding : Effect → ℕ → Holding
+holding s a = holdingAt (after s .accounts) a 0
 
 pub table : List Row
 table =
@@ -169,30 +174,30 @@ table =
     ∷ (length (entered continuous .trades) gives 1)
     ∷ (entered continuous .rested gives 1)
     -- the answer of the state change: no order, the traded lots, none rested; the trade behind those there were
-    ∷ (opened .answer .number gives 0)
-    ∷ (opened .answer .traded gives 1)
-    ∷ (opened .answer .lots gives 0)
-    ∷ (length (opened .exchange .trades) gives 2)
-    ∷ (getD (opened .exchange .trades) 1 noTrade .price gives 101)
-    ∷ (getD (opened .exchange .trades) 1 noTrade .sellclose gives 1)
-    ∷ (opened .exchange .next gives 3)
+    ∷ (opened .number gives 0)
+    ∷ (opened .traded gives 1)
+    ∷ (opened .lots gives 0)
+    ∷ (length (after opened .trades) gives 2)
+    ∷ (getD (after opened .trades) 1 noTrade .price gives 101)
+    ∷ (getD (after opened .trades) 1 noTrade .sellclose gives 1)
+    ∷ (after opened .next gives 3)
     -- the contract: continuous, its last price the auction's; the filled order leaves, what remains stays
-    ∷ (listingAt (opened .exchange) 0 .contract .phase gives 1)
-    ∷ (listingAt (opened .exchange) 0 .contract .last gives 101)
-    ∷ (lotsReaching false 105 (listingAt (opened .exchange) 0 .buys) gives 1)
-    ∷ (length (listingAt (opened .exchange) 0 .sells) gives 0)
+    ∷ (listingAt (after opened) 0 .contract .phase gives 1)
+    ∷ (listingAt (after opened) 0 .contract .last gives 101)
+    ∷ (lotsReaching false 105 (listingAt (after opened) 0 .buys) gives 1)
+    ∷ (length (listingAt (after opened) 0 .sells) gives 0)
     -- both legs are booked
     ∷ (holding opened 0 .long gives 2)
     ∷ (holding opened 0 .short gives 0)
     ∷ (holding opened 1 .long gives 1)
     -- no volume: only the state changes
-    ∷ (changed auction [] .answer .traded gives 0)
-    ∷ (listingAt (changed auction [] .exchange) 0 .contract .phase gives 1)
-    ∷ (listingAt (changed auction [] .exchange) 0 .contract .last gives 100)
-    ∷ (length (listingAt (changed auction [] .exchange) 0 .sells) gives 1)
-    ∷ (length (changed auction [] .exchange .trades) gives 1)
+    ∷ (changed auction [] .traded gives 0)
+    ∷ (listingAt (after (changed auction [])) 0 .contract .phase gives 1)
+    ∷ (listingAt (after (changed auction [])) 0 .contract .last gives 100)
+    ∷ (length (listingAt (after (changed auction [])) 0 .sells) gives 1)
+    ∷ (length (after (changed auction []) .trades) gives 1)
     ∷ []
 
 pub auction-examples : allRight table ≡ true
-unfolding allRight table order buys001 sells001 buys000 sells000 buysTie sellsTie buysSigned sellsSigned buysApart priceOf lotsOf buyOf sellOf of account listing asked entered changed opened holding accountAt afterLeg bookLeg bookTrade bookTrades holdingAt listingAt lastPrice sumOf lotsWhere bestPrice stays tradedLots prices lotsReaching volume surplus better bestFrom bestOf chosenPrice auctionPrice tradeAt matchIn matchAt auctionMatch matchOf listingOf takerOf enter meets methodOf middle pairedPrice remainder restIn restLots restWhole restedLots sweep tradePrice tradeWith enteredOf listingMatched exchangeMatched phaseChanged
+unfolding allRight table order buys001 sells001 buys000 sells000 buysTie sellsTie buysSigned sellsSigned buysApart priceOf lotsOf buyOf sellOf of account listing asked entered changed opened after holding accountAt afterLeg bookLeg bookTrade bookTrades holdingAt listingAt lastPrice sumOf lotsWhere bestPrice stays tradedLots prices lotsReaching volume surplus better bestFrom bestOf chosenPrice auctionPrice tradeAt matchIn matchAt auctionMatch matchOf listingOf takerOf enter meets methodOf middle pairedPrice remainder restIn restLots restWhole restedLots sweep tradePrice tradeWith enteredOf listingMatched exchangeMatched phaseChanged
 auction-examples = refl

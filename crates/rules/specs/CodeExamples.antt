@@ -9,13 +9,14 @@ use lib.ListN.{replicate}
 use Rattle.laws.specs.Choice.{all, allOf}
 use Rattle.laws.specs.Sums.{sumOf}
 use Rattle.laws.specs.Tabulate.{tabulate}
-use Rattle.rules.specs.Answers.{amountRefused, cancelRefusals, changeListed, codeOf, conditionsRefused, depositRefusals, fillableLots, firstOf, insertRefusals, leavesTooLittle, liftsTooHigh, listingOf, holdingRefused, moneyRefused, noSuchOrder, numbered, ofAnother, overHolding, overLimit, phaseRefusals, priceRefusedBy, pullRefusals, refusals, removalRefused, restingOrder, settleRefusals, takerOf, takesOrders, tradesNeeded, withdrawRefusals}
+use Rattle.rules.specs.Answers.{amountRefused, cancelRefusals, changeListed, depositRefusals, fillableLots, firstOf, insertRefusals, leavesTooLittle, liftsTooHigh, listingOf, holdingRefused, moneyRefused, noSuchOrder, numbered, ofAnother, overHolding, overLimit, phaseRefusals, priceRefusedBy, pullRefusals, removalRefused, restingOrder, settleRefusals, takerOf, tradesNeeded, withdrawRefusals, conditionsRefused, takesOrders}
+use Rattle.rules.specs.Bounds.{allowedToday, dayHigh, dayLow, onTick, auction, closed, continuous, noTrading, preOpen}
 use Rattle.rules.specs.Auction.{auctionMatch, bestFrom, bestOf, better, chosenPrice, lotsReaching, matchAt, matchIn, matchOf, prices, surplus, tradeAt, volume}
-use Rattle.rules.specs.Bounds.{allowedToday, auction, closed, continuous, dayHigh, dayLow, noTrading, onTick, preOpen}
 use Rattle.rules.specs.Command.{bits, commandOf, insertFlags, insertOf, newOrder, phaseOf, priceCondition, settleOf, timeCondition, zeros}
 use Rattle.rules.specs.Examples.{Row, _gives_, allRight}
 use Rattle.rules.specs.Exchange.{Exchange, absent, accountAt, bestPrice, holdingAt, listingAt, lotsWhere, noHolding, noTrade, resting}
 use Rattle.rules.specs.Holdings.{afterLeg, bookLeg}
+use Rattle.rules.specs.Kinds.{codeOf, kindOf}
 use Rattle.rules.specs.Margin.{chargeOf, chargedLots, chargedTo}
 use Rattle.rules.specs.Matching.{fillable, meets, methodOf, middle, pairedPrice, stays, sweep, tradePrice, tradeWith}
 use Rattle.rules.specs.declared.Account.{Account}
@@ -202,6 +203,9 @@ codes =
     -- code 1 before all: an unknown state, bits 6 and 7, an unused field, a kind that does not exist
     ∷ (codeOf open′ (commandOf (raw 6 0 9 5 0)) gives 1)
     ∷ (codeOf open′ (commandOf (raw 6 0 9 4 0)) gives 3)
+    -- .. also where no bytes give it
+    ∷ (codeOf open′ (Phase 9 5) gives 1)
+    ∷ (codeOf open′ (Phase 9 auction) gives 3)
     ∷ (codeOf open′ (commandOf (raw 3 0 0 64 0)) gives 1)
     ∷ (codeOf open′ (commandOf (raw 3 0 0 48 0)) gives 1)
     ∷ (codeOf open′ (commandOf (raw 3 0 0 12 0)) gives 1)
@@ -211,5 +215,5 @@ codes =
     ∷ []
 
 pub code-examples : allRight codes ≡ true
-unfolding allRight codes contract order rich poor asked open′ crossed buy sell raw absent accountAt afterLeg all allOf allowedToday amountRefused auctionMatch bestFrom bestOf better bestPrice bits bookLeg cancelRefusals changeListed chargeOf chargedLots chargedTo chosenPrice codeOf commandOf conditionsRefused dayHigh dayLow depositRefusals fillable fillableLots firstOf holdingAt insertFlags insertOf insertRefusals leavesTooLittle liftsTooHigh listingAt listingOf holdingRefused lotsReaching lotsWhere matchAt matchIn matchOf meets methodOf middle pairedPrice moneyRefused newOrder noSuchOrder numbered ofAnother onTick overHolding overLimit phaseOf phaseRefusals priceCondition prices priceRefusedBy pullRefusals refusals removalRefused resting restingOrder settleOf settleRefusals stays sumOf surplus sweep tabulate takerOf takesOrders timeCondition tradeAt tradePrice tradeWith tradesNeeded volume withdrawRefusals zeros
+unfolding allRight codes contract order rich poor asked open′ buy sell raw absent accountAt afterLeg all allOf allowedToday amountRefused bestPrice bits bookLeg cancelRefusals changeListed chargeOf chargedLots chargedTo codeOf commandOf dayHigh dayLow depositRefusals fillable fillableLots firstOf holdingAt insertFlags insertOf insertRefusals kindOf leavesTooLittle liftsTooHigh listingAt listingOf holdingRefused lotsWhere meets methodOf middle pairedPrice moneyRefused newOrder noSuchOrder numbered ofAnother onTick overHolding overLimit phaseOf phaseRefusals priceCondition priceRefusedBy pullRefusals removalRefused resting restingOrder settleOf settleRefusals stays sumOf sweep tabulate takerOf timeCondition tradePrice tradeWith tradesNeeded withdrawRefusals zeros crossed auctionMatch bestFrom bestOf better chosenPrice conditionsRefused lotsReaching matchAt matchIn matchOf prices surplus takesOrders tradeAt volume
 code-examples = refl

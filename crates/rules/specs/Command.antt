@@ -76,9 +76,12 @@ pullOf r =
     Malformed
 
 -- "State flags: 0 pre-open, 1 continuous, 2 no trading, 3 closed", and 4, auction: "flags above 4 are unknown" (02, ticket 4)
+abbrev pub phaseKnown : ℕ → Bool
+phaseKnown phase = leb phase maxPhase
+
 unfoldable pub phaseOf : Record → Command
 phaseOf r =
-    pick (zeros (r .account ∷ r .lots ∷ r .price ∷ r .number ∷ r .amount ∷ []) && leb (r .flags) maxPhase)
+    pick (zeros (r .account ∷ r .lots ∷ r .price ∷ r .number ∷ r .amount ∷ []) && phaseKnown (r .flags))
     (Phase (r .contract) (r .flags))
     Malformed
 
@@ -97,12 +100,22 @@ commandOf r =
     (pick (eqb (r .kind) 6) (phaseOf r)
     (pick (eqb (r .kind) 7) (settleOf r) Malformed))))))
 
+-- the kind's number, 0 for what is no command
+abbrev pub kindNumber : Command → ℕ
+kindNumber Malformed = 0
+kindNumber (Deposit account amount) = 1
+kindNumber (Withdraw account amount) = 2
+kindNumber (Insert o) = 3
+kindNumber (Cancel account contract operator number) = 4
+kindNumber (Pull account contract operator) = 5
+kindNumber (Phase contract phase) = 6
+kindNumber Settle = 7
+
+abbrev pub isMalformed : Command → Bool
+isMalformed command = eqb (kindNumber command) 0
+
+abbrev pub isInsert : Command → Bool
+isInsert command = eqb (kindNumber command) 3
+
 abbrev pub isSettle : Command → Bool
-isSettle Malformed = false
-isSettle (Deposit account amount) = false
-isSettle (Withdraw account amount) = false
-isSettle (Insert o) = false
-isSettle (Cancel account contract operator number) = false
-isSettle (Pull account contract operator) = false
-isSettle (Phase contract phase) = false
-isSettle Settle = true
+isSettle command = eqb (kindNumber command) 7

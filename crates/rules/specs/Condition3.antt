@@ -1,81 +1,77 @@
--- Condition 3: marking to market never makes or loses money. One claim about a whole list of commands. Which commands are
--- accepted, which trades are made and what the settlement price is come from the rules, applied to the commands in turn
--- from the opening state. Assumes nothing.
+-- Condition 3: marking to market never makes or loses money. One claim about a whole list of commands, the memory m that they
+-- start from and the memory m′ that is left. The balances and holdings compared are those of m and m′; which commands are
+-- accepted, which trades are made and what the settlement price is come from the rules, applied to the commands in turn from m.
+-- Assumes nothing.
 use mathlib.Core.Bool.{Bool, true, _&&_}
 use mathlib.Core.List.{List, [], _∷_, _++_}
 use mathlib.Core.Path.{_≡_}
-use Prim.Native.Nat.{ℕ, _+_, _*_, _<_}
+use Prim.Native.Nat.{ℕ, _*_, _<_}
 use lib.Dec.{eqb}
 use lib.IntN.{ℤ, pos, _+ℤ_, _-ℤ_, _*ℤ_}
 use lib.ListN.{length}
 use Rattle.laws.specs.Choice.{pick}
 use Rattle.laws.specs.Sums.{sumOf, sumTo}
-use Rattle.rules.specs.Auction.{matchOf}
-use Rattle.rules.specs.Command.{commandOf, isSettle}
-use Rattle.rules.specs.Exchange.{Exchange, listingAt, accountAt, holdingAt, placeOf}
+use Rattle.rules.specs.Exchange.{Exchange, listingAt, accountAt, holdingAt}
+use Rattle.rules.specs.Kinds.{Move, paysIn, paysOut, makes, settles, nothing, kindOf}
 use Rattle.rules.specs.Memory.{Memory, exchangeOf, respond}
 use Rattle.rules.specs.Settlement.{settlementPrice}
-use Rattle.rules.specs.Step.{enteredOf}
-use Rattle.rules.specs.declared.Record.{Record}
+use Rattle.rules.specs.declared.Holding.{Holding}
 use Rattle.rules.specs.declared.Trade.{Trade}
 use Rattle.rules.specs.declared.Command.{Command}
-use Rattle.rules.specs.declared.Command.the-variants.{Malformed, Deposit, Withdraw, Insert, Cancel, Pull, Phase, Settle}
+use Rattle.rules.specs.declared.Command.the-variants.{Settle}
 
 -- ---- a run: "each getting the state that the last one left"
 
-unfoldable pub run : Memory → List Record → Memory
+unfoldable pub run : Memory → List Command → Memory
 run m [] = m
-run m (r ∷ rs) = run (respond m r .memory) rs
+run m (c ∷ cs) = run (respond m c .memory) cs
 
 -- "Acceptance (code 0)"
-unfoldable pub isAccepted : Memory → Record → Bool
-isAccepted m r = eqb (respond m r .answer .code) 0
+unfoldable pub isAccepted : Memory → Command → Bool
+isAccepted m c = eqb (respond m c .answer .code) 0
+
+-- what the commands move, each from the state that the last one left; a refused one moves nothing
+unfoldable pub moveOf : Memory → Command → Move
+moveOf m c = pick (isAccepted m c) (kindOf (exchangeOf m) c .moves) nothing
+
+unfoldable pub movesOf : Memory → List Command → List Move
+movesOf m [] = []
+movesOf m (c ∷ cs) = moveOf m c ∷ movesOf (respond m c .memory) cs
 
 -- ---- "Money is paid in by accepted deposits, out by accepted withdrawals."
 
-abbrev pub depositTo : ℕ → Command → ℕ
-depositTo a Malformed = 0
-depositTo a (Deposit account amount) = pick (eqb (placeOf account) a) amount 0
-depositTo a (Withdraw account amount) = 0
-depositTo a (Insert o) = 0
-depositTo a (Cancel account contract operator number) = 0
-depositTo a (Pull account contract operator) = 0
-depositTo a (Phase contract phase) = 0
-depositTo a Settle = 0
+unfoldable pub inTo : ℕ → Move → ℕ
+inTo a (paysIn account amount) = pick (eqb account a) amount 0
+inTo a (paysOut account amount) = 0
+inTo a (makes ts) = 0
+inTo a (settles price) = 0
 
-abbrev pub withdrawalFrom : ℕ → Command → ℕ
-withdrawalFrom a Malformed = 0
-withdrawalFrom a (Deposit account amount) = 0
-withdrawalFrom a (Withdraw account amount) = pick (eqb (placeOf account) a) amount 0
-withdrawalFrom a (Insert o) = 0
-withdrawalFrom a (Cancel account contract operator number) = 0
-withdrawalFrom a (Pull account contract operator) = 0
-withdrawalFrom a (Phase contract phase) = 0
-withdrawalFrom a Settle = 0
+unfoldable pub outOf : ℕ → Move → ℕ
+outOf a (paysIn account amount) = 0
+outOf a (paysOut account amount) = pick (eqb account a) amount 0
+outOf a (makes ts) = 0
+outOf a (settles price) = 0
 
-unfoldable pub paidIn : ℕ → Memory → List Record → ℕ
-paidIn a m [] = 0
-paidIn a m (r ∷ rs) = pick (isAccepted m r) (depositTo a (commandOf r)) 0 + paidIn a (respond m r .memory) rs
+unfoldable pub paidIn : ℕ → Memory → List Command → ℕ
+paidIn a m cs = sumOf (inTo a) (movesOf m cs)
 
-unfoldable pub paidOut : ℕ → Memory → List Record → ℕ
-paidOut a m [] = 0
-paidOut a m (r ∷ rs) = pick (isAccepted m r) (withdrawalFrom a (commandOf r)) 0 + paidOut a (respond m r .memory) rs
+unfoldable pub paidOut : ℕ → Memory → List Command → ℕ
+paidOut a m cs = sumOf (outOf a) (movesOf m cs)
 
 -- ---- "The trades are those the rules yield for the list."
 
-abbrev pub tradesOf : Exchange → Command → List Trade
-tradesOf x Malformed = []
-tradesOf x (Deposit account amount) = []
-tradesOf x (Withdraw account amount) = []
-tradesOf x (Insert o) = enteredOf x o .trades
-tradesOf x (Cancel account contract operator number) = []
-tradesOf x (Pull account contract operator) = []
-tradesOf x (Phase contract phase) = matchOf x (placeOf contract) .trades
-tradesOf x Settle = []
+unfoldable pub madeBy : Move → List Trade
+madeBy (paysIn account amount) = []
+madeBy (paysOut account amount) = []
+madeBy (makes ts) = ts
+madeBy (settles price) = []
 
-unfoldable pub tradesMade : Memory → List Record → List Trade
-tradesMade m [] = []
-tradesMade m (r ∷ rs) = pick (isAccepted m r) (tradesOf (exchangeOf m) (commandOf r)) [] ++ tradesMade (respond m r .memory) rs
+unfoldable pub made : List Move → List Trade
+made [] = []
+made (v ∷ vs) = madeBy v ++ made vs
+
+unfoldable pub tradesMade : Memory → List Command → List Trade
+tradesMade m cs = made (movesOf m cs)
 
 -- ---- "A trade's price x lots x multiplier is its seller's sale and its buyer's cost, open or close. Net holding is the
 -- lots its trades bought less those they sold, contract by contract".
@@ -101,17 +97,7 @@ sold a c ts = sumOf (λ t. pick (isSeller a c t) (t .lots) 0) ts
 unfoldable pub netHolding : ℕ → ℕ → List Trade → ℤ
 netHolding a c ts = pos (bought a c ts) -ℤ pos (sold a c ts)
 
--- "what its trades sold for - what they cost + its net holding at that day's settlement price, trades and holdings times
--- the multiplier"; the multipliers are those of the first state, the settlement prices those of the second
-unfoldable pub worth : Exchange → Exchange → ℕ → List Trade → ℤ
-worth first last a ts =
-    sumTo (length (first .listings))
-    (λ c. pos (listingAt first c .contract .multiplier) *ℤ ((pos (sales a c ts) -ℤ pos (costs a c ts)) +ℤ pos (settlementPrice last c) *ℤ netHolding a c ts))
-
--- ---- the claim
-
-abbrev pub balanceIn : Memory → ℕ → ℤ
-balanceIn m a = accountAt (exchangeOf m .accounts) a .balance
+-- ---- what a memory holds, of the accounts and contracts in use
 
 abbrev pub accountsOf : Memory → ℕ
 accountsOf m = length (exchangeOf m .accounts)
@@ -119,33 +105,87 @@ accountsOf m = length (exchangeOf m .accounts)
 abbrev pub contractsOf : Memory → ℕ
 contractsOf m = length (exchangeOf m .listings)
 
--- "opens without holdings or recorded trades", of the accounts and contracts in use
+abbrev pub balanceIn : Memory → ℕ → ℤ
+balanceIn m a = accountAt (exchangeOf m .accounts) a .balance
+
+abbrev pub holdingIn : Memory → ℕ → ℕ → Holding
+holdingIn m a c = holdingAt (exchangeOf m .accounts) a c
+
+-- "the engine's long less short"
+abbrev pub netIn : Memory → ℕ → ℕ → ℤ
+netIn m a c = pos (holdingIn m a c .long) -ℤ pos (holdingIn m a c .short)
+
+abbrev pub multiplierIn : Memory → ℕ → ℕ
+multiplierIn m c = listingAt (exchangeOf m) c .contract .multiplier
+
+abbrev pub referenceIn : Memory → ℕ → ℕ
+referenceIn m c = listingAt (exchangeOf m) c .contract .reference
+
+-- ---- where a list starts: the money that each account brings, and its net holding by contract
+
+pub record Start : Type 0 where
+  pub money : ℕ → ℤ
+  pub held : ℕ → ℕ → ℤ
+
+-- "Opening money is the balance in that state."
+abbrev pub opened : Memory → Start
+opened m = record { money = balanceIn m; held = λ a c. pos 0 }
+
+-- a state that opens "without holdings or recorded trades"
 pub record Opening (m : Memory) : Type 0 where
   pub no-trades : exchangeOf m .trades ≡ []
-  pub no-long : (a c : ℕ) → holdingAt (exchangeOf m .accounts) a c .long ≡ 0
-  pub no-short : (a c : ℕ) → holdingAt (exchangeOf m .accounts) a c .short ≡ 0
-  pub no-startlong : (a c : ℕ) → holdingAt (exchangeOf m .accounts) a c .startlong ≡ 0
-  pub no-startshort : (a c : ℕ) → holdingAt (exchangeOf m .accounts) a c .startshort ≡ 0
+  pub no-long : (a c : ℕ) → a < accountsOf m → c < contractsOf m → holdingIn m a c .long ≡ 0
+  pub no-short : (a c : ℕ) → a < accountsOf m → c < contractsOf m → holdingIn m a c .short ≡ 0
 
--- a list that ends with an accepted settlement: all before it, and the settlement
-pub record EndsSettled (m : Memory) (rs before : List Record) (r : Record) : Type 0 where
-  pub ends : rs ≡ before ++ (r ∷ [])
-  pub settles : isSettle (commandOf r) ≡ true
-  pub accepted : isAccepted (run m before) r ≡ true
+-- "for a loaded run, now starts from the loaded balance less the loaded net holding at the loaded reference, times multiplier ..
+-- Its net holding starts from the loaded one" (document 02, ticket 10)
+unfoldable pub loadedWorth : Memory → ℕ → ℤ
+loadedWorth m a = sumTo (contractsOf m) (λ c. pos (multiplierIn m c) *ℤ (pos (referenceIn m c) *ℤ netIn m a c))
 
-pub record Condition3 (m : Memory) (rs : List Record) : Type 0 where
+abbrev pub loaded : Memory → Start
+loaded m = record { money = λ a. balanceIn m a -ℤ loadedWorth m a; held = netIn m }
+
+-- "its long and short totals are equal, no trades .. exist"
+abbrev pub TotalsEqual : Memory → ℕ → Type 0
+TotalsEqual m c = sumTo (accountsOf m) (λ a. pos (holdingIn m a c .long)) ≡ sumTo (accountsOf m) (λ a. pos (holdingIn m a c .short))
+
+pub record Loaded (m : Memory) : Type 0 where
+  pub no-trades : exchangeOf m .trades ≡ []
+  pub totals : (c : ℕ) → c < contractsOf m → TotalsEqual m c
+
+-- ---- the claim
+
+-- "what its trades sold for - what they cost + its net holding at that day's settlement price, trades and holdings times the
+-- multiplier"; the settlement is that of the state `found`
+unfoldable pub worth : Memory → Exchange → ℕ → List Trade → (ℕ → ℤ) → ℤ
+worth m found a ts net =
+    sumTo (contractsOf m)
+    (λ c. pos (multiplierIn m c) *ℤ ((pos (sales a c ts) -ℤ pos (costs a c ts)) +ℤ pos (settlementPrice found c) *ℤ net c))
+
+-- a list that ends with an accepted settlement, and all before it
+pub record EndsSettled (m : Memory) (cs before : List Command) : Type 0 where
+  pub ends : cs ≡ before ++ (Settle ∷ [])
+  pub accepted : isAccepted (run m before) Settle ≡ true
+
+pub record Condition3 (start : Start) (m : Memory) (cs : List Command) (m′ : Memory) : Type 0 where
   -- "all balances together equal money paid in minus money paid out, opening money counted as paid in"
   pub together :
-      sumTo (accountsOf m) (balanceIn (run m rs))
-      ≡ (sumTo (accountsOf m) (balanceIn m) +ℤ sumTo (accountsOf m) (λ a. pos (paidIn a m rs))) -ℤ sumTo (accountsOf m) (λ a. pos (paidOut a m rs))
+      sumTo (accountsOf m) (balanceIn m′)
+      ≡ (sumTo (accountsOf m) (balanceIn m) +ℤ sumTo (accountsOf m) (λ a. pos (paidIn a m cs))) -ℤ sumTo (accountsOf m) (λ a. pos (paidOut a m cs))
   -- "after a list that ends with an accepted settlement, each account's balance equals opening money + accepted deposits -
   -- accepted withdrawals + what its trades sold for - what they cost + its net holding at that day's settlement price"
   pub each :
-      (before : List Record) (r : Record) → EndsSettled m rs before r → (a : ℕ) → a < accountsOf m →
-      balanceIn (run m rs) a
-      ≡ ((balanceIn m a +ℤ pos (paidIn a m rs)) -ℤ pos (paidOut a m rs)) +ℤ worth (exchangeOf m) (exchangeOf (run m before)) a (tradesMade m rs)
+      (before : List Command) → EndsSettled m cs before → (a : ℕ) → a < accountsOf m →
+      balanceIn m′ a
+      ≡ ((start .money a +ℤ pos (paidIn a m cs)) -ℤ pos (paidOut a m cs))
+      +ℤ worth m (exchangeOf (run m before)) a (tradesMade m cs) (λ c. start .held a c +ℤ netHolding a c (tradesMade m cs))
   -- "it equals the engine's long less short"
   pub net :
       (a c : ℕ) → a < accountsOf m → c < contractsOf m →
-      pos (holdingAt (exchangeOf (run m rs) .accounts) a c .long) -ℤ pos (holdingAt (exchangeOf (run m rs) .accounts) a c .short)
-      ≡ netHolding a c (tradesMade m rs)
+      netIn m′ a c ≡ start .held a c +ℤ netHolding a c (tradesMade m cs)
+
+-- CONDITION 3 OF A CALL that carries out the commands cs on the memory m and leaves m′: from a state that opens without holdings,
+-- and from one that was loaded
+pub record MoneyKept (m : Memory) (cs : List Command) (m′ : Memory) : Type 0 where
+  pub from-nothing : Opening m → Condition3 (opened m) m cs m′
+  pub from-loaded : Loaded m → Condition3 (loaded m) m cs m′

@@ -7,9 +7,11 @@ use lib.IntN.{pos}
 use lib.ListN.{length, getD, replicate}
 use Rattle.laws.specs.Choice.{all}
 use Rattle.laws.specs.Tabulate.{tabulate}
-use Rattle.rules.specs.Bounds.{within, maxContracts, maxAccounts, maxBalance, preOpen, termsInRange}
+use Rattle.rules.specs.Bounds.{within, maxContracts, maxAccounts, maxBalance, termsInRange, preOpen}
+use Rattle.rules.specs.Command.{commandOf}
 use Rattle.rules.specs.Exchange.{Exchange, Listing, noHolding}
 use Rattle.rules.specs.declared.Account.{Account}
+use Rattle.rules.specs.declared.Command.{Command}
 use Rattle.rules.specs.declared.Contract.{Contract}
 use Rattle.rules.specs.declared.Record.{Record}
 
@@ -96,8 +98,11 @@ recordFrom file at =
       amount = u64At file (at + 16);
     }
 
-unfoldable pub recordsOf : List ℕ → List Record
-recordsOf file = tabulate (commandsIn file) (λ k. recordFrom file (commandPlace file k))
+abbrev pub commandFrom : List ℕ → ℕ → Command
+commandFrom file at = commandOf (recordFrom file at)
+
+unfoldable pub commandsOf : List ℕ → List Command
+commandsOf file = tabulate (commandsIn file) (λ k. commandFrom file (commandPlace file k))
 
 -- ---- the file
 

@@ -11,6 +11,7 @@ pub mod Settlement
 pub mod Auction
 pub mod Answers
 pub mod Step
+pub mod Kinds
 pub mod Memory
 pub mod Condition3
 pub mod DayFile

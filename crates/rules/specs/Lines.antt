@@ -6,14 +6,13 @@ use lib.Dec.{ltb, eqb}
 use lib.IntN.{ℤ, pos, negsuc}
 use lib.ListN.{length, drop}
 use Rattle.laws.specs.Choice.{pick}
-use Rattle.rules.specs.Command.{commandOf, isSettle}
-use Rattle.rules.specs.DayFile.{sound, opening, recordsOf}
+use Rattle.rules.specs.Command.{isSettle}
+use Rattle.rules.specs.DayFile.{sound, opening, commandsOf}
 use Rattle.rules.specs.Exchange.{Exchange, accountAt}
+use Rattle.rules.specs.Kinds.{codeOf, decide, step}
 use Rattle.rules.specs.Margin.{charged}
 use Rattle.rules.specs.Settlement.{settlementPrice, closingProfit, holdingProfit}
-use Rattle.rules.specs.Step.{Stepped, step}
 use Rattle.rules.specs.declared.Answer.{Answer}
-use Rattle.rules.specs.declared.Record.{Record}
 use Rattle.rules.specs.declared.Trade.{Trade}
 use Rattle.rules.specs.declared.Command.{Command}
 
@@ -68,31 +67,31 @@ accountLines x after (suc a) =
     ++ line 66 (decimal (a + 1) ∷ signed (closingProfit x a) ∷ signed (holdingProfit x a) ∷ signed (accountAt (after .accounts) a .balance) ∷ decimal (charged after a) ∷ [])
 
 -- "After an accepted settlement come all P, then all B, by number."
-unfoldable pub settlementLines : Exchange → Command → Stepped → List ℕ
-settlementLines x command s =
-    pick (isSettle command && eqb (s .answer .code) 0)
-    (priceLines x (length (x .listings)) ++ accountLines x (s .exchange) (length (x .accounts)))
+unfoldable pub settlementLines : Exchange → Command → List ℕ
+settlementLines x command =
+    pick (isSettle command && eqb (codeOf x command) 0)
+    (priceLines x (length (x .listings)) ++ accountLines x (step x command) (length (x .accounts)))
     []
 
--- the trades that a step added to the day's
-unfoldable pub newTrades : Exchange → Stepped → List Trade
-newTrades x s = drop (length (x .trades)) (s .exchange .trades)
+-- the trades that a command added to the day's
+unfoldable pub newTrades : Exchange → Command → List Trade
+newTrades x command = drop (length (x .trades)) (step x command .trades)
 
 -- command k's lines
 unfoldable pub stepLines : ℕ → Exchange → Command → List ℕ
 stepLines k x command =
-    answerLine k (step x command .answer)
-    ++ (tradeLines (length (x .trades) + 1) (newTrades x (step x command)) ++ settlementLines x command (step x command))
+    answerLine k (decide x command .answer)
+    ++ (tradeLines (length (x .trades) + 1) (newTrades x command) ++ settlementLines x command)
 
 -- ---- the whole output: the commands in turn, each on the state that the last one left
 
-unfoldable pub runLines : ℕ → Exchange → List Record → List ℕ
+unfoldable pub runLines : ℕ → Exchange → List Command → List ℕ
 runLines k x [] = []
-runLines k x (r ∷ rs) = stepLines k x (commandOf r) ++ runLines (k + 1) (step x (commandOf r) .exchange) rs
+runLines k x (c ∷ cs) = stepLines k x c ++ runLines (k + 1) (step x c) cs
 
 -- "A broken file prints `X 20`."
 abbrev pub brokenLine : List ℕ
 brokenLine = 88 ∷ 32 ∷ 50 ∷ 48 ∷ 10 ∷ []
 
 unfoldable pub output : List ℕ → List ℕ
-output file = pick (sound file) (runLines 1 (opening file) (recordsOf file)) brokenLine
+output file = pick (sound file) (runLines 1 (opening file) (commandsOf file)) brokenLine

@@ -7,11 +7,12 @@ use Prim.Native.Nat.{ℕ}
 use lib.IntN.{ℤ, pos, negsuc}
 use Rattle.laws.specs.Choice.{pick}
 use Rattle.laws.specs.Sums.{sumOf}
-use Rattle.rules.specs.Answers.{amountRefused, codeOf, conditionsRefused, fillableLots, firstOf, holdingRefused, insertRefusals, leavesTooLittle, listingOf, moneyRefused, overHolding, overLimit, priceRefusedBy, refusals, takerOf, takesOrders, tradesNeeded, withdrawRefusals}
-use Rattle.rules.specs.Bounds.{allowedToday, continuous, dayHigh, dayLow, onTick}
+use Rattle.rules.specs.Answers.{amountRefused, fillableLots, firstOf, holdingRefused, insertRefusals, leavesTooLittle, listingOf, moneyRefused, overHolding, overLimit, priceRefusedBy, takerOf, tradesNeeded, withdrawRefusals, conditionsRefused, takesOrders}
+use Rattle.rules.specs.Bounds.{allowedToday, dayHigh, dayLow, onTick, continuous}
 use Rattle.rules.specs.Examples.{Row, _gives_, allRight}
 use Rattle.rules.specs.Exchange.{Exchange, absent, accountAt, bestPrice, holdingAt, listingAt, lotsWhere, noHolding, resting}
 use Rattle.rules.specs.Holdings.{afterLeg, bookLeg}
+use Rattle.rules.specs.Kinds.{codeOf, kindOf}
 use Rattle.rules.specs.Margin.{charged, chargedLots, chargedTo, chargedWith, chargeOf}
 use Rattle.rules.specs.Matching.{fillable, meets, methodOf, middle, pairedPrice, stays, sweep, tradePrice, tradeWith}
 use Rattle.rules.specs.declared.Account.{Account}
@@ -127,5 +128,5 @@ table =
     ∷ []
 
 pub margin-examples : allRight table ≡ true
-unfolding allRight table contract order held account x insert buyOpen sellOpen absent accountAt afterLeg allowedToday amountRefused bestPrice bookLeg chargeOf chargedLots chargedTo codeOf conditionsRefused dayHigh dayLow fillable fillableLots firstOf holdingAt holdingRefused insertRefusals leavesTooLittle listingAt listingOf lotsWhere meets methodOf middle moneyRefused onTick overHolding overLimit pairedPrice priceRefusedBy refusals resting stays sumOf sweep takerOf takesOrders tradePrice tradeWith tradesNeeded withdrawRefusals
+unfolding allRight table contract order held account x insert buyOpen sellOpen absent accountAt afterLeg allowedToday amountRefused bestPrice bookLeg chargeOf chargedLots chargedTo codeOf dayHigh dayLow fillable fillableLots firstOf holdingAt holdingRefused insertRefusals kindOf leavesTooLittle listingAt listingOf lotsWhere meets methodOf middle moneyRefused onTick overHolding overLimit pairedPrice priceRefusedBy resting stays sumOf sweep takerOf tradePrice tradeWith tradesNeeded withdrawRefusals conditionsRefused takesOrders
 margin-examples = refl

@@ -1,26 +1,23 @@
 -- How the state lies in memory: the declared State and the three areas lent with it; what room beyond a count is; the
 -- counts and the room that a well-formed state needs; the whole step on it. Assumes nothing.
-use mathlib.Core.Bool.{Bool, _&&_}
+use mathlib.Core.Bool.{Bool, true, _&&_}
 use mathlib.Core.List.{List, [], _∷_, _++_, map}
 use mathlib.Core.Path.{_≡_}
 use Prim.Native.Nat.{ℕ, zero, suc, _*_, _<_}
-use lib.Dec.{leb, eqb}
+use lib.Dec.{leb}
 use lib.ListN.{length, getD, take, drop}
 use Rattle.laws.specs.Choice.{pick, all}
 use Rattle.laws.specs.Tabulate.{tabulate}
 use Rattle.areas.specs.Lists.{padded}
 use Rattle.areas.specs.Records.{records, store}
 use Rattle.rules.specs.Bounds.{within, maxContracts, maxAccounts, maxResting, maxTrades}
-use Rattle.rules.specs.Command.{commandOf}
 use Rattle.rules.specs.Exchange.{Exchange, Listing, listingAt, accountAt, noContract, noOrder, noTrade}
-use Rattle.rules.specs.Answers.{codeOf}
-use Rattle.rules.specs.Step.{Stepped, answerOf, carriedOut}
+use Rattle.rules.specs.Kinds.{Decision, refused, decide}
 use Rattle.rules.specs.WellFormed.{wellFormedContents}
 use Rattle.rules.specs.declared.Account.{Account}
 use Rattle.rules.specs.declared.Answer.{Answer}
 use Rattle.rules.specs.declared.Command.{Command}
 use Rattle.rules.specs.declared.Order.{Order}
-use Rattle.rules.specs.declared.Record.{Record}
 use Rattle.rules.specs.declared.State.{State}
 use Rattle.rules.specs.declared.Trade.{Trade}
 
@@ -75,6 +72,10 @@ pub record Memory : Type 0 where
   pub buys : List ℕ
   pub sells : List ℕ
   pub trades : List ℕ
+
+-- a state with the areas lent with it
+abbrev pub memory : State → List ℕ → List ℕ → List ℕ → Memory
+memory state buys sells trades = record { state = state; buys = buys; sells = sells; trades = trades }
 
 -- the arrays have the places of their types: so it is with every state of the engine, and a proof may need it said
 pub record Declared (s : State) : Type 0 where
@@ -183,26 +184,29 @@ hasRoom m =
 unfoldable pub wellFormedMemory : Memory → Bool
 wellFormedMemory m = countsInRange (m .state) && hasRoom m && wellFormedContents (exchangeOf m)
 
+-- a state whose arrays have the places of their types, well formed with its areas
+pub record WellFormedState (state : State) (buys sells trades : List ℕ) : Type 0 where
+  pub declared : Declared state
+  pub formed : wellFormedMemory (memory state buys sells trades) ≡ true
+
 -- ---- the whole step: code 21 before all others, then the rules
 
 pub record Responded : Type 0 where
   pub answer : Answer
   pub memory : Memory
 
--- "a refusal gives three zeros and changes nothing"
-abbrev pub refusedIn : Memory → ℕ → Responded
-refusedIn m code = record { answer = answerOf code 0 0 0; memory = m }
+-- states of the same contracts and accounts, each written over the last
+abbrev pub written : Memory → List Exchange → Memory
+written m [] = m
+written m (x ∷ xs) = written (put m x) xs
 
-abbrev pub inMemory : Memory → Stepped → Responded
-inMemory m s = record { answer = s .answer; memory = put m (s .exchange) }
+abbrev pub inMemory : Memory → Decision → Responded
+inMemory m d = record { answer = d .answer; memory = written m (d .stages) }
 
--- a well-formed state: the first refusal that holds, or else what the command does, written into the memory
+-- a well-formed state: what the rules decide, written into the memory
 unfoldable pub stepIn : Memory → Command → Responded
-stepIn m command =
-    pick (eqb (codeOf (exchangeOf m) command) 0)
-    (inMemory m (carriedOut (exchangeOf m) command))
-    (refusedIn m (codeOf (exchangeOf m) command))
+stepIn m command = inMemory m (decide (exchangeOf m) command)
 
--- THE WHOLE STEP, on any state and any 24 bytes
-unfoldable pub respond : Memory → Record → Responded
-respond m r = pick (wellFormedMemory m) (stepIn m (commandOf r)) (refusedIn m 21)
+-- THE WHOLE STEP, on any state and any command
+unfoldable pub respond : Memory → Command → Responded
+respond m command = pick (wellFormedMemory m) (stepIn m command) (inMemory m (refused 21))

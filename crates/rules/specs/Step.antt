@@ -1,4 +1,4 @@
--- One command: what an accepted one does, and the whole step (document 01). Assumes nothing.
+-- What an accepted command of each kind answers and does (document 01). Assumes nothing.
 use mathlib.Core.Bool.{Bool}
 use mathlib.Core.List.{List, [], _∷_, _++_}
 use Prim.Native.Nat.{ℕ, _+_, _-_}
@@ -6,7 +6,7 @@ use lib.Dec.{eqb}
 use lib.IntN.{ℤ, pos, _+ℤ_, _-ℤ_}
 use lib.ListN.{set}
 use Rattle.laws.specs.Choice.{pick}
-use Rattle.rules.specs.Answers.{codeOf, takerOf, listingOf, isGoodForDay}
+use Rattle.rules.specs.Answers.{takerOf, listingOf, isGoodForDay}
 use Rattle.rules.specs.Auction.{Matched, matchOf}
 use Rattle.rules.specs.Bounds.{inAuction}
 use Rattle.rules.specs.Exchange.{Exchange, Listing, listingAt, accountAt, placeOf, own, opposite, withQueues, lotsWhere}
@@ -21,24 +21,20 @@ use Rattle.rules.specs.declared.Order.{Order}
 use Rattle.rules.specs.declared.PriceCondition.{PriceCondition}
 use Rattle.rules.specs.declared.PriceCondition.the-variants.{Limit, Market, Best}
 use Rattle.rules.specs.declared.Trade.{Trade}
-use Rattle.rules.specs.declared.Command.{Command}
-use Rattle.rules.specs.declared.Command.the-variants.{Malformed, Deposit, Withdraw, Insert, Cancel, Pull, Phase, Settle}
 
--- an answer, and the state after it
-pub record Stepped : Type 0 where
-  pub answer : Answer
-  pub exchange : Exchange
-
--- "Each answer holds a code, an order number, lots traded and lots rested .. or removed. .. Numbers not named are 0; a
--- refusal gives three zeros and changes nothing."
+-- "Each answer holds a code, an order number, lots traded and lots rested .. or removed. .. Numbers not named are 0"
 abbrev pub answerOf : ℕ → ℕ → ℕ → ℕ → Answer
 answerOf code number traded lots = record { code = code; number = number; traded = traded; lots = lots }
 
-abbrev pub refused : Exchange → ℕ → Stepped
-refused x code = record { answer = answerOf code 0 0 0; exchange = x }
+-- the three numbers of an accepted command's answer, and the states that it leads through, each written over the last
+pub record Effect : Type 0 where
+  pub number : ℕ
+  pub traded : ℕ
+  pub lots : ℕ
+  pub stages : List Exchange
 
-abbrev pub accepted : ℕ → ℕ → ℕ → Exchange → Stepped
-accepted number traded lots x = record { answer = answerOf 0 number traded lots; exchange = x }
+abbrev pub accepted : ℕ → ℕ → ℕ → Exchange → Effect
+accepted number traded lots x = record { number = number; traded = traded; lots = lots; stages = x ∷ [] }
 
 -- ---- states with a part replaced
 
@@ -83,10 +79,10 @@ paid x a balance =
       settlements = x .settlements;
     }
 
-unfoldable pub deposited : Exchange → ℕ → ℕ → Stepped
+unfoldable pub deposited : Exchange → ℕ → ℕ → Effect
 deposited x a amount = accepted 0 0 0 (paid x a (accountAt (x .accounts) a .balance +ℤ pos amount))
 
-unfoldable pub withdrawn : Exchange → ℕ → ℕ → Stepped
+unfoldable pub withdrawn : Exchange → ℕ → ℕ → Effect
 withdrawn x a amount = accepted 0 0 0 (paid x a (accountAt (x .accounts) a .balance -ℤ pos amount))
 
 -- ---- insert
@@ -114,7 +110,7 @@ listingAfter l sell e = withQueues sell (withLast (l .contract) (lastPrice (l .c
 unfoldable pub exchangeAfter : Exchange → NewOrder → Entered → Exchange
 exchangeAfter x o e = withTrades x (placeOf (o .contract)) (listingAfter (listingOf x o) (o .sell) e) (e .trades) (x .next + 1)
 
-unfoldable pub inserted : Exchange → NewOrder → Stepped
+unfoldable pub inserted : Exchange → NewOrder → Effect
 inserted x o =
     accepted (x .next) (tradedLots (enteredOf x o .trades)) (enteredOf x o .rested) (exchangeAfter x o (enteredOf x o))
 
@@ -135,19 +131,19 @@ abbrev pub isOf : ℕ → Order → Bool
 isOf a o = eqb (o .account) a
 
 -- the orders that satisfy a test taken out of a contract's queues: the number answered, and the lots removed
-unfoldable pub removed : Exchange → ℕ → (Order → Bool) → ℕ → Stepped
+unfoldable pub removed : Exchange → ℕ → (Order → Bool) → ℕ → Effect
 removed x c test number =
     accepted number 0 (lotsWhere test (listingAt x c .buys) + lotsWhere test (listingAt x c .sells)) (withListing x c (listingWithout test (listingAt x c)))
 
 -- "Cancel gives the cancelled number."
-unfoldable pub cancelled : Exchange → ℕ → ℕ → Stepped
+unfoldable pub cancelled : Exchange → ℕ → ℕ → Effect
 cancelled x c number = removed x c (hasNumber number) number
 
 -- "A pull removes all orders of that account in that contract, perhaps none, and gives order number 0."
-unfoldable pub pulled : Exchange → ℕ → ℕ → Stepped
+unfoldable pub pulled : Exchange → ℕ → ℕ → Effect
 pulled x a c = removed x c (isOf a) 0
 
--- ---- state and settle
+-- ---- state
 
 -- the listing in its new state, and after the match where the change makes one: "The last price .. becomes each trade's price"
 unfoldable pub listingMatched : Listing → ℕ → Matched → Listing
@@ -162,20 +158,10 @@ unfoldable pub exchangeMatched : Exchange → ℕ → ℕ → Matched → Exchan
 exchangeMatched x c phase m = withTrades x c (listingMatched (listingAt x c) phase m) (m .trades) (x .next)
 
 -- its trades "appear after the state command's C line, whose traded field is their lots" (02, ticket 4): none but the match's
-unfoldable pub phaseChanged : Exchange → ℕ → ℕ → Stepped
+unfoldable pub phaseChanged : Exchange → ℕ → ℕ → Effect
 phaseChanged x c phase = accepted 0 (tradedLots (matchOf x c .trades)) 0 (exchangeMatched x c phase (matchOf x c))
 
--- what an accepted command does
-unfoldable pub carriedOut : Exchange → Command → Stepped
-carriedOut x Malformed = refused x 1
-carriedOut x (Deposit account amount) = deposited x (placeOf account) amount
-carriedOut x (Withdraw account amount) = withdrawn x (placeOf account) amount
-carriedOut x (Insert o) = inserted x o
-carriedOut x (Cancel account contract operator number) = cancelled x (placeOf contract) number
-carriedOut x (Pull account contract operator) = pulled x (placeOf account) (placeOf contract)
-carriedOut x (Phase contract phase) = phaseChanged x (placeOf contract) phase
-carriedOut x Settle = accepted 0 0 0 (settled x)
+-- ---- settle
 
--- THE STEP of a well-formed state: the first refusal that holds, or else what the command does
-unfoldable pub step : Exchange → Command → Stepped
-step x command = pick (eqb (codeOf x command) 0) (carriedOut x command) (refused x (codeOf x command))
+unfoldable pub settledAll : Exchange → Effect
+settledAll x = accepted 0 0 0 (settled x)

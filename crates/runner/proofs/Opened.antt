@@ -12,11 +12,10 @@ use Rattle.areas.proofs.Lists.{length-padded}
 use Rattle.rules.specs.Condition3.{Opening}
 use Rattle.rules.specs.DayFile.{accountsIn, contractsIn, opening, openingAccount, sound}
 use Rattle.rules.specs.Exchange.{Exchange, accountAt, holdingAt, noAccount, noContract, noHolding}
-use Rattle.rules.specs.Memory.{Declared, Memory, exchangeOf}
+use Rattle.rules.specs.Memory.{Declared, Memory, exchangeOf, WellFormedState}
 use Rattle.rules.specs.declared.Account.{Account}
 use Rattle.rules.specs.declared.Holding.{Holding}
 use Rattle.invariants.proofs.Opening.{opening-well-formed}
-use Rattle.engine.specs.Outcome.{WellFormedState}
 use Rattle.dayfile.specs.Opening.{accountWith, openingAccounts, openingContract, openingContracts, openingHolder, openingState}
 use Rattle.dayfile.proofs.Places.{sound-layout}
 use Rattle.dayfile.proofs.Start.{opening-exchange}

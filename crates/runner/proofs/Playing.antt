@@ -16,12 +16,11 @@ use Rattle.rules.specs.Condition3.{run}
 use Rattle.rules.specs.DayFile.{commandPlace, commandsIn, recordFrom, recordsOf}
 use Rattle.rules.specs.Exchange.{Exchange}
 use Rattle.rules.specs.Lines.{runLines, stepLines}
-use Rattle.rules.specs.Memory.{Declared, Memory, exchangeOf, respond, wellFormedMemory}
-use Rattle.rules.specs.Step.{step}
+use Rattle.rules.specs.Memory.{Declared, Memory, exchangeOf, respond, wellFormedMemory, memory, WellFormedState}
+use Rattle.rules.specs.Kinds.{step}
 use Rattle.rules.specs.declared.Record.{Record}
 use Rattle.rules.specs.declared.State.{State}
 use Rattle.invariants.proofs.MemoryKeeps.{memory-keeps, read-back, run-keeps}
-use Rattle.engine.specs.Outcome.{memory, WellFormedState}
 use Rattle.exchange.proofs.Runs.{run-declared}
 use Rattle.dayfile.proofs.Places.{record-of}
 use Rattle.lines.specs.Written.{Written}

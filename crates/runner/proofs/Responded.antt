@@ -11,14 +11,14 @@ use Rattle.laws.specs.Choice.{pick}
 use Rattle.laws.specs.Tabulate.{tabulate, length-tabulate, getD-tabulate}
 use Rattle.areas.specs.Lists.{padded}
 use Rattle.areas.proofs.Lists.{getD-padded}
-use Rattle.rules.specs.Answers.{codeOf}
+use Rattle.rules.specs.Kinds.{codeOf, step}
 use Rattle.rules.specs.Command.{commandOf, isSettle}
 use Rattle.rules.specs.Exchange.{Exchange, accountAt, noAccount}
 use Rattle.rules.specs.Lines.{priceLines, accountLines, settlementLines, newTrades, stepLines}
 use Rattle.rules.specs.Margin.{charged}
-use Rattle.rules.specs.Memory.{Declared, Memory, exchangeOf, put, putState, recordedTrades, respond, stepIn, wellFormedMemory}
+use Rattle.rules.specs.Memory.{Declared, Memory, exchangeOf, put, putState, recordedTrades, respond, stepIn, wellFormedMemory, memory, WellFormedState}
 use Rattle.rules.specs.Settlement.{closingProfit, holdingProfit, settled, settlementPrice}
-use Rattle.rules.specs.Step.{carriedOut, step}
+use Rattle.rules.specs.Step.{carriedOut}
 use Rattle.rules.specs.declared.Account.{Account}
 use Rattle.rules.specs.declared.Answer.{Answer}
 use Rattle.rules.specs.declared.Command.{Command}
@@ -29,7 +29,6 @@ use Rattle.rules.proofs.Codecs.{length-trades}
 use Rattle.accounting.proofs.Declared.{declared-kept}
 use Rattle.invariants.proofs.MemoryKeeps.{memory-keeps, step-in-read}
 use Rattle.engine.proofs.Formed.{formed, account-at, accounts-count, contracts-count}
-use Rattle.engine.specs.Outcome.{memory, WellFormedState}
 use Rattle.exchange.specs.Response.{ResponseIs, reportOf, settlementReport}
 use Rattle.exchange.specs.declared.settling.Report.{Report}
 use Rattle.exchange.specs.declared.settling.Response.{Response}

@@ -12,12 +12,11 @@ use Rattle.lines.specs.Written.{Written}
 use Rattle.rules.specs.Condition3.{run}
 use Rattle.rules.specs.DayFile.{sound, commandsIn, opening, recordsOf}
 use Rattle.rules.specs.Lines.{brokenLine, output, runLines}
-use Rattle.rules.specs.Memory.{Declared, Memory, exchangeOf, wellFormedMemory}
+use Rattle.rules.specs.Memory.{Declared, Memory, exchangeOf, wellFormedMemory, memory}
 use Rattle.rules.specs.declared.State.{State}
 use Rattle.dayfile.specs.Opening.{openingState}
 use Rattle.invariants.proofs.Condition3.{money-is-kept}
 use Rattle.invariants.proofs.MemoryKeeps.{run-keeps}
-use Rattle.engine.specs.Outcome.{memory}
 use Rattle.exchange.proofs.Runs.{run-declared}
 use Rattle.runner.specs.Day.{Ready, DayIs, openingOf, linesTo}
 use Rattle.runner.specs.Parts.{part, Playable, PlayedIs}

@@ -7,9 +7,8 @@ use lib.ListN.{length}
 use Rattle.rules.specs.Condition3.{Condition3, run}
 use Rattle.rules.specs.DayFile.{sound, commandsIn, opening, recordsOf}
 use Rattle.rules.specs.Lines.{runLines}
-use Rattle.rules.specs.Memory.{Memory}
+use Rattle.rules.specs.Memory.{Memory, memory}
 use Rattle.dayfile.specs.Opening.{openingState}
-use Rattle.engine.specs.Outcome.{memory}
 use Rattle.runner.specs.Parts.{part}
 use Rattle.runner.specs.declared.day.Day.{Day}
 

@@ -8,10 +8,9 @@ use lib.Seq.{slice}
 use Rattle.rules.specs.Condition3.{run}
 use Rattle.rules.specs.DayFile.{sound, commandsIn, recordsOf}
 use Rattle.rules.specs.Lines.{runLines}
-use Rattle.rules.specs.Memory.{Memory, exchangeOf}
+use Rattle.rules.specs.Memory.{Memory, exchangeOf, WellFormedState}
 use Rattle.rules.specs.declared.Record.{Record}
 use Rattle.rules.specs.declared.State.{State}
-use Rattle.engine.specs.Outcome.{WellFormedState}
 use Rattle.lines.specs.Written.{Written}
 use Rattle.runner.specs.Turns.{commandMost}
 use Rattle.runner.specs.declared.play.Played.{Played}

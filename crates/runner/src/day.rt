@@ -6,7 +6,7 @@ ghost use Prim.Native.Nat.{_≤_};
 ghost use lib.ListN.{length, take};
 ghost use Rattle.rules.specs.DayFile.{sound};
 ghost use Rattle.rules.specs.Lines.{output};
-ghost use Rattle.engine.specs.Outcome.{memory};
+ghost use Rattle.rules.specs.Memory.{memory};
 ghost use Rattle.runner.specs.Day.{Ready, DayIs, linesTo};
 use crate::play::play;
 use dayfile::file;

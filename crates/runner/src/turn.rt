@@ -4,7 +4,7 @@ ghost use mathlib.Core.Path.{_≡_};
 ghost use Prim.Native.Nat.{_+_, _≤_};
 ghost use lib.ListN.{length};
 ghost use Rattle.rules.specs.Command.{isSettle};
-ghost use Rattle.engine.specs.Outcome.{memory, WellFormedState};
+ghost use Rattle.rules.specs.Memory.{memory, WellFormedState};
 ghost use Rattle.lines.specs.Written.{Written};
 ghost use Rattle.runner.specs.Rows.{settlementRows, reportRows, responseRows};
 ghost use Rattle.runner.specs.Turns.{commandMost, settlementMost, InRange, TurnIs};

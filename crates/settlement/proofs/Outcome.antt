@@ -14,13 +14,14 @@ use Rattle.laws.specs.Tabulate.{tabulate, length-tabulate, getD-tabulate, tabul
 use Rattle.laws.specs.Written.{length-written}
 use Rattle.areas.specs.Lists.{padded}
 use Rattle.areas.proofs.Lists.{getD-padded}
-use Rattle.rules.specs.Answers.{codeOf, refusals, settleRefusals}
+use Rattle.rules.specs.Kinds.{codeOf, kindOf}
+use Rattle.rules.specs.Answers.{settleRefusals}
 use Rattle.rules.specs.Bounds.{maxSettlements}
 use Rattle.rules.specs.Exchange.{Exchange, Listing, noListing, listingAt, holdingAt}
 use Rattle.rules.specs.Margin as margin
-use Rattle.rules.specs.Memory.{Memory, exchangeOf, listingIn, put, putState, putFirst, putAccounts, putQueues, putTrades, wellFormedMemory}
+use Rattle.rules.specs.Memory.{Memory, exchangeOf, listingIn, put, putState, putFirst, putAccounts, putQueues, putTrades, wellFormedMemory, memory, written}
 use Rattle.rules.specs.Settlement.{dayOf, holdingGain, settlementPrice, closingProfit, holdingProfit, settledAccount, settledContract, settledListing, settled}
-use Rattle.rules.specs.Step.{carriedOut}
+use Rattle.rules.specs.Step.{settledAll}
 use Rattle.rules.specs.declared.Account.{Account}
 use Rattle.rules.specs.declared.Command.the-variants.{Settle}
 use Rattle.rules.specs.declared.Contract.{Contract}
@@ -31,7 +32,6 @@ use Rattle.rules.proofs.InUse.{contracts-in-use, listing-in-use, account-in-use
 use Rattle.invariants.proofs.Accepted.{failed}
 use Rattle.invariants.proofs.MemoryKeeps.{accepted-read, accepted-keeps}
 use Rattle.invariants.proofs.MemoryRoom.{memory-ok}
-use Rattle.margin.specs.Charge.{memoryOf}
 use Rattle.settlement.specs.Settling.{Settleable, SettledIs, contractIn, holdingIn, dayIn, closingTo, holdingTo, AllPayable, paidAccount, BooksIs, AllClearable, ClearedAre, AllChargeable, ChargesAre, nextDay}
 use Rattle.dayprofit.specs.Sides.{dayOver}
 use Rattle.settlement.proofs.Formed.{accounts-declared, contracts-four, accounts-few, contract-at, price-high, holding-starts, legs-covered, chargeable, sized-trades, balance-within, accounts-counted}
@@ -63,24 +63,24 @@ put-queues-ext area counts f g (suc n) h = rw (put-queues-ext area counts f g n 
 
 module _ (s : State) (buys sells trades : List ℕ) (g : Settleable s buys sells trades) where
   abbrev m : Memory
-  m = memoryOf s buys sells trades
+  m = memory s buys sells trades
 
   abbrev x : Exchange
   x = exchangeOf m
 
   room : s .accountcount ≤ length (s .accounts)
-  room = accounts-declared m (g .declared) (g .formed)
+  room = accounts-declared m (g .state .declared) (g .state .formed)
 
   pub settlements-left : s .settlements < 250
-  unfolding codeOf refusals settleRefusals exchangeOf
+  unfolding codeOf kindOf settleRefusals exchangeOf
   settlements-left = leb-false maxSettlements (x .settlements) (failed (settleRefusals x) (omega arith) (g .accepted) .1 .0)
 
   pub few-contracts : s .contractcount ≤ 4
-  few-contracts = contracts-four m room (g .formed)
+  few-contracts = contracts-four m room (g .state .formed)
 
   pub all-clearable : AllClearable s buys sells trades
   all-clearable =
-      let k = memory-ok m (g .formed) in
+      let k = memory-ok m (g .state .formed) in
       record {
         buys = record { few = few-contracts; counts = k .counts .buys; room = k .room .buys };
         sells = record { few = few-contracts; counts = k .counts .sells; room = k .room .sells };
@@ -102,21 +102,21 @@ module _ (s : State) (buys sells trades : List ℕ) (g : Settleable s buys sells
     pub all-payable : AllPayable s trades prices
     all-payable =
         record {
-          declared = g .declared;
-          accounts = accounts-few m room (g .formed);
+          declared = g .state .declared;
+          accounts = accounts-few m room (g .state .formed);
           contracts = few-contracts;
-          balance = balance-within m room (g .formed);
+          balance = balance-within m room (g .state .formed);
           each = λ a la. record {
-            account = omega (arith, accounts-few m room (g .formed));
+            account = omega (arith, accounts-few m room (g .state .formed));
             contracts = few-contracts;
-            multiplier = λ c lc. contract-at m room (g .formed) c lc .multiplier-high;
+            multiplier = λ c lc. contract-at m room (g .state .formed) c lc .multiplier-high;
             each = λ c lc. record {
-              trades = sized-trades m room (g .formed);
-              reference = contract-at m room (g .formed) c lc .reference .high;
-              long = holding-starts m room (g .formed) c lc a la .0;
-              short = holding-starts m room (g .formed) c lc a la .1;
-              price = le-trans (le-of-eq (price-at prices e c lc)) (price-high m room (g .formed) c lc);
-              covered = legs-covered m room (g .formed) c lc a la;
+              trades = sized-trades m room (g .state .formed);
+              reference = contract-at m room (g .state .formed) c lc .reference .high;
+              long = holding-starts m room (g .state .formed) c lc a la .0;
+              short = holding-starts m room (g .state .formed) c lc a la .1;
+              price = le-trans (le-of-eq (price-at prices e c lc)) (price-high m room (g .state .formed) c lc);
+              covered = legs-covered m room (g .state .formed) c lc a la;
             };
           };
         }
@@ -159,7 +159,7 @@ module _ (s : State) (buys sells trades : List ℕ) (g : Settleable s buys sells
     accounts-is =
         ap (λ (l : List Account). putAccounts l (s .accounts))
         (tabulate-below (s .accountcount) (paidAccount s trades prices) (settledAccount x) paid-is
-        ∙ ap (λ (n : ℕ). tabulate n (settledAccount x)) (sym (accounts-counted m room (g .formed))))
+        ∙ ap (λ (n : ℕ). tabulate n (settledAccount x)) (sym (accounts-counted m room (g .state .formed))))
 
     -- a field of the settled listings, contract by contract
     listed : {A : Type 0} (f : ℕ → A) (h : Listing → A) → ((c : ℕ) → c < s .contractcount → f c ≡ h (settledListing x c)) → tabulate (s .contractcount) f ≡ map h (settled x .listings)
@@ -229,7 +229,7 @@ module _ (s : State) (buys sells trades : List ℕ) (g : Settleable s buys sells
           }
 
       module _ (buys′ sells′ trades′ : List ℕ) (h : ClearedAre s buys sells trades buys′ sells′ trades′) where
-        memory-is : memoryOf (nextDay s accounts prices) buys′ sells′ trades′ ≡ put m (settled x)
+        memory-is : memory (nextDay s accounts prices) buys′ sells′ trades′ ≡ put m (settled x)
         unfolding put
         memory-is =
             let b : buys′ ≡ putQueues buys (s .buys) (λ c. listingAt (settled x) c .buys) (s .contractcount) =
@@ -245,15 +245,16 @@ module _ (s : State) (buys sells trades : List ℕ) (g : Settleable s buys sells
 
         -- ---- the margin afterwards: the state written is well formed, and read back as the rules say
 
-        after-is : carriedOut x Settle .exchange ≡ settled x
-        unfolding carriedOut
+        after-is : written m (kindOf x Settle .effect .stages) ≡ put m (settled x)
+        unfolding kindOf settledAll
         after-is = refl
 
-        well-formed-after : wellFormedMemory (memoryOf (nextDay s accounts prices) buys′ sells′ trades′) ≡ true
-        well-formed-after = rw (memory-is, ← after-is) (accepted-keeps m (g .formed) Settle (g .accepted))
+        well-formed-after : wellFormedMemory (memory (nextDay s accounts prices) buys′ sells′ trades′) ≡ true
+        well-formed-after = rw (memory-is, ← after-is) (accepted-keeps m (g .state .formed) Settle (g .accepted))
 
-        read-after : exchangeOf (memoryOf (nextDay s accounts prices) buys′ sells′ trades′) ≡ settled x
-        read-after = rw (memory-is, ← after-is) (accepted-read m (g .formed) Settle (g .accepted))
+        read-after : exchangeOf (memory (nextDay s accounts prices) buys′ sells′ trades′) ≡ settled x
+        unfolding kindOf settledAll
+        read-after = rw (memory-is) (accepted-read m (g .state .formed) Settle (g .accepted))
 
         room-after : s .accountcount ≤ length accounts
         room-after =
@@ -264,8 +265,8 @@ module _ (s : State) (buys sells trades : List ℕ) (g : Settleable s buys sells
         all-chargeable next e =
             rw e
             (record {
-              accounts = accounts-few m room (g .formed);
-              each = chargeable (memoryOf (nextDay s accounts prices) buys′ sells′ trades′) room-after well-formed-after;
+              accounts = accounts-few m room (g .state .formed);
+              each = chargeable (memory (nextDay s accounts prices) buys′ sells′ trades′) room-after well-formed-after;
             })
 
         charged-is : (charged : List ℕ) → ChargesAre (nextDay s accounts prices) buys′ sells′ charged
@@ -278,7 +279,7 @@ module _ (s : State) (buys sells trades : List ℕ) (g : Settleable s buys sells
             → SettledIs m (record { state = next; prices = prices; closing = closing; holding = holding; charged = charged }) buys′ sells′ trades′
         settled-is next closing holding charged n b k =
             record {
-              memory = ap (λ (t : State). memoryOf t buys′ sells′ trades′) n ∙ memory-is;
+              memory = ap (λ (t : State). memory t buys′ sells′ trades′) n ∙ memory-is;
               prices = e;
               closing = b .closing ∙ ap (padded 32 (pos 0)) (tabulate-below (s .accountcount) (λ a. closingTo s trades a (s .contractcount)) (closingProfit x) closing-is);
               holding = b .holding ∙ ap (padded 32 (pos 0)) (tabulate-below (s .accountcount) (λ a. holdingTo s trades prices a (s .contractcount)) (holdingProfit x) holding-is);

@@ -9,11 +9,11 @@ use Rattle.laws.specs.Written.{Writing, writing-none, writing-more, writing-don
 use Rattle.areas.specs.Lists.{padded}
 use Rattle.rules.specs.Exchange.{Exchange, Listing, listingAt}
 use Rattle.rules.specs.Margin as margin
-use Rattle.rules.specs.Memory.{Memory, exchangeOf, listingIn, queueIn, recordedTrades}
+use Rattle.rules.specs.Memory.{Memory, exchangeOf, listingIn, queueIn, recordedTrades, memory}
 use Rattle.rules.specs.Settlement.{priceFrom, tradesIn, settlementPrice}
 use Rattle.rules.specs.declared.State.{State}
 use Rattle.rules.proofs.InUse.{listing-in-use}
-use Rattle.margin.specs.Charge.{memoryOf, ChargedAt}
+use Rattle.margin.specs.Charge.{ChargedAt}
 use Rattle.margin.proofs.Charging.{charged-at}
 use Rattle.settlement.specs.Settling.{contractIn, AllChargeable, ChargesAre}
 use Rattle.settlement.proofs.Places.{written-padded}
@@ -43,7 +43,7 @@ prices-done m c prices h w = writing-done _ _ _ c prices h w ∙ written-padded 
 -- ---- charged margin, whatever trades the day has
 
 pub record ChargesSoFar (s : State) (buys sells : List ℕ) (a : ℕ) (r : List ℕ) : Type 0 where
-  pub each : (trades : List ℕ) → Writing (margin.charged (exchangeOf (memoryOf s buys sells trades))) (replicate 32 0) (s .accountcount) a r
+  pub each : (trades : List ℕ) → Writing (margin.charged (exchangeOf (memory s buys sells trades))) (replicate 32 0) (s .accountcount) a r
 
 module _ (s : State) (buys sells : List ℕ) where
   pub charges-none : ChargesSoFar s buys sells 0 (replicate 32 0)

@@ -9,18 +9,18 @@ use Rattle.laws.specs.Bound.{Within}
 use Rattle.laws.specs.Sums.{sumTo}
 use Rattle.laws.specs.Tabulate.{tabulate}
 use Rattle.areas.specs.Lists.{padded}
-use Rattle.rules.specs.Answers.{codeOf}
+use Rattle.rules.specs.Kinds.{codeOf}
 use Rattle.rules.specs.Bounds.{maxContracts, maxAccounts}
 use Rattle.rules.specs.Exchange.{noAccount, noContract, noHolding}
 use Rattle.rules.specs.Margin as margin
-use Rattle.rules.specs.Memory.{Memory, Declared, exchangeOf, put, putAccounts, putFirst, putQueues, putTrades, recordedTrades, wellFormedMemory}
+use Rattle.rules.specs.Memory.{Declared, Memory, exchangeOf, put, putAccounts, putFirst, putQueues, putTrades, recordedTrades, memory, WellFormedState}
 use Rattle.rules.specs.Settlement.{Day, holdingGain, settlementPrice, closingProfit, holdingProfit, carriedHolding, settledContract, settled}
 use Rattle.rules.specs.declared.Account.{Account}
 use Rattle.rules.specs.declared.Command.the-variants.{Settle}
 use Rattle.rules.specs.declared.Contract.{Contract}
 use Rattle.rules.specs.declared.Holding.{Holding}
 use Rattle.rules.specs.declared.State.{State}
-use Rattle.margin.specs.Charge.{memoryOf, ChargeableAt}
+use Rattle.margin.specs.Charge.{ChargeableAt}
 use Rattle.dayprofit.specs.Sides.{dayOver, Profitable}
 use Rattle.dayprofit.specs.declared.profit.Profit.{Profit}
 use Rattle.settlement.specs.declared.balances.Books.{Books}
@@ -29,14 +29,13 @@ use Rattle.settlement.specs.declared.settle.Settled.{Settled}
 -- ---- THE SETTLEMENT: asked for on a well-formed state whose answer is code 0
 
 pub record Settleable (s : State) (buys sells trades : List ℕ) : Type 0 where
-  pub declared : Declared s
-  pub formed : wellFormedMemory (memoryOf s buys sells trades) ≡ true
-  pub accepted : codeOf (exchangeOf (memoryOf s buys sells trades)) Settle ≡ 0
+  pub state : WellFormedState s buys sells trades
+  pub accepted : codeOf (exchangeOf (memory s buys sells trades)) Settle ≡ 0
 
 -- the state and all three areas; the prices, each account's closing and holding profit, and its charged margin afterwards,
 -- with zeros past the counts
 pub record SettledIs (m : Memory) (r : Settled) (buys sells trades : List ℕ) : Type 0 where
-  pub memory : memoryOf (r .state) buys sells trades ≡ put m (settled (exchangeOf m))
+  pub memory : memory (r .state) buys sells trades ≡ put m (settled (exchangeOf m))
   pub prices : r .prices ≡ padded maxContracts 0 (tabulate (m .state .contractcount) (settlementPrice (exchangeOf m)))
   pub closing : r .closing ≡ padded maxAccounts (pos 0) (tabulate (m .state .accountcount) (closingProfit (exchangeOf m)))
   pub holding : r .holding ≡ padded maxAccounts (pos 0) (tabulate (m .state .accountcount) (holdingProfit (exchangeOf m)))
@@ -123,7 +122,7 @@ pub record AllChargeable (s : State) (buys sells : List ℕ) : Type 0 where
   pub each : (a : ℕ) → a < s .accountcount → ChargeableAt s buys sells a
 
 pub record ChargesAre (s : State) (buys sells : List ℕ) (r : List ℕ) : Type 0 where
-  pub charged : (trades : List ℕ) → r ≡ padded maxAccounts 0 (tabulate (s .accountcount) (margin.charged (exchangeOf (memoryOf s buys sells trades))))
+  pub charged : (trades : List ℕ) → r ≡ padded maxAccounts 0 (tabulate (s .accountcount) (margin.charged (exchangeOf (memory s buys sells trades))))
 
 -- the state of the next day, its accounts and prices given
 abbrev pub nextDay : State → List Account → List ℕ → State

@@ -5,9 +5,8 @@ ghost use Prim.Native.Nat.{_<_, _≤_};
 ghost use Rattle.laws.specs.Tabulate.{tabulate};
 ghost use Rattle.areas.specs.Lists.{padded};
 ghost use Rattle.rules.specs.Bounds.{maxContracts};
-ghost use Rattle.rules.specs.Memory.{exchangeOf};
+ghost use Rattle.rules.specs.Memory.{exchangeOf, memory};
 ghost use Rattle.rules.specs.Settlement as settlement;
-ghost use Rattle.margin.specs.Charge.{memoryOf};
 ghost use Rattle.settlement.specs.Settling.{Settleable, SettledIs, AllChargeable, ChargesAre, nextDay};
 use crate::balances;
 use crate::reopen;
@@ -27,7 +26,7 @@ pub struct Settled {
 // The settlement price of each contract in use.
 fn prices<'a>(state: State, buys: &'a [u32], sells: &'a [u32], trades: &'a [u32]) -> [u32; 4]
     requires { ⌜ Settleable state (now buys) (now sells) (now trades) ⌝ }
-    ensures { λ r. ⌜ r ≡ padded maxContracts 0 (tabulate (state .contractcount) (settlement.settlementPrice (exchangeOf (memoryOf state (now (buys .entry)) (now (sells .entry)) (now (trades .entry)))))) ⌝ }
+    ensures { λ r. ⌜ r ≡ padded maxContracts 0 (tabulate (state .contractcount) (settlement.settlementPrice (exchangeOf (memory state (now (buys .entry)) (now (sells .entry)) (now (trades .entry)))))) ⌝ }
 {
     let contracts = state.contractcount;
     let count = state.tradecount;
@@ -110,7 +109,7 @@ fn next_day(state: State, accounts: [Account; 32], prices: [u32; 4]) -> State
 
 pub fn settle(state: State, buys: &mut [u32], sells: &mut [u32], trades: &mut [u32]) -> Settled
     requires { ⌜ Settleable state (now buys) (now sells) (now trades) ⌝ }
-    ensures { λ r. ⌜ SettledIs (memoryOf state (now (buys .entry)) (now (sells .entry)) (now (trades .entry))) r (now (buys .exit)) (now (sells .exit)) (now (trades .exit)) ⌝ }
+    ensures { λ r. ⌜ SettledIs (memory state (now (buys .entry)) (now (sells .entry)) (now (trades .entry))) r (now (buys .exit)) (now (sells .exit)) (now (trades .exit)) ⌝ }
 {
     let prices = prices(state, &buys[..], &sells[..], &trades[..]);
     let books = balances::all_paid(state, &trades[..], prices);

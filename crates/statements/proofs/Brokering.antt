@@ -14,7 +14,7 @@ use Rattle.laws.specs.Tabulate.{tabulate, getD-tabulate}
 use Rattle.areas.specs.Records.{store}
 use Rattle.areas.proofs.Records.{length-store, records-store}
 use Rattle.rules.specs.Exchange.{Exchange, accountAt, holdingAt, noAccount, noHolding, noTrade}
-use Rattle.rules.specs.Memory.{Memory, exchangeOf, listingIn, recordedTrades, tradeWords, used, wellFormedMemory}
+use Rattle.rules.specs.Memory.{Memory, exchangeOf, listingIn, recordedTrades, tradeWords, used, wellFormedMemory, memory}
 use Rattle.rules.specs.WellFormed.{tradeInRange}
 use Rattle.rules.specs.declared.State.{State}
 use Rattle.rules.specs.declared.Trade.{Trade}
@@ -23,7 +23,6 @@ use Rattle.rules.proofs.InUse.{accounts-in-use, contracts-in-use}
 use Rattle.accounting.proofs.Facts.{TradeFacts, facts, trade-facts}
 use Rattle.invariants.proofs.MemoryRoom.{memory-ok}
 use Rattle.dayprofit.specs.Day.{AllSized, SizedTrades}
-use Rattle.engine.specs.Outcome.{memory}
 use Rattle.settlement.proofs.Formed.{accounts-declared, contract-at, contracts-four, price-high, priceable, sized-trades}
 use Rattle.audit.specs.Parts.{Booked}
 use Rattle.clients.specs.Parts.{clientTrades, clientsWith}

@@ -15,7 +15,7 @@ use Rattle.areas.specs.Lists.{padded}
 use Rattle.areas.proofs.Lists.{getD-padded}
 use Rattle.rules.specs.Exchange.{Exchange, Listing, accountAt, holdingAt, listingAt, noAccount, noHolding, noTrade}
 use Rattle.rules.specs.Holdings.{neverBelowZero, startOfDay}
-use Rattle.rules.specs.Memory.{Declared, exchangeOf, listingIn, recordedTrades, used}
+use Rattle.rules.specs.Memory.{Declared, exchangeOf, listingIn, recordedTrades, used, memory}
 use Rattle.rules.specs.Settlement.{Day, closingProfit, dayOf, dayStart, afterLegs, legs, holdingGain, holdingProfit, settlementPrice}
 use Rattle.rules.specs.declared.Account.{Account}
 use Rattle.rules.specs.declared.Contract.{Contract}
@@ -26,7 +26,6 @@ use Rattle.rules.proofs.Codecs.{length-trades}
 use Rattle.rules.proofs.InUse.{contracts-in-use, listing-in-use, used-holding}
 use Rattle.accounting.specs.Article32.{AllCovered}
 use Rattle.accounting.proofs.Replay.{replay-covered}
-use Rattle.margin.specs.Charge.{memoryOf}
 use Rattle.settlement.specs.Settling.{AllPayable, BooksIs, accountIn, closingTo, contractIn, dayIn, holdingIn, holdingTo}
 use Rattle.settlement.specs.declared.balances.Books.{Books}
 use Rattle.mending.proofs.Writing.{length-four}
@@ -98,22 +97,22 @@ module _ (s : State) (buys sells area starts : List ℕ) (clients legs′ : ℕ)
 
   contracts-are : length (y .listings) ≡ n
   unfolding clientsDay
-  contracts-are = contracts-in-use (memoryOf s buys sells area)
+  contracts-are = contracts-in-use (memory s buys sells area)
 
   contract-is : (c : ℕ) → c < n → listingAt y c .contract ≡ contractIn s c
   unfolding clientsDay listingAt exchangeOf listingIn
-  contract-is c lc = ap (λ (l : Listing). l .contract) (listing-in-use (memoryOf s buys sells area) c lc)
+  contract-is c lc = ap (λ (l : Listing). l .contract) (listing-in-use (memory s buys sells area) c lc)
 
   abbrev cs : State
   cs = clientState s accounts clients
 
-  same-price : (c : ℕ) → settlementPrice (exchangeOf (memoryOf cs buys sells area)) c ≡ settlementPrice y c
+  same-price : (c : ℕ) → settlementPrice (exchangeOf (memory cs buys sells area)) c ≡ settlementPrice y c
   unfolding clientsDay listingAt exchangeOf listingIn settlementPrice
   same-price c = refl
 
   price-is : (c : ℕ) → c < n → getD (pricesDue cs buys sells area) c 0 ≡ settlementPrice y c
   price-is c lc =
-      let f : ℕ → ℕ = settlementPrice (exchangeOf (memoryOf cs buys sells area)) in
+      let f : ℕ → ℕ = settlementPrice (exchangeOf (memory cs buys sells area)) in
       getD-padded 4 c 0 0 (tabulate n f) (rw (length-tabulate n f) lc) ∙ getD-tabulate n c f 0 lc ∙ same-price c
 
   -- ---- a client's day

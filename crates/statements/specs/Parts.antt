@@ -11,24 +11,22 @@ use Rattle.laws.specs.Tabulate.{tabulate}
 use Rattle.areas.specs.Lists.{over, padded}
 use Rattle.rules.specs.Answers.{Refusal, firstOf, _when_}
 use Rattle.rules.specs.Exchange.{Exchange, holdingAt, noAccount, noHolding, noTrade}
-use Rattle.rules.specs.Memory.{Declared, Memory, exchangeOf, recordedTrades, used}
+use Rattle.rules.specs.Memory.{Declared, Memory, exchangeOf, recordedTrades, used, WellFormedState, memory}
 use Rattle.rules.specs.Settlement.{settlementPrice}
 use Rattle.rules.specs.declared.Account.{Account}
 use Rattle.rules.specs.declared.State.{State}
 use Rattle.rules.specs.declared.Trade.{Trade}
-use Rattle.margin.specs.Charge.{memoryOf}
 use Rattle.dayprofit.specs.Day.{Priceable}
 use Rattle.settlement.specs.Settling.{AllPayable, contractIn}
 use Rattle.audit.specs.Parts.{Booked}
 use Rattle.clients.specs.Parts.{clientsWith}
 use Rattle.clients.specs.Clients.{Clients, clientAccount, clientExchange, inRow, legCount, neverClosesMore, startsAddUp, tradePosted}
 use Rattle.statements.specs.Statement.{holdingBytes, profitBytes, section, statementOf, tradesBytes}
-use Rattle.engine.specs.Outcome.{WellFormedState, memory}
 use Rattle.statements.specs.declared.Statement.{Statement}
 
 -- the settlement prices of the contracts in use, with zeros past their count
 abbrev pub pricesDue : State → List ℕ → List ℕ → List ℕ → List ℕ
-pricesDue s buys sells area = padded 4 0 (tabulate (s .contractcount) (settlementPrice (exchangeOf (memoryOf s buys sells area))))
+pricesDue s buys sells area = padded 4 0 (tabulate (s .contractcount) (settlementPrice (exchangeOf (memory s buys sells area))))
 
 -- a state whose contracts can be priced, and whose accounts can be paid at those prices
 pub record Profitable (s : State) (buys sells area : List ℕ) : Type 0 where
@@ -88,7 +86,7 @@ clientState s accounts clients =
 unfoldable pub clientsDay : State → List ℕ → List ℕ → List ℕ → List ℕ → ℕ → Exchange
 clientsDay s buys sells area starts clients =
     record {
-      listings = exchangeOf (memoryOf s buys sells area) .listings;
+      listings = exchangeOf (memory s buys sells area) .listings;
       accounts = used (s .contractcount) 17 (tabulate 17 (clientAccount (clientsWith clients starts)));
       trades = recordedTrades area (s .tradecount);
       next = s .next;

@@ -1,6 +1,6 @@
 // The account's day as its clients', on a well-formed state. For this crate: each function says what it requires.
 ghost use mathlib.Core.Path.{_≡_};
-ghost use Rattle.engine.specs.Outcome.{memory};
+ghost use Rattle.rules.specs.Memory.{memory};
 ghost use Rattle.statements.specs.Parts.{Brokered, Postable, PostedIs, ToldIs, clientState, clientsDay};
 use crate::Statement;
 use crate::profits;

@@ -6,8 +6,7 @@ use borrow.Author.Tests.{not-true, not-false}
 use borrow.Author.Needs.{needs}
 use denote.Ref.{now}
 use Rattle.rules.specs.Command.{commandOf}
-use Rattle.rules.specs.Memory.{wellFormedMemory}
-use Rattle.engine.specs.Outcome.{memory}
+use Rattle.rules.specs.Memory.{wellFormedMemory, memory}
 use Rattle.engine.proofs.Declared.{declared}
 use Rattle.query.specs.Gettable.{isInsert}
 use Rattle.query.proofs.Asking.{an-insert, no-insert, not-formed, other-kind}

@@ -7,7 +7,7 @@ use borrow.Author.Needs.{needs}
 use denote.Ref.{now}
 use lib.ListN.{length}
 use Rattle.rules.specs.Condition3.{run}
-use Rattle.engine.specs.Outcome.{memory}
+use Rattle.rules.specs.Memory.{memory}
 use Rattle.exchange.specs.Run.{firstRecords}
 use Rattle.exchange.proofs.Runs.{none-ran, one-turn, running}
 use Rattle.baskets.proofs.Answering.{all-answered, answered, none-answered, one-answered}

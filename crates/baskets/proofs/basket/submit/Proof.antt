@@ -8,8 +8,7 @@ use borrow.Author.Needs.{needs}
 use borrow.Author.Tests.{not-true, not-false}
 use denote.Ref.{now}
 use lib.ListN.{length}
-use Rattle.rules.specs.Memory.{wellFormedMemory}
-use Rattle.engine.specs.Outcome.{memory}
+use Rattle.rules.specs.Memory.{wellFormedMemory, memory}
 use Rattle.engine.proofs.Declared.{declared}
 use Rattle.baskets.proofs.Bundles.{ill-formed, too-many, no-room, all-carried}
 use Rattle.baskets.proofs.basket.submit.Statement.{statement}

@@ -6,8 +6,7 @@ use borrow.Author.Tests.{not-true, not-false}
 use borrow.Author.Needs.{needs}
 use denote.Ref.{now}
 use lib.ListN.{length}
-use Rattle.rules.specs.Memory.{wellFormedMemory}
-use Rattle.engine.specs.Outcome.{memory}
+use Rattle.rules.specs.Memory.{wellFormedMemory, memory}
 use Rattle.engine.proofs.Declared.{declared}
 use Rattle.exchange.proofs.Responses.{executed, executed-refused}
 use Rattle.exchange.proofs.execute.execute.Statement.{statement}

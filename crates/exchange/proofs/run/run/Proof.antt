@@ -9,10 +9,9 @@ use borrow.Author.Tests.{not-true, not-false}
 use denote.Ref.{now}
 use lib.ListN.{length}
 use Rattle.rules.specs.Condition3.{run}
-use Rattle.rules.specs.Memory.{Declared, wellFormedMemory}
-use Rattle.engine.specs.Outcome.{memory}
+use Rattle.rules.specs.Memory.{Declared, wellFormedMemory, memory}
 use Rattle.engine.proofs.Declared.{declared}
-use Rattle.exchange.specs.Run.{firstRecords}
+use Rattle.exchange.specs.Run.{firstCommands}
 use Rattle.exchange.proofs.Runs.{refused-ran, running, one-turn, all-ran, none-ran}
 use Rattle.exchange.proofs.run.run.Statement.{statement}
 use Rattle.exchange.proofs.run.run.Tie as tie
@@ -24,7 +23,7 @@ use Rattle.exchange.proofs.step.step_at.Reads as step-at-reads
 abbrev Inv-loop : tie.InvT-loop
 Inv-loop buys₀ sells₀ trades₀ bytes n current₀ k₀ buys sells trades current k =
     (k ≤ n)
-    × ((memory current buys sells trades ≡ run (memory current₀ buys₀ sells₀ trades₀) (firstRecords bytes k))
+    × ((memory current buys sells trades ≡ run (memory current₀ buys₀ sells₀ trades₀) (firstCommands bytes k))
     × ((length buys ≡ length buys₀) × ((length sells ≡ length sells₀) × (length trades ≡ length trades₀))))
 
 abbrev μ-loop : tie.MeasureT-loop

@@ -1,7 +1,7 @@
 -- `step::step` meets its contract: each kind by its own promise. Assumes nothing.
 use mathlib.Core.Path.{refl}
 use denote.Ref.{now}
-use Rattle.engine.specs.Outcome.{memory}
+use Rattle.rules.specs.Memory.{memory}
 use Rattle.exchange.proofs.Responses.{plain-as, malformed-as, response-as}
 use borrow.Author.Needs.{needs}
 use Rattle.exchange.proofs.step.step.Statement.{statement}

@@ -5,7 +5,7 @@ use native.Mathlib.Omega.{arith}
 use lib.ListN.{length}
 use Rattle.rules.specs.Condition3.{run}
 use Rattle.rules.specs.DayFile.{commandsIn}
-use Rattle.engine.specs.Outcome.{memory}
+use Rattle.rules.specs.Memory.{memory}
 use Rattle.runner.specs.Day.{openingOf}
 use Rattle.runner.specs.Parts.{part}
 use Rattle.runner.proofs.WholeDay.{none-done, can-play, part-done, part-written, stopped, whole-day}

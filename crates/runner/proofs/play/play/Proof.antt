@@ -6,8 +6,7 @@ use lib.ListN.{length}
 use Rattle.rules.specs.Condition3.{run}
 use Rattle.rules.specs.DayFile.{commandsIn}
 use Rattle.rules.specs.Lines.{runLines}
-use Rattle.rules.specs.Memory.{exchangeOf}
-use Rattle.engine.specs.Outcome.{memory}
+use Rattle.rules.specs.Memory.{exchangeOf, memory}
 use Rattle.dayfile.proofs.Places.{sound-layout}
 use Rattle.lines.specs.Written.{Written}
 use Rattle.runner.specs.Parts.{part}

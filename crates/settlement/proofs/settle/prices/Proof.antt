@@ -1,7 +1,7 @@
 use Prim.Native.Nat.{_-_, _≤_}
 use native.Mathlib.Omega.{arith}
 use Rattle.laws.specs.Written.{writing-none, writing-more}
-use Rattle.margin.specs.Charge.{memoryOf}
+use Rattle.rules.specs.Memory.{memory}
 use Rattle.settlement.proofs.Formed.{accounts-declared, contracts-four, priceable}
 use Rattle.settlement.proofs.Report.{PricesSoFar, price-in-use, prices-done}
 use Rattle.settlement.proofs.settle.prices.Statement.{statement}
@@ -11,13 +11,13 @@ use Rattle.settlement.proofs.settle.prices.Lts as lts
 use Rattle.dayprofit.proofs.price.settlement_price.Reads as settlement-price-reads
 
 abbrev Inv-loop : tie.InvT-loop
-Inv-loop buys sells trades state contracts count prices₀ c₀ prices c = PricesSoFar (memoryOf state buys sells trades) c prices
+Inv-loop buys sells trades state contracts count prices₀ c₀ prices c = PricesSoFar (memory state buys sells trades) c prices
 
 abbrev μ-loop : tie.MeasureT-loop
 μ-loop buys sells trades state contracts count prices₀ c₀ prices c = contracts - c
 
 few : (c : tie.Start Inv-loop μ-loop) → c .args .t1 .contractcount ≤ 4
-few c = contracts-four _ (accounts-declared _ (c .pre .declared) (c .pre .formed)) (c .pre .formed)
+few c = contracts-four _ (accounts-declared _ (c .pre .state .declared) (c .pre .state .formed)) (c .pre .state .formed)
 
 -- src/settle.rt:33:5
 loop-holds : tie.Need-loop-holds Inv-loop μ-loop
@@ -49,7 +49,7 @@ element-copy-out-sellcount c = omega (arith, few (c .before .before .before .bef
 
 -- src/settle.rt:37:21
 settlement-price-requires : tie.Need-settlement-price-requires Inv-loop μ-loop
-settlement-price-requires c κs = priceable _ (accounts-declared _ (c .before .before .before .before .before .before .before .before .pre .declared) (c .before .before .before .before .before .before .before .before .pre .formed)) (c .before .before .before .before .before .before .before .before .pre .formed) _ (c .before .before .before .loop-test .taken)
+settlement-price-requires c κs = priceable _ (accounts-declared _ (c .before .before .before .before .before .before .before .before .pre .state .declared) (c .before .before .before .before .before .before .before .before .pre .state .formed)) (c .before .before .before .before .before .before .before .before .pre .state .formed) _ (c .before .before .before .loop-test .taken)
 
 -- src/settle.rt:37:9
 mul-prices : tie.Need-mul-prices Inv-loop μ-loop

@@ -1,7 +1,7 @@
 -- `profits::prices_due` meets its contract: the prices of the contracts before c are written. Assumes nothing.
 use Prim.Native.Nat.{_-_}
 use native.Mathlib.Omega.{arith}
-use Rattle.margin.specs.Charge.{memoryOf}
+use Rattle.rules.specs.Memory.{memory}
 use Rattle.laws.specs.Written.{writing-none, writing-more}
 use Rattle.settlement.proofs.Report.{PricesSoFar, price-in-use, prices-done}
 use Rattle.statements.proofs.profits.prices_due.Statement.{statement}
@@ -11,7 +11,7 @@ use Rattle.statements.proofs.profits.prices_due.Lts as lts
 use Rattle.dayprofit.proofs.price.settlement_price.Reads as settlement-price-reads
 
 abbrev Inv-loop : tie.InvT-loop
-Inv-loop buys sells area state contracts count prices₀ c₀ prices c = PricesSoFar (memoryOf state buys sells area) c prices
+Inv-loop buys sells area state contracts count prices₀ c₀ prices c = PricesSoFar (memory state buys sells area) c prices
 
 abbrev μ-loop : tie.MeasureT-loop
 μ-loop buys sells area state contracts count prices₀ c₀ prices c = contracts - c

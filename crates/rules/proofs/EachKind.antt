@@ -1,0 +1,54 @@
+-- A command by its number and by the tag of the declared enum, and the order that an insert's bytes hold: laws by clauses on the
+-- kinds, so that no other proof needs them. Assumes nothing.
+use mathlib.Core.Bool.{Bool, false, not}
+use mathlib.Core.List.{List}
+use mathlib.Core.Path.{_≡_, refl, sym, ap, _∙_, subst}
+use Prim.Native.Nat.{ℕ}
+use borrow.Author.Tests.{ne-eqb}
+use denote.Enum.Declared.{tagOf}
+use lib.Dec.{T, eqb}
+use mir.Val.{hasKey}
+use types.Run.{OneOf, miss}
+use Rattle.laws.specs.Choice.{ap-pick, pick, pick-same}
+use Rattle.rules.specs.Command.{cancelOf, commandOf, depositOf, insertOf, kindNumber, newOrder, phaseOf, pullOf, settleOf, withdrawOf}
+use Rattle.rules.specs.declared.Command.{Command}
+use Rattle.rules.specs.declared.Command.the-variants.{Malformed, Deposit, Withdraw, Insert, Cancel, Pull, Phase, Settle}
+use Rattle.rules.specs.declared.NewOrder.{NewOrder}
+use Rattle.rules.specs.declared.Record.{Record}
+use Rattle.rules.proofs.Command.{the-type}
+
+tag-is : (d : Command) → tagOf the-type d ≡ kindNumber d
+tag-is Malformed = refl
+tag-is (Deposit account amount) = refl
+tag-is (Withdraw account amount) = refl
+tag-is (Insert o) = refl
+tag-is (Cancel account contract operator number) = refl
+tag-is (Pull account contract operator) = refl
+tag-is (Phase contract phase) = refl
+tag-is Settle = refl
+
+-- a command whose tag is one of some is of no other kind
+pub other-kind : (ks : List ℕ) (n : ℕ) → T (not (hasKey ks n)) → (d : Command) → OneOf ks (tagOf the-type d) → eqb (kindNumber d) n ≡ false
+other-kind ks n h d o =
+    ne-eqb (kindNumber d) n (λ (e : kindNumber d ≡ n). miss ks n h (subst (OneOf ks) (tag-is d ∙ e) o))
+
+-- an insert's order is the one that its bytes hold
+abbrev orderIn : NewOrder → Command → NewOrder
+orderIn o Malformed = o
+orderIn o (Deposit account amount) = o
+orderIn o (Withdraw account amount) = o
+orderIn o (Insert p) = p
+orderIn o (Cancel account contract operator number) = o
+orderIn o (Pull account contract operator) = o
+orderIn o (Phase contract phase) = o
+orderIn o Settle = o
+
+either-order : (o : NewOrder) (test : Bool) (d e : Command) → orderIn o (pick test d e) ≡ pick test (orderIn o d) (orderIn o e)
+either-order o test d e = ap-pick (orderIn o) test d e
+
+order-in-bytes : (r : Record) → orderIn (newOrder r) (commandOf r) ≡ newOrder r
+unfolding commandOf depositOf withdrawOf insertOf cancelOf pullOf phaseOf settleOf
+order-in-bytes r = simp (either-order, pick-same)
+
+pub inserts-its-order : (r : Record) {o : NewOrder} → commandOf r ≡ Insert o → o ≡ newOrder r
+inserts-its-order r e = ap (orderIn (newOrder r)) (sym e) ∙ order-in-bytes r
