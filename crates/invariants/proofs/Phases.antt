@@ -6,11 +6,11 @@ use mathlib.Core.Path.{_≡_, refl, sym, ap, subst}
 use Prim.Native.Nat.{ℕ, _+_, _<_, _≤_}
 use native.Mathlib.Nat.{le-refl}
 use native.Mathlib.Omega.{arith}
-use borrow.Author.Tests.{eqb-true, leb-true, leb-false, le-leb, lt-ltb, ltb-false, ne-eqb, not-false}
+use borrow.Author.Tests.{eqb-true, leb-true, le-leb, lt-ltb, ltb-false, not-false}
 use lib.Dec.{leb, eqb}
 use lib.ListN.{length}
 use lib.Seq.{getD-set-same}
-use Rattle.laws.specs.Choice.{pick, allOf, allOf-imp, both-false}
+use Rattle.laws.specs.Choice.{pick, allOf, allOf-imp}
 use Rattle.laws.specs.Chains.{passed, join}
 use Rattle.laws.specs.Sums.{sumOf-at}
 use Rattle.rules.specs.Answers.{_when_, firstOf, phaseRefusals}
