@@ -145,6 +145,9 @@ table =
     ∷ (auctionPrice 100 buysTie sellsTie gives 101)
     ∷ (auctionPrice 104 buysTie sellsTie gives 105)
     ∷ (auctionPrice 103 buysTie sellsTie gives 105)
+    -- with sells left over at both, 001 would take the lowest, 101; with none left over it takes the nearest too
+    ∷ (auctionPrice 106 (order 1 105 1 ∷ []) (order 2 101 2 ∷ []) gives 105)
+    ∷ (auctionPrice 103 (order 1 105 1 ∷ []) sellsTie gives 105)
     -- no volume, no price, no trades
     ∷ (auctionPrice 100 buysApart sellsTie gives 0)
     ∷ (length (auctionMatch 0 100 buysApart sellsTie .trades) gives 0)
