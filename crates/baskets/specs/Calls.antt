@@ -1,24 +1,27 @@
--- Condition 3 for a day of single commands and bundles. Assumes nothing.
+-- A day of calls: commands given singly, lists and bundles, in any order. Assumes nothing.
 use mathlib.Core.List.{List, [], _∷_, _++_}
 use Prim.Native.Nat.{ℕ}
 use Rattle.rules.specs.Condition3.{run}
 use Rattle.rules.specs.Memory.{Memory, respond}
-use Rattle.rules.specs.declared.Record.{Record}
+use Rattle.rules.specs.declared.Command.{Command}
 use Rattle.baskets.specs.Bundle.{carried}
 
--- a command given singly, or a bundle with so many words lent for its answers
+-- a command given singly, a list of them, or a bundle with so many words lent for its answers
 pub data Call : Type 0 where
-  single : Record → Call
-  bundle : List Record → ℕ → Call
+  single : Command → Call
+  list : List Command → Call
+  bundle : List Command → ℕ → Call
 
 -- each call gets the state that the last one left
 unfoldable pub afterCalls : Memory → List Call → Memory
 afterCalls m [] = m
-afterCalls m (single r ∷ cs) = afterCalls (respond m r .memory) cs
-afterCalls m (bundle rs words ∷ cs) = afterCalls (run m (carried m rs words)) cs
+afterCalls m (single c ∷ calls) = afterCalls (respond m c .memory) calls
+afterCalls m (list cs ∷ calls) = afterCalls (run m cs) calls
+afterCalls m (bundle cs words ∷ calls) = afterCalls (run m (carried m cs words)) calls
 
 -- "Condition 3 reads the commands of a bundle one after the other, and a refused bundle as none."
-unfoldable pub commandsRead : Memory → List Call → List Record
+unfoldable pub commandsRead : Memory → List Call → List Command
 commandsRead m [] = []
-commandsRead m (single r ∷ cs) = r ∷ commandsRead (respond m r .memory) cs
-commandsRead m (bundle rs words ∷ cs) = carried m rs words ++ commandsRead (run m (carried m rs words)) cs
+commandsRead m (single c ∷ calls) = c ∷ commandsRead (respond m c .memory) calls
+commandsRead m (list cs ∷ calls) = cs ++ commandsRead (run m cs) calls
+commandsRead m (bundle cs words ∷ calls) = carried m cs words ++ commandsRead (run m (carried m cs words)) calls

@@ -5,7 +5,7 @@ ghost use lib.ListN.{length};
 ghost use Rattle.areas.specs.Records.{store};
 ghost use Rattle.rules.specs.Condition3.{run};
 ghost use Rattle.rules.specs.Memory.{memory, WellFormedState};
-ghost use Rattle.exchange.specs.Run.{firstRecords, recordsIn};
+ghost use Rattle.exchange.specs.Run.{firstCommands, wholeCommands};
 ghost use Rattle.baskets.specs.Bundle.{BundleIs, answerWords, answersTo};
 use crate::answers::put_answer;
 use exchange::step;
@@ -29,8 +29,8 @@ fn answer_all(
     answers: &mut [u32],
 ) -> State
     requires { ⌜ WellFormedState state (now buys) (now sells) (now trades) × (24 * n ≤ length (now bytes)) × (4 * n ≤ length (now answers)) ⌝ }
-    ensures { λ r. ⌜ memory r (now (buys .exit)) (now (sells .exit)) (now (trades .exit)) ≡ run (memory state (now (buys .entry)) (now (sells .entry)) (now (trades .entry))) (firstRecords (now (bytes .entry)) n) ⌝ }
-    ensures { λ r. ⌜ now (answers .exit) ≡ store answerWords (now (answers .entry)) 0 (answersTo (memory state (now (buys .entry)) (now (sells .entry)) (now (trades .entry))) (firstRecords (now (bytes .entry)) n)) ⌝ }
+    ensures { λ r. ⌜ memory r (now (buys .exit)) (now (sells .exit)) (now (trades .exit)) ≡ run (memory state (now (buys .entry)) (now (sells .entry)) (now (trades .entry))) (firstCommands (now (bytes .entry)) n) ⌝ }
+    ensures { λ r. ⌜ now (answers .exit) ≡ store answerWords (now (answers .entry)) 0 (answersTo (memory state (now (buys .entry)) (now (sells .entry)) (now (trades .entry))) (firstCommands (now (bytes .entry)) n)) ⌝ }
 {
     let mut current = state;
     let mut k: usize = 0;
@@ -53,7 +53,7 @@ pub fn submit(
     bytes: &[u8],
     answers: &mut [u32],
 ) -> Receipt
-    ensures { λ r. ⌜ BundleIs (memory state (now (buys .entry)) (now (sells .entry)) (now (trades .entry))) (recordsIn (now (bytes .entry))) (now (answers .entry)) r (memory (r .state) (now (buys .exit)) (now (sells .exit)) (now (trades .exit))) (now (answers .exit)) ⌝ }
+    ensures { λ r. ⌜ BundleIs (memory state (now (buys .entry)) (now (sells .entry)) (now (trades .entry))) (wholeCommands (now (bytes .entry))) (now (answers .entry)) r (memory (r .state) (now (buys .exit)) (now (sells .exit)) (now (trades .exit))) (now (answers .exit)) ⌝ }
 {
     if !audit::well_formed(state, &buys[..], &sells[..], &trades[..]) {
         return Receipt { code: 21, state };

@@ -11,8 +11,8 @@ use borrow.Author.Tests.{leb-true, le-leb, lt-leb, eqb-true}
 use Rattle.laws.specs.Choice.{all, both-true, all-at}
 use Rattle.laws.specs.Tabulate.{getD-tabulate}
 use Rattle.rules.specs.Bounds.{within, maxBalance}
-use Rattle.rules.specs.DayFile.{u32At, u64At, contractsIn, contractPlace, accountsIn, accountPlace, commandsIn, commandPlace, contractSound, accountSound, balanceFrom, recordFrom, recordsOf, sound}
-use Rattle.rules.specs.declared.Record.{Record}
+use Rattle.rules.specs.DayFile.{u32At, u64At, contractsIn, contractPlace, accountsIn, accountPlace, commandsIn, commandPlace, contractSound, accountSound, balanceFrom, commandFrom, commandsOf, sound}
+use Rattle.rules.specs.declared.Command.{Command}
 use Rattle.rules.proofs.Terms.{within-low, within-high}
 use Rattle.dayfile.specs.Opening.{shaped}
 
@@ -149,8 +149,8 @@ module _ (file : List ℕ) where
     pub command-within : (k : ℕ) → k < commandsIn file → commandPlace file k + 24 ≤ length file
     command-within k l = let s = sound-layout in omega (arith, command-place file k)
 
--- the k-th of the file's records
-pub record-of : (file : List ℕ) (k : ℕ) (d : Record) → k < commandsIn file
-    → getD (recordsOf file) k d ≡ recordFrom file (commandPlace file k)
-unfolding recordsOf
-record-of file k d h = getD-tabulate (commandsIn file) k (λ k. recordFrom file (commandPlace file k)) d h
+-- the k-th of the file's commands
+pub command-of : (file : List ℕ) (k : ℕ) (d : Command) → k < commandsIn file
+    → getD (commandsOf file) k d ≡ commandFrom file (commandPlace file k)
+unfolding commandsOf
+command-of file k d h = getD-tabulate (commandsIn file) k (λ k. commandFrom file (commandPlace file k)) d h

@@ -8,7 +8,7 @@ use Rattle.rules.specs.Exchange.{noAccount, noContract, noHolding}
 use Rattle.rules.specs.Memory.{Memory, memory}
 use Rattle.rules.specs.declared.State.{State}
 use Rattle.dayfile.specs.Opening.{openingState}
-use Rattle.exchange.specs.Run.{recordsIn}
+use Rattle.exchange.specs.Run.{wholeCommands}
 use Rattle.exchange_exports.specs.declared.Probe.{Probe}
 
 abbrev pub probeOf : State → ℕ → ℕ → Probe
@@ -31,7 +31,7 @@ probeOf s a c =
 
 -- the rules' run of the commands on the day's opening state
 abbrev pub ranOf : List ℕ → List ℕ → List ℕ → List ℕ → List ℕ → Memory
-ranOf day commands buys sells trades = run (memory (openingState day) buys sells trades) (recordsIn commands)
+ranOf day commands buys sells trades = run (memory (openingState day) buys sells trades) (wholeCommands commands)
 
 -- of the state that a run leaves the answer, and all three areas
 pub record ProbedIs (ran : Memory) (a c : ℕ) (r : Probe) (buys sells trades : List ℕ) : Type 0 where

@@ -19,9 +19,9 @@ use Rattle.mending.proofs.Records.{length-kept}
 use Rattle.mending.proofs.Whole.{kept-limit, length-mended, place-least, place-within, whole-within}
 use Rattle.mending.proofs.Writing.{length-four}
 use Rattle.laws.specs.Choice.{pick}
-use Rattle.rules.specs.Command.{commandOf}
+use Rattle.rules.specs.Command.{commandOf, isMalformed}
 use Rattle.rules.specs.DayFile.{u8At, u16At, u32At, u64At, recordFrom, contractsIn, accountsIn, commandsIn, contractPlace, accountPlace, commandPlace, contractFrom, contractSound, balanceFrom, accountSound}
-use Rattle.mending.specs.Mend.{two, four, eight, isMalformed, reason, kept, keptBytes, keptCount, dropped, droppedList, headWhole, headSound, listFrom, mendedFile, wholeRecords}
+use Rattle.mending.specs.Mend.{two, four, eight, reason, kept, keptBytes, keptCount, dropped, droppedList, headWhole, headSound, listFrom, mendedFile, wholeRecords}
 
 -- ---- records that are all well formed, 2,000 at most, are all kept
 

@@ -12,11 +12,11 @@ use borrow.Author.Tests.{le-leb, lt-leb, ne-eqb}
 use Rattle.laws.specs.Choice.{pick}
 use Rattle.lines.specs.Written.{Written}
 use Rattle.lines.proofs.Text.{then, looser, no-byte}
-use Rattle.rules.specs.Command.{commandOf}
+use Rattle.rules.specs.Command.{commandOf, isMalformed}
 use Rattle.rules.specs.DayFile.{recordFrom}
 use Rattle.rules.specs.declared.Command.{Command}
 use Rattle.rules.specs.declared.Record.{Record}
-use Rattle.mending.specs.Mend.{isMalformed, reason, kept, keptBytes, dropped, entry}
+use Rattle.mending.specs.Mend.{reason, kept, keptBytes, dropped, entry}
 use Rattle.mending.proofs.Writing.{length-part, length-entry}
 
 -- ---- a record's verdict, from what the code reads

@@ -14,10 +14,10 @@ use Rattle.laws.specs.Choice.{pick}
 use Rattle.lines.specs.Written.{Written}
 use Rattle.lines.proofs.Text.{then}
 use Rattle.rules.specs.Answers.{firstOf}
-use Rattle.rules.specs.Command.{commandOf}
+use Rattle.rules.specs.Command.{commandOf, isMalformed}
 use Rattle.rules.specs.DayFile.{commandPlace, recordFrom}
 use Rattle.dayfile.proofs.Places.{command-place}
-use Rattle.mending.specs.Mend.{MendIs, four, eight, entry, headSound, isMalformed, reason, kept, keptBytes, keptCount, dropped, droppedCount, droppedList, listFrom, mendCode, mendedFile, partialRecord, wholeRecords}
+use Rattle.mending.specs.Mend.{MendIs, four, eight, entry, headSound, reason, kept, keptBytes, keptCount, dropped, droppedCount, droppedList, listFrom, mendCode, mendedFile, partialRecord, wholeRecords}
 use Rattle.mending.specs.declared.mend.Mended.{Mended}
 use Rattle.mending.proofs.Heads.{sound-head}
 use Rattle.mending.proofs.Records.{kept-most, length-kept, length-dropped}

@@ -1,5 +1,5 @@
 -- Ticket 11 of document 02: mending a day file. Assumes nothing.
-use mathlib.Core.Bool.{Bool, true, false, not, _&&_, _||_}
+use mathlib.Core.Bool.{Bool, not, _&&_, _||_}
 use mathlib.Core.List.{List, [], _∷_, _++_}
 use mathlib.Core.Path.{_≡_}
 use Prim.Native.Nat.{ℕ, zero, suc, _+_, _-_, _*_, _/_, _%_, _^_}
@@ -9,10 +9,8 @@ use Rattle.laws.specs.Choice.{pick, all}
 use Rattle.areas.specs.Lists.{over}
 use Rattle.rules.specs.Answers.{firstOf, _when_}
 use Rattle.rules.specs.Bounds.{within, maxContracts, maxAccounts}
-use Rattle.rules.specs.Command.{commandOf}
-use Rattle.rules.specs.DayFile.{maxCommands, contractsIn, accountsIn, commandPlace, contractSound, accountSound, recordFrom}
-use Rattle.rules.specs.declared.Command.{Command}
-use Rattle.rules.specs.declared.Command.the-variants.{Malformed, Deposit, Withdraw, Insert, Cancel, Pull, Phase, Settle}
+use Rattle.rules.specs.Command.{isMalformed}
+use Rattle.rules.specs.DayFile.{maxCommands, contractsIn, accountsIn, commandPlace, contractSound, accountSound, commandFrom}
 use Rattle.mending.specs.declared.mend.Mended.{Mended}
 
 -- ---- numbers of two, four and eight bytes, the lowest byte first
@@ -42,16 +40,6 @@ headSound file = headWhole file && all (contractSound file) (contractsIn file) &
 
 -- ---- the records, the first of which begins at `first`
 
-abbrev pub isMalformed : Command → Bool
-isMalformed Malformed = true
-isMalformed (Deposit account amount) = false
-isMalformed (Withdraw account amount) = false
-isMalformed (Insert o) = false
-isMalformed (Cancel account contract operator number) = false
-isMalformed (Pull account contract operator) = false
-isMalformed (Phase contract phase) = false
-isMalformed Settle = false
-
 -- all bytes behind the head are records: the whole ones, and whether a partial one follows
 abbrev pub wholeRecords : List ℕ → ℕ → ℕ
 wholeRecords file first = (length file - first) / 24
@@ -63,7 +51,7 @@ partialRecord file first = not (eqb ((length file - first) % 24) 0)
 -- record that is kept
 unfoldable pub reason : List ℕ → ℕ → ℕ → ℕ → ℕ
 reason file first k n =
-    pick (isMalformed (commandOf (recordFrom file (first + 24 * k)))) 1 (pick (leb maxCommands n) 3 0)
+    pick (isMalformed (commandFrom file (first + 24 * k))) 1 (pick (leb maxCommands n) 3 0)
 
 -- how many of the first k records are kept
 unfoldable pub kept : List ℕ → ℕ → ℕ → ℕ

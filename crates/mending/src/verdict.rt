@@ -4,46 +4,13 @@ ghost use mathlib.Core.Path.{_≡_};
 ghost use Prim.Native.Nat.{_+_, _-_, _*_, _≤_};
 ghost use lib.ListN.{length};
 ghost use Rattle.lines.specs.Written.{Written};
-ghost use Rattle.mending.specs.Mend.{isMalformed, reason as Mend·reason, kept as Mend·kept, keptBytes, dropped, entry};
+ghost use Rattle.mending.specs.Mend.{reason as Mend·reason, kept as Mend·kept, keptBytes, dropped, entry};
 use super::bytes::put_part;
 use super::bytes::put_u64;
 use commands::command_of;
+use commands::is_malformed;
 use dayfile::bytes::record_at;
 use lines::number::put_byte;
-use rules::Command;
-
-fn is_malformed(command: Command) -> bool
-    ensures { λ r. ⌜ r ≡ isMalformed command ⌝ }
-{
-    match command {
-        Command::Malformed => true,
-        Command::Deposit {
-            account: _,
-            amount: _,
-        } => false,
-        Command::Withdraw {
-            account: _,
-            amount: _,
-        } => false,
-        Command::Insert(_) => false,
-        Command::Cancel {
-            account: _,
-            contract: _,
-            operator: _,
-            number: _,
-        } => false,
-        Command::Pull {
-            account: _,
-            contract: _,
-            operator: _,
-        } => false,
-        Command::Phase {
-            contract: _,
-            phase: _,
-        } => false,
-        Command::Settle => false,
-    }
-}
 
 // Why record k is dropped where n are kept before it, or 0.
 pub fn reason(file: &[u8], first: usize, k: usize, n: usize) -> u8

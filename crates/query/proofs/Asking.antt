@@ -1,34 +1,29 @@
 -- From the tests as the code makes them to the answer of the rules: an order on a well-formed state, and 24 bytes on any. Assumes
 -- nothing.
 use mathlib.Core.Bool.{Bool, true, false, not}
-use mathlib.Core.List.{List, [], _∷_}
-use mathlib.Core.Logic.{inl, inr}
+use mathlib.Core.List.{List}
 use mathlib.Core.Path.{_≡_, refl, sym, ap, _∙_}
 use Prim.Native.Nat.{ℕ, _-_}
-use native.Mathlib.Omega.{arith}
 use borrow.Author.Tests.{ne-eqb}
-use denote.Enum.Declared.{tagOf}
 use lib.ListN.{getD}
-use types.Run.{OneOf}
-use Rattle.laws.specs.Choice.{ap-pick, pick, pick-same}
+use Rattle.laws.specs.Choice.{pick}
 use Rattle.rules.specs.Answers.{fillableLots, firstOf, listingOf, takerOf}
-use Rattle.rules.specs.Command.{commandOf, cancelOf, depositOf, insertOf, newOrder, phaseOf, pullOf, settleOf, withdrawOf}
+use Rattle.rules.specs.Command.{commandOf, isInsert, newOrder}
 use Rattle.rules.specs.Exchange.{Exchange, listingAt, noContract, opposite, placeOf}
 use Rattle.rules.specs.Matching.{sweep, tradedLots}
 use Rattle.rules.specs.Memory.{Memory, exchangeOf, queueIn, wellFormedMemory, memory, WellFormedState}
-use Rattle.rules.specs.declared.Command.{Command}
-use Rattle.rules.specs.declared.Command.the-variants.{Malformed, Deposit, Withdraw, Insert, Cancel, Pull, Phase, Settle}
+use Rattle.rules.specs.declared.Command.the-variants.{Insert}
 use Rattle.rules.specs.declared.NewOrder.{NewOrder}
 use Rattle.rules.specs.declared.Record.{Record}
 use Rattle.rules.specs.declared.State.{State}
 use Rattle.rules.specs.declared.Taker.{Taker}
-use Rattle.rules.proofs.Command.{the-type}
+use Rattle.rules.proofs.EachKind.{inserts-its-order}
 use Rattle.rules.proofs.Fillable.{swept-fillable}
 use Rattle.engine.specs.Outcome.{isAbsent}
 use Rattle.engine.proofs.Formed.{Formed, formed, no-account, no-contract}
 use Rattle.insertion.specs.Insertion.{Facing, Present, QueueRoom, fieldsRefusals, sideArea, sideCount, takerFor}
 use Rattle.insertion.proofs.Sides.{contract-is, opposite-facing, opposite-is}
-use Rattle.query.specs.Gettable.{GatheredIs, askRefusals, gettableNow, isInsert, lotsNow, orderReading, orderRefusals, readNow, readingWith, refusedReading}
+use Rattle.query.specs.Gettable.{GatheredIs, askRefusals, gettableNow, lotsNow, orderReading, orderRefusals, readNow, readingWith, refusedReading}
 use Rattle.query.specs.declared.Reading.{Reading}
 use Rattle.query.specs.declared.scan.Gathered.{Gathered}
 
@@ -94,44 +89,6 @@ module _ {s : State} {buys sells trades : List ℕ} (w : WellFormedState s buys 
 
 -- ---- 24 bytes on any state
 
--- an insert's order is the one that its bytes hold
-abbrev orderIn : NewOrder → Command → NewOrder
-orderIn o Malformed = o
-orderIn o (Deposit account amount) = o
-orderIn o (Withdraw account amount) = o
-orderIn o (Insert p) = p
-orderIn o (Cancel account contract operator number) = o
-orderIn o (Pull account contract operator) = o
-orderIn o (Phase contract phase) = o
-orderIn o Settle = o
-
-either-order : (o : NewOrder) (test : Bool) (d e : Command) → orderIn o (pick test d e) ≡ pick test (orderIn o d) (orderIn o e)
-either-order o test d e = ap-pick (orderIn o) test d e
-
-order-in-bytes : (r : Record) → orderIn (newOrder r) (commandOf r) ≡ newOrder r
-unfolding commandOf depositOf withdrawOf insertOf cancelOf pullOf phaseOf settleOf
-order-in-bytes r = simp (either-order, pick-same)
-
--- a command by its tag: an insert has 3
-not-three : OneOf (0 ∷ 1 ∷ 2 ∷ 4 ∷ 5 ∷ 6 ∷ 7 ∷ []) 3 → ⊥
-not-three (inl e) = omega arith
-not-three (inr (inl e)) = omega arith
-not-three (inr (inr (inl e))) = omega arith
-not-three (inr (inr (inr (inl e)))) = omega arith
-not-three (inr (inr (inr (inr (inl e))))) = omega arith
-not-three (inr (inr (inr (inr (inr (inl e)))))) = omega arith
-not-three (inr (inr (inr (inr (inr (inr e)))))) = omega arith
-
-pub other-kind : (d : Command) → OneOf (0 ∷ 1 ∷ 2 ∷ 4 ∷ 5 ∷ 6 ∷ 7 ∷ []) (tagOf the-type d) → isInsert d ≡ false
-other-kind Malformed h = refl
-other-kind (Deposit account amount) h = refl
-other-kind (Withdraw account amount) h = refl
-other-kind (Insert o) h = absurd (not-three h)
-other-kind (Cancel account contract operator number) h = refl
-other-kind (Pull account contract operator) h = refl
-other-kind (Phase contract phase) h = refl
-other-kind Settle h = refl
-
 module _ (m : Memory) (r : Record) where
   pub not-formed : wellFormedMemory m ≡ false → refusedReading 21 ≡ gettableNow m r
   unfolding gettableNow readingWith askRefusals firstOf
@@ -145,5 +102,5 @@ module _ (m : Memory) (r : Record) where
     pub an-insert : {o : NewOrder} → commandOf r ≡ Insert o → {a : Reading} → a ≡ orderReading (exchangeOf m) o → a ≡ gettableNow m r
     unfolding gettableNow askRefusals orderReading firstOf
     an-insert {o} i {a} q =
-        let same : o ≡ newOrder r = ap (orderIn (newOrder r)) (sym i) ∙ order-in-bytes r in
+        let same : o ≡ newOrder r = inserts-its-order r i in
         q ∙ ap (orderReading (exchangeOf m)) same ∙ sym (rw (e, i))

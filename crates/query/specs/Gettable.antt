@@ -1,6 +1,6 @@
 -- How much could I get? What an order would trade now, and how many resting orders are read to know it (document 02, ticket 3).
 -- The contract's state plays no part, nor does the time condition beyond code 6. Assumes nothing.
-use mathlib.Core.Bool.{Bool, true, false, not}
+use mathlib.Core.Bool.{not}
 use mathlib.Core.List.{List, [], _∷_}
 use mathlib.Core.Path.{_≡_}
 use Prim.Native.Nat.{ℕ, _+_, _-_, min}
@@ -8,12 +8,10 @@ use lib.Dec.{eqb, ltb}
 use Rattle.laws.specs.Choice.{pick}
 use Rattle.rules.specs.Answers.{Refusal, _when_, dayWithoutLimit, fillableLots, firstOf, listingOf, priceRefused, takerOf}
 use Rattle.rules.specs.Bounds.{maxLots, within}
-use Rattle.rules.specs.Command.{commandOf, newOrder}
+use Rattle.rules.specs.Command.{commandOf, isInsert, newOrder}
 use Rattle.rules.specs.Exchange.{Exchange, absent, opposite}
 use Rattle.rules.specs.Matching.{counterpart, fillable}
 use Rattle.rules.specs.Memory.{Memory, exchangeOf, wellFormedMemory}
-use Rattle.rules.specs.declared.Command.{Command}
-use Rattle.rules.specs.declared.Command.the-variants.{Malformed, Deposit, Withdraw, Insert, Cancel, Pull, Phase, Settle}
 use Rattle.rules.specs.declared.NewOrder.{NewOrder}
 use Rattle.rules.specs.declared.Order.{Order}
 use Rattle.rules.specs.declared.Record.{Record}
@@ -52,22 +50,11 @@ orderRefusals x o =
     ∷ (7 when priceRefused (listingOf x o .contract) o)
     ∷ []
 
--- the 24 bytes are those that would insert the order: another kind is a wrong one
-abbrev pub isInsert : Command → Bool
-isInsert Malformed = false
-isInsert (Deposit account amount) = false
-isInsert (Withdraw account amount) = false
-isInsert (Insert o) = true
-isInsert (Cancel account contract operator number) = false
-isInsert (Pull account contract operator) = false
-isInsert (Phase contract phase) = false
-isInsert Settle = false
-
 -- "21, 1, 2, 3, 5, 6, 7"
 unfoldable pub askRefusals : Memory → Record → List Refusal
 askRefusals m r =
     (21 when not (wellFormedMemory m))
-    -- "kind, flag value or unused field is wrong"
+    -- "kind, flag value or unused field is wrong": the 24 bytes are those that would insert the order, another kind is a wrong one
     ∷ (1 when not (isInsert (commandOf r)))
     ∷ orderRefusals (exchangeOf m) (newOrder r)
 

@@ -1,6 +1,6 @@
 -- A command by its number and by the tag of the declared enum, and the order that an insert's bytes hold: laws by clauses on the
 -- kinds, so that no other proof needs them. Assumes nothing.
-use mathlib.Core.Bool.{Bool, false, not}
+use mathlib.Core.Bool.{Bool, true, false, not, false≢true}
 use mathlib.Core.List.{List}
 use mathlib.Core.Path.{_≡_, refl, sym, ap, _∙_, subst}
 use Prim.Native.Nat.{ℕ}
@@ -10,7 +10,7 @@ use lib.Dec.{T, eqb}
 use mir.Val.{hasKey}
 use types.Run.{OneOf, miss}
 use Rattle.laws.specs.Choice.{ap-pick, pick, pick-same}
-use Rattle.rules.specs.Command.{cancelOf, commandOf, depositOf, insertOf, kindNumber, newOrder, phaseOf, pullOf, settleOf, withdrawOf}
+use Rattle.rules.specs.Command.{cancelOf, commandOf, depositOf, insertOf, isSettle, kindNumber, newOrder, phaseOf, pullOf, settleOf, withdrawOf}
 use Rattle.rules.specs.declared.Command.{Command}
 use Rattle.rules.specs.declared.Command.the-variants.{Malformed, Deposit, Withdraw, Insert, Cancel, Pull, Phase, Settle}
 use Rattle.rules.specs.declared.NewOrder.{NewOrder}
@@ -31,6 +31,16 @@ tag-is Settle = refl
 pub other-kind : (ks : List ℕ) (n : ℕ) → T (not (hasKey ks n)) → (d : Command) → OneOf ks (tagOf the-type d) → eqb (kindNumber d) n ≡ false
 other-kind ks n h d o =
     ne-eqb (kindNumber d) n (λ (e : kindNumber d ≡ n). miss ks n h (subst (OneOf ks) (tag-is d ∙ e) o))
+
+pub settle-is : (d : Command) → isSettle d ≡ true → d ≡ Settle
+settle-is Malformed e = absurd (false≢true e)
+settle-is (Deposit account amount) e = absurd (false≢true e)
+settle-is (Withdraw account amount) e = absurd (false≢true e)
+settle-is (Insert o) e = absurd (false≢true e)
+settle-is (Cancel account contract operator number) e = absurd (false≢true e)
+settle-is (Pull account contract operator) e = absurd (false≢true e)
+settle-is (Phase contract phase) e = absurd (false≢true e)
+settle-is Settle e = refl
 
 -- an insert's order is the one that its bytes hold
 abbrev orderIn : NewOrder → Command → NewOrder

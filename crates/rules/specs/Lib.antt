@@ -18,6 +18,7 @@ pub mod DayFile
 pub mod Lines
 pub mod Examples
 pub mod CodeExamples
+pub mod Condition3Examples
 pub mod MarginExamples
 pub mod MatchingExamples
 pub mod AuctionExamples

@@ -91,8 +91,6 @@ module _ (file : List ℕ) where
     opens-empty =
         record {
           no-trades = no-trade;
-          no-long = λ a c. ap (λ (v : Holding). v .long) (held a c);
-          no-short = λ a c. ap (λ (v : Holding). v .short) (held a c);
-          no-startlong = λ a c. ap (λ (v : Holding). v .startlong) (held a c);
-          no-startshort = λ a c. ap (λ (v : Holding). v .startshort) (held a c);
+          no-long = λ a c l k. ap (λ (v : Holding). v .long) (held a c);
+          no-short = λ a c l k. ap (λ (v : Holding). v .short) (held a c);
         }

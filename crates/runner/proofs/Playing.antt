@@ -11,18 +11,18 @@ use borrow.Author.Tests.{eqb-true, eqb-false}
 use lib.ListN.{length, take, drop, getD, take-append-drop}
 use lib.Seq.{drop-append-le, length-slice, length-take-le, slice-empty, take-suc, take-take}
 use Rattle.laws.specs.Tabulate.{length-tabulate}
-use Rattle.rules.specs.Command.{commandOf}
 use Rattle.rules.specs.Condition3.{run}
-use Rattle.rules.specs.DayFile.{commandPlace, commandsIn, recordFrom, recordsOf}
+use Rattle.rules.specs.DayFile.{commandPlace, commandFrom, commandsIn, commandsOf}
 use Rattle.rules.specs.Exchange.{Exchange}
 use Rattle.rules.specs.Lines.{runLines, stepLines}
 use Rattle.rules.specs.Memory.{Declared, Memory, exchangeOf, respond, wellFormedMemory, memory, WellFormedState}
 use Rattle.rules.specs.Kinds.{step}
-use Rattle.rules.specs.declared.Record.{Record}
+use Rattle.rules.specs.declared.Command.{Command}
 use Rattle.rules.specs.declared.State.{State}
+use Rattle.accounting.proofs.Runs.{run-append}
 use Rattle.invariants.proofs.MemoryKeeps.{memory-keeps, read-back, run-keeps}
 use Rattle.exchange.proofs.Runs.{run-declared}
-use Rattle.dayfile.proofs.Places.{record-of}
+use Rattle.dayfile.proofs.Places.{command-of}
 use Rattle.lines.specs.Written.{Written}
 use Rattle.lines.proofs.Text.{looser, no-byte, then}
 use Rattle.runner.specs.Parts.{part, Playable, PlayedIs}
@@ -31,48 +31,43 @@ use Rattle.runner.specs.declared.turn.Turn.{Turn}
 
 -- ---- a run and its lines, of a list in two parts
 
-pub run-append : (m : Memory) (rs qs : List Record) → run m (rs ++ qs) ≡ run (run m rs) qs
-unfolding run
-run-append m [] qs = refl
-run-append m (r ∷ rs) qs = run-append (respond m r .memory) rs qs
-
-pub lines-append : (m : Memory) → wellFormedMemory m ≡ true → (k : ℕ) (rs qs : List Record)
-    → runLines k (exchangeOf m) (rs ++ qs) ≡ runLines k (exchangeOf m) rs ++ runLines (k + length rs) (exchangeOf (run m rs)) qs
+pub lines-append : (m : Memory) → wellFormedMemory m ≡ true → (k : ℕ) (cs ds : List Command)
+    → runLines k (exchangeOf m) (cs ++ ds) ≡ runLines k (exchangeOf m) cs ++ runLines (k + length cs) (exchangeOf (run m cs)) ds
 unfolding runLines run
-lines-append m w k [] qs = rw (add-zero k)
-lines-append m w k (r ∷ rs) qs =
-    let e : k + 1 + length rs ≡ k + suc (length rs) = omega arith in
+lines-append m w k [] ds = rw (add-zero k)
+lines-append m w k (c ∷ cs) ds =
+    let e : k + 1 + length cs ≡ k + suc (length cs) = omega arith in
     let x : Exchange = exchangeOf m in
-    let h : runLines (k + 1) (step x (commandOf r) .exchange) (rs ++ qs)
-    ≡ runLines (k + 1) (step x (commandOf r) .exchange) rs ++ runLines (k + suc (length rs)) (exchangeOf (run (respond m r .memory) rs)) qs
-    = rw (e, read-back m r w) at (lines-append (respond m r .memory) (memory-keeps m r w) (k + 1) rs qs) in
-    rw h (sym (append-assoc (stepLines k x (commandOf r)) (runLines (k + 1) (step x (commandOf r) .exchange) rs) (runLines (k + suc (length rs)) (exchangeOf (run (respond m r .memory) rs)) qs)))
+    let h : runLines (k + 1) (step x c) (cs ++ ds)
+    ≡ runLines (k + 1) (step x c) cs ++ runLines (k + suc (length cs)) (exchangeOf (run (respond m c .memory) cs)) ds
+    = rw (e, read-back m c w) at (lines-append (respond m c .memory) (memory-keeps m c w) (k + 1) cs ds) in
+    rw h (sym (append-assoc (stepLines k x c) (runLines (k + 1) (step x c) cs) (runLines (k + suc (length cs)) (exchangeOf (run (respond m c .memory) cs)) ds)))
 
 -- ---- parts of a file
 
 module _ (file : List ℕ) where
-  pub length-commands : length (recordsOf file) ≡ commandsIn file
-  unfolding recordsOf
-  length-commands = length-tabulate (commandsIn file) (λ k. recordFrom file (commandPlace file k))
+  pub length-commands : length (commandsOf file) ≡ commandsIn file
+  unfolding commandsOf
+  length-commands = length-tabulate (commandsIn file) (λ k. commandFrom file (commandPlace file k))
 
   part-none : (k : ℕ) → part file k k ≡ []
-  part-none k = slice-empty k (recordsOf file)
+  part-none k = slice-empty k (commandsOf file)
 
   part-length : (k n : ℕ) → n ≤ commandsIn file → length (part file k n) ≡ n - k
-  part-length k n h = length-slice k n (recordsOf file) (rw length-commands h)
+  part-length k n h = length-slice k n (commandsOf file) (rw length-commands h)
 
   -- one command more
-  part-more : (k i : ℕ) → k ≤ i → i < commandsIn file → part file k (i + 1) ≡ part file k i ++ (recordFrom file (commandPlace file i) ∷ [])
+  part-more : (k i : ℕ) → k ≤ i → i < commandsIn file → part file k (i + 1) ≡ part file k i ++ (commandFrom file (commandPlace file i) ∷ [])
   part-more k i h l =
-      let none = recordFrom file 0 in
-      let l′ : i < length (recordsOf file) = rw length-commands l in
-      let n : length (take i (recordsOf file)) ≡ i = length-take-le i (recordsOf file) (omega arith) in
-      rw (add-one i, take-suc (recordsOf file) i none l′, drop-append-le k (take i (recordsOf file)) (getD (recordsOf file) i none ∷ []) (omega arith), record-of file i none l)
+      let none = commandFrom file 0 in
+      let l′ : i < length (commandsOf file) = rw length-commands l in
+      let n : length (take i (commandsOf file)) ≡ i = length-take-le i (commandsOf file) (omega arith) in
+      rw (add-one i, take-suc (commandsOf file) i none l′, drop-append-le k (take i (commandsOf file)) (getD (commandsOf file) i none ∷ []) (omega arith), command-of file i none l)
 
   -- one part after another
   pub part-part : (k i n : ℕ) → k ≤ i → i ≤ n → n ≤ commandsIn file → part file k n ≡ part file k i ++ part file i n
   part-part k i n h l b =
-      let rs = recordsOf file in
+      let rs = commandsOf file in
       let e : take i (take n rs) ++ drop i (take n rs) ≡ take n rs = take-append-drop i (take n rs) in
       let s : length (take i rs) ≡ i = length-take-le i rs (rw length-commands (omega arith)) in
       ap (drop k) (sym e)
@@ -107,7 +102,7 @@ module _ (file : List ℕ) (k : ℕ) {s₀ : State} {buys₀ sells₀ trades₀ 
       }
 
   module _ (i : ℕ) (h : k ≤ i) (l : i < commandsIn file) {s : State} {buys sells trades : List ℕ} (e : memory s buys sells trades ≡ played i)
-      {r : Record} (f : r ≡ recordFrom file (commandPlace file i)) {before after : List ℕ} {at : ℕ} {t : Turn} {m′ : Memory}
+      {r : Command} (f : r ≡ commandFrom file (commandPlace file i)) {before after : List ℕ} {at : ℕ} {t : Turn} {m′ : Memory}
       (is : TurnIs (memory s buys sells trades) r (i + 1) before at t m′ after) where
     pub one-played : m′ ≡ played (i + 1)
     unfolding run respond
@@ -115,17 +110,17 @@ module _ (file : List ℕ) (k : ℕ) {s₀ : State} {buys₀ sells₀ trades₀ 
         is .memory ∙ ap (λ (v : Memory). respond v r .memory) e
         ∙ sym (rw (part-more file k i h l, ← f) (run-append m (part file k i) (r ∷ [])))
 
-    lines-more : lines (i + 1) ≡ lines i ++ stepLines (i + 1) (exchangeOf (memory s buys sells trades)) (commandOf r)
+    lines-more : lines (i + 1) ≡ lines i ++ stepLines (i + 1) (exchangeOf (memory s buys sells trades)) r
     unfolding runLines
     lines-more =
         let n : k + 1 + length (part file k i) ≡ i + 1 = rw (part-length file k i (omega arith)) (omega arith) in
         rw (part-more file k i h l, ← f, lines-append m (p .formed .formed) (k + 1) (part file k i) (r ∷ []), n, ← e)
-        (ap (λ (b : List ℕ). lines i ++ b) (append-nil (stepLines (i + 1) (exchangeOf (memory s buys sells trades)) (commandOf r))))
+        (ap (λ (b : List ℕ). lines i ++ b) (append-nil (stepLines (i + 1) (exchangeOf (memory s buys sells trades)) r)))
 
     pub one-printed : Written (length out₀) out₀ 0 (lines i) before at → Written (length out₀) out₀ 0 (lines (i + 1)) after (t .end)
     one-printed v =
         let u = then v (is .lines) in
-        let g : Written (length out₀) out₀ 0 (lines i ++ stepLines (i + 1) (exchangeOf (memory s buys sells trades)) (commandOf r)) after (t .end) =
+        let g : Written (length out₀) out₀ 0 (lines i ++ stepLines (i + 1) (exchangeOf (memory s buys sells trades)) r) after (t .end) =
         record { content = u .content; ends = u .ends; short = omega (arith, u .ends, u .inside); kept = u .kept; inside = u .inside } in
         rw lines-more g
 
@@ -142,7 +137,7 @@ module _ (file : List ℕ) (k : ℕ) {s₀ : State} {buys₀ sells₀ trades₀ 
     unfolding runLines
     none-yet q =
         let e : length (lines i) ≡ 0 =
-        ap (λ (n : ℕ). length (lines n)) (sym q) ∙ ap (λ (rs : List Record). length (runLines (k + 1) (exchangeOf m) rs)) (part-none file k) in
+        ap (λ (n : ℕ). length (lines n)) (sym q) ∙ ap (λ (cs : List Command). length (runLines (k + 1) (exchangeOf m) cs)) (part-none file k) in
         omega (arith, v .ends)
 
     pub room-played : length after - at < commandMost → PlayedIs file k m out₀ (record { state = s; next = i; end = at }) m′ after

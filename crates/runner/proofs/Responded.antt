@@ -1,6 +1,6 @@
 -- The lines of a response in memory are the rules' lines of the command. Assumes nothing.
-use mathlib.Core.Bool.{Bool, true, false}
-use mathlib.Core.List.{List, [], _++_}
+use mathlib.Core.Bool.{Bool, true, false, _&&_}
+use mathlib.Core.List.{List, [], _∷_, _++_}
 use mathlib.Core.Path.{_≡_, refl, sym, ap, _∙_, subst, subst⁻¹}
 use Prim.Native.Nat.{ℕ, zero, suc, _<_}
 use borrow.Author.Tests.{eq-eqb, ne-eqb}
@@ -11,21 +11,22 @@ use Rattle.laws.specs.Choice.{pick}
 use Rattle.laws.specs.Tabulate.{tabulate, length-tabulate, getD-tabulate}
 use Rattle.areas.specs.Lists.{padded}
 use Rattle.areas.proofs.Lists.{getD-padded}
-use Rattle.rules.specs.Kinds.{codeOf, step}
-use Rattle.rules.specs.Command.{commandOf, isSettle}
+use Rattle.rules.specs.Kinds.{codeOf, decide, kindOf, step}
+use Rattle.rules.specs.Command.{isSettle}
 use Rattle.rules.specs.Exchange.{Exchange, accountAt, noAccount}
 use Rattle.rules.specs.Lines.{priceLines, accountLines, settlementLines, newTrades, stepLines}
 use Rattle.rules.specs.Margin.{charged}
-use Rattle.rules.specs.Memory.{Declared, Memory, exchangeOf, put, putState, recordedTrades, respond, stepIn, wellFormedMemory, memory, WellFormedState}
+use Rattle.rules.specs.Memory.{Declared, Memory, exchangeOf, put, putState, recordedTrades, respond, stepIn, wellFormedMemory, memory, WellFormedState, written}
 use Rattle.rules.specs.Settlement.{closingProfit, holdingProfit, settled, settlementPrice}
-use Rattle.rules.specs.Step.{carriedOut}
+use Rattle.rules.specs.Step.{settledAll}
 use Rattle.rules.specs.declared.Account.{Account}
 use Rattle.rules.specs.declared.Answer.{Answer}
 use Rattle.rules.specs.declared.Command.{Command}
-use Rattle.rules.specs.declared.Command.the-variants.{Malformed, Deposit, Withdraw, Insert, Cancel, Pull, Phase, Settle}
-use Rattle.rules.specs.declared.Record.{Record}
+use Rattle.rules.specs.declared.Command.the-variants.{Settle}
 use Rattle.rules.specs.declared.State.{State}
 use Rattle.rules.proofs.Codecs.{length-trades}
+use Rattle.rules.proofs.EachKind.{settle-is}
+use Rattle.rules.proofs.Stages.{decided}
 use Rattle.accounting.proofs.Declared.{declared-kept}
 use Rattle.invariants.proofs.MemoryKeeps.{memory-keeps, step-in-read}
 use Rattle.engine.proofs.Formed.{formed, account-at, accounts-count, contracts-count}
@@ -58,41 +59,36 @@ reported most n f z i h = getD-padded most i z z (tabulate n f) (rw length-tabul
 
 -- ---- a step in memory and the rules' step
 
-step-in-answer : (m : Memory) (command : Command) → stepIn m command .answer ≡ step (exchangeOf m) command .answer
-unfolding stepIn step
-step-in-answer m command = go (eqb (codeOf (exchangeOf m) command) 0) refl
-  where
-    go : (b : Bool) → eqb (codeOf (exchangeOf m) command) 0 ≡ b → stepIn m command .answer ≡ step (exchangeOf m) command .answer
-    go true q = rw q
-    go false q = rw q
+step-in-answer : (m : Memory) (command : Command) → stepIn m command .answer ≡ decide (exchangeOf m) command .answer
+unfolding stepIn
+step-in-answer m command = refl
+
+-- what is written changes no count of contracts and accounts
+written-contracts : (m : Memory) (ys : List Exchange) → written m ys .state .contractcount ≡ m .state .contractcount
+unfolding put putState
+written-contracts m [] = refl
+written-contracts m (y ∷ ys) = written-contracts (put m y) ys
+
+written-accounts : (m : Memory) (ys : List Exchange) → written m ys .state .accountcount ≡ m .state .accountcount
+unfolding put putState
+written-accounts m [] = refl
+written-accounts m (y ∷ ys) = written-accounts (put m y) ys
 
 step-in-contracts : (m : Memory) (command : Command) → stepIn m command .memory .state .contractcount ≡ m .state .contractcount
-unfolding stepIn put putState
-step-in-contracts m command = go (eqb (codeOf (exchangeOf m) command) 0) refl
-  where
-    go : (b : Bool) → eqb (codeOf (exchangeOf m) command) 0 ≡ b → stepIn m command .memory .state .contractcount ≡ m .state .contractcount
-    go true q = rw q
-    go false q = rw q
+unfolding stepIn
+step-in-contracts m command = written-contracts m (decide (exchangeOf m) command .stages)
 
 step-in-accounts : (m : Memory) (command : Command) → stepIn m command .memory .state .accountcount ≡ m .state .accountcount
-unfolding stepIn put putState
-step-in-accounts m command = go (eqb (codeOf (exchangeOf m) command) 0) refl
-  where
-    go : (b : Bool) → eqb (codeOf (exchangeOf m) command) 0 ≡ b → stepIn m command .memory .state .accountcount ≡ m .state .accountcount
-    go true q = rw q
-    go false q = rw q
+unfolding stepIn
+step-in-accounts m command = written-accounts m (decide (exchangeOf m) command .stages)
 
--- an accepted settlement's code is 0, a refused one's is not
-settle-code : (x : Exchange) → eqb (step x Settle .answer .code) 0 ≡ eqb (codeOf x Settle) 0
-unfolding step carriedOut
-settle-code x = go (eqb (codeOf x Settle) 0) refl
-  where
-    go : (b : Bool) → eqb (codeOf x Settle) 0 ≡ b → eqb (step x Settle .answer .code) 0 ≡ eqb (codeOf x Settle) 0
-    go true q = rw q
-    go false q = rw q q
+-- the answer's code is the command's
+decided-code : (x : Exchange) (command : Command) → eqb (decide x command .answer .code) 0 ≡ eqb (codeOf x command) 0
+decided-code x command =
+    decided (λ d. eqb (d .answer .code) 0 ≡ eqb (codeOf x command) 0) x command (λ e. sym (eq-eqb (codeOf x command) 0 e)) (λ e. refl)
 
-settle-after : (x : Exchange) → eqb (codeOf x Settle) 0 ≡ true → step x Settle .exchange ≡ settled x
-unfolding step carriedOut
+settle-after : (x : Exchange) → eqb (codeOf x Settle) 0 ≡ true → step x Settle ≡ settled x
+unfolding step decide kindOf settledAll
 settle-after x q = rw q
 
 -- ---- the three ways of a report
@@ -129,10 +125,10 @@ module _ {s : State} {buys sells trades : List ℕ} (w : WellFormedState s buys 
       record { contracts = f .contracts-high; accounts = f .accounts-high; count = f .trades-high; room = f .trades-room }
 
   module _ (command : Command) (is : ResponseIs m command r buys′ sells′ trades′) where
-    after-is : exchangeOf m′ ≡ step x command .exchange
+    after-is : exchangeOf m′ ≡ step x command
     after-is = ap exchangeOf (is .memory) ∙ step-in-read m (w .formed) command
 
-    answer-is : r .answer ≡ step x command .answer
+    answer-is : r .answer ≡ decide x command .answer
     answer-is = is .answer ∙ step-in-answer m command
 
     contracts-are : r .state .contractcount ≡ length (x .listings)
@@ -141,13 +137,13 @@ module _ {s : State} {buys sells trades : List ℕ} (w : WellFormedState s buys 
     accounts-are : r .state .accountcount ≡ length (x .accounts)
     accounts-are = ap (λ (v : Memory). v .state .accountcount) (is .memory) ∙ step-in-accounts m command ∙ sym (accounts-count m (formed w))
 
-    balance-is : (a : ℕ) → a < r .state .accountcount → getD (r .state .accounts) a noAccount .balance ≡ accountAt (step x command .exchange .accounts) a .balance
+    balance-is : (a : ℕ) → a < r .state .accountcount → getD (r .state .accounts) a noAccount .balance ≡ accountAt (step x command .accounts) a .balance
     unfolding accountAt
     balance-is a h =
         sym (ap (λ (v : Account). v .balance) (account-at m′ (formed w′) a h))
         ∙ ap (λ (e : Exchange). getD (e .accounts) a noAccount .balance) after-is
 
-    trades-are : drop (s .tradecount) (recordedTrades trades′ (r .state .tradecount)) ≡ newTrades x (step x command)
+    trades-are : drop (s .tradecount) (recordedTrades trades′ (r .state .tradecount)) ≡ newTrades x command
     unfolding newTrades exchangeOf
     trades-are =
         rw (length-trades trades (s .tradecount))
@@ -175,7 +171,7 @@ module _ {s : State} {buys sells trades : List ℕ} (w : WellFormedState s buys 
     unfolding settlementReport
     holding-at a h = ap (λ (v : Report). getD (v .holding) a (pos 0)) report-is ∙ reported 32 (s .accountcount) (holdingProfit x) (pos 0) a h
 
-    charged-at : (a : ℕ) → a < s .accountcount → getD (r .report .charged) a 0 ≡ charged (step x Settle .exchange) a
+    charged-at : (a : ℕ) → a < s .accountcount → getD (r .report .charged) a 0 ≡ charged (step x Settle) a
     unfolding settlementReport
     charged-at a h =
         ap (λ (v : Report). getD (v .charged) a 0) report-is ∙ reported 32 (s .accountcount) (charged (settled x)) 0 a h
@@ -187,68 +183,68 @@ module _ {s : State} {buys sells trades : List ℕ} (w : WellFormedState s buys 
     accounts-same : r .state .accountcount ≡ s .accountcount
     accounts-same = accounts-are Settle is ∙ accounts-count m (formed w)
 
-    settlement-rows : settlementRows (r .state) (r .report) ≡ priceLines x (length (x .listings)) ++ accountLines x (step x Settle .exchange) (length (x .accounts))
+    settlement-rows : settlementRows (r .state) (r .report) ≡ priceLines x (length (x .listings)) ++ accountLines x (step x Settle) (length (x .accounts))
     unfolding settlementRows
     settlement-rows =
         let n = r .state .contractcount in
         let p = rows-ext (priceRow (r .report .prices)) (λ c. priceLine c (settlementPrice x c)) n (λ c h. ap (priceLine c) (price-at c (rw contracts-same at h))) in
-        let b = rows-ext (accountRow (r .report .closing) (r .report .holding) (r .report .charged) (r .state .accounts)) (accountRule x (step x Settle .exchange)) (r .state .accountcount) row in
-        rw (p, b, ← contracts-are Settle is, ← accounts-are Settle is, price-rows x n, account-rows x (step x Settle .exchange) (r .state .accountcount))
+        let b = rows-ext (accountRow (r .report .closing) (r .report .holding) (r .report .charged) (r .state .accounts)) (accountRule x (step x Settle)) (r .state .accountcount) row in
+        rw (p, b, ← contracts-are Settle is, ← accounts-are Settle is, price-rows x n, account-rows x (step x Settle) (r .state .accountcount))
       where
-        row : (a : ℕ) → a < r .state .accountcount → accountRow (r .report .closing) (r .report .holding) (r .report .charged) (r .state .accounts) a ≡ accountRule x (step x Settle .exchange) a
+        row : (a : ℕ) → a < r .state .accountcount → accountRow (r .report .closing) (r .report .holding) (r .report .charged) (r .state .accounts) a ≡ accountRule x (step x Settle) a
         row a h =
             let h′ : a < s .accountcount = rw accounts-same at h in
             rw (closing-at a h′, holding-at a h′, charged-at a h′, balance-is Settle is a h)
 
-  report-lines : (command : Command) → ResponseIs m command r buys′ sells′ trades′ → reportRows command r ≡ settlementLines x command (step x command)
+  report-lines : (command : Command) → ResponseIs m command r buys′ sells′ trades′ → reportRows command r ≡ settlementLines x command
   unfolding reportRows settlementLines
-  report-lines Malformed is = refl
-  report-lines (Deposit account amount) is = refl
-  report-lines (Withdraw account amount) is = refl
-  report-lines (Insert o) is = refl
-  report-lines (Cancel account contract operator number) is = refl
-  report-lines (Pull account contract operator) is = refl
-  report-lines (Phase contract phase) is = refl
-  report-lines Settle is = go (eqb (codeOf x Settle) 0) refl
+  report-lines command is = by (isSettle command) (eqb (codeOf x command) 0) refl refl
     where
-      code-is : eqb (r .answer .code) 0 ≡ eqb (codeOf x Settle) 0
-      code-is = ap (λ (a : Answer). eqb (a .code) 0) (answer-is Settle is) ∙ settle-code x
+      code-is : eqb (r .answer .code) 0 ≡ eqb (codeOf x command) 0
+      code-is = ap (λ (a : Answer). eqb (a .code) 0) (answer-is command is) ∙ decided-code x command
 
-      go : (b : Bool) → eqb (codeOf x Settle) 0 ≡ b
-          → pick (eqb (r .answer .code) 0) (settlementRows (r .state) (r .report)) []
-          ≡ pick (eqb (step x Settle .answer .code) 0) (priceLines x (length (x .listings)) ++ accountLines x (step x Settle .exchange) (length (x .accounts))) []
-      go true q = rw (code-is, settle-code x, q) (settlement-rows is q)
-      go false q = rw (code-is, settle-code x, q)
+      made : command ≡ Settle → eqb (codeOf x command) 0 ≡ true
+          → settlementRows (r .state) (r .report) ≡ priceLines x (length (x .listings)) ++ accountLines x (step x command) (length (x .accounts))
+      made e q =
+          subst⁻¹ (λ (d : Command). settlementRows (r .state) (r .report) ≡ priceLines x (length (x .listings)) ++ accountLines x (step x d) (length (x .accounts))) e
+          (settlement-rows (subst (λ (d : Command). ResponseIs m d r buys′ sells′ trades′) e is) (subst (λ (d : Command). eqb (codeOf x d) 0 ≡ true) e q))
+
+      by : (settles accepted : Bool) → isSettle command ≡ settles → eqb (codeOf x command) 0 ≡ accepted
+          → pick (isSettle command && eqb (r .answer .code) 0) (settlementRows (r .state) (r .report)) []
+          ≡ pick (isSettle command && eqb (codeOf x command) 0) (priceLines x (length (x .listings)) ++ accountLines x (step x command) (length (x .accounts))) []
+      by false accepted e q = rw e
+      by true true e q = rw (e, code-is, q) (made (settle-is command e) q)
+      by true false e q = rw (e, code-is, q)
 
   pub response-lines : (k : ℕ) (command : Command) → ResponseIs m command r buys′ sells′ trades′
       → responseRows k command (s .tradecount) trades′ r ≡ stepLines k x command
   unfolding responseRows stepLines
   response-lines k command is = rw (report-lines command is, trades-are command is, count-is command is, answer-is command is)
 
--- ---- from a record
+-- ---- the turn
 
-module _ {s : State} {buys sells trades : List ℕ} (w : WellFormedState s buys sells trades) (record′ : Record) (r : Response) {buys′ sells′ trades′ : List ℕ} where
-  responded : ResponseIs (memory s buys sells trades) (commandOf record′) r buys′ sells′ trades′
-      → memory (r .state) buys′ sells′ trades′ ≡ respond (memory s buys sells trades) record′ .memory
+module _ {s : State} {buys sells trades : List ℕ} (w : WellFormedState s buys sells trades) (given : Command) (r : Response) {buys′ sells′ trades′ : List ℕ} where
+  responded : ResponseIs (memory s buys sells trades) given r buys′ sells′ trades′
+      → memory (r .state) buys′ sells′ trades′ ≡ respond (memory s buys sells trades) given .memory
   unfolding respond
   responded is = rw (w .formed) (is .memory)
 
-  stays-formed : ResponseIs (memory s buys sells trades) (commandOf record′) r buys′ sells′ trades′ → WellFormedState (r .state) buys′ sells′ trades′
+  stays-formed : ResponseIs (memory s buys sells trades) given r buys′ sells′ trades′ → WellFormedState (r .state) buys′ sells′ trades′
   stays-formed is =
       record {
-        declared = subst⁻¹ (λ (v : Memory). Declared (v .state)) (responded is) (declared-kept (memory s buys sells trades) record′ (w .declared));
-        formed = subst⁻¹ (λ (v : Memory). wellFormedMemory v ≡ true) (responded is) (memory-keeps (memory s buys sells trades) record′ (w .formed));
+        declared = subst⁻¹ (λ (v : Memory). Declared (v .state)) (responded is) (declared-kept (memory s buys sells trades) given (w .declared));
+        formed = subst⁻¹ (λ (v : Memory). wellFormedMemory v ≡ true) (responded is) (memory-keeps (memory s buys sells trades) given (w .formed));
       }
 
-  module _ {command : Command} (e : command ≡ commandOf record′) (is : ResponseIs (memory s buys sells trades) command r buys′ sells′ trades′) where
-    told : ResponseIs (memory s buys sells trades) (commandOf record′) r buys′ sells′ trades′
+  module _ {command : Command} (e : command ≡ given) (is : ResponseIs (memory s buys sells trades) command r buys′ sells′ trades′) where
+    told : ResponseIs (memory s buys sells trades) given r buys′ sells′ trades′
     told = subst (λ (d : Command). ResponseIs (memory s buys sells trades) d r buys′ sells′ trades′) e is
 
     pub counts-in-range : InRange r trades′
     counts-in-range = in-range w r (stays-formed told)
 
     pub turn-is : (k : ℕ) {before after : List ℕ} {at end : ℕ} → Written commandMost before at (responseRows k command (s .tradecount) trades′ r) after end
-        → TurnIs (memory s buys sells trades) record′ k before at (record { state = r .state; end = end }) (memory (r .state) buys′ sells′ trades′) after
+        → TurnIs (memory s buys sells trades) given k before at (record { state = r .state; end = end }) (memory (r .state) buys′ sells′ trades′) after
     turn-is k {before} {after} {at} {end} v =
         record {
           memory = responded told;

@@ -10,12 +10,13 @@ use lib.Seq.{take-append-seam, take-length, length-slice}
 use Rattle.areas.specs.Lists.{over}
 use Rattle.lines.specs.Written.{Written}
 use Rattle.rules.specs.Condition3.{run}
-use Rattle.rules.specs.DayFile.{sound, commandsIn, opening, recordsOf}
+use Rattle.rules.specs.DayFile.{sound, commandsIn, opening, commandsOf}
 use Rattle.rules.specs.Lines.{brokenLine, output, runLines}
 use Rattle.rules.specs.Memory.{Declared, Memory, exchangeOf, wellFormedMemory, memory}
 use Rattle.rules.specs.declared.State.{State}
 use Rattle.dayfile.specs.Opening.{openingState}
-use Rattle.invariants.proofs.Condition3.{money-is-kept}
+use Rattle.accounting.proofs.Runs.{run-append}
+use Rattle.invariants.proofs.Condition3.{money-left}
 use Rattle.invariants.proofs.MemoryKeeps.{run-keeps}
 use Rattle.exchange.proofs.Runs.{run-declared}
 use Rattle.runner.specs.Day.{Ready, DayIs, openingOf, linesTo}
@@ -23,11 +24,11 @@ use Rattle.runner.specs.Parts.{part, Playable, PlayedIs}
 use Rattle.runner.specs.Turns.{commandMost}
 use Rattle.runner.specs.declared.play.Played.{Played}
 use Rattle.runner.proofs.Opened.{opens-formed, opens-as-told, opens-empty}
-use Rattle.runner.proofs.Playing.{length-commands, lines-append, part-part, run-append}
+use Rattle.runner.proofs.Playing.{length-commands, lines-append, part-part}
 
 -- all the commands are one part
-pub one-part : (file : List ℕ) → part file 0 (commandsIn file) ≡ recordsOf file
-one-part file = rw (← length-commands file) (take-length (recordsOf file))
+pub one-part : (file : List ℕ) → part file 0 (commandsIn file) ≡ commandsOf file
+one-part file = rw (← length-commands file) (take-length (commandsOf file))
 
 -- what stands in front of a buffer that was written from its start
 front : {most end : ℕ} {before bytes after : List ℕ} → Written most before 0 bytes after end → take end after ≡ bytes
@@ -66,7 +67,7 @@ module _ (file : List ℕ) {buys sells trades : List ℕ} (ready : Ready file bu
       → linesTo file n ≡ linesTo file k ++ runLines (k + 1) (exchangeOf (run m₀ (part file 0 k))) (part file k n)
   unfolding linesTo
   lines-parts k n h l =
-      let e : 1 + length (part file 0 k) ≡ k + 1 = rw (length-slice 0 k (recordsOf file) (rw (length-commands file) (omega arith))) (omega arith) in
+      let e : 1 + length (part file 0 k) ≡ k + 1 = rw (length-slice 0 k (commandsOf file) (rw (length-commands file) (omega arith))) (omega arith) in
       ap (runLines 1 (opening file)) (part-part file 0 k n (omega arith) h l)
       ∙ rw (← opens-as-told file ready, lines-append m₀ formed₀ 1 (part file 0 k) (part file k n), e)
 
@@ -108,7 +109,7 @@ module _ (file : List ℕ) {buys sells trades : List ℕ} (ready : Ready file bu
           within = l;
           all = λ q. absurd (true≢false (sym q));
           memory = e;
-          money = money-is-kept m₀ (opens-formed file ready .declared) (opens-empty file ready) (part file 0 k);
+          money = money-left m₀ (opens-formed file ready .declared) (part file 0 k) _ e .from-nothing (opens-empty file ready);
         }
 
     pub whole-day : commandsIn file ≤ k → DayIs file buys sells trades (record { state = s; played = k; whole = true }) (memory s buys′ sells′ trades′)
@@ -117,7 +118,7 @@ module _ (file : List ℕ) {buys sells trades : List ℕ} (ready : Ready file bu
           within = l;
           all = λ q. ap (part file 0) at-end ∙ one-part file;
           memory = e;
-          money = money-is-kept m₀ (opens-formed file ready .declared) (opens-empty file ready) (part file 0 k);
+          money = money-left m₀ (opens-formed file ready .declared) (part file 0 k) _ e .from-nothing (opens-empty file ready);
         }
       where
         at-end : k ≡ commandsIn file

@@ -4,8 +4,8 @@ use mathlib.Core.List.{List}
 use mathlib.Core.Path.{_≡_}
 use Prim.Native.Nat.{ℕ, _≤_}
 use lib.ListN.{length}
-use Rattle.rules.specs.Condition3.{Condition3, run}
-use Rattle.rules.specs.DayFile.{sound, commandsIn, opening, recordsOf}
+use Rattle.rules.specs.Condition3.{Condition3, opened, run}
+use Rattle.rules.specs.DayFile.{sound, commandsIn, opening, commandsOf}
 use Rattle.rules.specs.Lines.{runLines}
 use Rattle.rules.specs.Memory.{Memory, memory}
 use Rattle.dayfile.specs.Opening.{openingState}
@@ -22,13 +22,13 @@ pub record Ready (file buys sells trades : List ℕ) : Type 0 where
 abbrev pub openingOf : List ℕ → List ℕ → List ℕ → List ℕ → Memory
 openingOf file buys sells trades = memory (openingState file) buys sells trades
 
--- The memory is the rules' run of the commands played, from the file's opening state, and condition 3 holds of it. They are all
--- the file's commands, where all was written.
+-- The memory is the rules' run of the commands played, from the file's opening state, which has no holdings, and condition 3 holds
+-- of it. They are all the file's commands, where all was written.
 pub record DayIs (file buys sells trades : List ℕ) (day : Day) (m′ : Memory) : Type 0 where
   pub within : day .played ≤ commandsIn file
-  pub all : day .whole ≡ true → part file 0 (day .played) ≡ recordsOf file
+  pub all : day .whole ≡ true → part file 0 (day .played) ≡ commandsOf file
   pub memory : m′ ≡ run (openingOf file buys sells trades) (part file 0 (day .played))
-  pub money : Condition3 (openingOf file buys sells trades) (part file 0 (day .played))
+  pub money : Condition3 (opened (openingOf file buys sells trades)) (openingOf file buys sells trades) (part file 0 (day .played)) m′
 
 -- ---- what the first n commands print: nothing at first, and the whole output once all are played
 unfoldable pub linesTo : List ℕ → ℕ → List ℕ

@@ -6,18 +6,18 @@ use Prim.Native.Nat.{ℕ, _+_, _<_, _≤_}
 use lib.ListN.{length}
 use lib.Seq.{slice}
 use Rattle.rules.specs.Condition3.{run}
-use Rattle.rules.specs.DayFile.{sound, commandsIn, recordsOf}
+use Rattle.rules.specs.DayFile.{sound, commandsIn, commandsOf}
 use Rattle.rules.specs.Lines.{runLines}
 use Rattle.rules.specs.Memory.{Memory, exchangeOf, WellFormedState}
-use Rattle.rules.specs.declared.Record.{Record}
+use Rattle.rules.specs.declared.Command.{Command}
 use Rattle.rules.specs.declared.State.{State}
 use Rattle.lines.specs.Written.{Written}
 use Rattle.runner.specs.Turns.{commandMost}
 use Rattle.runner.specs.declared.play.Played.{Played}
 
 -- a file's commands from place k up to place n
-abbrev pub part : List ℕ → ℕ → ℕ → List Record
-part file k n = slice k n (recordsOf file)
+abbrev pub part : List ℕ → ℕ → ℕ → List Command
+part file k n = slice k n (commandsOf file)
 
 -- what is asked for: a sound file, one of its places or its end, a well-formed state, room for one command's lines
 pub record Playable (file : List ℕ) (k : ℕ) (state : State) (buys sells trades out : List ℕ) : Type 0 where

@@ -4,10 +4,9 @@ use mathlib.Core.Path.{_≡_}
 use Prim.Native.Nat.{ℕ, _*_, _≤_}
 use lib.ListN.{length}
 use Rattle.rules.specs.Bounds.{maxAccounts, maxContracts, maxTrades}
-use Rattle.rules.specs.Command.{commandOf}
 use Rattle.rules.specs.Lines.{stepLines}
 use Rattle.rules.specs.Memory.{Memory, exchangeOf, respond, tradeStride}
-use Rattle.rules.specs.declared.Record.{Record}
+use Rattle.rules.specs.declared.Command.{Command}
 use Rattle.exchange.specs.declared.settling.Response.{Response}
 use Rattle.lines.specs.Written.{Written}
 use Rattle.runner.specs.declared.turn.Turn.{Turn}
@@ -28,6 +27,6 @@ pub record InRange (r : Response) (trades : List ℕ) : Type 0 where
   pub room : tradeStride * maxTrades ≤ length trades
 
 -- the rules' response in memory, and the rules' lines of command k in the buffer from `at` on
-pub record TurnIs (m : Memory) (r : Record) (k : ℕ) (before : List ℕ) (at : ℕ) (turn : Turn) (m′ : Memory) (after : List ℕ) : Type 0 where
-  pub memory : m′ ≡ respond m r .memory
-  pub lines : Written commandMost before at (stepLines k (exchangeOf m) (commandOf r)) after (turn .end)
+pub record TurnIs (m : Memory) (command : Command) (k : ℕ) (before : List ℕ) (at : ℕ) (turn : Turn) (m′ : Memory) (after : List ℕ) : Type 0 where
+  pub memory : m′ ≡ respond m command .memory
+  pub lines : Written commandMost before at (stepLines k (exchangeOf m) command) after (turn .end)

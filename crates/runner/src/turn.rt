@@ -3,7 +3,7 @@
 ghost use mathlib.Core.Path.{_≡_};
 ghost use Prim.Native.Nat.{_+_, _≤_};
 ghost use lib.ListN.{length};
-ghost use Rattle.rules.specs.Command.{isSettle};
+ghost use Rattle.rules.specs.Command.{commandOf};
 ghost use Rattle.rules.specs.Memory.{memory, WellFormedState};
 ghost use Rattle.lines.specs.Written.{Written};
 ghost use Rattle.runner.specs.Rows.{settlementRows, reportRows, responseRows};
@@ -25,39 +25,6 @@ pub struct Turn {
     pub end: usize,
 }
 
-fn is_settle(command: Command) -> bool
-    ensures { λ r. ⌜ r ≡ isSettle command ⌝ }
-{
-    match command {
-        Command::Malformed => false,
-        Command::Deposit {
-            account: _,
-            amount: _,
-        } => false,
-        Command::Withdraw {
-            account: _,
-            amount: _,
-        } => false,
-        Command::Insert(_) => false,
-        Command::Cancel {
-            account: _,
-            contract: _,
-            operator: _,
-            number: _,
-        } => false,
-        Command::Pull {
-            account: _,
-            contract: _,
-            operator: _,
-        } => false,
-        Command::Phase {
-            contract: _,
-            phase: _,
-        } => false,
-        Command::Settle => true,
-    }
-}
-
 // All P lines, then all B lines.
 fn put_settlement(out: &mut [u8], at: usize, state: State, report: Report) -> usize
     requires { ⌜ (state .contractcount ≤ 4) × (state .accountcount ≤ 32) × (at + settlementMost ≤ length (now out)) ⌝ }
@@ -74,7 +41,7 @@ fn put_report(out: &mut [u8], at: usize, command: Command, response: Response) -
     requires { ⌜ (response .state .contractcount ≤ 4) × (response .state .accountcount ≤ 32) × (at + settlementMost ≤ length (now out)) ⌝ }
     ensures { λ r. ⌜ Written settlementMost (now (out .entry)) at (reportRows command response) (now (out .exit)) r ⌝ }
 {
-    if !is_settle(command) {
+    if !commands::is_settle(command) {
         return at;
     }
     let answer = response.answer;
@@ -118,7 +85,7 @@ pub fn play_record(
     at: usize,
 ) -> Turn
     requires { ⌜ WellFormedState state (now buys) (now sells) (now trades) × (at + commandMost ≤ length (now out)) ⌝ }
-    ensures { λ t. ⌜ TurnIs (memory state (now (buys .entry)) (now (sells .entry)) (now (trades .entry))) r k (now (out .entry)) at t (memory (t .state) (now (buys .exit)) (now (sells .exit)) (now (trades .exit))) (now (out .exit)) ⌝ }
+    ensures { λ t. ⌜ TurnIs (memory state (now (buys .entry)) (now (sells .entry)) (now (trades .entry))) (commandOf r) k (now (out .entry)) at t (memory (t .state) (now (buys .exit)) (now (sells .exit)) (now (trades .exit))) (now (out .exit)) ⌝ }
 {
     let before = state.tradecount;
     let command = commands::command_of(r);

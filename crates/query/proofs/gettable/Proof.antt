@@ -5,11 +5,11 @@ use mathlib.Core.Path.{_≡_, sym, ap, _∙_}
 use borrow.Author.Tests.{not-true, not-false}
 use borrow.Author.Needs.{needs}
 use denote.Ref.{now}
-use Rattle.rules.specs.Command.{commandOf}
+use Rattle.rules.specs.Command.{commandOf, isInsert}
+use Rattle.rules.proofs.EachKind.{other-kind}
 use Rattle.rules.specs.Memory.{wellFormedMemory, memory}
 use Rattle.engine.proofs.Declared.{declared}
-use Rattle.query.specs.Gettable.{isInsert}
-use Rattle.query.proofs.Asking.{an-insert, no-insert, not-formed, other-kind}
+use Rattle.query.proofs.Asking.{an-insert, no-insert, not-formed}
 use Rattle.query.proofs.gettable.Statement.{statement}
 use Rattle.query.proofs.gettable.Tie as tie
 
@@ -42,7 +42,7 @@ refused-requires-2 : tie.Need-refused-requires-2
 refused-requires-2 c κs = search needs
 
 returns-2 : tie.Need-returns-2
-returns-2 c = c .refused2 .ensures ∙ no-insert _ _ (sound (c .before .before .before .before .before)) (ap isInsert (sym (c .before .before .command-of .ensures ∙ ap commandOf (c .before .before .before .record-at .ensures))) ∙ other-kind (c .before .before .command-of .result) (c .before .match .keys2))
+returns-2 c = c .refused2 .ensures ∙ no-insert _ _ (sound (c .before .before .before .before .before)) (ap isInsert (sym (c .before .before .command-of .ensures ∙ ap commandOf (c .before .before .before .record-at .ensures))) ∙ other-kind _ 3 tt (c .before .before .command-of .result) (c .before .match .keys2))
 
 reading-of-requires : tie.Need-reading-of-requires
 reading-of-requires c κs = record { declared = declared (c .before .before .before .before .before .before .before .before .before .before .before .good .0); formed = sound (c .before .before .before .before .before .before) }

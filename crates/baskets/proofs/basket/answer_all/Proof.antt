@@ -8,7 +8,7 @@ use denote.Ref.{now}
 use lib.ListN.{length}
 use Rattle.rules.specs.Condition3.{run}
 use Rattle.rules.specs.Memory.{memory}
-use Rattle.exchange.specs.Run.{firstRecords}
+use Rattle.exchange.specs.Run.{firstCommands}
 use Rattle.exchange.proofs.Runs.{none-ran, one-turn, running}
 use Rattle.baskets.proofs.Answering.{all-answered, answered, none-answered, one-answered}
 use Rattle.baskets.proofs.basket.answer_all.Statement.{statement}
@@ -21,7 +21,7 @@ use Rattle.exchange.proofs.step.step_at.Reads as step-at-reads
 abbrev Inv-loop : tie.InvT-loop
 Inv-loop buys₀ sells₀ trades₀ bytes n answers₀ current₀ k₀ buys sells trades answers current k =
     (k ≤ n)
-    × ((memory current buys sells trades ≡ run (memory current₀ buys₀ sells₀ trades₀) (firstRecords bytes k))
+    × ((memory current buys sells trades ≡ run (memory current₀ buys₀ sells₀ trades₀) (firstCommands bytes k))
     × ((answers ≡ answered (memory current₀ buys₀ sells₀ trades₀) bytes answers₀ k)
     × ((length buys ≡ length buys₀) × ((length sells ≡ length sells₀) × ((length trades ≡ length trades₀) × (length answers ≡ length answers₀))))))
 

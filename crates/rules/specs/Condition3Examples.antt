@@ -1,0 +1,96 @@
+-- Condition 3's own figures worked out by hand, on document 01's day and from a state loaded with holdings. One table, one statement,
+-- as in Examples.antt. Assumes nothing.
+use mathlib.Core.Bool.{true}
+use mathlib.Core.List.{List, [], _∷_}
+use mathlib.Core.Path.{_≡_, refl}
+use Prim.Native.Nat.{ℕ, suc}
+use lib.IntN.{ℤ, pos, negsuc, _+ℤ_}
+use Rattle.laws.specs.Sums.{sumOf, sumTo}
+use Rattle.laws.specs.Tabulate.{tabulate}
+use Rattle.areas.specs.Records.{decode, records}
+use Rattle.rules.specs.Condition3.{inTo, outOf, sales, costs, bought, sold, netHolding, loadedWorth, loaded, opened, worth}
+use Rattle.rules.specs.Examples.{Row, _gives_, allRight}
+use Rattle.rules.specs.Exchange.{Exchange, accountAt, holdingAt, listingAt}
+use Rattle.rules.specs.Kinds.{paysIn, paysOut}
+use Rattle.rules.specs.Matching.{tradedLots}
+use Rattle.rules.specs.Memory.{Memory, exchangeOf, listingIn, memory, queueIn, recordedTrades}
+use Rattle.rules.specs.Settlement.{priceFrom, settlementPrice, tradedValue, tradesIn, weightedPrice}
+use Rattle.rules.specs.declared.Account.{Account}
+use Rattle.rules.specs.declared.Trade.{Trade}
+
+-- two accounts with 10,000 each in one contract, multiplier 10, reference 100; the first long and the second short so many lots
+account : ℕ → ℕ → Account
+account long short = record { balance = pos 10_000; holdings = record { long = long; short = short; startlong = long; startshort = short } ∷ [] }
+
+start : ℕ → Memory
+start lots =
+    memory
+    (record {
+      contracts = record { multiplier = 10; tick = 1; reference = 100; band = 10; limit = 1_000; rate = 1_000; method = 0; phase = 0; last = 107 } ∷ [];
+      accounts = account lots 0 ∷ account 0 lots ∷ [];
+      buys = 0 ∷ [];
+      sells = 0 ∷ [];
+      contractcount = 1;
+      accountcount = 2;
+      tradecount = 0;
+      next = 1;
+      settlements = 0;
+    }) [] [] []
+
+-- the day's two trades, 3 at 102 and 2 at 103, which settle at 102
+trade : ℕ → ℕ → ℕ → ℕ → Trade
+trade price lots buyer seller =
+    record { contract = 0; price = price; lots = lots; buyorder = 2; sellorder = 1; buyer = buyer; seller = seller; buyclose = 0; sellclose = 0 }
+
+day : List Trade
+day = trade 102 3 1 0 ∷ trade 103 2 0 1 ∷ []
+
+found : Memory → Exchange
+found m =
+    record { listings = exchangeOf m .listings; accounts = exchangeOf m .accounts; trades = day; next = 5; settlements = 0 }
+
+-- an account's worth after the day, where its net holding starts from what the memory holds
+worthOf : ℕ → (ℕ → ℤ) → ℕ → ℤ
+worthOf lots held a = worth (start lots) (found (start lots)) a day (λ c. held c +ℤ netHolding a c day)
+
+-- a gain, and a loss, each 0 where it is the other
+gained : ℤ → ℕ
+gained (pos n) = n
+gained (negsuc n) = 0
+
+lost : ℤ → ℕ
+lost (pos n) = 0
+lost (negsuc n) = suc n
+
+pub table : List Row
+table =
+    -- account 1 sells 3 at 102 and buys 2 at 103
+    (sales 0 0 day gives 306)
+    ∷ (costs 0 0 day gives 206)
+    ∷ (bought 0 0 day gives 2)
+    ∷ (sold 0 0 day gives 3)
+    ∷ (lost (netHolding 0 0 day) gives 1)
+    ∷ (gained (netHolding 1 0 day) gives 1)
+    -- the day's B lines: 9,980 and 10,020
+    ∷ (gained (opened (start 0) .money 0) gives 10_000)
+    ∷ (lost (worthOf 0 (opened (start 0) .held 0) 0) gives 20)
+    ∷ (gained (worthOf 0 (opened (start 0) .held 1) 1) gives 20)
+    -- loaded with 3 long and 3 short at the reference, 100: 3,000 are taken off the first balance, and put on the second
+    ∷ (gained (loadedWorth (start 3) 0) gives 3_000)
+    ∷ (lost (loadedWorth (start 3) 1) gives 3_000)
+    ∷ (gained (loaded (start 3) .money 0) gives 7_000)
+    ∷ (gained (loaded (start 3) .money 1) gives 13_000)
+    -- 2 long lots are left and 2 short ones: 10,040 and 9,960 after the settlement
+    ∷ (gained (worthOf 3 (loaded (start 3) .held 0) 0) gives 3_040)
+    ∷ (lost (worthOf 3 (loaded (start 3) .held 1) 1) gives 3_040)
+    -- a payment is one account's, and in or out
+    ∷ (inTo 0 (paysIn 0 5) gives 5)
+    ∷ (inTo 1 (paysIn 0 5) gives 0)
+    ∷ (outOf 0 (paysIn 0 5) gives 0)
+    ∷ (inTo 0 (paysOut 0 5) gives 0)
+    ∷ (outOf 0 (paysOut 0 5) gives 5)
+    ∷ []
+
+pub condition-3-examples : allRight table ≡ true
+unfolding allRight table account start trade day found worthOf gained lost sumOf sumTo tabulate decode records inTo outOf sales costs bought sold netHolding loadedWorth worth accountAt holdingAt listingAt tradedLots exchangeOf listingIn queueIn recordedTrades priceFrom settlementPrice tradedValue tradesIn weightedPrice
+condition-3-examples = refl
