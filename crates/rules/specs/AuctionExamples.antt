@@ -9,18 +9,21 @@ use lib.ListN.{length, getD}
 use Rattle.laws.specs.Sums.{sumOf}
 use Rattle.rules.specs.Auction.{Matched, auctionMatch, auctionPrice, bestFrom, bestOf, better, chosenPrice, lotsReaching, matchAt, matchIn, matchOf, prices, surplus, tradeAt, volume}
 use Rattle.rules.specs.Answers.{listingOf, takerOf}
-use Rattle.rules.specs.Bounds.{auction, continuous}
+use Rattle.rules.specs.Bounds.{auction, continuous, noTrading}
+use Rattle.rules.specs.Condition3.{madeBy}
 use Rattle.rules.specs.Examples.{Row, _gives_, allRight}
 use Rattle.rules.specs.Exchange.{Exchange, Listing, accountAt, bestPrice, holdingAt, listingAt, lotsWhere, noHolding, noTrade}
 use Rattle.rules.specs.Holdings.{afterLeg, bookLeg, bookTrade, bookTrades}
-use Rattle.rules.specs.Kinds.{lastOf}
+use Rattle.rules.specs.Kinds.{kindOf, lastOf}
 use Rattle.rules.specs.Matching.{Entered, enter, lastPrice, meets, methodOf, middle, pairedPrice, remainder, restIn, restLots, restWhole, restedLots, stays, sweep, tradePrice, tradeWith, tradedLots}
 use Rattle.rules.specs.Step.{Effect, enteredOf, exchangeMatched, listingMatched, phaseChanged}
 use Rattle.rules.specs.declared.Account.{Account}
+use Rattle.rules.specs.declared.Command.the-variants.{Phase}
 use Rattle.rules.specs.declared.Holding.{Holding}
 use Rattle.rules.specs.declared.Order.{Order}
 use Rattle.rules.specs.declared.PriceCondition.the-variants.{Limit}
 use Rattle.rules.specs.declared.TimeCondition.the-variants.{GoodForDay}
+use Rattle.rules.specs.declared.Trade.{Trade}
 
 order : ℕ → ℕ → ℕ → Order
 order number price lots = record { price = price; number = number; account = 0; lots = lots; close = 0 }
@@ -107,8 +110,15 @@ entered phase =
 changed : ℕ → List Order → Effect
 changed phase buys = phaseChanged (asked phase buys) 0 continuous
 
+bid : List Order
+bid = of (order 1 105 2) 1 0 ∷ []
+
 opened : Effect
-opened = changed auction (of (order 1 105 2) 1 0 ∷ [])
+opened = changed auction bid
+
+-- the trades that condition 3 counts for the change
+counted : ℕ → List Trade
+counted phase = madeBy (kindOf (asked phase bid) (Phase 1 continuous) .moves)
 
 -- the state that it leaves
 after : Effect → Exchange
@@ -193,6 +203,10 @@ table =
     ∷ (holding opened 0 .long gives 2)
     ∷ (holding opened 0 .short gives 0)
     ∷ (holding opened 1 .long gives 1)
+    -- condition 3 counts the trade: 1 at 101; out of another state there is none, crossed as the book is
+    ∷ (tradedLots (counted auction) gives 1)
+    ∷ (getD (counted auction) 0 noTrade .price gives 101)
+    ∷ (length (counted noTrading) gives 0)
     -- no volume: only the state changes
     ∷ (changed auction [] .traded gives 0)
     ∷ (listingAt (after (changed auction [])) 0 .contract .phase gives 1)
@@ -202,5 +216,5 @@ table =
     ∷ []
 
 pub auction-examples : allRight table ≡ true
-unfolding allRight table order buys001 sells001 buys000 sells000 buysTie sellsTie buysSigned sellsSigned buysApart priceOf lotsOf buyOf sellOf of account listing asked entered changed opened after holding accountAt afterLeg bookLeg bookTrade bookTrades holdingAt listingAt lastPrice sumOf lotsWhere bestPrice stays tradedLots prices lotsReaching volume surplus better bestFrom bestOf chosenPrice auctionPrice tradeAt matchIn matchAt auctionMatch matchOf listingOf takerOf enter meets methodOf middle pairedPrice remainder restIn restLots restWhole restedLots sweep tradePrice tradeWith enteredOf listingMatched exchangeMatched phaseChanged
+unfolding allRight table order buys001 sells001 buys000 sells000 buysTie sellsTie buysSigned sellsSigned buysApart priceOf lotsOf buyOf sellOf of account listing asked entered changed bid opened counted after holding accountAt afterLeg bookLeg bookTrade bookTrades holdingAt listingAt lastPrice sumOf lotsWhere bestPrice stays tradedLots prices lotsReaching volume surplus better bestFrom bestOf chosenPrice auctionPrice tradeAt matchIn matchAt auctionMatch matchOf listingOf takerOf enter meets methodOf middle pairedPrice remainder restIn restLots restWhole restedLots sweep tradePrice tradeWith enteredOf listingMatched exchangeMatched phaseChanged kindOf madeBy
 auction-examples = refl
