@@ -46,34 +46,14 @@ fn say(byte: u8) {
     io::write_all(STDOUT_FILENO, &[byte]);
 }
 
+// A letter for each kind, by its number.
 fn letter(command: Command) -> u8 {
-    match command {
-        Command::Malformed => b'-',
-        Command::Deposit {
-            account: _,
-            amount: _,
-        } => b'd',
-        Command::Withdraw {
-            account: _,
-            amount: _,
-        } => b'w',
-        Command::Insert(_) => b'i',
-        Command::Cancel {
-            account: _,
-            contract: _,
-            operator: _,
-            number: _,
-        } => b'c',
-        Command::Pull {
-            account: _,
-            contract: _,
-            operator: _,
-        } => b'p',
-        Command::Phase {
-            contract: _,
-            phase: _,
-        } => b's',
-        Command::Settle => b'e',
+    let letters = b"-dwicpse";
+    let kind = commands::kind_of(command) as usize;
+    if kind < letters.len() {
+        letters[kind]
+    } else {
+        b'?'
     }
 }
 
