@@ -8,6 +8,7 @@ use lib.IntN.{ℤ, pos, negsuc, _+ℤ_}
 use Rattle.laws.specs.Sums.{sumOf, sumTo}
 use Rattle.laws.specs.Tabulate.{tabulate}
 use Rattle.areas.specs.Records.{decode, records}
+use Rattle.rules.specs.Bounds.{preOpen}
 use Rattle.rules.specs.Condition3.{inTo, outOf, sales, costs, bought, sold, netHolding, loadedWorth, loaded, opened, worth}
 use Rattle.rules.specs.Examples.{Row, _gives_, allRight}
 use Rattle.rules.specs.Exchange.{Exchange, accountAt, holdingAt, listingAt}
@@ -26,7 +27,7 @@ start : ℕ → Memory
 start lots =
     memory
     (record {
-      contracts = record { multiplier = 10; tick = 1; reference = 100; band = 10; limit = 1_000; rate = 1_000; method = 0; phase = 0; last = 107 } ∷ [];
+      contracts = record { multiplier = 10; tick = 1; reference = 100; band = 10; limit = 1_000; rate = 1_000; method = 0; phase = preOpen; last = 107 } ∷ [];
       accounts = account lots 0 ∷ account 0 lots ∷ [];
       buys = 0 ∷ [];
       sells = 0 ∷ [];
