@@ -4,7 +4,7 @@
 -- the cash, and no settlement changes cash and position (Books.antt). It rests on the two facts that Runs.antt rests on. Assumes
 -- nothing else.
 use mathlib.Core.Bool.{Bool, true, false}
-use mathlib.Core.List.{List, [], _∷_}
+use mathlib.Core.List.{List, []}
 use mathlib.Core.Path.{_≡_, refl, sym, ap, ap₂, _∙_}
 use Prim.Native.Nat.{ℕ, _<_}
 use native.Mathlib.Omega.{arith}

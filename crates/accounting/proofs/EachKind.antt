@@ -2,11 +2,10 @@
 -- nothing.
 use mathlib.Core.Bool.{Bool, true, false}
 use mathlib.Core.Path.{_≡_, refl}
-use borrow.Author.Tests.{eq-eqb, ne-eqb}
 use lib.Dec.{eqb}
 use Rattle.laws.specs.Choice.{pick}
 use Rattle.rules.specs.Exchange.{Exchange, placeOf}
-use Rattle.rules.specs.Kinds.{Decision, nothing, kindOf, codeOf, decide, lastOf, step}
+use Rattle.rules.specs.Kinds.{nothing, kindOf, codeOf, decide, lastOf, step}
 use Rattle.rules.specs.Step.{deposited, withdrawn, inserted, removed, cancelled, pulled, phaseChanged, settledAll}
 use Rattle.rules.specs.WellFormed.{replays}
 use Rattle.rules.specs.declared.Command.{Command}

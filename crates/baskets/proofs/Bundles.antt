@@ -1,14 +1,12 @@
 -- What a bundle leaves, refused and carried out; and a day of calls is the rules' run of the commands that it reads. Assumes
 -- nothing.
-use mathlib.Core.Bool.{Bool, true, false, not, _||_}
-use mathlib.Core.List.{List, [], _∷_, _++_}
-use mathlib.Core.Path.{_≡_, refl, sym, ap, _∙_, subst}
-use Prim.Native.Nat.{ℕ, zero, suc, _*_, _/_, _<_, _≤_}
+use mathlib.Core.Bool.{true, false}
+use mathlib.Core.List.{List, [], _∷_}
+use mathlib.Core.Path.{_≡_, refl, sym, _∙_}
+use Prim.Native.Nat.{ℕ, suc, _*_, _/_, _<_, _≤_}
 use native.Mathlib.Omega.{arith}
 use borrow.Author.Tests.{lt-ltb, le-ltb, ne-eqb}
-use lib.Dec.{eqb, ltb}
 use lib.ListN.{length}
-use Rattle.laws.specs.Choice.{pick}
 use Rattle.laws.specs.Tabulate.{length-tabulate}
 use Rattle.areas.specs.Records.{store}
 use Rattle.areas.proofs.Records.{store-nil}
@@ -17,7 +15,6 @@ use Rattle.rules.specs.Condition3.{MoneyKept, run}
 use Rattle.rules.specs.DayFile.{commandFrom}
 use Rattle.rules.specs.Memory.{Declared, Memory, respond, wellFormedMemory}
 use Rattle.rules.specs.declared.Command.{Command}
-use Rattle.rules.specs.declared.State.{State}
 use Rattle.accounting.proofs.Runs.{run-append}
 use Rattle.invariants.proofs.Condition3.{money-left}
 use Rattle.exchange.specs.Run.{firstCommands, wholeCommands}

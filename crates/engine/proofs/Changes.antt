@@ -14,7 +14,7 @@ use Rattle.rules.specs.Kinds.{codeOf, kindOf}
 use Rattle.rules.specs.Answers.{changeListed, firstOf, phaseRefusals}
 use Rattle.rules.specs.Command.{phaseKnown}
 use Rattle.rules.specs.Exchange.{Listing, listingAt, noContract}
-use Rattle.rules.specs.Memory.{Memory, exchangeOf, listingIn, put, stepIn, memory, WellFormedState, written}
+use Rattle.rules.specs.Memory.{Memory, exchangeOf, listingIn, stepIn, memory, WellFormedState, written}
 use Rattle.rules.specs.Step.{phaseChanged, withPhase}
 use Rattle.rules.specs.declared.Command.the-variants.{Phase}
 use Rattle.rules.specs.declared.State.{State}

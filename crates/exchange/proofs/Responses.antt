@@ -1,20 +1,19 @@
 -- From an outcome of one kind to the public response: what is not a settlement reports nothing; a settlement's codes, its state
 -- and its report. Assumes nothing.
-use mathlib.Core.Bool.{Bool, true, false, not, _&&_}
+use mathlib.Core.Bool.{true, false, not}
 use mathlib.Core.List.{List}
-use mathlib.Core.Path.{_≡_, refl, sym, ap, _∙_, subst⁻¹}
+use mathlib.Core.Path.{_≡_, refl, ap, _∙_, subst⁻¹}
 use Prim.Native.Nat.{ℕ, zero, suc, _<_, _≤_}
 use borrow.Author.Tests.{le-leb, lt-leb}
 use native.Mathlib.Omega.{arith}
-use lib.Dec.{eqb, leb, eqb·suc-zero}
-use lib.ListN.{length, getD}
-use Rattle.laws.specs.Choice.{all, all-ext, allOf, allOf-all, pick}
+use lib.Dec.{eqb, eqb·suc-zero}
+use lib.ListN.{getD}
+use Rattle.laws.specs.Choice.{all, all-ext, allOf, allOf-all}
 use Rattle.rules.specs.Kinds.{codeOf, decide, kindOf}
 use Rattle.rules.specs.Answers.{firstOf, settleRefusals}
 use Rattle.rules.specs.Command.{isSettle}
 use Rattle.rules.specs.Exchange.{Listing, listingAt, noContract, noListing}
-use Rattle.rules.specs.Memory.{Memory, exchangeOf, listingIn, put, respond, stepIn, wellFormedMemory, memory, WellFormedState}
-use Rattle.rules.specs.Settlement.{settled}
+use Rattle.rules.specs.Memory.{Memory, exchangeOf, listingIn, respond, stepIn, wellFormedMemory, memory, WellFormedState}
 use Rattle.rules.specs.Step.{answerOf, settledAll}
 use Rattle.rules.specs.declared.Command.{Command}
 use Rattle.rules.specs.declared.Command.the-variants.{Malformed, Settle}

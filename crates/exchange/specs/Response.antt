@@ -1,5 +1,5 @@
 -- What a public call gives and leaves, against the rules' response, and what a settlement reports. Assumes nothing.
-use mathlib.Core.Bool.{Bool, true, false, _&&_}
+use mathlib.Core.Bool.{_&&_}
 use mathlib.Core.List.{List}
 use mathlib.Core.Path.{_≡_}
 use Prim.Native.Nat.{ℕ}
@@ -13,7 +13,7 @@ use Rattle.rules.specs.Kinds.{codeOf}
 use Rattle.rules.specs.Bounds.{maxAccounts, maxContracts}
 use Rattle.rules.specs.Command.{isSettle}
 use Rattle.rules.specs.Margin as margin
-use Rattle.rules.specs.Memory.{Memory, Responded, exchangeOf, respond, stepIn, wellFormedMemory, memory}
+use Rattle.rules.specs.Memory.{Memory, exchangeOf, respond, stepIn, wellFormedMemory, memory}
 use Rattle.rules.specs.Settlement.{closingProfit, holdingProfit, settled, settlementPrice}
 use Rattle.rules.specs.declared.Command.{Command}
 use Rattle.engine.specs.declared.answers.Outcome.{Outcome}

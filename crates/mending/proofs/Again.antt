@@ -1,11 +1,11 @@
 -- "A mended file mends to itself with an empty list." Assumes nothing.
 use mathlib.Core.Bool.{Bool, true, false, true≢false, _&&_}
-use mathlib.Core.List.{List, [], _∷_, _++_, append-nil}
+use mathlib.Core.List.{List, [], _++_, append-nil}
 use mathlib.Core.Path.{_≡_, refl, sym, ap, _∙_}
-use Prim.Native.Nat.{ℕ, zero, suc, _+_, _-_, _*_, _/_, _%_, _≤_, _<_}
+use Prim.Native.Nat.{ℕ, zero, suc, _+_, _-_, _*_, _%_, _≤_, _<_}
 use native.Mathlib.Omega.{arith}
 use lib.Dec.{leb, ltb, eqb}
-use lib.ListN.{length, getD, take, drop, length-append, List·getD-append}
+use lib.ListN.{length, getD, take, drop, List·getD-append}
 use lib.Seq.{drop-drop, take-add, getD-take, getD-drop, getD-append-add}
 use borrow.Author.Tests.{eq-eqb, le-leb, lt-leb, ltb-true, ltb-false}
 use native.Mathlib.Nat.{zero-add}
@@ -14,7 +14,7 @@ use Rattle.laws.specs.Choice.{all, all-ext, both-true}
 use Rattle.dayfile.proofs.Places.{contract-place, account-place, command-place, accounts-read, commands-read, sound-is as DayFile·sound-is, length-decides as DayFile·length-decides}
 use Rattle.dayfile.specs.Opening.{shaped}
 use Rattle.rules.specs.DayFile.{sound as DayFile·sound}
-use Rattle.mending.proofs.Heads.{Head, head, length-decides, sound-is, sound-head}
+use Rattle.mending.proofs.Heads.{head, length-decides, sound-is, sound-head}
 use Rattle.mending.proofs.Records.{length-kept}
 use Rattle.mending.proofs.Whole.{kept-limit, length-mended, place-least, place-within, whole-within}
 use Rattle.mending.proofs.Writing.{length-four}

@@ -1,14 +1,14 @@
 -- The mended file and the list as wholes: lengths, what is written, and the ways out of the call. Assumes nothing.
-use mathlib.Core.Bool.{Bool, true, false, not}
-use mathlib.Core.List.{List, [], _∷_, _++_, append-nil}
+use mathlib.Core.Bool.{Bool, true, false}
+use mathlib.Core.List.{List, [], _++_, append-nil}
 use mathlib.Core.Path.{_≡_, refl, sym, ap, _∙_}
-use Prim.Native.Nat.{ℕ, zero, suc, _+_, _-_, _*_, _/_, _%_, _≤_, _<_}
+use Prim.Native.Nat.{ℕ, zero, suc, _+_, _-_, _*_, _%_, _≤_, _<_}
 use native.Mathlib.Nat.{div-mul-le-self, add-zero}
 use native.Mathlib.Omega.{arith}
 use lib.Dec.{leb, ltb, eqb}
 use lib.ListN.{length, take, drop, length-append}
 use lib.Seq.{length-take-le}
-use borrow.Author.Tests.{leb-true, leb-false, lt-ltb, le-ltb, ne-eqb}
+use borrow.Author.Tests.{leb-false, lt-ltb, le-ltb, ne-eqb}
 use Rattle.areas.specs.Lists.{over}
 use Rattle.laws.specs.Choice.{pick}
 use Rattle.lines.specs.Written.{Written}
@@ -18,9 +18,8 @@ use Rattle.rules.specs.Command.{commandOf, isMalformed}
 use Rattle.rules.specs.DayFile.{commandPlace, recordFrom}
 use Rattle.dayfile.proofs.Places.{command-place}
 use Rattle.mending.specs.Mend.{MendIs, four, eight, entry, headSound, reason, kept, keptBytes, keptCount, dropped, droppedCount, droppedList, listFrom, mendCode, mendedFile, partialRecord, wholeRecords}
-use Rattle.mending.specs.declared.mend.Mended.{Mended}
 use Rattle.mending.proofs.Heads.{sound-head}
-use Rattle.mending.proofs.Records.{kept-most, length-kept, length-dropped}
+use Rattle.mending.proofs.Records.{length-kept, length-dropped}
 use Rattle.mending.proofs.Writing.{length-four, length-eight, length-entry}
 
 pub whole-within : (file : List ℕ) (first : ℕ) → first ≤ length file → first + 24 * wholeRecords file first ≤ length file

@@ -1,8 +1,8 @@
 -- From the tests as the code makes them to the answer of the rules: an order on a well-formed state, and 24 bytes on any. Assumes
 -- nothing.
-use mathlib.Core.Bool.{Bool, true, false, not}
+use mathlib.Core.Bool.{true, false, not}
 use mathlib.Core.List.{List}
-use mathlib.Core.Path.{_≡_, refl, sym, ap, _∙_}
+use mathlib.Core.Path.{_≡_, sym, ap, _∙_}
 use Prim.Native.Nat.{ℕ, _-_}
 use borrow.Author.Tests.{ne-eqb}
 use lib.ListN.{getD}

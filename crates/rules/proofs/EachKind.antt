@@ -1,7 +1,7 @@
 -- A command by its number and by the tag of the declared enum, and the order that an insert's bytes hold: laws by clauses on the
 -- kinds, so that no other proof needs them. Assumes nothing.
 use mathlib.Core.Bool.{Bool, true, false, not, false≢true}
-use mathlib.Core.List.{List}
+use mathlib.Core.List.{List, [], _∷_}
 use mathlib.Core.Path.{_≡_, refl, sym, ap, _∙_, subst}
 use Prim.Native.Nat.{ℕ}
 use borrow.Author.Tests.{ne-eqb}
@@ -27,10 +27,17 @@ tag-is (Pull account contract operator) = refl
 tag-is (Phase contract phase) = refl
 tag-is Settle = refl
 
--- a command whose tag is one of some is of no other kind
-pub other-kind : (ks : List ℕ) (n : ℕ) → T (not (hasKey ks n)) → (d : Command) → OneOf ks (tagOf the-type d) → eqb (kindNumber d) n ≡ false
-other-kind ks n h d o =
-    ne-eqb (kindNumber d) n (λ (e : kindNumber d ≡ n). miss ks n h (subst (OneOf ks) (tag-is d ∙ e) o))
+-- the tags of all kinds but one: what is known of a command where a `match` or a `let .. else` has that one apart
+abbrev but : ℕ → List ℕ → List ℕ
+but n [] = []
+but n (k ∷ ks) = pick (eqb k n) (but n ks) (k ∷ but n ks)
+
+abbrev pub allBut : ℕ → List ℕ
+allBut n = but n (0 ∷ 1 ∷ 2 ∷ 3 ∷ 4 ∷ 5 ∷ 6 ∷ 7 ∷ [])
+
+pub other-kind : (n : ℕ) → T (not (hasKey (allBut n) n)) → (d : Command) → OneOf (allBut n) (tagOf the-type d) → eqb (kindNumber d) n ≡ false
+other-kind n h d o =
+    ne-eqb (kindNumber d) n (λ (e : kindNumber d ≡ n). miss (allBut n) n h (subst (OneOf (allBut n)) (tag-is d ∙ e) o))
 
 pub settle-is : (d : Command) → isSettle d ≡ true → d ≡ Settle
 settle-is Malformed e = absurd (false≢true e)

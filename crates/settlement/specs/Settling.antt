@@ -1,5 +1,4 @@
 -- What a settlement asks for, what it gives back, and its parts as the code makes them, on the state as it lies. Assumes nothing.
-use mathlib.Core.Bool.{true}
 use mathlib.Core.List.{List, [], map}
 use mathlib.Core.Path.{_≡_}
 use Prim.Native.Nat.{ℕ, _+_, _*_, _^_, _<_, _≤_}

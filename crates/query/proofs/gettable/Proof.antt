@@ -42,7 +42,7 @@ refused-requires-2 : tie.Need-refused-requires-2
 refused-requires-2 c κs = search needs
 
 returns-2 : tie.Need-returns-2
-returns-2 c = c .refused2 .ensures ∙ no-insert _ _ (sound (c .before .before .before .before .before)) (ap isInsert (sym (c .before .before .command-of .ensures ∙ ap commandOf (c .before .before .before .record-at .ensures))) ∙ other-kind _ 3 tt (c .before .before .command-of .result) (c .before .match .keys2))
+returns-2 c = c .refused2 .ensures ∙ no-insert _ _ (sound (c .before .before .before .before .before)) (ap isInsert (sym (c .before .before .command-of .ensures ∙ ap commandOf (c .before .before .before .record-at .ensures))) ∙ other-kind 3 tt (c .before .before .command-of .result) (c .before .match .keys2))
 
 reading-of-requires : tie.Need-reading-of-requires
 reading-of-requires c κs = record { declared = declared (c .before .before .before .before .before .before .before .before .before .before .before .good .0); formed = sound (c .before .before .before .before .before .before) }

@@ -1,10 +1,9 @@
 -- `basket::answer_all` meets its contract: the first k commands leave the rules' run of them, and their answers stand in the
 -- area. Assumes nothing.
 use mathlib.Core.Path.{_≡_, refl, _∙_}
-use Prim.Native.Nat.{ℕ, _+_, _-_, _*_, _^_, _<_, _≤_}
+use Prim.Native.Nat.{_-_, _≤_}
 use native.Mathlib.Omega.{arith}
 use borrow.Author.Needs.{needs}
-use denote.Ref.{now}
 use lib.ListN.{length}
 use Rattle.rules.specs.Condition3.{run}
 use Rattle.rules.specs.Memory.{memory}

@@ -1,14 +1,11 @@
 -- `basket::submit` meets its contract: code 21 by the audit, 22 by the counts, all else by `answer_all`. Assumes nothing.
-use mathlib.Core.Bool.{true}
-use mathlib.Core.Path.{_≡_, refl, sym, _∙_}
-use Prim.Native.Nat.{ℕ, _*_, _/_, _≤_}
+use mathlib.Core.Path.{refl, sym, _∙_}
 use native.Mathlib.Nat.{div-mul-le-self}
 use native.Mathlib.Omega.{arith}
 use borrow.Author.Needs.{needs}
 use borrow.Author.Tests.{not-true, not-false}
 use denote.Ref.{now}
 use lib.ListN.{length}
-use Rattle.rules.specs.Memory.{wellFormedMemory, memory}
 use Rattle.engine.proofs.Declared.{declared}
 use Rattle.baskets.proofs.Bundles.{ill-formed, too-many, no-room, all-carried}
 use Rattle.baskets.proofs.basket.submit.Statement.{statement}
