@@ -8,13 +8,13 @@ use Prim.Native.Nat.{ℕ, suc, _<_}
 use native.Mathlib.Omega.{arith}
 use borrow.Author.Tests.{eq-eqb, leb-true, leb-false, ltb-true}
 use lib.Dec.{eqb, leb, ltb}
-use lib.IntN.{ℤ, pos, negsuc}
+use lib.IntN.{pos}
 use lib.ListN.{length, getD}
 use Rattle.laws.specs.Choice.{all, allOf, all-at, both-true}
 use Rattle.laws.specs.Sums.{sumOf, sumTo}
 use Rattle.rules.specs.Answers.{mark}
 use Rattle.rules.specs.Bounds.{allowedToday, closed, dayHigh, dayLow, onTick, termsInRange, tickMultiple}
-use Rattle.rules.specs.Examples.{Row, _gives_, allRight}
+use Rattle.rules.specs.Examples.{Row, _gives_, allRight, up, down}
 use Rattle.rules.specs.Exchange.{Exchange, accountAt, holdingAt, listingAt, lotsWhere, resting}
 use Rattle.rules.specs.Holdings.{afterLeg, bookLeg, bookTrade, bookTrades, legCovered, neverBelowZero, sameHoldings, sameLots, startOfDay}
 use Rattle.rules.specs.Matching.{tradedLots}
@@ -99,15 +99,6 @@ day =
 pub todayFirst : Side → ℕ → ℕ
 todayFirst long i = getD (2 ∷ 3 ∷ 0 ∷ []) i 0
 todayFirst short i = 1
-
--- a gain, and a loss, each 0 where it is the other
-up : ℤ → ℕ
-up (pos n) = n
-up (negsuc n) = 0
-
-down : ℤ → ℕ
-down (pos n) = 0
-down (negsuc n) = suc n
 
 pairs : Side → (ℕ → ℕ) → ℕ
 pairs side of = mark (isPairing (openOf day 0 0 side) (closedOf day 0 0 side) of)

@@ -3,14 +3,14 @@
 use mathlib.Core.Bool.{true}
 use mathlib.Core.List.{List, [], _∷_}
 use mathlib.Core.Path.{_≡_, refl}
-use Prim.Native.Nat.{ℕ, suc}
-use lib.IntN.{ℤ, pos, negsuc, _+ℤ_}
+use Prim.Native.Nat.{ℕ}
+use lib.IntN.{ℤ, pos, _+ℤ_}
 use Rattle.laws.specs.Sums.{sumOf, sumTo}
 use Rattle.laws.specs.Tabulate.{tabulate}
 use Rattle.areas.specs.Records.{decode, records}
 use Rattle.rules.specs.Bounds.{preOpen}
 use Rattle.rules.specs.Condition3.{inTo, outOf, sales, costs, bought, sold, netHolding, loadedWorth, loaded, opened, worth}
-use Rattle.rules.specs.Examples.{Row, _gives_, allRight}
+use Rattle.rules.specs.Examples.{Row, _gives_, allRight, up, down}
 use Rattle.rules.specs.Exchange.{Exchange, accountAt, holdingAt, listingAt}
 use Rattle.rules.specs.Kinds.{paysIn, paysOut}
 use Rattle.rules.specs.Matching.{tradedLots}
@@ -54,15 +54,6 @@ found m =
 worthOf : ℕ → (ℕ → ℤ) → ℕ → ℤ
 worthOf lots held a = worth (start lots) (found (start lots)) a day (λ c. held c +ℤ netHolding a c day)
 
--- a gain, and a loss, each 0 where it is the other
-gained : ℤ → ℕ
-gained (pos n) = n
-gained (negsuc n) = 0
-
-lost : ℤ → ℕ
-lost (pos n) = 0
-lost (negsuc n) = suc n
-
 pub table : List Row
 table =
     -- account 1 sells 3 at 102 and buys 2 at 103
@@ -70,20 +61,20 @@ table =
     ∷ (costs 0 0 day gives 206)
     ∷ (bought 0 0 day gives 2)
     ∷ (sold 0 0 day gives 3)
-    ∷ (lost (netHolding 0 0 day) gives 1)
-    ∷ (gained (netHolding 1 0 day) gives 1)
+    ∷ (down (netHolding 0 0 day) gives 1)
+    ∷ (up (netHolding 1 0 day) gives 1)
     -- the day's B lines: 9,980 and 10,020
-    ∷ (gained (opened (start 0) .money 0) gives 10_000)
-    ∷ (lost (worthOf 0 (opened (start 0) .held 0) 0) gives 20)
-    ∷ (gained (worthOf 0 (opened (start 0) .held 1) 1) gives 20)
+    ∷ (up (opened (start 0) .money 0) gives 10_000)
+    ∷ (down (worthOf 0 (opened (start 0) .held 0) 0) gives 20)
+    ∷ (up (worthOf 0 (opened (start 0) .held 1) 1) gives 20)
     -- loaded with 3 long and 3 short at the reference, 100: 3,000 are taken off the first balance, and put on the second
-    ∷ (gained (loadedWorth (start 3) 0) gives 3_000)
-    ∷ (lost (loadedWorth (start 3) 1) gives 3_000)
-    ∷ (gained (loaded (start 3) .money 0) gives 7_000)
-    ∷ (gained (loaded (start 3) .money 1) gives 13_000)
+    ∷ (up (loadedWorth (start 3) 0) gives 3_000)
+    ∷ (down (loadedWorth (start 3) 1) gives 3_000)
+    ∷ (up (loaded (start 3) .money 0) gives 7_000)
+    ∷ (up (loaded (start 3) .money 1) gives 13_000)
     -- 2 long lots are left and 2 short ones: 10,040 and 9,960 after the settlement
-    ∷ (gained (worthOf 3 (loaded (start 3) .held 0) 0) gives 3_040)
-    ∷ (lost (worthOf 3 (loaded (start 3) .held 1) 1) gives 3_040)
+    ∷ (up (worthOf 3 (loaded (start 3) .held 0) 0) gives 3_040)
+    ∷ (down (worthOf 3 (loaded (start 3) .held 1) 1) gives 3_040)
     -- a payment is one account's, and in or out
     ∷ (inTo 0 (paysIn 0 5) gives 5)
     ∷ (inTo 1 (paysIn 0 5) gives 0)
@@ -93,5 +84,5 @@ table =
     ∷ []
 
 pub condition-3-examples : allRight table ≡ true
-unfolding allRight table account start trade day found worthOf gained lost sumOf sumTo tabulate decode records inTo outOf sales costs bought sold netHolding loadedWorth worth accountAt holdingAt listingAt tradedLots exchangeOf listingIn queueIn recordedTrades priceFrom settlementPrice tradedValue tradesIn weightedPrice
+unfolding allRight table account start trade day found worthOf up down sumOf sumTo tabulate decode records inTo outOf sales costs bought sold netHolding loadedWorth worth accountAt holdingAt listingAt tradedLots exchangeOf listingIn queueIn recordedTrades priceFrom settlementPrice tradedValue tradesIn weightedPrice
 condition-3-examples = refl

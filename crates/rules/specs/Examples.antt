@@ -2,8 +2,9 @@
 use mathlib.Core.Bool.{Bool, true, false, _&&_}
 use mathlib.Core.List.{List, [], _∷_}
 use mathlib.Core.Path.{_≡_, refl}
-use Prim.Native.Nat.{ℕ}
+use Prim.Native.Nat.{ℕ, suc}
 use lib.Dec.{eqb}
+use lib.IntN.{ℤ, pos, negsuc}
 use Rattle.laws.specs.Sums.{sumOf}
 use Rattle.rules.specs.Exchange.{lotsWhere}
 use Rattle.rules.specs.Margin.{chargeOf}
@@ -18,6 +19,15 @@ use Rattle.rules.specs.declared.Trade.{Trade}
 infix 20 _gives_
 pub data Row : Type 0 where
   _gives_ : ℕ → ℕ → Row
+
+-- a gain, and a loss, each 0 where it is the other
+unfoldable pub up : ℤ → ℕ
+up (pos n) = n
+up (negsuc n) = 0
+
+unfoldable pub down : ℤ → ℕ
+down (pos n) = 0
+down (negsuc n) = suc n
 
 -- an order and a trade of which only price and lots matter, a limit buy of which only the price does
 order : ℕ → ℕ → Order

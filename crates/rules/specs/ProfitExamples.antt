@@ -3,9 +3,7 @@
 use mathlib.Core.Bool.{true, false}
 use mathlib.Core.List.{List, [], _∷_}
 use mathlib.Core.Path.{_≡_, refl}
-use Prim.Native.Nat.{ℕ, suc}
-use lib.IntN.{ℤ, pos, negsuc}
-use Rattle.rules.specs.Examples.{Row, _gives_, allRight}
+use Rattle.rules.specs.Examples.{Row, _gives_, allRight, up, down}
 use Rattle.rules.specs.Settlement.{Day, leg, afterDayLeg, afterLegs, dayStart, firstLots, gain, holdingGain, otherLots}
 
 -- 2 long and 1 short at the start, reference 100; 3 bought at 104 to open; 4 long sold at 105 to close: the two old ones
@@ -19,29 +17,20 @@ day =
 profit : Day
 profit = afterLegs (dayStart 100 2 1) (leg false false 104 3 ∷ leg true true 105 4 ∷ [])
 
--- a gain, and a loss, each 0 where it is the other
-gained : ℤ → ℕ
-gained (pos n) = n
-gained (negsuc n) = 0
-
-lost : ℤ → ℕ
-lost (pos n) = 0
-lost (negsuc n) = suc n
-
 pub table : List Row
 table =
-    (gained (profit .closing) gives 12)
-    ∷ (gained (day .closing) gives 9)
+    (up (profit .closing) gives 12)
+    ∷ (up (day .closing) gives 9)
     -- at 107 one long lot of today's gains 3, two short ones lose 1 each
-    ∷ (gained (holdingGain 107 day) gives 1)
+    ∷ (up (holdingGain 107 day) gives 1)
     -- at 120 the long lot gains 16, the short ones lose 14 each
-    ∷ (lost (holdingGain 120 day) gives 12)
+    ∷ (down (holdingGain 120 day) gives 12)
     -- at 100 the long lot loses 4, the short ones gain 6 each
-    ∷ (gained (holdingGain 100 day) gives 8)
+    ∷ (up (holdingGain 100 day) gives 8)
     -- the short lot of the start, still open, against the reference
-    ∷ (lost (holdingGain 104 profit) gives 4)
+    ∷ (down (holdingGain 104 profit) gives 4)
     ∷ []
 
 pub profit-examples : allRight table ≡ true
-unfolding allRight table day profit gained lost afterDayLeg afterLegs dayStart firstLots gain holdingGain otherLots
+unfolding allRight table day profit up down afterDayLeg afterLegs dayStart firstLots gain holdingGain otherLots
 profit-examples = refl
