@@ -8,13 +8,14 @@ use lib.IntN.{pos}
 use lib.ListN.{length, getD}
 use Rattle.laws.specs.Sums.{sumOf}
 use Rattle.rules.specs.Auction.{Matched, auctionMatch, auctionPrice, bestFrom, bestOf, better, chosenPrice, lotsReaching, matchAt, matchIn, matchOf, prices, surplus, tradeAt, volume}
-use Rattle.rules.specs.Answers.{listingOf, takerOf}
+use Rattle.rules.specs.Answers.{changeListed, firstOf, listingOf, phaseRefusals, takerOf}
 use Rattle.rules.specs.Bounds.{auction, continuous, noTrading}
 use Rattle.rules.specs.Condition3.{madeBy}
 use Rattle.rules.specs.Examples.{Row, _gives_, allRight}
-use Rattle.rules.specs.Exchange.{Exchange, Listing, accountAt, bestPrice, holdingAt, listingAt, lotsWhere, noHolding, noTrade}
+use Rattle.rules.specs.Exchange.{Exchange, Listing, absent, accountAt, bestPrice, holdingAt, listingAt, lotsWhere, noHolding, noTrade}
 use Rattle.rules.specs.Holdings.{afterLeg, bookLeg, bookTrade, bookTrades}
-use Rattle.rules.specs.Kinds.{kindOf, lastOf}
+use Rattle.rules.specs.Kinds.{codeOf, decide, kindOf, lastOf, step}
+use Rattle.rules.specs.Lines.{answerLine, decimal, digits, fieldsOf, newTrades, settlementLines, stepLines, tradeLine, tradeLines}
 use Rattle.rules.specs.Matching.{Entered, enter, lastPrice, meets, methodOf, middle, pairedPrice, remainder, restIn, restLots, restWhole, restedLots, stays, sweep, tradePrice, tradeWith, tradedLots}
 use Rattle.rules.specs.Step.{Effect, enteredOf, exchangeMatched, listingMatched, phaseChanged}
 use Rattle.rules.specs.declared.Account.{Account}
@@ -116,6 +117,17 @@ bid = of (order 1 105 2) 1 0 ∷ []
 opened : Effect
 opened = changed auction bid
 
+-- a match of two trades, 7 and 2 lots at 112: buy 9 at 112, sells 7 at 110 and 5 at 112
+deep : Exchange
+deep =
+    record {
+      listings = record { contract = listing auction [] .contract; buys = order 3 112 9 ∷ []; sells = order 1 110 7 ∷ order 2 112 5 ∷ [] } ∷ [];
+      accounts = account 0 ∷ account 0 ∷ [];
+      trades = noTrade ∷ [];
+      next = 4;
+      settlements = 0;
+    }
+
 -- the trades that condition 3 counts for the change
 counted : ℕ → List Trade
 counted phase = madeBy (kindOf (asked phase bid) (Phase 1 continuous) .moves)
@@ -155,6 +167,9 @@ table =
     ∷ (auctionPrice 100 buysTie sellsTie gives 101)
     ∷ (auctionPrice 104 buysTie sellsTie gives 105)
     ∷ (auctionPrice 103 buysTie sellsTie gives 105)
+    -- the higher of two as near, though the lower is met first; a larger volume, though its surplus is larger too
+    ∷ (auctionPrice 105 (order 1 108 2 ∷ order 2 104 3 ∷ []) (order 3 102 2 ∷ order 4 106 3 ∷ []) gives 106)
+    ∷ (auctionPrice 110 (order 3 112 9 ∷ []) (order 1 110 7 ∷ order 2 112 5 ∷ []) gives 112)
     -- with sells left over at both, 001 would take the lowest, 101; with none left over it takes the nearest too
     ∷ (auctionPrice 106 (order 1 105 1 ∷ []) (order 2 101 2 ∷ []) gives 105)
     ∷ (auctionPrice 103 (order 1 105 1 ∷ []) sellsTie gives 105)
@@ -180,6 +195,14 @@ table =
     ∷ (length (auctionMatch 0 100 buys001 (sells001 3) .trades) gives 2)
     ∷ (bestPrice (auctionMatch 0 100 buys001 (sells001 3) .buys) gives 101)
     ∷ (bestPrice (auctionMatch 0 100 buys001 (sells001 3) .sells) gives 102)
+    -- 001's second: at 101 the sell at 102 does not trade, and 101 is left against 102
+    ∷ (length (auctionMatch 0 102 buys001 (sells001 4) .trades) gives 1)
+    -- as many turns as orders: buys 3 and 3, sells 2, 2 and 2 make 2, 1, 1 and 2
+    ∷ (length (auctionMatch 0 100 (order 1 100 3 ∷ order 2 100 3 ∷ []) (order 3 100 2 ∷ order 4 100 2 ∷ order 5 100 2 ∷ []) .trades) gives 4)
+    -- each leg has its own order's mark, and the trade its contract
+    ∷ (getD (auctionMatch 1 100 (of (order 1 105 2) 1 1 ∷ []) sellsTie .trades) 0 noTrade .buyclose gives 1)
+    ∷ (getD (auctionMatch 1 100 (of (order 1 105 2) 1 1 ∷ []) sellsTie .trades) 0 noTrade .sellclose gives 0)
+    ∷ (getD (auctionMatch 1 100 (of (order 1 105 2) 1 1 ∷ []) sellsTie .trades) 0 noTrade .contract gives 1)
     -- an order that crosses rests whole in auction; in continuous it trades
     ∷ (entered auction .rested gives 2)
     ∷ (length (entered auction .trades) gives 0)
@@ -189,6 +212,7 @@ table =
     -- the answer of the state change: no order, the traded lots, none rested; the trade behind those there were
     ∷ (opened .number gives 0)
     ∷ (opened .traded gives 1)
+    ∷ (phaseChanged deep 0 continuous .traded gives 9)
     ∷ (opened .lots gives 0)
     ∷ (length (after opened .trades) gives 2)
     ∷ (getD (after opened .trades) 1 noTrade .price gives 101)
@@ -216,5 +240,14 @@ table =
     ∷ []
 
 pub auction-examples : allRight table ≡ true
-unfolding allRight table order buys001 sells001 buys000 sells000 buysTie sellsTie buysSigned sellsSigned buysApart priceOf lotsOf buyOf sellOf of account listing asked entered changed bid opened counted after holding accountAt afterLeg bookLeg bookTrade bookTrades holdingAt listingAt lastPrice sumOf lotsWhere bestPrice stays tradedLots prices lotsReaching volume surplus better bestFrom bestOf chosenPrice auctionPrice tradeAt matchIn matchAt auctionMatch matchOf listingOf takerOf enter meets methodOf middle pairedPrice remainder restIn restLots restWhole restedLots sweep tradePrice tradeWith enteredOf listingMatched exchangeMatched phaseChanged kindOf madeBy
+unfolding allRight table order buys001 sells001 buys000 sells000 buysTie sellsTie buysSigned sellsSigned buysApart priceOf lotsOf buyOf sellOf of account listing asked entered changed bid opened deep counted after holding accountAt afterLeg bookLeg bookTrade bookTrades holdingAt listingAt lastPrice sumOf lotsWhere bestPrice stays tradedLots prices lotsReaching volume surplus better bestFrom bestOf chosenPrice auctionPrice tradeAt matchIn matchAt auctionMatch matchOf listingOf takerOf enter meets methodOf middle pairedPrice remainder restIn restLots restWhole restedLots sweep tradePrice tradeWith enteredOf listingMatched exchangeMatched phaseChanged kindOf madeBy
 auction-examples = refl
+
+-- "appear after the state command's C line, whose traded field is their lots": C 7 0 0 9 0, then T 2 1 112 7 3 1 and T 3 1 112 2 3 2
+auction-lines :
+    stepLines 7 deep (Phase 1 continuous)
+    ≡ 67 ∷ 32 ∷ 55 ∷ 32 ∷ 48 ∷ 32 ∷ 48 ∷ 32 ∷ 57 ∷ 32 ∷ 48 ∷ 10
+    ∷ 84 ∷ 32 ∷ 50 ∷ 32 ∷ 49 ∷ 32 ∷ 49 ∷ 49 ∷ 50 ∷ 32 ∷ 55 ∷ 32 ∷ 51 ∷ 32 ∷ 49 ∷ 10
+    ∷ 84 ∷ 32 ∷ 51 ∷ 32 ∷ 49 ∷ 32 ∷ 49 ∷ 49 ∷ 50 ∷ 32 ∷ 50 ∷ 32 ∷ 51 ∷ 32 ∷ 50 ∷ 10 ∷ []
+unfolding stepLines answerLine tradeLine tradeLines newTrades settlementLines decimal digits fieldsOf step decide codeOf kindOf firstOf phaseRefusals changeListed absent deep order listing account accountAt afterLeg bookLeg bookTrade bookTrades holdingAt listingAt lastPrice sumOf lotsWhere stays tradedLots prices lotsReaching volume surplus better bestFrom bestOf chosenPrice tradeAt matchIn matchAt auctionMatch matchOf listingMatched exchangeMatched phaseChanged
+auction-lines = refl
