@@ -4,7 +4,7 @@ use Rattle.dayprofit.proofs.price.quoted.Statement.{statement}
 use Rattle.dayprofit.proofs.price.quoted.Tie as tie
 use Rattle.dayprofit.proofs.price.quoted.Reads as reads
 use Rattle.dayprofit.proofs.price.quoted.Lts as lts
-use Rattle.book.proofs.prices.middle.Reads as middle-reads
+use Rattle.prices.proofs.middle.Reads as middle-reads
 use Rattle.book.proofs.queue.order_at.Reads as order-at-reads
 
 -- src/price.rt:74:9
