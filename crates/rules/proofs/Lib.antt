@@ -8,3 +8,11 @@ pub mod Holdings
 pub mod Rest
 pub mod InUse
 pub mod Terms
+pub mod AuctionTurns
+pub mod AuctionTaken
+pub mod AuctionPrice
+pub mod AuctionTraded
+pub mod AuctionTrades
+pub mod AuctionUncrossed
+pub mod AuctionOutcome
+pub mod AuctionSteps
