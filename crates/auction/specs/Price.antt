@@ -27,12 +27,9 @@ preferred last level other =
     (smaller (apart (level .price) last) (apart (other .price) last)
     (ltb (other .price) (level .price))))
 
-pub record IsLevel (buys sells : List Order) (level : Level) : Type 0 where
-  pub is : level ≡ levelAt buys sells (level .price)
-
 -- the best of a price and those of a queue
-pub record BestAmong (last : ℕ) (buys sells : List Order) (best : Level) (queue : List Order) (r : Level) : Type 0 where
-  pub is : r ≡ levelAt buys sells (bestFrom (better last buys sells) (best .price) (prices queue))
+abbrev pub bestLevel : ℕ → List Order → List Order → ℕ → List Order → Level
+bestLevel last buys sells price queue = levelAt buys sells (bestFrom (better last buys sells) price (prices queue))
 
 -- the first of the resting prices, 0 where there is none
 unfoldable pub firstOf : List ℕ → ℕ

@@ -6,7 +6,7 @@ ghost use lib.ListN.{length};
 ghost use Rattle.laws.specs.Choice.{pick};
 ghost use Rattle.rules.specs.Auction as rule;
 ghost use Rattle.rules.specs.Memory.{queueIn};
-ghost use Rattle.auction.specs.Price.{preferred, levelAt, QueuesRoom, IsLevel, BestAmong, firstPrice, chosenLevel};
+ghost use Rattle.auction.specs.Price.{preferred, levelAt, QueuesRoom, bestLevel, firstPrice, chosenLevel};
 use book::queue;
 use rules::Order;
 
@@ -130,8 +130,8 @@ fn best_among<'a>(
     c: usize,
     last: u32,
 ) -> Level
-    requires { ⌜ QueuesRoom (now buys) bought (now sells) sold c × (320 * c + 5 * count ≤ length (now area)) × IsLevel (queueIn (now buys) c bought) (queueIn (now sells) c sold) best ⌝ }
-    ensures { λ r. ⌜ BestAmong last (queueIn (now (buys .entry)) c bought) (queueIn (now (sells .entry)) c sold) best (queueIn (now (area .entry)) c count) r ⌝ }
+    requires { ⌜ QueuesRoom (now buys) bought (now sells) sold c × (320 * c + 5 * count ≤ length (now area)) × (best ≡ levelAt (queueIn (now buys) c bought) (queueIn (now sells) c sold) (best .price)) ⌝ }
+    ensures { λ r. ⌜ r ≡ bestLevel last (queueIn (now (buys .entry)) c bought) (queueIn (now (sells .entry)) c sold) (best .price) (queueIn (now (area .entry)) c count) ⌝ }
 {
     let mut chosen = best;
     let mut i: usize = 0;

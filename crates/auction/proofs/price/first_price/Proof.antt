@@ -1,29 +1,24 @@
+-- `auction::price::first_price` meets its contract: the first order of the first queue that has one. Assumes nothing.
+use native.Mathlib.Omega.{arith}
 use borrow.Author.Needs.{needs}
+use Rattle.auction.proofs.Levels.{first-buy, first-sell, first-none}
 use Rattle.auction.proofs.price.first_price.Statement.{statement}
 use Rattle.auction.proofs.price.first_price.Tie as tie
-use Rattle.auction.proofs.price.first_price.Reads as reads
-use Rattle.auction.proofs.price.first_price.Lts as lts
-use Rattle.book.proofs.queue.order_at.Reads as order-at-reads
 
--- src/price.rt:159:13
 order-at-requires : tie.Need-order-at-requires
 order-at-requires c κs = search needs
 
--- src/price.rt:160:9
 returns : tie.Need-returns
-returns c = ?
+returns c = first-buy _ _ _ _ _ (c .before .if1 .taken) (c .order-at .ensures)
 
--- src/price.rt:163:13
 order-at-requires-2 : tie.Need-order-at-requires-2
 order-at-requires-2 c κs = search needs
 
--- src/price.rt:164:9
 returns-2 : tie.Need-returns-2
-returns-2 c = ?
+returns-2 c = first-sell _ _ _ _ _ (c .before .before .if1 .left) (c .before .if2 .taken) (c .order-at2 .ensures)
 
--- src/price.rt:148:1
 returns-3 : tie.Need-returns-3
-returns-3 c = ?
+returns-3 c = first-none _ _ _ _ _ (c .before .if1 .left) (c .if2 .left)
 
 pub first-price-spec : {M : Type 1} → statement M
 first-price-spec =

@@ -1,33 +1,29 @@
+-- `auction::price::is_better` meets its contract: one law for each step that decides. Assumes nothing.
+use mathlib.Core.Path.{sym}
 use borrow.Author.Needs.{needs}
+use Rattle.auction.proofs.Levels.{by-volume, by-surplus, by-distance, by-price}
 use Rattle.auction.proofs.price.is_better.Statement.{statement}
 use Rattle.auction.proofs.price.is_better.Tie as tie
-use Rattle.auction.proofs.price.is_better.Reads as reads
-use Rattle.auction.proofs.price.is_better.Lts as lts
-use Rattle.auction.proofs.price.apart.Reads as apart-reads
 
--- src/price.rt:98:9
 returns : tie.Need-returns
-returns c = ?
+returns c = by-volume _ _ _ (c .before .before .if1 .taken)
 
--- src/price.rt:101:9
 returns-2 : tie.Need-returns-2
-returns-2 c = ?
+returns-2 c = by-surplus _ _ _ (c .before .before .before .before .before .if1 .left) (c .before .before .if2 .taken)
 
--- src/price.rt:103:9
 apart-requires : tie.Need-apart-requires
 apart-requires c κs = search needs
 
--- src/price.rt:104:9
 apart-requires-2 : tie.Need-apart-requires-2
 apart-requires-2 c κs = search needs
 
--- src/price.rt:106:9
 returns-3 : tie.Need-returns-3
-returns-3 c = ?
+returns-3 c =
+    by-distance _ _ _ (c .before .before .before .before .before .before .if1 .left) (c .before .before .before .if2 .left) (c .before .before .apart .ensures) (c .before .apart2 .ensures) (c .if3 .taken)
 
--- src/price.rt:94:1
 returns-4 : tie.Need-returns-4
-returns-4 c = ?
+returns-4 c =
+    by-price _ _ _ (c .before .before .before .before .before .before .before .before .if1 .left) (c .before .before .before .before .before .if2 .left) (c .before .before .before .before .apart .ensures) (c .before .before .before .apart2 .ensures) (c .before .before .if3 .left)
 
 pub is-better-spec : {M : Type 1} → statement M
 is-better-spec =
