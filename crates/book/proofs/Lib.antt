@@ -5,3 +5,4 @@ pub mod Queues
 pub mod Recorded
 pub mod Scans
 pub mod Sides
+pub mod Trading
