@@ -1,3 +1,4 @@
 pub mod Counting
+pub mod Filling
 pub mod Levels
 pub mod Turns
