@@ -97,7 +97,7 @@ pub record Going
 
 -- it begins; the contract's place is c
 pub going : {c contract price : ℕ} {held : List Account} {buys : List ℕ} {bought : ℕ} {sells : List ℕ} {sold : ℕ} {area : List ℕ} {before : ℕ} (last : ℕ) → c ≡ contract
-    → MatchReady contract price held buys bought sells sold area before
+    → MatchReady (matchAt contract price (queueIn buys contract bought) (queueIn sells contract sold)) contract held buys bought sells sold area before
     → Going c price last held buys bought sells sold area before buys sells area held last before 0 0 0
 going last ec ready =
     rw ec
@@ -131,13 +131,8 @@ module _
   unfolding finish
   finished e =
       let o : finish done made latest held area (unmatched (drop i bids) (drop j asks)) ≡ finish 0 before last held₀ area₀ all = ap (finish done made latest held area) (sym e) ∙ g .answer in
-      let b = all-booked (all .trades) (ap (λ x. x .booked) o) in
       record {
-        traded = b .traded;
-        made = b .made;
-        last = b .last;
-        accounts = b .accounts;
-        trades = b .trades;
+        booked = all-booked (all .trades) (ap (λ x. x .booked) o);
         bought = left-in (g .buying) (ap (λ x. x .buys) o);
         sold = left-in (g .selling) (ap (λ x. x .sells) o);
       }
@@ -213,7 +208,7 @@ module _
         ∙ ap (λ (n : ℕ). afterMatch tr (matchAt c price (lessFirst n b (drop (i + 1) bids)) (lessFirst n s (drop (j + 1) asks)))) (sym trade-size))
 
     -- the area has room for it
-    pub trade-room : {contract : ℕ} → c ≡ contract → MatchReady contract price held₀ buys₀ bought sells₀ sold area₀ before → 9 * made + 9 ≤ length area
+    pub trade-room : {contract : ℕ} → c ≡ contract → MatchReady (matchAt contract price (queueIn buys₀ contract bought) (queueIn sells₀ contract sold)) contract held₀ buys₀ bought sells₀ sold area₀ before → 9 * made + 9 ≤ length area
     unfolding finish
     trade-room ec ready =
         let h : 9 * (before + length (all .trades)) ≤ length area₀ = rw ec (ready .room) in

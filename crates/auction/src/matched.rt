@@ -6,8 +6,8 @@ ghost use Prim.Native.Nat.{_<_};
 ghost use lib.ListN.{length};
 ghost use Rattle.rules.specs.Auction as rule;
 ghost use Rattle.rules.specs.Memory.{queueIn};
-ghost use Rattle.auction.specs.Price.{QueuesRoom, chosenLevel};
-ghost use Rattle.auction.specs.Matched.{FilledIs, MatchReady};
+ghost use Rattle.auction.specs.Price.{QueuesRoom};
+ghost use Rattle.auction.specs.Matched.{FilledIs, MatchReady, MatchedIs, levelMatch};
 use crate::price;
 use crate::price::Level;
 use book::holdings;
@@ -117,7 +117,7 @@ pub fn match_at(
     last: u32,
     accounts: [Account; 32],
 ) -> Filled
-    requires { ⌜ MatchReady contract price accounts (now buys) bought (now sells) sold (now area) before ⌝ }
+    requires { ⌜ MatchReady (rule.matchAt contract price (queueIn (now buys) contract bought) (queueIn (now sells) contract sold)) contract accounts (now buys) bought (now sells) sold (now area) before ⌝ }
     ensures { λ r. ⌜ FilledIs (rule.matchAt contract price (queueIn (now (buys .entry)) contract bought) (queueIn (now (sells .entry)) contract sold)) contract last accounts (now (buys .entry)) bought (now (sells .entry)) sold (now (area .entry)) before r (now (buys .exit)) (now (sells .exit)) (now (area .exit)) ⌝ }
 {
     let c = laws::wide(contract);
@@ -167,5 +167,77 @@ pub fn match_at(
         bought: i,
         sold: j,
         made,
+    }
+}
+
+// How many trades the match makes at the chosen price: nothing is written yet.
+pub fn trades_needed<'a>(
+    buys: &'a [u32],
+    bought: usize,
+    sells: &'a [u32],
+    sold: usize,
+    c: usize,
+    chosen: Level,
+) -> usize
+    requires { ⌜ QueuesRoom (now buys) bought (now sells) sold c ⌝ }
+    ensures { λ r. ⌜ r ≡ length (levelMatch c chosen (queueIn (now (buys .entry)) c bought) (queueIn (now (sells .entry)) c sold) .trades) ⌝ }
+{
+    if chosen.volume == 0 {
+        return 0;
+    }
+    count_trades(buys, bought, sells, sold, c, chosen.price)
+}
+
+// The accounts, first as in `Filled`; lots traded, the last price, buys and sells that stay, trades of the day.
+pub struct Outcome {
+    pub accounts: [Account; 32],
+    pub traded: u32,
+    pub last: u32,
+    pub bought: usize,
+    pub sold: usize,
+    pub made: usize,
+}
+
+// The match at the chosen price: filled orders leave both queues. "No volume, no price, no trades."
+pub fn match_queues(
+    buys: &mut [u32],
+    bought: usize,
+    sells: &mut [u32],
+    sold: usize,
+    area: &mut [u32],
+    before: usize,
+    contract: u32,
+    chosen: Level,
+    last: u32,
+    accounts: [Account; 32],
+) -> Outcome
+    requires { ⌜ MatchReady (levelMatch contract chosen (queueIn (now buys) contract bought) (queueIn (now sells) contract sold)) contract accounts (now buys) bought (now sells) sold (now area) before ⌝ }
+    ensures { λ r. ⌜ MatchedIs (levelMatch contract chosen (queueIn (now (buys .entry)) contract bought) (queueIn (now (sells .entry)) contract sold)) contract last accounts (now (buys .entry)) bought (now (sells .entry)) sold (now (area .entry)) before r (now (buys .exit)) (now (sells .exit)) (now (area .exit)) ⌝ }
+{
+    if chosen.volume == 0 {
+        return Outcome {
+            accounts,
+            traded: 0,
+            last,
+            bought,
+            sold,
+            made: before,
+        };
+    }
+    let price = chosen.price;
+    let f = match_at(buys, bought, sells, sold, area, before, contract, price, last, accounts);
+    let c = laws::wide(contract);
+    let buyers = f.bought;
+    let sellers = f.sold;
+    queue::drop_front(buys, c, bought, buyers);
+    queue::drop_front(sells, c, sold, sellers);
+    let held = f.accounts;
+    Outcome {
+        accounts: held,
+        traded: f.traded,
+        last: f.last,
+        bought: bought - buyers,
+        sold: sold - sellers,
+        made: f.made,
     }
 }

@@ -14,6 +14,7 @@ use Rattle.rules.specs.declared.Account.{Account}
 use Rattle.rules.specs.declared.Trade.{Trade}
 use Rattle.rules.proofs.Codecs.{trade-codec}
 use Rattle.rules.proofs.Fillable.{traded-nil, traded-cons}
+use Rattle.book.specs.Trading.{AllBooked}
 
 -- lots traded, trades of the day, the last price, the accounts and the trade area
 pub record Booked : Type 0 where
@@ -46,15 +47,7 @@ booked-trade done made last held area tr ts room =
     = store-append trade-codec area (9 * made) (tr ∷ []) ts room ∙ ap (λ (k : ℕ). store tradeWords (store tradeWords area (9 * made) (tr ∷ [])) k ts) w in
     λ i. record { traded = t i; made = m i; last = lastPrice (tr .price) ts; accounts = bookTrades (bookTrade held tr) ts; area = a i }
 
--- all of these trades are made
-pub record AllBooked (ts : List Trade) (before last₀ : ℕ) (held₀ : List Account) (area₀ : List ℕ) (done made₁ last₁ : ℕ) (held : List Account) (area : List ℕ) : Type 0 where
-  pub traded : done ≡ tradedLots ts
-  pub made : made₁ ≡ before + length ts
-  pub last : last₁ ≡ lastPrice last₀ ts
-  pub accounts : held ≡ bookTrades held₀ ts
-  pub trades : area ≡ store tradeWords area₀ (9 * before) ts
-
--- nothing is to come
+-- nothing is to come: all of these trades are made
 pub all-booked : (ts : List Trade) {before last₀ : ℕ} {held₀ : List Account} {area₀ : List ℕ} {done made last : ℕ} {held : List Account} {area : List ℕ}
     → booked done made last held area [] ≡ booked 0 before last₀ held₀ area₀ ts → AllBooked ts before last₀ held₀ area₀ done made last held area
 unfolding booked lastPrice bookTrades

@@ -2,3 +2,4 @@ pub mod Bounds
 pub mod Methods
 pub mod Removal
 pub mod Side
+pub mod Trading
