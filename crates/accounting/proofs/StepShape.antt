@@ -1,7 +1,8 @@
 -- No command changes how many accounts and contracts there are, nor how many holdings an account has. Assumes nothing.
 use mathlib.Core.Bool.{Bool, true, false}
+use mathlib.Core.List.{List}
 use mathlib.Core.Path.{_≡_, refl, ap, _∙_}
-use Prim.Native.Nat.{ℕ, _<_}
+use Prim.Native.Nat.{ℕ, _+_, _<_}
 use lib.Dec.{eqb}
 use lib.IntN.{ℤ}
 use lib.ListN.{length, getD, length-set, length-map}
@@ -9,12 +10,14 @@ use Rattle.laws.specs.Choice.{pick}
 use Rattle.laws.specs.Tabulate.{length-tabulate, getD-tabulate}
 use Rattle.laws.specs.Lists.{kept-at}
 use Rattle.rules.specs.Answers.{codeOf}
+use Rattle.rules.specs.Auction.{matchOf}
 use Rattle.rules.specs.Exchange.{Exchange, Listing, noAccount, accountAt, placeOf}
 use Rattle.rules.specs.Settlement.{carriedHolding, settledAccount, settledListing, settled}
-use Rattle.rules.specs.Step.{withListing, paid, deposited, withdrawn, enteredOf, exchangeAfter, inserted, removed, cancelled, pulled, phaseChanged, refused, carriedOut, step}
+use Rattle.rules.specs.Step.{withListing, withTrades, paid, deposited, withdrawn, enteredOf, exchangeAfter, inserted, removed, cancelled, pulled, exchangeMatched, phaseChanged, refused, carriedOut, step}
 use Rattle.rules.specs.declared.Account.{Account}
 use Rattle.rules.specs.declared.Command.{Command}
 use Rattle.rules.specs.declared.NewOrder.{NewOrder}
+use Rattle.rules.specs.declared.Trade.{Trade}
 use Rattle.rules.specs.declared.Command.the-variants.{Malformed, Deposit, Withdraw, Insert, Cancel, Pull, Phase, Settle}
 use Rattle.accounting.proofs.Booking.{all-booked-length, all-booked-wide}
 
@@ -45,13 +48,20 @@ module _ (x : Exchange) where
     wide = λ a l. kept-at (λ (k : Account). length (k .holdings)) (x .accounts) u _ noAccount refl a;
   }
 
+  traded-shape : (c : ℕ) (l : Listing) (ts : List Trade) (next : ℕ) → SameShape x (withTrades x c l ts next)
+  traded-shape c l ts next = record {
+    listings = length-set (x .listings) c l;
+    accounts = all-booked-length (x .accounts) ts;
+    wide = λ a k. all-booked-wide (x .accounts) ts a;
+  }
+
   inserted-shape : (o : NewOrder) → SameShape x (exchangeAfter x o (enteredOf x o))
   unfolding exchangeAfter
-  inserted-shape o = record {
-    listings = length-set (x .listings) (placeOf (o .contract)) _;
-    accounts = all-booked-length (x .accounts) (enteredOf x o .trades);
-    wide = λ a l. all-booked-wide (x .accounts) (enteredOf x o .trades) a;
-  }
+  inserted-shape o = traded-shape (placeOf (o .contract)) _ (enteredOf x o .trades) (x .next + 1)
+
+  matched-shape : (c phase : ℕ) → SameShape x (exchangeMatched x c phase (matchOf x c))
+  unfolding exchangeMatched
+  matched-shape c phase = traded-shape c _ (matchOf x c .trades) (x .next)
 
   settled-shape : SameShape x (settled x)
   unfolding settled accountAt settledAccount
@@ -71,7 +81,7 @@ module _ (x : Exchange) where
   carried-shape (Insert o) = inserted-shape o
   carried-shape (Cancel account contract operator number) = listing-replaced (placeOf contract) _
   carried-shape (Pull account contract operator) = listing-replaced (placeOf contract) _
-  carried-shape (Phase contract phase) = listing-replaced (placeOf contract) _
+  carried-shape (Phase contract phase) = matched-shape (placeOf contract) phase
   carried-shape Settle = settled-shape
 
   pub step-shape : (command : Command) → SameShape x (step x command .exchange)

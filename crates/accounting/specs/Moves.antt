@@ -3,6 +3,7 @@
 use mathlib.Core.List.{List, [], _∷_}
 use lib.IntN.{pos, negℤ}
 use Rattle.laws.specs.Choice.{pick}
+use Rattle.rules.specs.Auction.{matchOf}
 use Rattle.rules.specs.Command.{commandOf}
 use Rattle.rules.specs.Condition3.{isAccepted}
 use Rattle.rules.specs.Exchange.{Exchange, listingAt, accountAt, placeOf}
@@ -33,7 +34,7 @@ moveBy x (Withdraw account amount) = pays (placeOf account) (negℤ (pos amount)
 moveBy x (Insert o) = makes (enteredOf x o .trades)
 moveBy x (Cancel account contract operator number) = makes []
 moveBy x (Pull account contract operator) = makes []
-moveBy x (Phase contract phase) = makes []
+moveBy x (Phase contract phase) = makes (matchOf x (placeOf contract) .trades)
 moveBy x Settle = settles (settlementPrice x)
 
 -- the moves of a list of commands, each from the state that the last one left; a refused command moves nothing

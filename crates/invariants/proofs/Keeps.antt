@@ -33,7 +33,7 @@ carried-keeps x (Cancel account contract operator number) k e =
 carried-keeps x (Pull account contract operator) k e =
     record { contents = pull-keeps x account contract operator e (k .contents); counts = pull-counted x account contract operator e (k .counts) }
 carried-keeps x (Phase contract phase) k e =
-    record { contents = phase-keeps x contract phase e (k .contents); counts = phase-counted x contract phase e (k .counts) }
+    record { contents = phase-keeps x contract phase e (k .contents); counts = phase-counted x contract phase e (k .contents) (k .counts) }
 carried-keeps x Settle k e = record { contents = settle-keeps x e (k .contents) (k .counts); counts = settle-counted x e (k .contents) (k .counts) }
 
 -- any command: a refusal changes nothing

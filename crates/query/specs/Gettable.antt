@@ -1,6 +1,6 @@
 -- How much could I get? What an order would trade now, and how many resting orders are read to know it (document 02, ticket 3).
 -- The contract's state plays no part, nor does the time condition beyond code 6. Assumes nothing.
-use mathlib.Core.Bool.{Bool, true, false, not, _&&_}
+use mathlib.Core.Bool.{Bool, true, false, not}
 use mathlib.Core.List.{List, [], _∷_}
 use mathlib.Core.Path.{_≡_}
 use Prim.Native.Nat.{ℕ, _+_, _-_, min}

@@ -10,13 +10,13 @@ use native.Mathlib.Omega.{arith}
 use borrow.Author.Tests.{eq-eqb, eqb-true, lt-ltb, ltb-true, ltb-false}
 use lib.Dec.{ltb, eqb}
 use lib.ListN.{length}
-use Rattle.laws.specs.Choice.{pick, pick-true, pick-false, allOf, allOf-imp, both-true, true-both}
+use Rattle.laws.specs.Choice.{pick, pick-either, pick-true, allOf, allOf-append, allOf-imp, both-true, true-both}
 use Rattle.rules.specs.Auction.{Matched, auctionMatch, auctionPrice, chosenPrice, lotsReaching, matchAt, prices, restingPrices, unmatched, volume}
 use Rattle.rules.specs.Matching.{lastPrice, tradedLots}
 use Rattle.rules.specs.WellFormed.{sorted, uncrossed}
 use Rattle.rules.specs.declared.Order.{Order}
 use Rattle.rules.specs.declared.Trade.{Trade}
-use Rattle.rules.proofs.AuctionPrice.{chosen-largest, chosen-rests, oneOf}
+use Rattle.rules.proofs.AuctionPrice.{chosen-largest, chosen-rests, one-passes, oneOf}
 use Rattle.rules.proofs.AuctionTaken.{Taken, reaching-nil, taken-none}
 use Rattle.rules.proofs.AuctionTraded.{match-filled, match-taken, match-volume, volume-at-most}
 use Rattle.rules.proofs.AuctionTrades.{match-prices}
@@ -42,11 +42,10 @@ module _ (contract last : ℕ) (buys sells : List Order) where
   pub auction-either : (P : Matched → Type 0) → (volume buys sells (chosenPrice last buys sells) ≡ 0 → P (unmatched buys sells))
       → (0 < volume buys sells (chosenPrice last buys sells) → P (matchAt contract (chosenPrice last buys sells) buys sells))
       → P (auctionMatch contract last buys sells)
-  auction-either P none some = cases (ltb 0 (volume buys sells price)) refl
-    where
-      cases : (any : Bool) → ltb 0 (volume buys sells price) ≡ any → P (auctionMatch contract last buys sells)
-      cases true e = let h = ltb-true 0 (volume buys sells price) e in rw (auction-some h) (some h)
-      cases false e = let z : volume buys sells price ≡ 0 = omega (arith, ltb-false 0 (volume buys sells price) e) in rw (auction-none z) (none z)
+  unfolding auctionMatch
+  auction-either P none some =
+      pick-either P (ltb 0 (volume buys sells price)) _ _ (λ e. some (ltb-true 0 (volume buys sells price) e))
+      (λ e. none (omega (arith, ltb-false 0 (volume buys sells price) e)))
 
   -- there are no more trades than orders
   pub auction-count : length (auctionMatch contract last buys sells .trades) ≤ length buys + length sells
@@ -101,6 +100,22 @@ volume-rests : (buys sells : List Order) (price : ℕ) → 0 < volume buys sells
 unfolding prices
 volume-rests [] sells price h = absurd (omega (arith, volume-at-most [] sells price .0, reaching-nil false price))
 volume-rests (b ∷ bs) sells price h = omega arith
+
+prices-pass : (test : ℕ → Bool) (os : List Order) → allOf (λ o. test (o .price)) os ≡ true → allOf test (prices os) ≡ true
+unfolding prices allOf
+prices-pass test [] h = refl
+prices-pass test (o ∷ os) h =
+    let b = both-true (test (o .price)) (allOf (λ p. test (p .price)) os) h in
+    true-both (test (o .price)) (allOf test (prices os)) (b .0) (prices-pass test os (b .1))
+
+-- where there is volume, the price passes what every resting price passes
+pub auction-price-passes : (test : ℕ → Bool) (last : ℕ) (buys sells : List Order) → 0 < volume buys sells (chosenPrice last buys sells)
+    → allOf (λ o. test (o .price)) buys ≡ true → allOf (λ o. test (o .price)) sells ≡ true → test (chosenPrice last buys sells) ≡ true
+auction-price-passes test last buys sells some b s =
+    one-passes test (restingPrices buys sells) (chosenPrice last buys sells)
+    (rw (allOf-append test (prices buys) (prices sells))
+    (true-both (allOf test (prices buys)) (allOf test (prices sells)) (prices-pass test buys b) (prices-pass test sells s)))
+    (chosen-rests last buys sells (volume-rests buys sells (chosenPrice last buys sells) some))
 
 -- a trade is at the auction's price, and that is a resting price
 abbrev pub atItsPrice : ℕ → List Order → List Order → Trade → Bool

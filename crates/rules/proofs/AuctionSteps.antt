@@ -1,17 +1,17 @@
 -- What auction changes of an insert and of a change of state. In every other state the order is entered by the sweep, and a change of
 -- state changes nothing else. Assumes nothing.
 use mathlib.Core.Bool.{Bool, true, false}
-use mathlib.Core.List.{List, [], append-nil}
-use mathlib.Core.Path.{_≡_, refl, sym, ap, _∙_}
-use Prim.Native.Nat.{ℕ, _+_}
+use mathlib.Core.List.{List, append-nil}
+use mathlib.Core.Path.{_≡_, refl, ap}
+use Prim.Native.Nat.{ℕ}
 use lib.ListN.{length}
-use Rattle.laws.specs.Choice.{pick, pick-true, pick-false}
+use Rattle.laws.specs.Choice.{pick, pick-either, pick-true, pick-false}
 use Rattle.rules.specs.Answers.{isGoodForDay, listingOf, takerOf, tradesNeeded}
 use Rattle.rules.specs.Auction.{Matched, auctionMatch, matchOf, unmatched}
 use Rattle.rules.specs.Bounds.{inAuction}
 use Rattle.rules.specs.Exchange.{Exchange, listingAt, opposite, own}
 use Rattle.rules.specs.Holdings.{bookTrades}
-use Rattle.rules.specs.Matching.{Entered, enter, lastPrice, restWhole, sweep, tradedLots}
+use Rattle.rules.specs.Matching.{Entered, enter, lastPrice, restWhole}
 use Rattle.rules.specs.Step.{accepted, enteredOf, exchangeMatched, limitOf, listingMatched, phaseChanged, withContract, withListing, withPhase}
 use Rattle.rules.specs.declared.NewOrder.{NewOrder}
 use Rattle.rules.specs.declared.Trade.{Trade}
@@ -41,11 +41,8 @@ module _ (x : Exchange) (o : NewOrder) where
   -- what holds of both holds of the order entered
   pub entered-either : (P : Entered → Type 0) → (inAuction (listingOf x o .contract) ≡ true → P restedWhole)
       → (inAuction (listingOf x o .contract) ≡ false → P enteredBySweep) → P (enteredOf x o)
-  entered-either P f g = cases (inAuction (listingOf x o .contract)) refl
-    where
-      cases : (b : Bool) → inAuction (listingOf x o .contract) ≡ b → P (enteredOf x o)
-      cases true e = rw (entered-in-auction e) (f e)
-      cases false e = rw (entered-elsewhere e) (g e)
+  unfolding enteredOf
+  entered-either P = pick-either P (inAuction (listingOf x o .contract)) restedWhole enteredBySweep
 
   -- 12 counts the trades that are made
   pub trades-needed : tradesNeeded x o ≡ length (enteredOf x o .trades)
@@ -75,11 +72,8 @@ module _ (x : Exchange) (c : ℕ) where
 
   pub match-either : (P : Matched → Type 0) → (inAuction (listingAt x c .contract) ≡ true → P auctionOf)
       → (inAuction (listingAt x c .contract) ≡ false → P unmatchedOf) → P (matchOf x c)
-  match-either P f g = cases (inAuction (listingAt x c .contract)) refl
-    where
-      cases : (b : Bool) → inAuction (listingAt x c .contract) ≡ b → P (matchOf x c)
-      cases true e = rw (match-in-auction e) (f e)
-      cases false e = rw (match-elsewhere e) (g e)
+  unfolding matchOf
+  match-either P = pick-either P (inAuction (listingAt x c .contract)) auctionOf unmatchedOf
 
   -- a change that makes no trades replaces the contract and nothing else
   pub nothing-matched : (phase : ℕ) → exchangeMatched x c phase unmatchedOf ≡ withListing x c (withContract (listingAt x c) (withPhase (listingAt x c .contract) phase))

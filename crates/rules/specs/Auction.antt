@@ -1,6 +1,6 @@
 -- The opening auction: the one price at which it trades, and what it trades (document 02, ticket 4; 001, 4.3.1; 000, its
 -- example of an opening price). Assumes nothing.
-use mathlib.Core.Bool.{Bool, true, false, _&&_, _||_}
+use mathlib.Core.Bool.{Bool, true, false, _&&_}
 use mathlib.Core.List.{List, [], _∷_, _++_}
 use Prim.Native.Nat.{ℕ, zero, suc, _+_, _-_, min}
 use lib.Dec.{leb, ltb, eqb}

@@ -8,15 +8,18 @@ use lib.IntN.{pos}
 use lib.ListN.{length, getD}
 use Rattle.laws.specs.Sums.{sumOf}
 use Rattle.rules.specs.Auction.{Matched, auctionMatch, auctionPrice, bestFrom, bestOf, better, chosenPrice, lotsReaching, matchAt, matchIn, matchOf, prices, surplus, tradeAt, volume}
+use Rattle.rules.specs.Answers.{listingOf, takerOf}
 use Rattle.rules.specs.Bounds.{auction, continuous}
 use Rattle.rules.specs.Examples.{Row, _gives_, allRight}
 use Rattle.rules.specs.Exchange.{Exchange, Listing, accountAt, bestPrice, holdingAt, listingAt, lotsWhere, noHolding, noTrade}
 use Rattle.rules.specs.Holdings.{afterLeg, bookLeg, bookTrade, bookTrades}
-use Rattle.rules.specs.Matching.{lastPrice, stays, tradedLots}
-use Rattle.rules.specs.Step.{Stepped, exchangeMatched, listingMatched, phaseChanged}
+use Rattle.rules.specs.Matching.{Entered, enter, lastPrice, meets, methodOf, middle, pairedPrice, remainder, restIn, restLots, restWhole, restedLots, stays, sweep, tradePrice, tradeWith, tradedLots}
+use Rattle.rules.specs.Step.{Stepped, enteredOf, exchangeMatched, listingMatched, phaseChanged}
 use Rattle.rules.specs.declared.Account.{Account}
 use Rattle.rules.specs.declared.Holding.{Holding}
 use Rattle.rules.specs.declared.Order.{Order}
+use Rattle.rules.specs.declared.PriceCondition.the-variants.{Limit}
+use Rattle.rules.specs.declared.TimeCondition.the-variants.{GoodForDay}
 
 order : ℕ → ℕ → ℕ → Order
 order number price lots = record { price = price; number = number; account = 0; lots = lots; close = 0 }
@@ -66,8 +69,8 @@ buyOf m i = getD (m .trades) i noTrade .buyorder
 sellOf : Matched → ℕ → ℕ
 sellOf m i = getD (m .trades) i noTrade .sellorder
 
--- ---- the change to continuous of a contract in auction: account 2 buys 2 at 105 to open, account 1 sells 1 at 101 of its 3 long
--- lots, the last price is 100; a trade was made before in another contract
+-- ---- a contract in auction: account 2 buys 2 at 105 to open, account 1 sells 1 at 101 of its 3 long lots; the last price is 100,
+-- the reference 104; a trade was made before in another contract
 
 of : Order → ℕ → ℕ → Order
 of o account close = record { price = o .price; number = o .number; account = account; lots = o .lots; close = close }
@@ -78,22 +81,30 @@ account long = record { balance = pos 0; holdings = record { long = long; short 
 listing : ℕ → List Order → Listing
 listing phase buys =
     record {
-      contract = record { multiplier = 1; tick = 1; reference = 102; band = 10; limit = 10; rate = 1; method = 0; phase = phase; last = 100 };
+      contract = record { multiplier = 1; tick = 1; reference = 104; band = 10; limit = 10; rate = 1; method = 0; phase = phase; last = 100 };
       buys = buys;
       sells = of (order 2 101 1) 0 1 ∷ [];
     }
 
-changed : ℕ → List Order → Stepped
-changed phase buys =
-    phaseChanged
-    (record {
+asked : ℕ → List Order → Exchange
+asked phase buys =
+    record {
       listings = listing phase buys ∷ listing continuous [] ∷ [];
       accounts = account 3 ∷ account 0 ∷ [];
       trades = noTrade ∷ [];
       next = 3;
       settlements = 0;
-    })
-    0 continuous
+    }
+
+-- the order of account 2 as it arrives
+entered : ℕ → Entered
+entered phase =
+    enteredOf (asked phase [])
+    (record { account = 2; contract = 1; sell = false; close = false; lots = 2; price = 105; condition = Limit 105; time = GoodForDay })
+
+-- the change to continuous with these buys resting
+changed : ℕ → List Order → Stepped
+changed phase buys = phaseChanged (asked phase buys) 0 continuous
 
 opened : Stepped
 opened = changed auction (of (order 1 105 2) 1 0 ∷ [])
@@ -129,6 +140,9 @@ table =
     ∷ (auctionPrice 100 buysTie sellsTie gives 101)
     ∷ (auctionPrice 104 buysTie sellsTie gives 105)
     ∷ (auctionPrice 103 buysTie sellsTie gives 105)
+    -- with sells left over at both, 001 would take the lowest, 101; with none left over it takes the nearest too
+    ∷ (auctionPrice 106 (order 1 105 1 ∷ []) (order 2 101 2 ∷ []) gives 105)
+    ∷ (auctionPrice 103 (order 1 105 1 ∷ []) sellsTie gives 105)
     -- no volume, no price, no trades
     ∷ (auctionPrice 100 buysApart sellsTie gives 0)
     ∷ (length (auctionMatch 0 100 buysApart sellsTie .trades) gives 0)
@@ -151,6 +165,12 @@ table =
     ∷ (length (auctionMatch 0 100 buys001 (sells001 3) .trades) gives 2)
     ∷ (bestPrice (auctionMatch 0 100 buys001 (sells001 3) .buys) gives 101)
     ∷ (bestPrice (auctionMatch 0 100 buys001 (sells001 3) .sells) gives 102)
+    -- an order that crosses rests whole in auction; in continuous it trades
+    ∷ (entered auction .rested gives 2)
+    ∷ (length (entered auction .trades) gives 0)
+    ∷ (length (entered auction .opposite) gives 1)
+    ∷ (length (entered continuous .trades) gives 1)
+    ∷ (entered continuous .rested gives 1)
     -- the answer of the state change: no order, the traded lots, none rested; the trade behind those there were
     ∷ (opened .answer .number gives 0)
     ∷ (opened .answer .traded gives 1)
@@ -177,5 +197,5 @@ table =
     ∷ []
 
 pub auction-examples : allRight table ≡ true
-unfolding allRight table order buys001 sells001 buys000 sells000 buysTie sellsTie buysSigned sellsSigned buysApart priceOf lotsOf buyOf sellOf of account listing changed opened holding accountAt afterLeg bookLeg bookTrade bookTrades holdingAt listingAt lastPrice sumOf lotsWhere bestPrice stays tradedLots prices lotsReaching volume surplus better bestFrom bestOf chosenPrice auctionPrice tradeAt matchIn matchAt auctionMatch matchOf listingMatched exchangeMatched phaseChanged
+unfolding allRight table order buys001 sells001 buys000 sells000 buysTie sellsTie buysSigned sellsSigned buysApart priceOf lotsOf buyOf sellOf of account listing asked entered changed opened holding accountAt afterLeg bookLeg bookTrade bookTrades holdingAt listingAt lastPrice sumOf lotsWhere bestPrice stays tradedLots prices lotsReaching volume surplus better bestFrom bestOf chosenPrice auctionPrice tradeAt matchIn matchAt auctionMatch matchOf listingOf takerOf enter meets methodOf middle pairedPrice remainder restIn restLots restWhole restedLots sweep tradePrice tradeWith enteredOf listingMatched exchangeMatched phaseChanged
 auction-examples = refl

@@ -8,7 +8,7 @@ use lib.IntN.{ℤ, pos, negsuc}
 use Rattle.laws.specs.Choice.{pick}
 use Rattle.laws.specs.Sums.{sumOf}
 use Rattle.rules.specs.Answers.{amountRefused, codeOf, conditionsRefused, fillableLots, firstOf, holdingRefused, insertRefusals, leavesTooLittle, listingOf, moneyRefused, overHolding, overLimit, priceRefusedBy, refusals, takerOf, takesOrders, tradesNeeded, withdrawRefusals}
-use Rattle.rules.specs.Bounds.{allowedToday, dayHigh, dayLow, onTick}
+use Rattle.rules.specs.Bounds.{allowedToday, continuous, dayHigh, dayLow, onTick}
 use Rattle.rules.specs.Examples.{Row, _gives_, allRight}
 use Rattle.rules.specs.Exchange.{Exchange, absent, accountAt, bestPrice, holdingAt, listingAt, lotsWhere, noHolding, resting}
 use Rattle.rules.specs.Holdings.{afterLeg, bookLeg}
@@ -25,7 +25,7 @@ use Rattle.rules.specs.declared.TimeCondition.the-variants.{GoodForDay}
 
 -- the charge is 10 a lot for each unit of the multiplier
 contract : ℕ → Contract
-contract multiplier = record { multiplier = multiplier; tick = 1; reference = 100; band = 10; limit = 1_000; rate = 1_000; method = 0; phase = 1; last = 100 }
+contract multiplier = record { multiplier = multiplier; tick = 1; reference = 100; band = 10; limit = 1_000; rate = 1_000; method = 0; phase = continuous; last = 100 }
 
 -- orders of account 1
 order : ℕ → ℕ → ℕ → ℕ → Order

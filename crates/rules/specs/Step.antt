@@ -20,6 +20,7 @@ use Rattle.rules.specs.declared.NewOrder.{NewOrder}
 use Rattle.rules.specs.declared.Order.{Order}
 use Rattle.rules.specs.declared.PriceCondition.{PriceCondition}
 use Rattle.rules.specs.declared.PriceCondition.the-variants.{Limit, Market, Best}
+use Rattle.rules.specs.declared.Trade.{Trade}
 use Rattle.rules.specs.declared.Command.{Command}
 use Rattle.rules.specs.declared.Command.the-variants.{Malformed, Deposit, Withdraw, Insert, Cancel, Pull, Phase, Settle}
 
@@ -58,6 +59,17 @@ withLast c last =
 abbrev pub withPhase : Contract → ℕ → Contract
 withPhase c phase =
     record { multiplier = c .multiplier; tick = c .tick; reference = c .reference; band = c .band; limit = c .limit; rate = c .rate; method = c .method; phase = phase; last = c .last }
+
+-- a contract's listing replaced, and trades made: booked on the accounts, and recorded behind those of the day
+abbrev pub withTrades : Exchange → ℕ → Listing → List Trade → ℕ → Exchange
+withTrades x c l trades next =
+    record {
+      listings = set (x .listings) c l;
+      accounts = bookTrades (x .accounts) trades;
+      trades = x .trades ++ trades;
+      next = next;
+      settlements = x .settlements;
+    }
 
 -- ---- deposit and withdraw
 
@@ -100,14 +112,7 @@ listingAfter l sell e = withQueues sell (withLast (l .contract) (lastPrice (l .c
 
 -- "given to accepted orders in turn over all contracts": the next number is one more
 unfoldable pub exchangeAfter : Exchange → NewOrder → Entered → Exchange
-exchangeAfter x o e =
-    record {
-      listings = set (x .listings) (placeOf (o .contract)) (listingAfter (listingOf x o) (o .sell) e);
-      accounts = bookTrades (x .accounts) (e .trades);
-      trades = x .trades ++ e .trades;
-      next = x .next + 1;
-      settlements = x .settlements;
-    }
+exchangeAfter x o e = withTrades x (placeOf (o .contract)) (listingAfter (listingOf x o) (o .sell) e) (e .trades) (x .next + 1)
 
 unfoldable pub inserted : Exchange → NewOrder → Stepped
 inserted x o =
@@ -154,14 +159,7 @@ listingMatched l phase m =
     }
 
 unfoldable pub exchangeMatched : Exchange → ℕ → ℕ → Matched → Exchange
-exchangeMatched x c phase m =
-    record {
-      listings = set (x .listings) c (listingMatched (listingAt x c) phase m);
-      accounts = bookTrades (x .accounts) (m .trades);
-      trades = x .trades ++ m .trades;
-      next = x .next;
-      settlements = x .settlements;
-    }
+exchangeMatched x c phase m = withTrades x c (listingMatched (listingAt x c) phase m) (m .trades) (x .next)
 
 -- its trades "appear after the state command's C line, whose traded field is their lots" (02, ticket 4): none but the match's
 unfoldable pub phaseChanged : Exchange → ℕ → ℕ → Stepped
