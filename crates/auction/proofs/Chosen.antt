@@ -15,7 +15,7 @@ use Rattle.book.proofs.Trading.{all-booked}
 use Rattle.auction.specs.Matched.{FilledIs, MatchReady, MatchedIs, levelMatch}
 use Rattle.auction.specs.Price.{QueuesRoom, chosenLevel}
 use Rattle.auction.specs.declared.matched.Filled.{Filled}
-use Rattle.auction.specs.declared.matched.Outcome.{Outcome}
+use Rattle.auction.specs.declared.matched.Match.{Match}
 use Rattle.auction.specs.declared.price.Level.{Level}
 
 module _ (c : ℕ) (level : Level) (buys sells : List Order) where

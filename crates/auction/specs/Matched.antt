@@ -15,7 +15,7 @@ use Rattle.book.specs.Bounds.{HeldWithin}
 use Rattle.book.specs.Trading.{AllBooked}
 use Rattle.auction.specs.Price.{QueuesRoom}
 use Rattle.auction.specs.declared.matched.Filled.{Filled}
-use Rattle.auction.specs.declared.matched.Outcome.{Outcome}
+use Rattle.auction.specs.declared.matched.Match.{Match}
 use Rattle.auction.specs.declared.price.Level.{Level}
 
 -- an order of an account in use, of at most 1,000 lots
@@ -59,7 +59,7 @@ levelMatch c level buys sells = pick (ltb 0 (level .volume)) (matchAt c (level .
 -- the answer, and the three areas: what the trades leave, and both queues without the filled orders
 pub record MatchedIs
     (m : Matched) (c last : ℕ) (held : List Account) (buys : List ℕ) (bought₀ : ℕ) (sells : List ℕ) (sold₀ : ℕ) (area : List ℕ) (before : ℕ)
-    (r : Outcome) (buys′ sells′ area′ : List ℕ) : Type 0 where
+    (r : Match) (buys′ sells′ area′ : List ℕ) : Type 0 where
   pub booked : AllBooked (m .trades) before last held area (r .traded) (r .made) (r .last) (r .accounts) area′
   pub bought : r .bought ≡ length (m .buys)
   pub sold : r .sold ≡ length (m .sells)

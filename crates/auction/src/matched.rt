@@ -189,7 +189,7 @@ pub fn trades_needed<'a>(
 }
 
 // The accounts, first as in `Filled`; lots traded, the last price, buys and sells that stay, trades of the day.
-pub struct Outcome {
+pub struct Match {
     pub accounts: [Account; 32],
     pub traded: u32,
     pub last: u32,
@@ -210,12 +210,12 @@ pub fn match_queues(
     chosen: Level,
     last: u32,
     accounts: [Account; 32],
-) -> Outcome
+) -> Match
     requires { ⌜ MatchReady (levelMatch contract chosen (queueIn (now buys) contract bought) (queueIn (now sells) contract sold)) contract accounts (now buys) bought (now sells) sold (now area) before ⌝ }
     ensures { λ r. ⌜ MatchedIs (levelMatch contract chosen (queueIn (now (buys .entry)) contract bought) (queueIn (now (sells .entry)) contract sold)) contract last accounts (now (buys .entry)) bought (now (sells .entry)) sold (now (area .entry)) before r (now (buys .exit)) (now (sells .exit)) (now (area .exit)) ⌝ }
 {
     if chosen.volume == 0 {
-        return Outcome {
+        return Match {
             accounts,
             traded: 0,
             last,
@@ -232,7 +232,7 @@ pub fn match_queues(
     queue::drop_front(buys, c, bought, buyers);
     queue::drop_front(sells, c, sold, sellers);
     let held = f.accounts;
-    Outcome {
+    Match {
         accounts: held,
         traded: f.traded,
         last: f.last,
