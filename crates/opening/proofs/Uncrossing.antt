@@ -203,7 +203,7 @@ module _ {s : State} {buys sells trades : List ℕ} (w : WellFormedState s buys 
           made = rw (is, level-is) at outcome
 
           lies : written m (kindOf x (Phase contract 1) .effect .stages) ≡ memory (withMatch s (k - 1) r) buys′ sells′ area′
-          unfolding phaseChanged exchangeMatched listingMatched exchangeOf listingIn
+          unfolding kindOf phaseChanged exchangeMatched listingMatched exchangeOf listingIn
           lies =
               put-traded m f c listing (matchOf x c .trades) (x .next) here kept counted
               ∙ rw (match-is, listing-is, is, made .booked .made, made .booked .last, made .booked .accounts, made .booked .trades, made .bought, made .sold, made .buy-queue, made .sell-queue)
