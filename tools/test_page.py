@@ -1,0 +1,396 @@
+"""The page of a lesson: what stands in it, and the paper's day stepped through in a real browser."""
+
+import json
+import re
+import subprocess
+import sys
+import tempfile
+import unittest
+from functools import cache
+from pathlib import Path
+
+import browser
+import page
+from lessons import lesson
+
+import daytext
+import model
+
+TOOL = Path(page.__file__)
+TOP = TOOL.parents[1]
+SAMPLES = TOP / "samples"
+MODEL_AS_RUNNER = f"{sys.executable} {TOP / 'tools' / 'model' / 'model.py'}"
+
+HEAD = "contract multiplier 10 tick 1 reference 100 band 10 limit 1000 rate 1000\naccount 10,000\naccount 10,000\n"
+
+
+@cache
+def page_of_sample(name):
+    return page.page(lesson.read(str(SAMPLES / f"{name}.txt")), (SAMPLES / f"{name}.out").read_text())
+
+
+def page_of_text(text):
+    of = lesson.lesson_of("lesson.txt", daytext.pack(text), text)
+    return page.page(of, model.run(of.file).decode())
+
+
+def data_in(text):
+    """The lesson that a page holds."""
+    return json.loads(re.search(r'<script id="lesson" type="application/json">(.*?)</script>', text, re.DOTALL)[1])
+
+
+class Content(unittest.TestCase):
+    def test_nothing_is_fetched(self):
+        text = page_of_sample("paper-example")
+        policy = r"""<meta http-equiv="Content-Security-Policy"\s+content="default-src 'none'; """
+        self.assertRegex(text[:1_000], policy)
+        self.assertEqual(set(re.findall(r"https?://[^\"' ]*", text)), {"http://www.w3.org/2000/svg"})
+        self.assertEqual(
+            re.findall(r"(?:src|href)=\"([^\"]*)\"|url\(|@import|fetch\(|XMLHttpRequest", text), ["data:,"]
+        )
+
+    def test_every_line_of_the_runner(self):
+        for path in sorted(SAMPLES.glob("*.txt")):
+            steps = data_in(page_of_sample(path.stem))["steps"]
+            lines = [said["line"] for step in steps for said in step["said"] if said["line"]]
+            self.assertEqual(lines, path.with_suffix(".out").read_text().splitlines(), path.name)
+
+    def test_a_comment_cannot_end_the_script(self):
+        comment = "</script><script>alert(1)</script><!-- & \\u003c"
+        text = page_of_text(HEAD + f"settle  # {comment}\n")
+        self.assertEqual(data_in(text)["steps"][0]["beside"], comment)
+        self.assertEqual(text.count("</script>"), 2)
+
+    def test_a_step_holds_what_it_changed(self):
+        steps = data_in(page_of_sample("paper-example"))["steps"]
+        self.assertEqual(
+            [sorted(step["accounts"]) for step in steps], [[], ["1"], ["1", "2"], ["1"], [], ["1", "2"], [], ["1", "2"]]
+        )
+        self.assertEqual([sorted(step["books"]) for step in steps], [["1"]] * 8)
+
+    def test_accounts_that_take_no_part(self):
+        self.assertEqual(data_in(page_of_sample("largest-file"))["active"], [1, 2])
+        self.assertEqual(data_in(page_of_text(HEAD))["active"], [1, 2])
+
+    def test_large_balances_keep_their_digits(self):
+        text = page_of_text(HEAD.replace("10,000", "999,999,999,999,999,999", 1) + "deposit 1 1\n")
+        step = data_in(text)["steps"][0]
+        self.assertEqual(step["accounts"]["1"]["balance"], "1,000,000,000,000,000,000")
+
+
+class Tool(unittest.TestCase):
+    def run_tool(self, *arguments, runner=MODEL_AS_RUNNER):
+        return subprocess.run([sys.executable, TOOL, *arguments, "--runner", runner], capture_output=True)
+
+    def test_page(self):
+        ended = self.run_tool(SAMPLES / "paper-example.day")
+        self.assertEqual((ended.returncode, ended.stderr), (0, b""))
+        self.assertEqual(ended.stdout.decode(), page_of_sample("paper-example"))
+
+    def test_no_page(self):
+        """Nothing is written where the runner and the model differ, or where there is nothing to show."""
+        ended = self.run_tool(SAMPLES / "paper-example.day", runner=f"cat {SAMPLES / 'full-day.out'}")
+        self.assertEqual((ended.returncode, ended.stdout), (1, b""))
+        self.assertIn(b"page: no page is made: the runner and the model differ at command 2\n", ended.stderr)
+        ended = self.run_tool(SAMPLES / "broken" / "tick-0.day")
+        self.assertEqual((ended.returncode, ended.stdout), (2, b""))
+        self.assertIn(b"tick-0.day: the file is broken", ended.stderr)
+        ended = self.run_tool("no such file")
+        self.assertEqual((ended.returncode, ended.stderr), (2, b"page: no such file: No such file or directory\n"))
+
+    @unittest.skipUnless(Path("/dev/full").exists(), "no full device")
+    def test_full_disk(self):
+        words = [sys.executable, TOOL, SAMPLES / "paper-example.day", "--runner", MODEL_AS_RUNNER]
+        with open("/dev/full", "wb") as full:
+            ended = subprocess.run(words, stdout=full, stderr=subprocess.PIPE)
+        self.assertEqual(ended.returncode, 2)
+        self.assertEqual(ended.stderr, b"page: standard output: No space left on device\n")
+
+
+# What is on the page, read as it is shown.
+SHOWN = """(() => {
+  const texts = (selector, within = document) => [...within.querySelectorAll(selector)].map((node) => node.innerText);
+  const rows = (selector) => [...document.querySelectorAll(selector)].map((row) => texts("td", row));
+  const orders = (row, side) => texts(`.${side} .order`, row).map((text) => text.replace(/\\s+/g, " "));
+  return {
+    step: Number(document.body.dataset.step),
+    where: document.querySelector("#where").innerText,
+    heading: document.querySelector("#words h2").innerText,
+    lines: [...document.querySelectorAll("#words .line")].map((node) => node.dataset.line),
+    answer: texts("#words .answer > p"),
+    words: document.querySelector("#words").innerText,
+    current: document.querySelector("#list [aria-current=step]").innerText.replace(/\\s+/g, " ").trim(),
+    ladder: Object.fromEntries([...document.querySelectorAll(".ladder tbody tr")].map((row) =>
+      [row.dataset.price, [orders(row, "buy"), orders(row, "sell")]]).filter(([, sides]) => sides.flat().length)),
+    book: document.querySelector("#book .terms").innerText,
+    accounts: rows("#accounts tbody tr"),
+    trades: rows("#trades tbody tr"),
+    prices: [...document.querySelectorAll("#prices .trade")].map((node) => node.dataset.price),
+    settled: [...document.querySelectorAll("#prices .settled")].map((node) => node.dataset.price),
+    balances: [...document.querySelectorAll("#balances svg")].map((svg) =>
+      [...svg.querySelectorAll("circle")].map((node) => node.dataset.balance)),
+  };
+})()"""
+
+FIRST_TRADE = ["1", "102", "3", "A2 #2 open", "A1 #1 open"]
+SECOND_TRADE = ["2", "103", "2", "A1 #4 close", "A2 #3 close"]
+
+# The paper's day: for each step its heading, the runner's lines, the answer, the ladder, the two accounts, the trades.
+PAPER_DAY = [
+    ("Paper example", [], [], {}, ("none", "10,000", "0"), ("none", "10,000", "0"), []),
+    (
+        "Contract 1: change to continuous",
+        ["C 1 0 0 0 0"],
+        ["Accepted. Contract 1 goes from pre-open to continuous."],
+        {}, ("none", "10,000", "0"), ("none", "10,000", "0"), [],
+    ),
+    (
+        "Account 1: sell 5 lots of contract 1 to open, limit 102, good for day",
+        ["C 2 0 1 0 5"],
+        ["Accepted as order 1. Nothing trades: no buy order rests. As it is good for day, 5 lots rest at 102."],
+        {"102": [[], ["5 A1 #1"]]}, ("none", "10,000", "500"), ("none", "10,000", "0"), [],
+    ),
+    (
+        "Account 2: buy 3 lots of contract 1 to open, limit 104, good for day",
+        ["C 3 0 2 3 0", "T 1 1 102 3 2 1"],
+        ["Accepted as order 2. All 3 lots trade."],
+        {"102": [[], ["2 A1 #1"]]}, ("3 short", "10,000", "500"), ("3 long", "10,000", "300"), [FIRST_TRADE],
+    ),
+    (
+        "Account 1: cancel order 1 in contract 1",
+        ["C 4 0 1 0 2"],
+        ["Accepted. Order 1 leaves the book with the 2 lots it still had."],
+        {}, ("3 short", "10,000", "300"), ("3 long", "10,000", "300"), [FIRST_TRADE],
+    ),
+    (
+        "Account 2: sell 2 lots of contract 1 to close, limit 103, good for day",
+        ["C 5 0 3 0 2"],
+        ["Accepted as order 3. Nothing trades: no buy order rests. As it is good for day, 2 lots rest at 103."],
+        {"103": [[], ["2 A2 #3"]]}, ("3 short", "10,000", "300"), ("3 long", "10,000", "300"), [FIRST_TRADE],
+    ),
+    (
+        "Account 1: buy 2 lots of contract 1 to close, limit 106, good for day",
+        ["C 6 0 4 2 0", "T 2 1 103 2 4 3"],
+        ["Accepted as order 4. Both lots trade."],
+        {}, ("1 short", "10,000", "100"), ("1 long", "10,000", "100"), [FIRST_TRADE, SECOND_TRADE],
+    ),
+    (
+        "Contract 1: change to closed",
+        ["C 7 0 0 0 0"],
+        ["Accepted. Contract 1 goes from continuous to closed."],
+        {}, ("1 short", "10,000", "100"), ("1 long", "10,000", "100"), [FIRST_TRADE, SECOND_TRADE],
+    ),
+    (
+        "Settle the day",
+        ["C 8 0 0 0 0", "P 1 102", "B 1 -20 0 9980 102", "B 2 20 0 10020 102"],
+        ["Accepted. Every contract is closed; this is settlement 1."],
+        {}, ("1 short", "9,980", "102"), ("1 long", "10,020", "102"), [FIRST_TRADE, SECOND_TRADE],
+    ),
+]  # fmt: skip
+
+
+@unittest.skipUnless(browser.find_browser(), "no browser is installed (apt-get install chromium)")
+class InABrowser(unittest.TestCase):
+    @classmethod
+    def setUpClass(cls):
+        cls.folder = tempfile.TemporaryDirectory()
+        cls.addClassCleanup(cls.folder.cleanup)
+        cls.browser = browser.Browser()
+        cls.addClassCleanup(cls.browser.close)
+
+    def setUp(self):
+        self.browser.requests.clear()
+        self.browser.errors.clear()
+
+    def tearDown(self):
+        self.assertEqual(self.browser.errors, [])
+
+    def open(self, name, step=None):
+        path = Path(self.folder.name, f"{name}.html")
+        if not path.exists():
+            path.write_text(page_of_sample(name), encoding="utf-8")
+        self.browser.call("Page.navigate", url="about:blank")
+        self.browser.open(path, step)
+        return path
+
+    def shown(self):
+        return self.browser.value(SHOWN)
+
+    def assert_paper_step(self, step):
+        heading, lines, answer, ladder, first, second, trades = PAPER_DAY[step]
+        shown = self.shown()
+        self.assertEqual(shown["step"], step)
+        self.assertEqual(shown["where"], f"Step {step} of 8, day 1" if step else "Opening, 8 steps")
+        self.assertEqual((shown["heading"], shown["lines"], shown["answer"]), (heading, lines, answer))
+        self.assertEqual(shown["current"], f"{step} {heading}" if step else "The opening")
+        self.assertEqual(shown["ladder"], ladder)
+        self.assertEqual(shown["accounts"], [["1", *first], ["2", *second]])
+        self.assertEqual(shown["trades"], trades)
+        self.assertEqual(shown["prices"], [trade[1] for trade in trades])
+        return shown
+
+    def test_the_papers_day_with_the_keyboard(self):
+        path = self.open("paper-example")
+        self.assert_paper_step(0)
+        for step in range(1, 9):
+            self.browser.press("ArrowRight")
+            self.assert_paper_step(step)
+        self.browser.press("ArrowRight")
+        self.assert_paper_step(8)
+        for step in range(7, -1, -1):
+            self.browser.press("ArrowLeft")
+            self.assert_paper_step(step)
+        self.browser.press("ArrowLeft")
+        self.assert_paper_step(0)
+        self.browser.press("End")
+        self.assert_paper_step(8)
+        self.browser.press("Home")
+        self.assert_paper_step(0)
+        # The page itself is all that was asked for.
+        self.assertEqual(
+            [url.split("#")[0] for url in self.browser.requests if url.startswith("file:")], [path.as_uri()]
+        )
+        others = [url for url in self.browser.requests if not url.startswith(("file:", "data:", "about:"))]
+        self.assertEqual(others, [])
+
+    def test_the_workings_of_the_papers_day(self):
+        self.open("paper-example")
+        self.assertIn("The example of document 01: one contract, two accounts, one day.", self.shown()["words"])
+        self.assertIn("The charge for one lot: 10 × 100 × 1,000 / 10,000 = 100.", self.shown()["words"])
+        for _ in range(3):
+            self.browser.press("ArrowRight")
+        words = self.shown()["words"]
+        self.assertIn("the middle of 104, 102 and 100", words)
+        self.assertIn("102 is the middle of the buy price 104, the sell price 102 and the last price 100.", words)
+        self.browser.press("End")
+        shown = self.shown()
+        for words in (
+            "(3 × 102 + 2 × 103) / 5 = 512 / 5 = 102.4, rounded down 102.",
+            "2 lots sold at 102 (trade 1), bought back at 103 (trade 2): 2 × (102 - 103) = -2",
+            "The balance takes both: 10,000 - 20 + 0 = 9,980",
+            "All balances together: 9,980 + 10,020 = 20,000.",
+        ):
+            self.assertIn(words, shown["words"])
+        self.assertEqual(shown["book"], "pre-open; last price 103, reference 102, prices from 92 to 112")
+        self.assertEqual(shown["settled"], ["102"])
+        self.assertEqual(shown["balances"], [["10,000", "9,980"], ["10,000", "10,020"]])
+
+    def test_mouse_and_slider(self):
+        self.open("paper-example")
+        for selector, step in (("#next", 1), ("#next", 2), ("#back", 1), ("#last", 8), ("#first", 0)):
+            self.browser.click(selector)
+            self.assert_paper_step(step)
+        self.browser.click("#list [data-step='3']")
+        self.assert_paper_step(3)
+        self.browser.value("document.querySelector('#slider').focus()")
+        self.browser.press("ArrowRight")
+        self.assert_paper_step(4)
+        self.browser.press("Tab")
+        self.assert_paper_step(4)
+
+    def test_the_address_keeps_the_step(self):
+        self.open("paper-example", step=6)
+        self.assert_paper_step(6)
+        self.browser.press("ArrowLeft")
+        self.browser.wait_for("location.hash === '#5'")
+        for address, step in (("#3", 3), ("#99", 8), ("#x", 0), ("#2.5", 2), ("#-1", 0)):
+            self.browser.value(f"location.hash = '{address}'")
+            self.browser.wait_for(f"document.body.dataset.step === '{step}'")
+            self.assert_paper_step(step)
+
+    def test_answers_ahead_are_not_shown(self):
+        """What is on the page at a step tells nothing of the steps after it."""
+        self.open("paper-example", step=5)
+        self.assertEqual(self.shown()["prices"], ["102"])
+        self.assertEqual(self.shown()["settled"], [])
+        self.assertEqual(self.shown()["balances"], [["10,000"], ["10,000"]])
+        self.open("margin-on-one-side", step=11)
+        refused = "[...document.querySelectorAll('#list .refused')].map((node) => node.dataset.step)"
+        self.assertEqual(self.browser.value(refused), [])
+        self.browser.press("ArrowRight")
+        self.assertEqual(self.browser.value(refused), ["12"])
+
+    def test_a_refusal_and_two_contracts(self):
+        self.open("margin-on-one-side", step=12)
+        shown = self.shown()
+        self.assertEqual(
+            shown["answer"], ["Refused, code 9: too little money for the charged margin. Nothing changes."]
+        )
+        self.assertIn("6,600 + 450 = 7,050 would be charged, more than the balance of 7,000.", shown["words"])
+        self.assertEqual(shown["ladder"], {"105": [[], ["3 A1 #6"]], "95": [["5 A1 #5"], []]})
+        self.browser.press("2")
+        self.assertEqual(self.shown()["ladder"], {"105": [[], ["9 A1 #9"]]})
+        self.browser.press("1")
+        self.assertEqual(self.shown()["ladder"], shown["ladder"])
+
+    def test_on_paper(self):
+        self.open("paper-example", step=6)
+        self.browser.call("Emulation.setEmulatedMedia", media="print")
+        self.browser.value("dispatchEvent(new Event('beforeprint'))")
+        printed = self.browser.value(
+            """({
+          hidden: ["header", "#screen"].map((selector) => getComputedStyle(document.querySelector(selector)).display),
+          steps: [...document.querySelectorAll("#handout section[data-step]")].map((section) => section.dataset.step),
+          lines: [...document.querySelectorAll("#handout .line")].map((line) => line.dataset.line),
+          text: document.querySelector("#handout").innerText,
+          pictures: document.querySelectorAll("#handout svg").length,
+          details: document.querySelectorAll("#handout details").length,
+        })"""
+        )
+        self.assertEqual(printed["hidden"], ["none", "none"])
+        self.assertEqual(printed["steps"], [str(step) for step in range(9)])
+        self.assertEqual(printed["lines"], (SAMPLES / "paper-example.out").read_text().splitlines())
+        self.assertIn("All balances together: 9,980 + 10,020 = 20,000.", printed["text"])
+        self.assertEqual((printed["pictures"], printed["details"]), (3, 0))
+        self.browser.value("dispatchEvent(new Event('afterprint'))")
+        self.assertEqual(self.browser.value("document.querySelector('#handout').children.length"), 0)
+        self.browser.call("Emulation.setEmulatedMedia", media="")
+        whole = self.browser.paper()
+        self.browser.value("document.querySelector('#paper').value = 'step'")
+        one = self.browser.paper()
+        self.assertTrue(whole.startswith(b"%PDF") and one.startswith(b"%PDF"))
+        self.assertGreaterEqual(pages_in(whole), 3)
+        self.assertEqual(pages_in(one), 1)
+        self.assert_paper_step(6)
+
+    def test_nothing_sticks_out(self):
+        """At the widths of a projector, a small screen and a telephone. A balance of 10^18 may need scrolling."""
+        self.addCleanup(self.resize, 1280, 900)
+        for name, step in (("paper-example", 8), ("margin-on-one-side", 17), ("largest-file", 8), ("every-code", 200)):
+            self.open(name, step)
+            for width, height in ((1920, 1080), (1280, 720), (1024, 768), (800, 600), (400, 800)):
+                self.resize(width, height)
+                reach = self.browser.value("document.documentElement.scrollWidth")
+                if name != "every-code":
+                    parts = (
+                        "[...document.querySelectorAll('.card *')].map((node) => node.getBoundingClientRect().right)"
+                    )
+                    reach = max(reach, *self.browser.value(parts))
+                self.assertLessEqual(reach, width + 0.5, f"{name} at {width}")
+
+    def resize(self, width, height):
+        self.browser.call(
+            "Emulation.setDeviceMetricsOverride", width=width, height=height, deviceScaleFactor=1, mobile=False
+        )
+
+    def test_every_sample(self):
+        """The steps of every sample, of a long one every 50th, are shown without an error, with the runner's lines."""
+        for path in sorted(SAMPLES.glob("*.txt")):
+            self.open(path.stem)
+            groups = lesson.lines_by_command(path.with_suffix(".out").read_text())
+            last = len(groups) - 1
+            for step in [*range(0, last, 1 if last < 100 else 50), last]:
+                self.browser.value(f"go({step})")
+                lines = self.browser.value(
+                    "[...document.querySelectorAll('#words .line')].map((node) => node.dataset.line)"
+                )
+                self.assertEqual(lines, groups[step], f"{path.name}, step {step}")
+            self.assertEqual(self.browser.errors, [], path.name)
+
+
+def pages_in(pdf):
+    return len(re.findall(rb"/Type\s*/Page\b", pdf))
+
+
+if __name__ == "__main__":
+    unittest.main()
