@@ -53,6 +53,7 @@ class Pack(unittest.TestCase):
             state 2 continuous
             state 2 no-trading
             state 2 closed
+            state 2 auction
             settle
             raw 08 ff 00 03 01000000 0000000200000003 0400000000000000
             """
@@ -73,6 +74,7 @@ class Pack(unittest.TestCase):
                 dayfile.Command(6, contract=2, flags=1),
                 dayfile.Command(6, contract=2, flags=2),
                 dayfile.Command(6, contract=2, flags=3),
+                dayfile.Command(6, contract=2, flags=4),
                 dayfile.Command(7),
                 dayfile.Command(8, 255, 0, 3, 1, 2 << 24, 3 << 24, 4),
             ],
@@ -106,7 +108,9 @@ class Messages(unittest.TestCase):
         )
 
     def test_other_words(self):
-        self.assert_message("state 1 open", "'open' where pre-open, continuous, no-trading or closed should stand")
+        self.assert_message(
+            "state 1 open", "'open' where pre-open, continuous, no-trading, closed or auction should stand"
+        )
         self.assert_message("insert 1 contrct 1", "'contrct' where contract should stand")
         self.assert_message("insert 1 contract 1 buys", "'buys' where buy or sell should stand")
         self.assert_message("insert 1 contract 1 buy limit", "'limit' where open or close should stand")
@@ -187,6 +191,15 @@ class Unpack(unittest.TestCase):
             "insert 1 contract 1 sell open best lots 5 kill  # C 1\n"
             "raw ff ff ff ff ffffffff ffffffff ffffffff ffffffffffffffff  # C 2\n",
         )
+
+    def test_states(self):
+        """Each state by its name; flags above 4 are unknown."""
+        states = ("pre-open", "continuous", "no-trading", "closed", "auction")
+        day = dayfile.sections(daytext.pack(HEAD))
+        day.commands.extend(dayfile.Command(6, contract=1, flags=flags) for flags in range(6))
+        lines = daytext.unpack(dayfile.write(day)).splitlines()[2:]
+        self.assertEqual(lines[:5], [f"state 1 {state}  # C {place}" for place, state in enumerate(states, 1)])
+        self.assertTrue(lines[5].startswith("raw 06 00 01 05 "))
 
     def test_round_trip(self):
         """Every file whose sections are whole comes back the same, broken by its values or not."""
