@@ -1,18 +1,18 @@
 -- An insert's refusals in the parts in which the code tries them, over plain values; the side of a contract as it lies; and the
 -- state that an entered order leaves. Together with codes 2 and 3 the parts are the rules' list (proofs/Inserting.antt).
 -- Assumes nothing.
-use mathlib.Core.Bool.{Bool, true, false, not, _&&_}
+use mathlib.Core.Bool.{Bool, true, false, not, _&&_, _||_}
 use mathlib.Core.List.{List, [], _∷_}
 use mathlib.Core.Path.{_≡_}
 use Prim.Native.Nat.{ℕ, _+_, _*_, _<_, _≤_}
-use lib.Dec.{leb, ltb, eqb}
+use lib.Dec.{leb, ltb}
 use lib.ListN.{length, getD, set}
 use Rattle.laws.specs.Choice.{pick}
-use Rattle.rules.specs.Answers.{Refusal, _when_, holdingRefused, moneyRefused, isFillOrKill, isGoodForDay, isLimit, mark, priceRefused}
-use Rattle.rules.specs.Bounds.{within, maxLots, maxResting, maxTrades, numbersEnd}
+use Rattle.rules.specs.Answers.{Refusal, _when_, conditionsRefused, holdingRefused, moneyRefused, isFillOrKill, isGoodForDay, mark, priceRefused, takesOrders}
+use Rattle.rules.specs.Bounds.{inAuction, within, maxLots, maxResting, maxTrades, numbersEnd}
 use Rattle.rules.specs.EarlyStop.{countTrades}
 use Rattle.rules.specs.Exchange.{Exchange, bestPrice, noAccount, noContract, placeOf}
-use Rattle.rules.specs.Matching.{Entered, enter, fillable, methodOf}
+use Rattle.rules.specs.Matching.{Entered, enter, fillable, methodOf, restWhole}
 use Rattle.rules.specs.Memory.{queueIn}
 use Rattle.rules.specs.Step.{limitOf, withLast}
 use Rattle.rules.specs.WellFormed.{sorted}
@@ -26,26 +26,23 @@ use Rattle.rules.specs.declared.State.{State}
 use Rattle.rules.specs.declared.Taker.{Taker}
 use Rattle.rules.specs.declared.TimeCondition.{TimeCondition}
 use Rattle.engine.specs.Outcome.{isAbsent}
-use Rattle.matching.specs.Entry.{EntryReady, EntryIs}
+use Rattle.matching.specs.Entry.{EntryIs}
+use Rattle.matching.specs.Sweep.{SweepReady}
 use Rattle.matching.specs.declared.entry.Entry.{Entry}
 
 -- ---- the refusals
 
--- 6: "market or best with good for day"
-abbrev pub dayWithoutLimit : PriceCondition → TimeCondition → Bool
-dayWithoutLimit condition time = not (isLimit condition) && isGoodForDay time
-
--- 5 to 7: the order's own fields, by the contract's terms
-abbrev pub fieldsRefusals : Contract → NewOrder → List Refusal
-fieldsRefusals c o =
+-- 5 to 7: the order's own fields, by the contract's terms; `conditions` is the test of 6
+abbrev pub fieldsRefusals : Bool → Contract → NewOrder → List Refusal
+fieldsRefusals conditions c o =
     (5 when not (within 1 maxLots (o .lots)))
-    ∷ (6 when dayWithoutLimit (o .condition) (o .time))
+    ∷ (6 when conditions)
     ∷ (7 when priceRefused c o)
     ∷ []
 
 -- 4 to 7: the contract's phase, then the fields
 unfoldable pub termsRefusals : Contract → NewOrder → List Refusal
-termsRefusals c o = (4 when not (eqb (c .phase) 1)) ∷ fieldsRefusals c o
+termsRefusals c o = (4 when not (takesOrders c)) ∷ fieldsRefusals (conditionsRefused c o) c o
 
 -- 8, with the account's resting lots on the order's own side: opens of an open, closes of a close
 unfoldable pub lotsRefused : Contract → Holding → ℕ → NewOrder → Bool
@@ -62,21 +59,22 @@ accountRefusals x o = (8 when holdingRefused x o) ∷ (9 when moneyRefused x o) 
 abbrev pub killRefused : Taker → List Order → ℕ → TimeCondition → Bool
 killRefused t queue lots time = isFillOrKill time && ltb (fillable t queue) lots
 
--- 12: "it would make more trades than the day has room for"
-abbrev pub tradesRefused : ℕ → Taker → List Order → ℕ → Bool
-tradesRefused recorded t queue lots = ltb maxTrades (recorded + countTrades t lots queue)
+-- 12: "it would make more trades than the day has room for"; in auction it makes none
+abbrev pub tradesRefused : Bool → ℕ → Taker → List Order → ℕ → Bool
+tradesRefused auction recorded t queue lots = ltb maxTrades (recorded + pick auction 0 (countTrades t lots queue))
 
--- 13: "good for day, own side has 64, fillable lots below lots"
-abbrev pub fullRefused : ℕ → Taker → List Order → ℕ → TimeCondition → Bool
-fullRefused own t queue lots time = isGoodForDay time && leb maxResting own && ltb (fillable t queue) lots
+-- 13: "good for day, own side has 64, fillable lots below lots"; in auction "whenever the own side has 64"
+abbrev pub fullRefused : Bool → ℕ → Taker → List Order → ℕ → TimeCondition → Bool
+fullRefused auction own t queue lots time = isGoodForDay time && leb maxResting own && (auction || ltb (fillable t queue) lots)
 
--- 10 to 13: the next number, the trades recorded, the orders on the own side, the order as it meets the opposite queue
-unfoldable pub bookRefusals : ℕ → ℕ → ℕ → Taker → List Order → NewOrder → List Refusal
-bookRefusals next recorded own t queue o =
+-- 10 to 13: whether the contract is in auction, the next number, the trades recorded, the orders on the own side, the order as it
+-- meets the opposite queue
+unfoldable pub bookRefusals : Bool → ℕ → ℕ → ℕ → Taker → List Order → NewOrder → List Refusal
+bookRefusals auction next recorded own t queue o =
     (10 when leb numbersEnd next)
     ∷ (11 when killRefused t queue (o .lots) (o .time))
-    ∷ (12 when tradesRefused recorded t queue (o .lots))
-    ∷ (13 when fullRefused own t queue (o .lots) (o .time))
+    ∷ (12 when tradesRefused auction recorded t queue (o .lots))
+    ∷ (13 when fullRefused auction own t queue (o .lots) (o .time))
     ∷ []
 
 -- ---- one side of a contract, as it lies
@@ -133,17 +131,23 @@ termsIn s o = getD (s .contracts) (placeOf (o .contract)) noContract
 abbrev pub lastIn : State → NewOrder → ℕ
 lastIn s o = termsIn s o .last
 
--- ready to be entered on a side that lies in `owns`, against one that lies in `opposites`
+-- what it trades and leaves: in auction it rests whole
+abbrev pub enteredFor : State → List Order → List Order → NewOrder → Entered
+enteredFor s own opposite o =
+    pick (inAuction (termsIn s o))
+    (restWhole (takerFor (s .next) (termsIn s o) opposite o) (o .lots) (limitOf (o .condition)) own opposite)
+    (enter (takerFor (s .next) (termsIn s o) opposite o) (o .lots) (limitOf (o .condition)) (isGoodForDay (o .time)) (lastIn s o) own opposite)
+
+-- ready to be entered on a side that lies in `owns`, against one that lies in `opposites`: room for what rests, and outside auction all
+-- that a sweep asks for
 pub record Arriving (s : State) (owns : List ℕ) (own : ℕ) (opposites : List ℕ) (opposite : ℕ) (area : List ℕ) (o : NewOrder) : Type 0 where
   pub account-low : 1 ≤ o .account
   pub contract-low : 1 ≤ o .contract
+  pub contract-high : placeOf (o .contract) < 4
   pub queue : QueueRoom opposites (placeOf (o .contract)) opposite
-  pub ready : EntryReady (takerFor (s .next) (termsIn s o) (queueIn opposites (placeOf (o .contract)) opposite) o) (o .lots) (limitOf (o .condition)) (isGoodForDay (o .time)) (lastIn s o) (s .accounts) owns own opposites opposite area (s .tradecount)
-
--- what it trades and leaves
-abbrev pub enteredFor : State → List Order → List Order → NewOrder → Entered
-enteredFor s own opposite o =
-    enter (takerFor (s .next) (termsIn s o) opposite o) (o .lots) (limitOf (o .condition)) (isGoodForDay (o .time)) (lastIn s o) own opposite
+  pub rests : 320 * placeOf (o .contract) + 5 * length (enteredFor s (queueIn owns (placeOf (o .contract)) own) (queueIn opposites (placeOf (o .contract)) opposite) o .own) ≤ length owns
+  pub sweeps : inAuction (termsIn s o) ≡ false
+      → SweepReady (takerFor (s .next) (termsIn s o) (queueIn opposites (placeOf (o .contract)) opposite) o) (o .lots) (lastIn s o) (s .accounts) opposites opposite area (s .tradecount)
 
 pub record Arrived (s : State) (owns : List ℕ) (own : ℕ) (opposites : List ℕ) (opposite : ℕ) (area : List ℕ) (o : NewOrder) (r : Entry) (owns′ opposites′ area′ : List ℕ) : Type 0 where
   pub entry : EntryIs (enteredFor s (queueIn owns (placeOf (o .contract)) own) (queueIn opposites (placeOf (o .contract)) opposite) o) (placeOf (o .contract)) owns own opposites opposite area (s .tradecount) (lastIn s o) (s .accounts) r owns′ opposites′ area′
