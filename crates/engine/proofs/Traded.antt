@@ -12,6 +12,7 @@ use Rattle.areas.specs.Records.{store}
 use Rattle.rules.specs.Exchange.{Exchange, Listing, listingAt, noListing, own}
 use Rattle.rules.specs.Holdings.{bookTrades}
 use Rattle.rules.specs.Memory.{Memory, exchangeOf, put, putAccounts, putQueue, putTrades, tradeWords}
+use Rattle.rules.specs.Step.{withTrades}
 use Rattle.rules.specs.WellFormed.{tradeInRange}
 use Rattle.rules.specs.declared.Trade.{Trade}
 use Rattle.rules.proofs.Codecs.{store-trades}
@@ -30,19 +31,8 @@ trades-used y k n el ea (t ∷ ts) h =
     let q = trade-ok y t (b .0) in
     ((omega (arith, q .contract), (omega (arith, q .buyer), omega (arith, q .seller))), trades-used y k n el ea ts (b .1))
 
--- the listing of contract c, these trades and the next number are new
-abbrev pub traded : Exchange → ℕ → Listing → List Trade → ℕ → Exchange
-traded x c l ts next =
-    record {
-      listings = set (x .listings) c l;
-      accounts = bookTrades (x .accounts) ts;
-      trades = x .trades ++ ts;
-      next = next;
-      settlements = x .settlements;
-    }
-
 module _ (m : Memory) (f : Formed m) (c : ℕ) (l : Listing) (ts : List Trade) (next : ℕ) (here : c < m .state .contractcount)
-    (kept : WellFormed (traded (exchangeOf m) c l ts next)) (counted : Counted (traded (exchangeOf m) c l ts next)) where
+    (kept : WellFormed (withTrades (exchangeOf m) c l ts next)) (counted : Counted (withTrades (exchangeOf m) c l ts next)) where
   abbrev x : Exchange
   x = exchangeOf m
 
@@ -59,15 +49,15 @@ module _ (m : Memory) (f : Formed m) (c : ℕ) (l : Listing) (ts : List Trade) (
   unfolding exchangeOf
   accounts-booked =
       put-trades-booked (m .state .contractcount) (m .state .accountcount) (m .state .accounts) ts (few-accounts m f) (wide m f)
-      (trades-used (traded x c l ts next) (m .state .contractcount) (m .state .accountcount) contracts-after (length-bookTrades (x .accounts) ts ∙ accounts-count m f) ts
-      (both-true (allOf (tradeInRange (traded x c l ts next)) (x .trades)) (allOf (tradeInRange (traded x c l ts next)) ts) (rw allOf-append at (kept .trades)) .1))
+      (trades-used (withTrades x c l ts next) (m .state .contractcount) (m .state .accountcount) contracts-after (length-bookTrades (x .accounts) ts ∙ accounts-count m f) ts
+      (both-true (allOf (tradeInRange (withTrades x c l ts next)) (x .trades)) (allOf (tradeInRange (withTrades x c l ts next)) ts) (rw allOf-append at (kept .trades)) .1))
 
   trades-stored : putTrades (m .trades) (m .state .tradecount) (x .trades ++ ts) ≡ store tradeWords (m .trades) (9 * m .state .tradecount) ts
   unfolding exchangeOf
   trades-stored = sym (store-trades (m .trades) (m .state .tradecount) ts (omega (arith, f .trades-room, f .trades-high)))
 
   pub put-traded :
-      put m (traded x c l ts next)
+      put m (withTrades x c l ts next)
       ≡ record {
         state =
             record {

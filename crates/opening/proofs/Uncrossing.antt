@@ -15,7 +15,7 @@ use Rattle.rules.specs.Bounds.{inAuction, maxLots}
 use Rattle.rules.specs.Exchange.{Exchange, Listing, accountAt, holdingAt, listingAt, noContract, own, placeOf}
 use Rattle.rules.specs.Kinds.{codeOf, done, kindOf}
 use Rattle.rules.specs.Memory.{Memory, WellFormedState, exchangeOf, listingIn, memory, queueIn, stepIn, written}
-use Rattle.rules.specs.Step.{answerOf, exchangeMatched, listingMatched, phaseChanged}
+use Rattle.rules.specs.Step.{answerOf, exchangeMatched, listingMatched, phaseChanged, withTrades}
 use Rattle.rules.specs.WellFormed.{orderInRange}
 use Rattle.rules.specs.declared.Command.the-variants.{Phase}
 use Rattle.rules.specs.declared.Contract.{Contract}
@@ -38,7 +38,7 @@ use Rattle.engine.proofs.Formed.{Formed, accounts-count, contracts-count, forme
 use Rattle.engine.proofs.Margins.{chargeable}
 use Rattle.engine.proofs.Outcomes.{acceptance, refusal}
 use Rattle.engine.proofs.Tests.{place-below}
-use Rattle.engine.proofs.Traded.{put-traded, traded}
+use Rattle.engine.proofs.Traded.{put-traded}
 use Rattle.opening.specs.Opening.{withMatch}
 
 -- it is the change to continuous
@@ -189,11 +189,11 @@ module _ {s : State} {buys sells trades : List ℕ} (w : WellFormedState s buys 
         abbrev listing : Listing
         listing = listingMatched (listingAt x c) 1 (matchOf x c)
 
-        kept : WellFormed (traded x c listing (matchOf x c .trades) (x .next))
+        kept : WellFormed (withTrades x c listing (matchOf x c .trades) (x .next))
         unfolding codeOf kindOf phaseChanged exchangeMatched
         kept = phase-keeps x contract 1 accepted (f .contents)
 
-        counted : Counted (traded x c listing (matchOf x c .trades) (x .next))
+        counted : Counted (withTrades x c listing (matchOf x c .trades) (x .next))
         unfolding codeOf kindOf phaseChanged exchangeMatched
         counted = phase-counted x contract 1 accepted (f .contents) (sound m (w .formed) .counts)
 
