@@ -224,7 +224,18 @@ pub fn match_queues(
         };
     }
     let price = chosen.price;
-    let f = match_at(buys, bought, sells, sold, area, before, contract, price, last, accounts);
+    let f = match_at(
+        buys,
+        bought,
+        sells,
+        sold,
+        area,
+        before,
+        contract,
+        price,
+        last,
+        accounts,
+    );
     let c = laws::wide(contract);
     let buyers = f.bought;
     let sellers = f.sold;

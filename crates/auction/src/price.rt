@@ -145,13 +145,7 @@ fn best_among<'a>(
 }
 
 // A price to start from: the best buy, the best sell where no buy rests, 0 where no order does.
-fn first_price<'a>(
-    buys: &'a [u32],
-    bought: usize,
-    sells: &'a [u32],
-    sold: usize,
-    c: usize,
-) -> u32
+fn first_price<'a>(buys: &'a [u32], bought: usize, sells: &'a [u32], sold: usize, c: usize) -> u32
     requires { ⌜ QueuesRoom (now buys) bought (now sells) sold c ⌝ }
     ensures { λ r. ⌜ r ≡ firstPrice (queueIn (now (buys .entry)) c bought) (queueIn (now (sells .entry)) c sold) ⌝ }
 {
