@@ -14,7 +14,7 @@ before a line and commas in numbers (10,000) are free.
 
     contract multiplier 10 tick 1 reference 100 band 10 limit 1000 rate 1000
     account 10,000                                       its opening balance
-    state 1 continuous                                   contract 1; or pre-open, no-trading, closed
+    state 1 continuous                                   contract 1; or pre-open, no-trading, closed, auction
     insert 1 contract 1 sell open limit 102 lots 5 day   account 1; buy or sell, open or close
     insert 2 contract 1 buy close market lots 3 kill     limit PRICE, market or best; day, immediate or kill
     cancel 1 contract 1 order 7                          account 1; add operator for the operator bit

@@ -1,7 +1,7 @@
 //! What both exchanges are run on: day files without commands, and lists of commands, the same at every run.
 
 use crate::cases::{Random, ORDER, QUEUE, TRADE};
-use crate::exchange::{Areas, State, RECORD};
+use crate::exchange::{Areas, State, AUCTION, RECORD};
 
 pub const CONTRACTS: usize = 4;
 pub const REFERENCE: u32 = 1_000;
@@ -126,7 +126,7 @@ fn any_command(r: &mut Random, state: &State, memory: &Memory) -> Command {
         0..=3 => Command { kind: 1, account, amount: 1 + r.below(1_000_000) as u64, ..Command::default() },
         4..=6 => Command { kind: 2, account, amount: 1 + r.below(1_000_000) as u64, ..Command::default() },
         7 => Command { kind: 5, account, contract, ..Command::default() },
-        8..=10 if phase_now == 2 => phase(contract as usize, 1),
+        8..=10 if phase_now == 2 || phase_now == AUCTION => phase(contract as usize, 1),
         8 => phase(contract as usize, 2),
         9..=34 => match some_order(r, state, memory, contract) {
             Some((account, number)) => Command { kind: 4, account, contract, number, ..Command::default() },
@@ -136,17 +136,23 @@ fn any_command(r: &mut Random, state: &State, memory: &Memory) -> Command {
     }
 }
 
-/// A mixed list: orders, cancels, money, state changes, and a settlement after each 500 commands. The commands are chosen by the state
-/// that they meet.
+/// Each contract to continuous, or to auction.
+fn opening(r: &mut Random) -> impl DoubleEndedIterator<Item = Command> {
+    let auction = r.below(CONTRACTS as u32) as usize + 1;
+    (1..=CONTRACTS).map(move |c| phase(c, if c == auction { AUCTION as u8 } else { 1 }))
+}
+
+/// A mixed list: orders, cancels, money, state changes, and a settlement after each 500 commands. One contract in four opens by an
+/// auction. The commands are chosen by the state that they meet.
 pub fn mixed(r: &mut Random, accounts: usize, count: usize) -> Vec<Command> {
     let mut state = State::open(&file(accounts));
     let mut memory = Memory::new();
     let mut list: Vec<Command> = Vec::new();
     let all = |p| (1..=CONTRACTS).map(move |c| phase(c, p));
-    let mut due: Vec<Command> = all(1).collect();
+    let mut due: Vec<Command> = opening(r).collect();
     while list.len() < count {
         if due.is_empty() && list.len() % 500 > 480 {
-            due = all(3).chain([settle()]).chain(all(1)).rev().collect();
+            due = opening(r).rev().chain([settle()]).chain(all(3).rev()).chain(all(1).rev()).collect();
         }
         let command = due.pop().unwrap_or_else(|| any_command(r, &state, &memory));
         state.step(&mut memory.areas(), &command.bytes());
@@ -218,5 +224,18 @@ pub fn kind_lists(kind: usize, trades: usize) -> [Vec<Command>; 2] {
             _ => {}
         }
     }
+    [without, s.commands]
+}
+
+/// A list without and with the match at its end: an auction of 64 orders on each side, at 64 prices on either, that trade in part.
+pub fn match_lists() -> [Vec<Command>; 2] {
+    let mut s = Script { commands: vec![phase(1, AUCTION as u8)], next: 1 };
+    for i in 0..64 {
+        let account = 1 + (i % 32) as u8;
+        s.commands.push(Command { kind: 3, account, contract: 1, flags: 0, lots: 1 + i % 7, price: REFERENCE + 40 - i, ..Command::default() });
+        s.commands.push(Command { kind: 3, account, contract: 1, flags: SELL, lots: 1 + i % 5, price: REFERENCE - 40 + i, ..Command::default() });
+    }
+    let without = s.commands.clone();
+    s.commands.push(phase(1, 1));
     [without, s.commands]
 }

@@ -2,9 +2,12 @@
 //! refusals in the same order.
 
 use crate::cases::{ACCOUNTS, ORDER, QUEUE, TRADE};
-use crate::plain::{close_up, enter, Account, Entry, Holding, PairingMethod, PriceCondition, Taker};
+use crate::plain::{close_up, enter, insert, Account, Entry, Holding, Order, PairingMethod, PriceCondition, Taker};
 
 pub const RECORD: usize = 24;
+
+pub const CONTINUOUS: u32 = 1;
+pub const AUCTION: u32 = 4;
 
 #[derive(Clone, Copy, Default)]
 pub struct Contract {
@@ -109,7 +112,7 @@ impl Record {
             }
             4 => order_fields || self.amount != 0 || self.flags > 1,
             5 => order_fields || self.number != 0 || self.amount != 0 || self.flags > 1,
-            6 => self.account != 0 || order_fields || self.number != 0 || self.amount != 0 || self.flags > 3,
+            6 => self.account != 0 || order_fields || self.number != 0 || self.amount != 0 || self.flags as u32 > AUCTION,
             7 => {
                 self.account != 0 || self.contract != 0 || self.flags != 0
                     || order_fields || self.number != 0 || self.amount != 0
@@ -162,7 +165,7 @@ fn refused(code: u32) -> Answer {
     Answer { code, ..Answer::default() }
 }
 
-fn orders(queue: &[u32]) -> impl Iterator<Item = &[u32]> {
+pub fn orders(queue: &[u32]) -> impl Iterator<Item = &[u32]> {
     queue.chunks_exact(ORDER)
 }
 
@@ -171,7 +174,7 @@ impl State {
         number == 0 || number > count
     }
 
-    fn queue<'a>(&self, areas: &'a Areas, sell: bool, c: usize) -> &'a [u32] {
+    pub fn queue<'a>(&self, areas: &'a Areas, sell: bool, c: usize) -> &'a [u32] {
         &areas.queues[sell as usize][QUEUE * c..][..ORDER * self.resting[sell as usize][c]]
     }
 
@@ -250,14 +253,15 @@ impl State {
         }
         let (a, c) = (o.account - 1, o.contract - 1);
         let terms = &self.contracts[c];
-        if terms.phase != 1 {
+        let auction = terms.phase == AUCTION;
+        if terms.phase != CONTINUOUS && !auction {
             return Err(4);
         }
         if o.lots < 1 || o.lots > 1_000 {
             return Err(5);
         }
         let limit = matches!(o.condition, PriceCondition::Limit(_));
-        if !limit && o.day {
+        if !limit && o.day || auction && !(limit && o.day) {
             return Err(6);
         }
         if if limit { !terms.allows(o.price) } else { o.price != 0 } {
@@ -300,10 +304,10 @@ impl State {
         if o.kill && self.fillable(areas, &t) < o.lots as u64 {
             return Err(11);
         }
-        if self.made > 960 && self.made + self.trades_needed(areas, &t) > 1_024 {
+        if !auction && self.made > 960 && self.made + self.trades_needed(areas, &t) > 1_024 {
             return Err(12);
         }
-        if o.day && self.resting[o.sell as usize][c] == 64 && self.fillable(areas, &t) < o.lots as u64 {
+        if o.day && self.resting[o.sell as usize][c] == 64 && (auction || self.fillable(areas, &t) < o.lots as u64) {
             return Err(13);
         }
         Ok(t)
@@ -315,6 +319,13 @@ impl State {
             Err(code) => return refused(code),
         };
         let (c, side) = (t.contract, t.sell as usize);
+        if self.contracts[c].phase == AUCTION {
+            let o = Order { price: t.price, number: t.number, account: t.account, lots: t.lots, close: t.close };
+            insert(areas.queues[side], c, self.resting[side][c], t.sell, &o);
+            self.resting[side][c] += 1;
+            self.next += 1;
+            return Answer { code: 0, number: t.number, traded: 0, lots: t.lots };
+        }
         let before = Entry {
             rested: 0,
             own: self.resting[side][c],
@@ -343,7 +354,7 @@ impl State {
             return Some(3);
         }
         match self.contracts[r.contract - 1].phase {
-            1 => None,
+            CONTINUOUS | AUCTION => None,
             2 if r.flags == 1 => None,
             _ => Some(4),
         }
@@ -396,16 +407,21 @@ impl State {
         Answer { lots, ..Answer::default() }
     }
 
-    fn change_phase(&mut self, r: &Record) -> Answer {
+    fn change_phase(&mut self, areas: &mut Areas, r: &Record) -> Answer {
         if State::absent(r.contract, self.contractcount) {
             return refused(3);
         }
-        let phase = &mut self.contracts[r.contract - 1].phase;
-        match (*phase, r.flags) {
-            (0, 1) | (0, 3) | (1, 2) | (2, 1) | (1, 3) | (2, 3) => *phase = r.flags as u32,
+        let c = r.contract - 1;
+        let traded = match (self.contracts[c].phase, r.flags as u32) {
+            (0, 1) | (0, 3) | (1, 2) | (2, 1) | (1, 3) | (2, 3) | (0, AUCTION) => 0,
+            (AUCTION, CONTINUOUS) => match self.match_auction(areas, c) {
+                Some(traded) => traded,
+                None => return refused(12),
+            },
             _ => return refused(17),
-        }
-        Answer::default()
+        };
+        self.contracts[c].phase = r.flags as u32;
+        Answer { traded, ..Answer::default() }
     }
 
     fn settlement_price(&self, areas: &Areas, c: usize) -> u32 {
@@ -520,7 +536,7 @@ impl State {
             3 => self.insert(areas, &r.order()),
             4 => self.cancel(areas, &r),
             5 => self.pull(areas, &r),
-            6 => self.change_phase(&r),
+            6 => self.change_phase(areas, &r),
             _ => self.settle(areas),
         }
     }

@@ -1,6 +1,7 @@
 //! Instructions per operation of the order book, per command of the exchange and of the day runner, beside plain Rust versions of
 //! each. `bench/run` builds and starts it.
 
+mod auction;
 mod cases;
 mod days;
 mod exchange;
@@ -9,7 +10,7 @@ mod plain;
 mod runner;
 
 use cases::{any_sweeps, queue_case, whole_sweeps, Random, Sweeps, SweepsCase, Swept};
-use days::{encode, file, kind_lists, mixed, Memory, KINDS};
+use days::{encode, file, kind_lists, match_lists, mixed, Memory, KINDS};
 use ours::Probe;
 use plain::Order;
 use std::hint::black_box;
@@ -242,6 +243,7 @@ fn compare_runs(lists: usize) {
         compare_run(accounts, &mixed(&mut r, accounts, 20 * i));
     }
     compare_run(32, &mixed_list());
+    compare_run(32, &match_lists()[1]);
     for kind in 0..KINDS.len() {
         for [accounts, trades] in CONFIGURATIONS {
             compare_run(accounts, &kind_lists(kind, trades)[1]);
@@ -256,11 +258,18 @@ fn mixed_list() -> Vec<days::Command> {
 /// Accounts and recorded trades when the kinds are counted.
 const CONFIGURATIONS: [[usize; 2]; 3] = [[2, 10], [32, 10], [32, 1_000]];
 
-/// The lists by number: the empty one, the mixed one, then two for each kind and configuration.
+/// The number of the list with the match.
+const MATCH: usize = 6 * KINDS.len() + 3;
+
+/// The lists by number: the empty one, the mixed one, then two for each kind and configuration, then two for the match.
 fn list(number: usize) -> (usize, Vec<days::Command>) {
     match number {
         0 => (32, Vec::new()),
         1 => (32, mixed_list()),
+        _ if number + 1 >= MATCH => {
+            let [without, with] = match_lists();
+            (32, if number == MATCH { with } else { without })
+        }
         _ => {
             let [accounts, trades] = CONFIGURATIONS[(number - 2) / 2 % 3];
             let [without, with] = kind_lists((number - 2) / 6, trades);
@@ -296,6 +305,7 @@ fn engine() {
     for (kind, name) in KINDS.iter().enumerate() {
         row(name, [0, 1].map(|which| per_command(number(kind, 1), which)));
     }
+    row("match of 64 orders on each side", [0, 1].map(|which| per_command(MATCH, which)));
     println!("\n{:34} {:>8} {:>8} {:>8}", "ours, with accounts", 2, 32, 32);
     println!("{:34} {:>8} {:>8} {:>8}", "and trades", 10, 10, "1,000");
     for (kind, name) in KINDS.iter().enumerate() {

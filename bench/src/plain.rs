@@ -149,7 +149,7 @@ impl Taker {
 }
 
 impl Holding {
-    fn buy(&mut self, close: u32, lots: u32) {
+    pub fn buy(&mut self, close: u32, lots: u32) {
         if close == 0 {
             self.long += lots;
         } else {
@@ -157,7 +157,7 @@ impl Holding {
         }
     }
 
-    fn sell(&mut self, close: u32, lots: u32) {
+    pub fn sell(&mut self, close: u32, lots: u32) {
         if close == 0 {
             self.short += lots;
         } else {

@@ -49,6 +49,18 @@ class Case:
     def by_operator(self):
         return self.command.flags == 1
 
+    @cached_property
+    def states_of_others(self):
+        """The states of the contracts that the command does not name."""
+        return {
+            contract.state for number, contract in self.state.contracts.items() if number != self.command.contract
+        }
+
+    @cached_property
+    def room(self):
+        """How many trades the day has room for."""
+        return MOST_TRADES - len(self.state.trades)
+
     # What follows is asked of inserts alone.
 
     @cached_property
@@ -109,6 +121,52 @@ class Case:
             prices.append((price, resting.price, last_price))
             last_price = price
         return prices
+
+    # What follows is asked of the change that ends an auction.
+
+    @cached_property
+    def auction_price(self):
+        return model.auction_price(self.contract)
+
+    @cached_property
+    def auction_pairs(self):
+        return model.auction_pairs(self.contract)
+
+    @cached_property
+    def left_by_step(self):
+        """The resting prices before the choice and after each of its four steps."""
+        places = {
+            price: model.place_by_the_four_steps(self.contract, price)
+            for price in model.resting_prices(self.contract)
+        }
+        chosen = places[self.auction_price]
+        return [
+            [price for price, place in places.items() if place[:steps] == chosen[:steps]]
+            for steps in range(len(chosen) + 1)
+        ]
+
+    @cached_property
+    def steps_needed(self):
+        return [len(left) for left in self.left_by_step].index(1)
+
+    def surplus_signs(self, prices):
+        """On which sides lots would be left over at these prices."""
+        signs = set()
+        for price in prices:
+            buy_lots, sell_lots = model.lots_at_or_better(self.contract, price)
+            signs.add("buys" if buy_lots > sell_lots else "sells" if buy_lots < sell_lots else "none")
+        return signs
+
+    @cached_property
+    def auction_left(self):
+        """The lots that the match leaves of each resting order, by side and number."""
+        left = {
+            (side, order.number): order.lots for side in dayfile.SIDES for order in self.contract.queues[side]
+        }
+        for buy, sell, lots in self.auction_pairs:
+            left["buy", buy.number] -= lots
+            left["sell", sell.number] -= lots
+        return left
 
     # What follows is asked of settlements alone.
 
@@ -190,7 +248,12 @@ MALFORMED = {
     "malformed: insert with bit 7": lambda case: case.kind == "insert" and case.command.flags & 128,
     "malformed: cancel with unknown flags": lambda case: case.kind == "cancel" and case.command.flags > 1,
     "malformed: pull with unknown flags": lambda case: case.kind == "pull" and case.command.flags > 1,
-    "malformed: state with unknown flags": lambda case: case.kind == "state" and case.command.flags > 3,
+    "malformed: state with unknown flags": lambda case: (
+        case.kind == "state" and case.command.flags >= len(dayfile.STATES)
+    ),
+    "malformed: state with the first unknown flags": lambda case: (
+        case.kind == "state" and case.command.flags == len(dayfile.STATES)
+    ),
 }
 
 # Market and best are never good for day, and what is filled or killed trades in full.
@@ -201,6 +264,22 @@ TRADED_SHARES = [
     )
     if (price_condition == "limit" or time_condition != "day") and (time_condition != "kill" or share == "all")
 ]
+
+# Where an order rests: the same in auction and outside it.
+PLACES = {
+    "rests first": lambda case: case.rests and case.own_side != [] and case.better_or_equal == 0,
+    "rests between": lambda case: case.rests and 0 < case.better_or_equal < len(case.own_side),
+    "rests last": lambda case: case.rests and 0 < case.better_or_equal == len(case.own_side),
+    "rests behind its own price": lambda case: (
+        case.rests and any(resting.price == case.order.price for resting in case.own_side)
+    ),
+    "rests as the 64th": lambda case: case.rests and len(case.own_side) == MOST_RESTING - 1,
+}
+
+
+def under(heading, tests):
+    return {f"{heading}: {name}": test for name, test in tests.items()}
+
 
 INSERT_REFUSED = {
     **codes("insert", (2, 3, 4, 5, 6, 7, 8, 9, 11, 12, 13)),
@@ -322,13 +401,10 @@ INSERT_ACCEPTED = {
         and case.share_traded != "all"
         and len(case.own_side) == MOST_RESTING
     ),
-    "insert: rests first": lambda case: case.rests and case.own_side != [] and case.better_or_equal == 0,
-    "insert: rests between": lambda case: case.rests and 0 < case.better_or_equal < len(case.own_side),
-    "insert: rests last": lambda case: case.rests and 0 < case.better_or_equal == len(case.own_side),
-    "insert: rests behind its own price": lambda case: (
-        case.rests and any(resting.price == case.order.price for resting in case.own_side)
+    **under("insert", PLACES),
+    "sweep: while another contract is in auction": lambda case: (
+        case.fills != [] and "auction" in case.states_of_others
     ),
-    "insert: rests as the 64th": lambda case: case.rests and len(case.own_side) == MOST_RESTING - 1,
     "sweep: stops at an order that is no counterpart": lambda case: (
         case.share_traded != "all" and 0 < len(case.fills) < len(case.opposite)
     ),
@@ -411,6 +487,86 @@ INSERT_ACCEPTED = {
     ),
 }
 
+# Every insert that an auction does not take.
+NOT_FOR_AUCTION = [
+    conditions
+    for conditions in product(dayfile.PRICE_CONDITIONS, dayfile.TIME_CONDITIONS)
+    if conditions != ("limit", "day")
+]
+
+AUCTION_INSERT_REFUSED = {
+    **codes("insert in auction", (5, 6, 7, 8, 9, 13)),
+    **for_each(
+        NOT_FOR_AUCTION,
+        lambda value: "insert in auction: {} {}".format(*value),
+        lambda case, value: (
+            case.code == 6 and (case.order.price_condition, case.order.time_condition) == value
+        ),
+    ),
+    "insert in auction: lots are refused before the conditions": lambda case: (
+        case.code == 5 and (case.order.price_condition, case.order.time_condition) in NOT_FOR_AUCTION
+    ),
+    "insert in auction: the conditions are refused before a limit price": lambda case: (
+        case.code == 6
+        and case.order.price_condition == "limit"
+        and not model.allowed_today(case.contract, case.order.price)
+    ),
+    "insert in auction: the conditions are refused before a market price": lambda case: (
+        case.code == 6 and case.order.price_condition == "market" and case.order.price != 0
+    ),
+    **for_each(
+        dayfile.EFFECTS,
+        lambda effect: f"insert in auction: {effect} one lot above what the holding permits",
+        lambda case, effect: (
+            case.code == 8
+            and case.order.effect == effect
+            and case.order.lots == model.most_lots_by_holding(case.state, case.order) + 1
+        ),
+    ),
+    "insert in auction: open one lot above what the balance covers": lambda case: (
+        case.code == 9 and case.added_charge(case.order.lots - 1) <= case.free
+    ),
+    "insert in auction: own side full, crosses nothing": lambda case: case.code == 13 and case.fillable == 0,
+    "insert in auction: own side full, crosses for some of its lots": lambda case: (
+        case.code == 13 and 0 < case.fillable < case.order.lots
+    ),
+    "insert in auction: own side full, crosses for all its lots": lambda case: (
+        case.code == 13 and case.fillable >= case.order.lots
+    ),
+}
+
+AUCTION_INSERT_ACCEPTED = {
+    **for_each(
+        product(dayfile.SIDES, dayfile.EFFECTS),
+        lambda value: f"insert in auction: {value[0]} {value[1]}",
+        lambda case, value: (case.order.side, case.order.effect) == value,
+    ),
+    **for_each(
+        product(dayfile.SIDES, dayfile.EFFECTS),
+        lambda value: f"insert in auction: {value[0]} {value[1]} crosses",
+        lambda case, value: (case.order.side, case.order.effect) == value and case.fillable > 0,
+    ),
+    "insert in auction: crosses for all its lots": lambda case: case.fillable >= case.order.lots,
+    "insert in auction: crosses an order of its own account": lambda case: any(
+        resting.account == case.order.account and model.is_counterpart(case.contract, case.order, resting)
+        for resting in case.opposite
+    ),
+    **for_each(
+        dayfile.EFFECTS,
+        lambda effect: f"insert in auction: {effect} for all that the holding permits",
+        lambda case, effect: (
+            case.order.effect == effect and case.order.lots == model.most_lots_by_holding(case.state, case.order)
+        ),
+    ),
+    "insert in auction: open takes all of the balance": lambda case: (
+        case.order.effect == "open" and 0 < case.free == case.added_charge(case.order.lots)
+    ),
+    **under("insert in auction", PLACES),
+    "insert in auction: a full day, crosses": lambda case: case.room == 0 and case.fillable > 0,
+    "insert in auction: while another contract trades": lambda case: "continuous" in case.states_of_others,
+    "insert in auction: while another contract is in auction": lambda case: "auction" in case.states_of_others,
+}
+
 
 def work_of_state(kind):
     """Cancel and pull in each contract state, with and without the operator bit."""
@@ -421,9 +577,23 @@ def work_of_state(kind):
     )
 
 
+def work_in_auction(kind, code, does):
+    """Cancel and pull that get a code in auction, with and without the operator bit."""
+    return for_each(
+        (False, True),
+        lambda by_operator: f"{kind}: {does} in auction{' by operator' if by_operator else ''}",
+        lambda case, by_operator: (
+            case.code == code and case.contract.state == "auction" and case.by_operator == by_operator
+        ),
+    )
+
+
 CANCEL = {
     **codes("cancel", (0, 2, 3, 4, 14, 15)),
     **work_of_state("cancel"),
+    **work_in_auction("cancel", 0, "removes an order"),
+    **work_in_auction("cancel", 14, "no such order"),
+    **work_in_auction("cancel", 15, "another account's order"),
     "cancel: order number 0": lambda case: case.code == 14 and case.command.order_number == 0,
     "cancel: a number not given yet": lambda case: (
         case.code == 14 and case.command.order_number >= case.state.next_order_number
@@ -447,6 +617,17 @@ def pulled(case, side):
 PULL = {
     **codes("pull", (0, 2, 3, 4)),
     **work_of_state("pull"),
+    **for_each(
+        (False, True),
+        lambda by_operator: f"pull: both sides in auction{' by operator' if by_operator else ''}",
+        lambda case, by_operator: (
+            case.code == 0
+            and case.contract.state == "auction"
+            and case.by_operator == by_operator
+            and pulled(case, "buy")
+            and pulled(case, "sell")
+        ),
+    ),
     "pull: none": lambda case: case.code == 0 and not pulled(case, "buy") and not pulled(case, "sell"),
     "pull: both sides": lambda case: case.code == 0 and pulled(case, "buy") and pulled(case, "sell"),
     "pull: several of one side": lambda case: (
@@ -482,7 +663,7 @@ WITHDRAW = {
 }
 
 STATE = {
-    **codes("state", (0, 3, 17)),
+    **codes("state", (0, 3, 12, 17)),
     **for_each(
         product(dayfile.STATES, dayfile.STATES),
         lambda value: f"state: {value[0]} to {value[1]}",
@@ -490,12 +671,164 @@ STATE = {
             case.code != 3 and (case.contract.state, dayfile.STATES[case.command.flags]) == value
         ),
     ),
+    "state: the match needs one trade more than the day has room for": lambda case: (
+        case.code == 12 and len(case.auction_pairs) == case.room + 1
+    ),
+    "state: the match needs more trades than a day with room for some": lambda case: case.code == 12 and case.room > 0,
+    "state: a change not listed is refused before the room": lambda case: (
+        case.code == 17 and case.contract.state == "auction" and len(case.auction_pairs) > case.room
+    ),
+    "state: the match needs a trade on a full day": lambda case: case.code == 12 and case.room == 0,
 }
+
+# The end of an auction. Four prices at most are left by volume and surplus, two by the last price.
+AUCTION = {
+    "auction: no orders": lambda case: not case.contract.queues["buy"] and not case.contract.queues["sell"],
+    "auction: only buys": lambda case: case.contract.queues["buy"] and not case.contract.queues["sell"],
+    "auction: only sells": lambda case: case.contract.queues["sell"] and not case.contract.queues["buy"],
+    "auction: both sides, no volume": lambda case: (
+        case.contract.queues["buy"] and case.contract.queues["sell"] and case.auction_price is None
+    ),
+    "auction: a full day, no volume": lambda case: case.room == 0,
+    **for_each(
+        dayfile.STATES,
+        lambda state: f"auction: another contract is in {state}",
+        lambda case, state: state in case.states_of_others,
+    ),
+}
+
+AUCTION_WITH_VOLUME = {
+    **for_each(
+        enumerate(("one resting price", "the volume", "the surplus", "the last price", "the higher price")),
+        lambda step: f"auction: decided by {step[1]}",
+        lambda case, step: case.steps_needed == step[0],
+    ),
+    "auction: of the largest volume, buys or sells left over": lambda case: (
+        case.surplus_signs(case.left_by_step[1]) >= {"buys", "sells"}
+    ),
+    **for_each(
+        ("buys", "sells", "none"),
+        lambda sign: f"auction: several prices left by the surplus, all with {sign} left over",
+        lambda case, sign: len(case.left_by_step[2]) > 1 and case.surplus_signs(case.left_by_step[2]) == {sign},
+    ),
+    "auction: several prices left by the surplus, buys or sells left over": lambda case: (
+        case.surplus_signs(case.left_by_step[2]) == {"buys", "sells"}
+    ),
+    **for_each(
+        (2, 3, 4),
+        lambda prices: f"auction: {prices} prices left by the surplus",
+        lambda case, prices: len(case.left_by_step[2]) == prices,
+    ),
+    "auction: the nearest is below the last price": lambda case: (
+        case.steps_needed == 3 and case.auction_price < case.contract.last_price
+    ),
+    "auction: the nearest is above the last price": lambda case: (
+        case.steps_needed == 3 and case.auction_price > case.contract.last_price
+    ),
+    "auction: the nearest is the last price": lambda case: (
+        case.steps_needed == 3 and case.auction_price == case.contract.last_price
+    ),
+    "auction: nearest to the last price, not to the reference": lambda case: (
+        case.steps_needed == 3
+        and case.auction_price not in nearest(case.left_by_step[2], case.contract.reference)
+    ),
+    "auction: the last price is outside the day's band": lambda case: (
+        case.steps_needed == 3 and not model.allowed_today(case.contract, case.contract.last_price)
+    ),
+    **for_each(
+        (["buy"], ["sell"], ["buy", "sell"]),
+        lambda sides: f"auction: the price is that of a {' and a '.join(sides)}",
+        lambda case, sides: sides == [
+            side
+            for side in dayfile.SIDES
+            if any(order.price == case.auction_price for order in case.contract.queues[side])
+        ],
+    ),
+    **for_each(
+        ("buys", "sells", "none"),
+        lambda sign: f"auction: {sign} left over at the price",
+        lambda case, sign: case.surplus_signs([case.auction_price]) == {sign},
+    ),
+    **for_each(
+        dayfile.SIDES,
+        lambda side: f"auction: a {side} is filled in part",
+        lambda case, side: any(
+            0 < case.auction_left[side, order.number] < order.lots for order in case.contract.queues[side]
+        ),
+    ),
+    "auction: a buy above the price is left": lambda case: any(
+        order.price > case.auction_price and case.auction_left["buy", order.number] > 0
+        for order in case.contract.queues["buy"]
+    ),
+    "auction: a sell below the price is left": lambda case: any(
+        order.price < case.auction_price and case.auction_left["sell", order.number] > 0
+        for order in case.contract.queues["sell"]
+    ),
+    "auction: empties the book": lambda case: not any(case.auction_left.values()),
+    "auction: one trade": lambda case: len(case.auction_pairs) == 1,
+    "auction: 127 trades, the most of two full sides": lambda case: len(case.auction_pairs) == 2 * MOST_RESTING - 1,
+    "auction: a buy takes several sells": lambda case: (
+        len(case.auction_pairs) > len({buy.number for buy, _, _ in case.auction_pairs})
+    ),
+    "auction: a sell takes several buys": lambda case: (
+        len(case.auction_pairs) > len({sell.number for _, sell, _ in case.auction_pairs})
+    ),
+    **for_each(
+        (0, 1),
+        lambda place: f"auction: several {('buys', 'sells')[place]} of one price trade",
+        lambda case, place: has_equal_prices({pair[place].number: pair[place].price for pair in case.auction_pairs}),
+    ),
+    "auction: a better price trades before a lower number": lambda case: any(
+        order.number > next_order.number
+        for pair, next_pair in zip(case.auction_pairs, case.auction_pairs[1:])
+        for order, next_order in zip(pair[:2], next_pair[:2])
+    ),
+    **for_each(
+        product(dayfile.EFFECTS, dayfile.EFFECTS),
+        lambda value: f"auction: buy {value[0]} meets sell {value[1]}",
+        lambda case, value: any((buy.effect, sell.effect) == value for buy, sell, _ in case.auction_pairs),
+    ),
+    **for_each(
+        product(dayfile.EFFECTS, dayfile.EFFECTS),
+        lambda value: f"auction: buy {value[0]} meets sell {value[1]} of its own account",
+        lambda case, value: any(
+            (buy.effect, sell.effect) == value and buy.account == sell.account for buy, sell, _ in case.auction_pairs
+        ),
+    ),
+    **for_each(
+        (0, 1, 2),
+        lambda method: f"auction: method {method} would give another price",
+        lambda case, method: case.contract.method == method and any(
+            model.paired_price(case.contract, buy.price, sell.price, case.contract.last_price) != case.auction_price
+            for buy, sell, _ in case.auction_pairs
+        ),
+    ),
+    "auction: the day has trades already": lambda case: case.state.trades != [],
+    "auction: the day's last trade": lambda case: len(case.auction_pairs) == case.room,
+    "auction: on the first day": lambda case: case.state.settlements == 0,
+    "auction: on a later day": lambda case: case.state.settlements > 0,
+}
+
+
+def nearest(prices, to):
+    """Those of the prices that are nearest to another one."""
+    distance = min(abs(price - to) for price in prices)
+    return [price for price in prices if abs(price - to) == distance]
+
+
+def has_equal_prices(prices):
+    return len(set(prices.values())) < len(prices)
+
 
 SETTLE = {
     **codes("settle", (0, 18, 19)),
     "settle: 250 made and a contract not closed": lambda case: (
         case.code == 18 and case.state.settlements == MOST_SETTLEMENTS
+    ),
+    "settle: every contract closed but one in auction": lambda case: (
+        case.code == 18
+        and sorted(contract.state for contract in case.state.contracts.values() if contract.state != "closed")
+        == ["auction"]
     ),
     "settle: the 250th": lambda case: case.code == 0 and case.state.settlements == MOST_SETTLEMENTS - 1,
 }
@@ -543,7 +876,11 @@ NAMES = [
     *MALFORMED,
     *INSERT_REFUSED,
     *INSERT_ACCEPTED,
+    *AUCTION_INSERT_REFUSED,
+    *AUCTION_INSERT_ACCEPTED,
     *(name for table in OF_KIND.values() for name in table),
+    *AUCTION,
+    *AUCTION_WITH_VOLUME,
     *SETTLE_ACCEPTED,
 ]
 
@@ -557,8 +894,12 @@ def met(state, command):
 def tables(case):
     if case.code == 1:
         return [MALFORMED]
+    if case.kind == "insert" and case.code not in (2, 3) and case.contract.state == "auction":
+        return [AUCTION_INSERT_ACCEPTED if case.code == 0 else AUCTION_INSERT_REFUSED]
     if case.kind == "insert":
         return [INSERT_ACCEPTED if case.code == 0 else INSERT_REFUSED]
+    if case.kind == "state" and case.code == 0 and case.contract.state == "auction":
+        return [STATE, AUCTION] if case.auction_price is None else [STATE, AUCTION, AUCTION_WITH_VOLUME]
     if case.kind == "settle" and case.code == 0:
         return [SETTLE, SETTLE_ACCEPTED]
     return [OF_KIND[case.kind]]

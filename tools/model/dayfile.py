@@ -65,8 +65,9 @@ EFFECTS = ("open", "close")
 PRICE_CONDITIONS = ("limit", "market", "best")
 # "good for day 0, immediate or cancel 1, fill or kill 2"
 TIME_CONDITIONS = ("day", "immediate", "kill")
-# "State flags: 0 pre-open, 1 continuous, 2 no trading, 3 closed; above 3 unknown."
-STATES = ("pre-open", "continuous", "no-trading", "closed")
+# "State flags: 0 pre-open, 1 continuous, 2 no trading, 3 closed"
+# "Add contract state 4, auction (flags above 4 are unknown)" (document 02, ticket 4)
+STATES = ("pre-open", "continuous", "no-trading", "closed", "auction")
 
 
 def unused_fields(kind):

@@ -57,11 +57,15 @@ class Day:
         return self.rng.choice(list(self.state.balances))
 
     def contract(self):
-        """The number of a contract, rather one that trades."""
-        trading = [number for number, contract in self.state.contracts.items() if contract.state == "continuous"]
-        if trading and self.rng.random() < 0.95:
-            return self.rng.choice(trading)
+        """The number of a contract, rather one that takes orders."""
+        taking = self.in_state("continuous", "auction")
+        if taking and self.rng.random() < 0.95:
+            return self.rng.choice(taking)
         return self.rng.choice(list(self.state.contracts))
+
+    def in_state(self, *states):
+        """The numbers of the contracts in one of the states."""
+        return [number for number, contract in self.state.contracts.items() if contract.state in states]
 
     def file(self):
         return dayfile.write(self.records)
@@ -141,12 +145,17 @@ CONDITIONS = {
     ("best", "day"): 1,
 }
 
+# In auction all but limit good for day are refused.
+AUCTION_CONDITIONS = {conditions: 80 if conditions == ("limit", "day") else 1 for conditions in CONDITIONS}
 
-def some_insert(day):
+
+def some_insert(day, number=None):
+    """An order for any contract, or for the one named."""
     rng = day.rng
-    account, number = day.account(), day.contract()
+    account, number = day.account(), number or day.contract()
     side = rng.choice(dayfile.SIDES)
-    price_condition, time_condition = pick(rng, CONDITIONS)
+    in_auction = day.state.contracts[number].state == "auction"
+    price_condition, time_condition = pick(rng, AUCTION_CONDITIONS if in_auction else CONDITIONS)
     price = some_price(rng, day.state.contracts[number], side) if price_condition == "limit" else 0
     if price_condition != "limit" and rng.random() < 0.03:
         price = rng.choice((1, 5, day.state.contracts[number].reference))
@@ -242,7 +251,10 @@ def some_cancel(day):
 
 
 def some_pull(day):
+    """In any contract, and now and then in contract 0, which is not all of them."""
     number = day.contract()
+    if day.rng.random() < 0.05:
+        return dayfile.pull(day.account(), 0)
     operator = day.rng.random() < (0.7 if day.state.contracts[number].state == "no-trading" else 0.2)
     return dayfile.pull(day.account(), number, operator)
 
@@ -281,14 +293,23 @@ def some_amount(rng):
 def some_state_change(day):
     """Any change, listed or not, but seldom an end of trading."""
     number = day.rng.choice(list(day.state.contracts))
-    return dayfile.state(number, pick(day.rng, {"no-trading": 4, "continuous": 2, "closed": 1, "pre-open": 1}))
+    states = {"no-trading": 4, "continuous": 2, "closed": 1, "pre-open": 1, "auction": 1}
+    return dayfile.state(number, pick(day.rng, states))
 
 
 def some_opening(day):
-    """The change to continuous of a contract that may make it, if there is one."""
-    waiting = [
-        number for number, contract in day.state.contracts.items() if contract.state in ("pre-open", "no-trading")
-    ]
+    """The change to continuous of a contract that may make it, or of one in pre-open to auction, if there is one."""
+    waiting = day.in_state("pre-open", "no-trading")
+    if not waiting:
+        return some_insert(day)
+    number = day.rng.choice(waiting)
+    by_auction = day.state.contracts[number].state == "pre-open" and day.rng.random() < 0.4
+    return dayfile.state(number, "auction" if by_auction else "continuous")
+
+
+def some_end_of_auction(day):
+    """The change to continuous of a contract in auction, if there is one."""
+    waiting = day.in_state("auction")
     return dayfile.state(day.rng.choice(waiting), "continuous") if waiting else some_insert(day)
 
 
@@ -307,7 +328,7 @@ def spoiling_values(day, spoilt):
         "kind": (0, 8, 9, 255),
         "account": (0, 1, len(day.state.balances) + 1, 255),
         "contract": (0, 1, len(day.state.contracts) + 1, 255),
-        "flags": (1, 2, 3, 4, 64, 128, 12, 48, 255),
+        "flags": (1, 2, 3, 4, 5, 64, 128, 12, 48, 255),
         "lots": (0, 1, MOST_LOTS, MOST_LOTS + 1, 2**31, 2**32 - 1),
         "price": (0, 1, 5, TOP_PRICE, TOP_PRICE + 1, 2**31, 2**32 - 1),
         "order_number": (0, 1, 999_999, 1_000_000, 2**32 - 1),
@@ -327,6 +348,7 @@ REASONABLE = {
     some_withdrawal: 4,
     some_state_change: 4,
     some_opening: 12,
+    some_end_of_auction: 6,
     settle: 1,
 }
 
@@ -336,18 +358,40 @@ ANY = {**REASONABLE, some_malformed: 4}
 # --- Runs of commands ---
 
 
-def open_all(day):
+def open_all(day, by_auction=0.0):
+    """Brings every contract that is not closed to continuous, with some chance by an auction."""
     for number, contract in day.state.contracts.items():
+        if contract.state == "pre-open" and day.rng.random() < by_auction:
+            hold_auction(day, number)
         if contract.state != "continuous":
             day.give(dayfile.state(number, "continuous"))
+
+
+def hold_auction(day, number):
+    """An auction of a few orders, up to the change that ends it."""
+    day.give(dayfile.state(number, "auction"))
+    for _ in range(pick(day.rng, {0: 1, day.rng.randint(1, 4): 6, day.rng.randint(5, 20): 3})):
+        day.give(some_insert(day, number))
 
 
 def end_of_day(day):
     """Closes every contract that is not closed and settles."""
     for number, contract in day.state.contracts.items():
+        if contract.state == "auction":
+            leave_auction(day, number)
         if contract.state != "closed":
             day.give(dayfile.state(number, "closed"))
     day.give(dayfile.settle())
+
+
+def leave_auction(day, number):
+    """Ends an auction, without its orders if the day has no room for the match."""
+    contract = day.state.contracts[number]
+    day.give(dayfile.state(number, "continuous"))
+    if contract.state == "auction":
+        for account in day.state.balances:
+            day.give(dayfile.pull(account, number))
+        day.give(dayfile.state(number, "continuous"))
 
 
 def trade(day, commands, chance_of_end=0.0):
@@ -356,7 +400,7 @@ def trade(day, commands, chance_of_end=0.0):
         if day.rng.random() < chance_of_end:
             end_of_day(day)
             if day.rng.random() < 0.9:
-                open_all(day)
+                open_all(day, by_auction=0.3)
         day.give(pick(day.rng, ANY)(day))
 
 
@@ -375,7 +419,7 @@ def rest_many(day, number, side, orders):
 def trading_file(rng):
     day = some_day(rng)
     if rng.random() < 0.8:
-        open_all(day)
+        open_all(day, by_auction=0.3)
     trade(day, rng.randint(0, 160), chance_of_end=rng.choice((0, 0.01, 0.05, 0.2)))
     if rng.random() < 0.7:
         end_of_day(day)
@@ -386,7 +430,7 @@ def quiet_file(rng):
     """Days of a few commands each, so that many contracts settle with quotes or with nothing."""
     day = some_day(rng)
     for _ in range(rng.randint(2, 12)):
-        open_all(day)
+        open_all(day, by_auction=0.2)
         for _ in range(rng.randint(0, 4) * len(day.state.contracts)):
             day.give(some_insert(day))
         end_of_day(day)
@@ -463,6 +507,158 @@ def sweep_once(day, resting_orders):
         )
 
 
+def auction_file(rng):
+    """Days that open by auction, each contract in its own time, with cancels, pulls and refusals on the way."""
+    day = rng.choice((some_day, wide_day, two_account_day))(rng)
+    for _ in range(rng.randint(1, 4)):
+        for number in day.state.contracts:
+            day.give(dayfile.state(number, pick(rng, {"auction": 8, "continuous": 1, "closed": 1})))
+        for _ in range(rng.randint(0, 40)):
+            day.give(pick(rng, AUCTION_COMMANDS)(day))
+        if rng.random() < 0.3:
+            settle_too_early(day)
+        for number in day.in_state("auction"):
+            leave_auction(day, number)
+        trade(day, rng.randint(0, 15))
+        end_of_day(day)
+    return day.file()
+
+
+def two_account_day(rng):
+    """Two contracts and two accounts, so that an account often meets its own orders."""
+    return Day(rng, [wide_contract(rng), wide_contract(rng, tick=5)], [10**9] * 2)
+
+
+AUCTION_COMMANDS = {
+    some_insert: 60,
+    some_cancel: 8,
+    some_pull: 3,
+    some_withdrawal: 1,
+    some_state_change: 3,
+    some_end_of_auction: 1,
+    settle: 0.5,
+}
+
+
+def settle_too_early(day):
+    """A settlement with every contract closed but those in auction, which cannot be closed."""
+    for number in day.in_state("pre-open", "continuous", "no-trading"):
+        day.give(dayfile.state(number, "closed"))
+    day.give(dayfile.settle())
+
+
+def tied_auction_file(rng):
+    """Auctions whose prices tie on volume and surplus, near the last price or at equal distance from it."""
+    day = two_account_day(rng)
+    for _ in range(rng.randint(2, 8)):
+        for number in day.state.contracts:
+            day.give(dayfile.state(number, "auction"))
+            rest_tied_orders(day, number, around=day.state.contracts[number].last_price, apart=6)
+            if rng.random() < 0.2:
+                day.give(some_insert(day, number))
+            day.give(dayfile.state(number, "continuous"))
+        trade(day, rng.randint(0, 6))
+        end_of_day(day)
+    return day.file()
+
+
+def rest_tied_orders(day, number, around, apart):
+    """Rests orders of both sides at two to four prices within some ticks of one, in any order, some in two parts."""
+    rng = day.rng
+    contract = day.state.contracts[number]
+    volume, surplus = rng.randint(1, 4), rng.randint(1, 3)
+    lowest, low, high, highest = sorted(rng.sample(range(-apart, apart + 1), 4))
+    if rng.random() < 0.4:
+        lowest, highest = -highest, highest
+    orders = rng.choice(
+        (
+            [("sell", lowest, volume), ("buy", highest, volume)],
+            [("sell", lowest, volume), ("buy", highest, volume + surplus)],
+            [("sell", lowest, volume + surplus), ("buy", highest, volume)],
+            [("sell", lowest, volume), ("buy", lowest, surplus), ("sell", highest, surplus), ("buy", highest, volume)],
+            [("sell", lowest, volume), ("buy", low, surplus), ("sell", highest, surplus), ("buy", highest, volume)],
+            [("sell", lowest, volume), ("buy", low, surplus), ("sell", high, surplus), ("buy", highest, volume)],
+        )
+    )
+    halves = [half for side, ticks, lots in orders for half in split(rng, side, ticks, lots)]
+    for side, ticks, lots in rng.sample(halves, len(halves)):
+        account, price = day.account(), max(around + ticks * contract.tick, 0)
+        effect = some_effect(day, account, number, side)
+        day.give(dayfile.insert(account, number, side, effect, "limit", price, lots, "day"))
+
+
+def split(rng, side, ticks, lots):
+    """The order itself, or two that share its lots."""
+    part = rng.randint(0, lots)
+    return [(side, ticks, some) for some in (part, lots - part) if some > 0]
+
+
+def full_auction_file(rng):
+    """Both sides of a crossed book filled to 64, the 65th order of each refused, and the match: 127 trades at most."""
+    day = wide_day(rng, contracts=rng.choice((1, 2)))
+    number = rng.choice(list(day.state.contracts))
+    day.give(dayfile.state(number, "auction"))
+    for_most_trades = rng.random() < 0.4
+    for side in rng.sample(dayfile.SIDES, 2):
+        for place in range(MOST_RESTING):
+            if for_most_trades:
+                # A one and then twos against twos alone: each trade but the last fills one order, not two.
+                rest(day, number, side, 0, lots=1 if (side, place) == ("sell", 0) else 2)
+            else:
+                rest(day, number, side, rng.randint(-5, 5), lots=rng.randint(1, 4))
+    for side, far_away in (("buy", -20), ("sell", 20)):
+        for ticks, lots in ((0, 1), (0, MOST_LOTS), (far_away, 1)):
+            rest(day, number, side, ticks, lots)
+    if not for_most_trades:
+        trade(day, rng.randint(0, 5))
+    leave_auction(day, number)
+    open_all(day)
+    trade(day, rng.randint(0, 20), chance_of_end=0.02)
+    return day.file()
+
+
+def rest(day, number, side, ticks, lots):
+    """An order to open, so many ticks from the reference."""
+    contract = day.state.contracts[number]
+    price = contract.reference + ticks * contract.tick
+    day.give(dayfile.insert(day.account(), number, side, "open", "limit", price, lots, "day"))
+
+
+def full_day_auction_file(rng):
+    """Auctions that the day has no room for, or just enough, beside a contract that uses the room up."""
+    day = Day(rng, [wide_contract(rng) for _ in range(3)], [10**15] * rng.randint(2, 4))
+    day.give(dayfile.state(1, "continuous"))
+    for number in (2, 3):
+        day.give(dayfile.state(number, "auction"))
+        for _ in range(rng.randint(3, 8)):
+            rest(day, number, "buy", rng.randint(0, 3), lots=rng.randint(1, 3))
+            rest(day, number, "sell", rng.randint(-3, 0), lots=rng.randint(1, 3))
+    needed = len(model.auction_pairs(day.state.contracts[2]))
+    make_trades(day, 1, MOST_TRADES - rng.choice((1, needed - 1)))
+    for state in ("continuous", rng.choice(dayfile.STATES)):
+        day.give(dayfile.state(2, state))
+    while len(model.auction_pairs(day.state.contracts[2])) > MOST_TRADES - len(day.state.trades):
+        order = rng.choice(day.state.contracts[2].queues["buy"])
+        day.give(dayfile.cancel(order.account, 2, order.number))
+    day.give(dayfile.state(2, "continuous"))
+    make_trades(day, 1, MOST_TRADES)
+    day.give(dayfile.state(3, "continuous"))
+    rest(day, 3, rng.choice(dayfile.SIDES), 0, lots=1)
+    trade(day, rng.randint(0, 10))
+    end_of_day(day)
+    open_all(day, by_auction=0.8)
+    return day.file()
+
+
+def make_trades(day, number, trades):
+    """Trades of one lot in a contract until the day has so many."""
+    while len(day.state.trades) < trades and not day.is_full():
+        orders = min(trades - len(day.state.trades), MOST_RESTING)
+        for _ in range(orders):
+            rest(day, number, "sell", 0, lots=1)
+        day.give(dayfile.insert(day.account(), number, "buy", "open", "market", 0, orders, "immediate"))
+
+
 def many_settlements_file(rng):
     """250 settlements with a few trades on the way, and the 251st refused."""
     contracts = pick(rng, {1: 5, 2: 2, 4: 1})
@@ -513,6 +709,9 @@ def swinging_file(rng):
     contract = ContractRecord(10, tick, 50 * tick, rng.randint(1, 3) * tick, 1_000, 1_000)
     day = Day(rng, [contract], [10**9] * rng.randint(1, 3))
     for _ in range(rng.randint(3, 10)):
+        if rng.random() < 0.5:
+            day.give(dayfile.state(1, "auction"))
+            rest_tied_orders(day, 1, around=day.state.contracts[1].reference, apart=2)
         open_all(day)
         for lots in (rng.randint(3, 9), 1):
             price = rng.choice((model.low, model.high))(day.state.contracts[1])
@@ -527,7 +726,7 @@ def senseless_file(rng):
     """Commands that are mere bytes, most of them with a kind that exists."""
     day = some_day(rng)
     for _ in range(rng.randint(1, 40)):
-        bytes_of_command = bytes([rng.randint(0, 8)]) + bytes(rng.choices((0, 1, 2, 3, 255), k=23))
+        bytes_of_command = bytes([rng.randint(0, 8)]) + bytes(rng.choices((0, 1, 2, 3, 4, 5, 255), k=23))
         day.give(Command(*dayfile.COMMAND.unpack(bytes_of_command)))
     return day.file()
 
@@ -565,6 +764,10 @@ FILES = {
     quiet_file: 12,
     full_book_file: 5,
     full_day_file: 1,
+    auction_file: 14,
+    tied_auction_file: 4,
+    full_auction_file: 3,
+    full_day_auction_file: 1,
     many_settlements_file: 1,
     rich_file: 5,
     ruined_file: 5,

@@ -1,6 +1,6 @@
 #!/usr/bin/env python3
-"""The rules of document 01, with tickets 2 and 6 of document 02, as a slow, plain interpreter: a day file in, the day
-runner's whole output out.
+"""The rules of document 01, with tickets 2, 4 and 6 of document 02, as a slow, plain interpreter: a day file in, the
+day runner's whole output out.
 
 Written from the papers alone, in their order and under their sentences (in quotation marks), so that it can be
 checked by reading and stand beside the engine as a second opinion. Where the paper leaves a choice, a comment outside
@@ -202,12 +202,13 @@ def ranges_are_kept(state):
 
 
 # "each queue is sorted best price first, then lower order number; the two are uncrossed (best buy below best sell)"
+# In auction "the book may be crossed; "uncrossed" now holds in all other states" (document 02, ticket 4).
 def queues_are_sorted_and_uncrossed(state):
     for contract in state.contracts.values():
         buys, sells = contract.queues["buy"], contract.queues["sell"]
         if buys != sort_queue("buy", buys) or sells != sort_queue("sell", sells):
             return False
-        if buys and sells and not buys[0].price < sells[0].price:
+        if contract.state != "auction" and buys and sells and not buys[0].price < sells[0].price:
             return False
     return True
 
@@ -373,13 +374,18 @@ def insert_code(state, command):
         return 3
     contract = state.contracts[order.contract]
     # "4: contract state forbids it": "Insert needs continuous."
-    if contract.state != "continuous":
+    # "In auction, limit good-for-day orders rest" (document 02, ticket 4, as all below on the auction).
+    in_auction = contract.state == "auction"
+    if contract.state != "continuous" and not in_auction:
         return 4
     # "5: lots outside 1 to 1,000"
     if not 1 <= order.lots <= MOST_LOTS:
         return 5
     # "6: market or best with good for day"
     if order.price_condition != "limit" and order.time_condition == "day":
+        return 6
+    # "in auction 6 for any insert not limit good for day"
+    if in_auction and (order.price_condition, order.time_condition) != ("limit", "day"):
         return 6
     # "7: limit price off tick or outside low to high; market or best with a price not 0"
     if order.price_condition == "limit" and not allowed_today(contract, order.price):
@@ -405,6 +411,9 @@ def insert_code(state, command):
     # "13: good for day, own side has 64, fillable lots below lots"
     own_side_is_full = len(contract.queues[order.side]) == MOST_RESTING
     if order.time_condition == "day" and own_side_is_full and fillable(contract, order) < order.lots:
+        return 13
+    # "in auction [...] 13 whenever the own side has 64"
+    if in_auction and own_side_is_full:
         return 13
     return 0
 
@@ -443,9 +452,10 @@ def pull_code(state, command):
     if command.contract not in state.contracts:
         return 3
     # "Cancel and pull need continuous, or no trading with the operator bit (001, table 2)."
+    # In auction "cancel and pull work" (document 02, ticket 4), with the operator bit or without it.
     contract_state = state.contracts[command.contract].state
     by_operator = command.flags == 1
-    if contract_state != "continuous" and not (contract_state == "no-trading" and by_operator):
+    if contract_state not in ("continuous", "auction") and not (contract_state == "no-trading" and by_operator):
         return 4
     return 0
 
@@ -514,25 +524,33 @@ def withdraw(state, command):
     return Answer(0)
 
 
-# --- "state 3, 17" ---
+# --- "state 3, 17", "then 12" (document 02, ticket 4) ---
 
 # "State changes (house, the figure is missing from 001): 0 to 1, 0 to 3, 1 to 2, 2 to 1, 1 to 3, 2 to 3."
-LISTED_STATE_CHANGES = {(0, 1), (0, 3), (1, 2), (2, 1), (1, 3), (2, 3)}
+# Auction is "reached from pre-open, left only to continuous" (document 02, ticket 4): 0 to 4, 4 to 1.
+LISTED_STATE_CHANGES = {(0, 1), (0, 3), (1, 2), (2, 1), (1, 3), (2, 3), (0, 4), (4, 1)}
 
 
 def state_code(state, command):
     if command.contract not in state.contracts:
         return 3
     # "17: state change not listed": a change to the same state is not listed either.
-    state_now = dayfile.STATES.index(state.contracts[command.contract].state)
-    if (state_now, command.flags) not in LISTED_STATE_CHANGES:
+    contract = state.contracts[command.contract]
+    if (dayfile.STATES.index(contract.state), command.flags) not in LISTED_STATE_CHANGES:
         return 17
+    # "17 for other exits, then 12 for the state change if the match needs more room"
+    if contract.state == "auction" and len(auction_pairs(contract)) > MOST_TRADES - len(state.trades):
+        return 12
     return 0
 
 
+# The trades of an auction "appear after the state command's C line, whose traded field is their lots".
 def change_state(state, command):
-    state.contracts[command.contract].state = dayfile.STATES[command.flags]
-    return Answer(0)
+    contract = state.contracts[command.contract]
+    # "left only to continuous, when the match happens"
+    trades = match_auction(state, command.contract) if contract.state == "auction" else []
+    contract.state = dayfile.STATES[command.flags]
+    return Answer(0, lots_traded=sum(trade.lots for trade in trades), trades=trades)
 
 
 # --- "settle 18, 19" ---
@@ -574,7 +592,10 @@ def is_counterpart(contract, order, resting):
 # "Taken by price, then number, each trades the smaller remainder. The sweep stops at the first order that is no
 # counterpart, or when the lots are used up."
 # The resting orders that the arriving order trades with, each with its lots, before anything is changed.
+# "In auction, limit good-for-day orders rest without matching" (document 02, ticket 4).
 def sweep(contract, order):
+    if contract.state == "auction":
+        return []
     fills = []
     remainder = order.lots
     for resting in opposite_queue(contract, order):
@@ -636,8 +657,7 @@ def insert(state, command):
     return Answer(0, number, lots_traded, lots_rested, trades)
 
 
-# One trade of the arriving order with a resting one. "The last price [...] becomes each trade's price".
-# "An account may meet its own order; the buyer's leg is booked first."
+# One trade of the arriving order with a resting one.
 def make_trade(state, order, number, resting, lots):
     contract = state.contracts[order.contract]
     price = trade_price(contract, order, resting)
@@ -648,12 +668,93 @@ def make_trade(state, order, number, resting, lots):
     else:
         trade = Trade(order.contract, price, lots, resting.number, number, resting_leg, arriving_leg)
 
-    contract.last_price = price
-    state.trades.append(trade)
-    for leg in trade.legs():
-        book(state.holdings, order.contract, leg, lots)
+    record(state, trade)
     resting.lots -= lots
     return trade
+
+
+# "The last price [...] becomes each trade's price".
+# "An account may meet its own order; the buyer's leg is booked first."
+def record(state, trade):
+    state.contracts[trade.contract].last_price = trade.price
+    state.trades.append(trade)
+    for leg in trade.legs():
+        book(state.holdings, trade.contract, leg, trade.lots)
+
+
+# =====================================================================================================================
+# The opening auction (document 02, ticket 4)
+# =====================================================================================================================
+
+
+# "buy lots at or above it and sell lots at or below it"
+def lots_at_or_better(contract, price):
+    buy_lots = sum(order.lots for order in contract.queues["buy"] if order.price >= price)
+    sell_lots = sum(order.lots for order in contract.queues["sell"] if order.price <= price)
+    return buy_lots, sell_lots
+
+
+# "volume (the smaller of" the two)
+def volume(contract, price):
+    return min(lots_at_or_better(contract, price))
+
+
+# "surplus (their difference) whichever its sign"
+def surplus(contract, price):
+    buy_lots, sell_lots = lots_at_or_better(contract, price)
+    return abs(buy_lots - sell_lots)
+
+
+# "The price is chosen among the resting prices"
+def resting_prices(contract):
+    return {order.price for order in contract.queues["buy"] + contract.queues["sell"]}
+
+
+# "largest volume [...], then smallest surplus [...], then nearest to the last price, then the higher (the last step is
+# ours)": of two prices the one whose place comes first.
+def place_by_the_four_steps(contract, price):
+    return (-volume(contract, price), surplus(contract, price), abs(price - contract.last_price), -price)
+
+
+# "No volume, no price, no trades."
+def auction_price(contract):
+    prices = [price for price in resting_prices(contract) if volume(contract, price) > 0]
+    return min(prices, key=lambda price: place_by_the_four_steps(contract, price), default=None)
+
+
+# "All trades are at it, best buy with best sell by price and number": buys at or above the price, sells at or below it,
+# each pair with the smaller remainder, until one side has none left. Before anything is changed.
+def auction_pairs(contract):
+    price = auction_price(contract)
+    if price is None:
+        return []
+    buys = deque((order, order.lots) for order in contract.queues["buy"] if order.price >= price)
+    sells = deque((order, order.lots) for order in contract.queues["sell"] if order.price <= price)
+    pairs = []
+    while buys and sells:
+        (buy, buy_remainder), (sell, sell_remainder) = buys.popleft(), sells.popleft()
+        lots = min(buy_remainder, sell_remainder)
+        pairs.append((buy, sell, lots))
+        if buy_remainder > lots:
+            buys.appendleft((buy, buy_remainder - lots))
+        if sell_remainder > lots:
+            sells.appendleft((sell, sell_remainder - lots))
+    return pairs
+
+
+# Filled orders leave, what remains stays in the book.
+def match_auction(state, number):
+    contract = state.contracts[number]
+    price = auction_price(contract)
+    trades = []
+    for buy, sell, lots in auction_pairs(contract):
+        buyer, seller = Leg(buy.account, "buy", buy.effect), Leg(sell.account, "sell", sell.effect)
+        trades.append(Trade(number, price, lots, buy.number, sell.number, buyer, seller))
+        record(state, trades[-1])
+        buy.lots -= lots
+        sell.lots -= lots
+    remove_orders(contract, [order for queue in contract.queues.values() for order in queue if order.lots == 0])
+    return trades
 
 
 # =====================================================================================================================

@@ -3,6 +3,7 @@
 The wrong engines are the model with one definition changed in a way that someone might write it.
 """
 
+import random
 import subprocess
 import sys
 import tempfile
@@ -20,13 +21,18 @@ import model
 FILES = 250
 
 # The right definitions, for wrong ones that differ from them in some cases only.
+right_auction_price = model.auction_price
 right_is_counterpart = model.is_counterpart
+right_match = model.match_auction
 right_most_lots = model.most_lots_by_holding
 right_next_day = model.start_next_day
 right_paired_price = model.paired_price
 right_profit = model.profit
 right_pull = model.pull
+right_record = model.record
+right_resting_prices = model.resting_prices
 right_settlement_price = model.settlement_price
+right_sweep = model.sweep
 
 
 def replaced(**definitions):
@@ -225,6 +231,197 @@ def best_is_market(contract, order, resting):
     return True
 
 
+def auction_by(steps):
+    """The model with another order of the prices in an auction: the steps are given the contract and a price."""
+    return replaced(place_by_the_four_steps=steps)
+
+
+def signed_surplus(contract, price):
+    buy_lots, sell_lots = model.lots_at_or_better(contract, price)
+    return buy_lots - sell_lots
+
+
+def price_by_source_001(contract):
+    """The tie rules of source document 001: by the signs of the surplus."""
+    prices = [price for price in model.resting_prices(contract) if model.volume(contract, price) > 0]
+    if not prices:
+        return None
+    largest = max(model.volume(contract, price) for price in prices)
+    prices = [price for price in prices if model.volume(contract, price) == largest]
+    smallest = min(model.surplus(contract, price) for price in prices)
+    prices = [price for price in prices if model.surplus(contract, price) == smallest]
+    with_buys_left = [price for price in prices if signed_surplus(contract, price) > 0]
+    with_sells_left = [price for price in prices if signed_surplus(contract, price) < 0]
+    if with_buys_left and not with_sells_left:
+        return max(prices)
+    if with_sells_left and not with_buys_left:
+        return min(prices)
+    if with_buys_left:
+        prices = [max(with_buys_left), min(with_sells_left)]
+    return min(prices, key=lambda price: (abs(price - contract.last_price), -price))
+
+
+def last_price_among_the_prices(contract):
+    return right_resting_prices(contract) | {contract.last_price}
+
+
+def lots_better_than_the_price(contract, price):
+    """As source document 000 words it: above and below."""
+    buy_lots = sum(order.lots for order in contract.queues["buy"] if order.price > price)
+    sell_lots = sum(order.lots for order in contract.queues["sell"] if order.price < price)
+    return buy_lots, sell_lots
+
+
+def auction_trades_changed(changed):
+    """The model with other trades in an auction: the change is given the contract, the buy, the sell and the trade."""
+
+    def match(state, number):
+        contract = state.contracts[number]
+        orders = {order.number: order for queue in contract.queues.values() for order in queue}
+
+        def record(state, trade):
+            right_record(state, changed(contract, orders[trade.buy_order], orders[trade.sell_order], trade))
+
+        first = len(state.trades)
+        with replaced(record=record):
+            right_match(state, number)
+        return state.trades[first:]
+
+    return replaced(match_auction=match)
+
+
+def trade_at_the_paired_price(contract, buy, sell, trade):
+    return trade._replace(price=model.paired_price(contract, buy.price, sell.price, contract.last_price))
+
+
+def last_price_stays(state, number):
+    contract = state.contracts[number]
+    last_price = contract.last_price
+    trades = right_match(state, number)
+    contract.last_price = last_price
+    return trades
+
+
+def what_remains_leaves(state, number):
+    trades = right_match(state, number)
+    state.contracts[number].queues = {"buy": [], "sell": []}
+    return trades
+
+
+def orders_match_in_auction(contract, order):
+    with mock.patch.object(contract, "state", "continuous"):
+        return right_sweep(contract, order)
+
+
+def full_side_passes_where_all_would_trade(contract, order, code):
+    in_auction = code == 13 and contract.state == "auction"
+    return 0 if in_auction and model.fillable(contract, order) >= order.lots else code
+
+
+def immediate_passes_in_auction(contract, order, code):
+    is_taken = order.price_condition == "limit" and model.allowed_today(contract, order.price)
+    return 0 if code == 6 and is_taken and order.time_condition == "immediate" else code
+
+
+def conditions_before_lots_in_auction(contract, order, code):
+    is_resting = (order.price_condition, order.time_condition) == ("limit", "day")
+    return 6 if code == 5 and contract.state == "auction" and not is_resting else code
+
+
+def closes_refused_in_auction(contract, order, code):
+    return 4 if code == 0 and contract.state == "auction" and order.effect == "close" else code
+
+
+def only_the_operator_in_auction(kind):
+    def changed(state, command, code):
+        if code in (2, 3) or state.contracts[command.contract].state != "auction":
+            return code
+        return code if command.flags == 1 else 4
+
+    return code_changed(kind, changed)
+
+
+def no_volume_stays_in_auction(state, command, code):
+    contract = state.contracts.get(command.contract)
+    is_end = code == 0 and contract.state == "auction"
+    return 17 if is_end and model.auction_price(contract) is None else code
+
+
+def room_before_the_listed_changes(state, command, code):
+    contract = state.contracts.get(command.contract)
+    if code != 17 or contract.state != "auction":
+        return code
+    return 12 if len(model.auction_pairs(contract)) > 1_024 - len(state.trades) else code
+
+
+def listed(*changes):
+    return replaced(LISTED_STATE_CHANGES=model.LISTED_STATE_CHANGES | set(changes))
+
+
+WRONG_AUCTIONS = {
+    "auction price by source document 001": replaced(auction_price=price_by_source_001),
+    "the last price among the prices": replaced(resting_prices=last_price_among_the_prices),
+    "auction lots above and below": replaced(lots_at_or_better=lots_better_than_the_price),
+    "surplus before volume": auction_by(
+        lambda contract, price: (
+            model.surplus(contract, price),
+            -model.volume(contract, price),
+            abs(price - contract.last_price),
+            -price,
+        )
+    ),
+    "surplus with its sign": replaced(surplus=signed_surplus),
+    "no surplus": auction_by(
+        lambda contract, price: (-model.volume(contract, price), 0, abs(price - contract.last_price), -price)
+    ),
+    "nearest to the reference": auction_by(
+        lambda contract, price: (
+            -model.volume(contract, price),
+            model.surplus(contract, price),
+            abs(price - contract.reference),
+            -price,
+        )
+    ),
+    "the higher without the nearest": auction_by(
+        lambda contract, price: (-model.volume(contract, price), model.surplus(contract, price), 0, -price)
+    ),
+    "the lower": auction_by(
+        lambda contract, price: (
+            -model.volume(contract, price),
+            model.surplus(contract, price),
+            abs(price - contract.last_price),
+            price,
+        )
+    ),
+    "auction trades by the method": auction_trades_changed(trade_at_the_paired_price),
+    "auction trades at the buy's price": auction_trades_changed(
+        lambda contract, buy, sell, trade: trade._replace(price=buy.price)
+    ),
+    "last price not the auction's": replaced(match_auction=last_price_stays),
+    "what remains leaves": replaced(match_auction=what_remains_leaves),
+    "orders match in auction": replaced(sweep=orders_match_in_auction),
+    "a full side passes where all would trade": insert_code_changed(full_side_passes_where_all_would_trade),
+    "immediate passes in auction": insert_code_changed(immediate_passes_in_auction),
+    "6 before 5 in auction": insert_code_changed(conditions_before_lots_in_auction),
+    "closes refused in auction": insert_code_changed(closes_refused_in_auction),
+    "only the operator cancels in auction": only_the_operator_in_auction("cancel"),
+    "only the operator pulls in auction": only_the_operator_in_auction("pull"),
+    "no volume, no change": code_changed("state", no_volume_stays_in_auction),
+    "no bound on an auction's trades": code_changed("state", lambda state, command, code: 0 if code == 12 else code),
+    "12 before 17": code_changed("state", room_before_the_listed_changes),
+    "auction to closed": listed((4, 3)),
+    "auction to pre-open": listed((4, 0)),
+    "no trading to auction": listed((2, 4)),
+    "continuous to auction": listed((1, 4)),
+    "closed to auction": listed((3, 4)),
+    "crossed in no state": replaced(
+        queues_are_sorted_and_uncrossed=lambda state: all(
+            not buys or not sells or buys[0].price < sells[0].price
+            for buys, sells in (contract.queues.values() for contract in state.contracts.values())
+        )
+    ),
+}
+
 WRONG_ENGINES = {
     "one price for the whole sweep": replaced(trade_price=one_price_for_the_sweep),
     "market trades by the method": replaced(trade_price=method_for_market_too),
@@ -298,6 +495,7 @@ WRONG_ENGINES = {
     "close against yesterday's price": replaced(profit=close_against_yesterday),
     "closes the newest lots first": replaced(profit=closes_last_opened_first),
     "values of the file not checked": mock.patch.object(dayfile, "check_ranges", lambda day: None),
+    **WRONG_AUCTIONS,
 }
 
 
@@ -320,6 +518,14 @@ class Generated(unittest.TestCase):
     def test_almost_every_branch_is_reached(self):
         """Few files reach most branches; the comparison of 2,000 reaches all."""
         self.assertGreater(len(self.reached.branches), 0.9 * len(branches.NAMES))
+
+    def test_every_branch_of_an_auction_is_reached(self):
+        """With four more of the files that are rare because they are long."""
+        reached = compare.Reached()
+        for index in range(4):
+            reached.run_model(generate.full_day_auction_file(random.Random(index)))
+        names = {name for name in branches.NAMES if "auction" in name or name in branches.STATE and "match" in name}
+        self.assertEqual(names - set(reached.branches) - set(self.reached.branches), set())
 
     def test_no_branch_without_a_name(self):
         self.assertLessEqual(set(self.reached.branches), set(branches.NAMES))

@@ -1,6 +1,7 @@
-"""The model against document 01's examples, the team's readings of it, and days worked out by hand."""
+"""The model against the papers' examples, the team's readings of them, and days worked out by hand."""
 
 import copy
+import random
 import sys
 import unittest
 from itertools import product
@@ -183,10 +184,11 @@ class Malformed(unittest.TestCase):
             self.assertEqual(self.code(insert._replace(flags=flags)) != 1, is_known)
             self.assertEqual(self.code(dayfile.cancel(1, 1, 1)._replace(flags=flags)) != 1, flags <= 1)
             self.assertEqual(self.code(dayfile.pull(1, 1)._replace(flags=flags)) != 1, flags <= 1)
-            self.assertEqual(self.code(dayfile.state(1, "closed")._replace(flags=flags)) != 1, flags <= 3)
+            self.assertEqual(self.code(dayfile.state(1, "closed")._replace(flags=flags)) != 1, flags <= 4)
 
     def test_comes_before_absent_account_and_contract(self):
-        self.assertEqual(self.code(dayfile.state(9, "closed")._replace(flags=4)), 1)
+        self.assertEqual(self.code(dayfile.state(9, "closed")._replace(flags=5)), 1)
+        self.assertEqual(self.code(dayfile.state(9, "auction")), 3)
         self.assertEqual(self.code(dayfile.deposit(9, 5)._replace(lots=1)), 1)
 
     def test_market_and_best_have_codes_of_their_own(self):
@@ -232,26 +234,27 @@ class ContractStates(unittest.TestCase):
         "continuous": "state 1 continuous\n",
         "no-trading": "state 1 continuous\n state 1 no-trading\n",
         "closed": "state 1 closed\n",
+        "auction": "state 1 auction\n",
     }
 
     def in_state(self, state):
         return CONTRACT + TWO_ACCOUNTS + self.REACH[state]
 
-    def test_insert_needs_continuous(self):
+    def test_insert_needs_continuous_or_auction(self):
         for state in dayfile.STATES:
             code = last_code(self.in_state(state) + "insert 1 contract 1 buy open limit 100 lots 1 day")
-            self.assertEqual(code, 0 if state == "continuous" else 4)
+            self.assertEqual(code, 0 if state in ("continuous", "auction") else 4)
 
-    def test_cancel_and_pull_need_continuous_or_the_operator_in_no_trading(self):
-        allowed = {("continuous", ""), ("continuous", "operator"), ("no-trading", "operator")}
+    def test_cancel_and_pull_need_continuous_auction_or_the_operator_in_no_trading(self):
+        allowed = {("no-trading", "operator"), *product(("continuous", "auction"), ("", "operator"))}
         for state, operator in product(dayfile.STATES, ("", "operator")):
             pull = last_code(self.in_state(state) + f"pull 1 contract 1 {operator}")
             cancel = last_code(self.in_state(state) + f"cancel 1 contract 1 order 1 {operator}")
             self.assertEqual((pull, cancel), (0, 14) if (state, operator) in allowed else (4, 4))
 
     def test_changes(self):
-        listed = {(0, 1), (0, 3), (1, 2), (2, 1), (1, 3), (2, 3)}
-        for before, after in product(range(4), range(4)):
+        listed = {(0, 1), (0, 3), (1, 2), (2, 1), (1, 3), (2, 3), (0, 4), (4, 1)}
+        for before, after in product(range(5), range(5)):
             code = last_code(self.in_state(dayfile.STATES[before]) + f"state 1 {dayfile.STATES[after]}")
             self.assertEqual(code, 0 if (before, after) in listed else 17)
 
@@ -259,6 +262,9 @@ class ContractStates(unittest.TestCase):
         two = CONTRACT + CONTRACT + TWO_ACCOUNTS + "state 1 closed\n"
         self.assertEqual(last_code(two + "settle"), 18)
         self.assertEqual(last_code(two + "state 2 closed\n settle"), 0)
+        auction = two + "state 2 auction\n"
+        self.assertEqual(codes(auction + "settle\n state 2 closed\n settle")[-3:], [18, 17, 18])
+        self.assertEqual(codes(auction + "state 2 continuous\n state 2 closed\n settle")[-3:], [0, 0, 0])
 
     def test_settlements_are_250(self):
         days = CONTRACT + TWO_ACCOUNTS + "repeat 250\n state 1 closed\n settle\n end\n"
@@ -666,6 +672,355 @@ class Matching(unittest.TestCase):
         self.assertTrue(model.well_formed(state))
 
 
+class Auction(unittest.TestCase):
+    """The opening auction: document 02, ticket 4. The last price is 100 where nothing else is said."""
+
+    OPEN = CONTRACT.replace("band 10", "band 90") + "account 1,000,000\naccount 1,000,000\nstate 1 auction\n"
+    END = "state 1 continuous\n"
+
+    def orders(self, *orders, contract=1):
+        """Inserts to open: account 1 buys, account 2 sells. An order is its side, lots and price: "buy 5 at 100"."""
+        account = {"buy": 1, "sell": 2}
+        return "".join(
+            f"insert {account[side]} contract {contract} {side} open limit {price} lots {lots} day\n"
+            for side, lots, _, price in map(str.split, orders)
+        )
+
+    def book(self, *orders, last=100):
+        """The contract with these orders resting in auction."""
+        contract = state_after(self.OPEN + self.orders(*orders)).contracts[1]
+        contract.last_price = last
+        return contract
+
+    def price(self, *orders, last=100):
+        return model.auction_price(self.book(*orders, last=last))
+
+    def match(self, *orders, text=OPEN):
+        """The lines of the change that ends an auction of these orders, without the number of the command."""
+        lines = output(text + self.orders(*orders) + self.END)
+        change = max(place for place, line in enumerate(lines) if line.startswith("C"))
+        return [lines[change].split(" ", 2)[2], *lines[change + 1 :]]
+
+    # --- "Source document 001's two examples give 102 and 101; source document 000's gives 1608." ---
+
+    # 4.3.1.1 of source document 001, and 4.3.1.2, which has one lot more at 101.
+    BUYS = ("buy 5 at 100", "buy 6 at 101", "buy 4 at 102")
+    LARGEST_VOLUME = (*BUYS, "sell 3 at 101", "sell 7 at 102", "sell 6 at 103")
+    SMALLEST_SURPLUS = (*BUYS, "sell 4 at 101", "sell 7 at 102", "sell 6 at 103")
+
+    def table(self, contract):
+        """As source document 001 prints it: buy lots, sell lots and volume at each price."""
+        return {
+            price: (*model.lots_at_or_better(contract, price), model.volume(contract, price))
+            for price in model.resting_prices(contract)
+        }
+
+    def test_first_example_of_001(self):
+        table = {100: (15, 0, 0), 101: (10, 3, 3), 102: (4, 10, 4), 103: (0, 16, 0)}
+        self.assertEqual(self.table(self.book(*self.LARGEST_VOLUME)), table)
+        self.assertEqual(self.price(*self.LARGEST_VOLUME), 102)
+        # Order 3 buys 4 lots: the 3 of order 4, at 101 the best sell, and 1 of the 7 of order 5.
+        self.assertEqual(self.match(*self.LARGEST_VOLUME), ["0 0 4 0", "T 1 1 102 3 3 4", "T 2 1 102 1 3 5"])
+
+    def test_second_example_of_001(self):
+        table = {100: (15, 0, 0), 101: (10, 4, 4), 102: (4, 11, 4), 103: (0, 17, 0)}
+        self.assertEqual(self.table(self.book(*self.SMALLEST_SURPLUS)), table)
+        # 101 and 102 have volume 4; 6 buys would be left over at 101, 7 sells at 102.
+        self.assertEqual(self.price(*self.SMALLEST_SURPLUS), 101)
+        self.assertEqual(self.match(*self.SMALLEST_SURPLUS), ["0 0 4 0", "T 1 1 101 4 3 4"])
+
+    def test_example_of_000(self):
+        orders = (
+            "buy 5 at 1612",
+            "buy 5 at 1611",
+            "buy 5 at 1610",
+            "sell 10 at 1607",
+            "sell 6 at 1608",
+            "sell 3 at 1609",
+        )
+        text = self.OPEN.replace("reference 100", "reference 1600")
+        contract = state_after(text + self.orders(*orders)).contracts[1]
+        volumes = {price: volume for price, (_, _, volume) in self.table(contract).items()}
+        self.assertEqual(volumes, {1607: 10, 1608: 15, 1609: 15, 1610: 15, 1611: 10, 1612: 5})
+        self.assertEqual([model.surplus(contract, price) for price in (1608, 1609, 1610)], [1, 4, 4])
+        trades = ["T 1 1 1608 5 1 4", "T 2 1 1608 5 2 4", "T 3 1 1608 5 3 5"]
+        self.assertEqual(self.match(*orders, text=text), ["0 0 15 0", *trades])
+
+    # --- The four steps ---
+
+    def test_nearest_to_the_last_price_not_by_001(self):
+        # At 101 and at 105 one lot trades and one buy is left over. By source document 001 it would be 105.
+        self.assertEqual(self.price("buy 2 at 105", "sell 1 at 101"), 101)
+        self.assertEqual(self.match("buy 2 at 105", "sell 1 at 101"), ["0 0 1 0", "T 1 1 101 1 1 2"])
+        # And with one sell left over it would be 101.
+        self.assertEqual(self.price("buy 1 at 105", "sell 2 at 101", last=110), 105)
+
+    def test_volume_comes_before_surplus(self):
+        # At 99 volume 4 of 10 buys, at 101 volume 3 with 1 sell left over.
+        self.assertEqual(self.price("buy 7 at 99", "buy 3 at 101", "sell 4 at 99", last=101), 99)
+
+    def test_surplus_comes_before_nearness(self):
+        # Volume 2 at both; nothing is left over at 99, one sell at 101.
+        self.assertEqual(self.price("sell 2 at 99", "sell 1 at 101", "buy 2 at 101", last=101), 99)
+
+    def test_surplus_whichever_its_sign(self):
+        # Volume 4 at both; at 99 buys are left over, at 101 sells: 2 and 1, 1 and 2, 2 and 2.
+        def price(buys, sells, last):
+            return self.price("sell 4 at 99", f"buy {buys} at 99", f"sell {sells} at 101", "buy 4 at 101", last=last)
+
+        self.assertEqual((price(2, 1, last=99), price(2, 1, last=101)), (101, 101))
+        self.assertEqual((price(1, 2, last=99), price(1, 2, last=101)), (99, 99))
+        self.assertEqual((price(2, 2, last=99), price(2, 2, last=101)), (99, 101))
+
+    def test_the_higher_where_both_are_as_near(self):
+        self.assertEqual(self.price("sell 1 at 98", "buy 1 at 102"), 102)
+        self.assertEqual(self.price("sell 1 at 98", "buy 1 at 102", last=99), 98)
+        self.assertEqual(self.price("sell 1 at 98", "buy 1 at 102", last=101), 102)
+
+    def test_four_prices_tie(self):
+        # Volume 4 and 2 left over at each of them: buys at 97 and 99, sells at 101 and 103.
+        orders = ("sell 4 at 97", "buy 2 at 99", "sell 2 at 101", "buy 4 at 103")
+        prices = {90: 97, 97: 97, 98: 99, 99: 99, 100: 101, 101: 101, 102: 103, 110: 103}
+        self.assertEqual({last: self.price(*orders, last=last) for last in prices}, prices)
+
+    def test_only_resting_prices(self):
+        # 100 itself, the last price, is nobody's price.
+        self.assertEqual(self.price("sell 1 at 97", "buy 1 at 102"), 102)
+
+    def test_no_volume(self):
+        for orders in (
+            (),
+            ("buy 1 at 99",),
+            ("sell 1 at 99",),
+            ("buy 1 at 99", "sell 1 at 101"),
+        ):
+            self.assertIsNone(self.price(*orders))
+            self.assertEqual(self.match(*orders), ["0 0 0 0"])
+            before, after = (state_after(self.OPEN + self.orders(*orders) + end) for end in ("", self.END))
+            before.contracts[1].state = "continuous"
+            self.assertEqual(after, before)
+
+    # --- In auction ---
+
+    def test_orders_rest_without_matching(self):
+        text = self.OPEN + self.orders("sell 5 at 95", "buy 5 at 105", "buy 2 at 106", "buy 1 at 105", "sell 1 at 94")
+        self.assertEqual(answers(text)[1:], ["0 1 0 5", "0 2 0 5", "0 3 0 2", "0 4 0 1", "0 5 0 1"])
+        self.assertEqual(lines_of("T", text), [])
+        queues = state_after(text).contracts[1].queues
+        self.assertEqual([order.number for order in queues["buy"]], [3, 2, 4])
+        self.assertEqual([order.number for order in queues["sell"]], [5, 1])
+
+    def test_6_for_every_other_insert(self):
+        for price_condition, time_condition in product(dayfile.PRICE_CONDITIONS, dayfile.TIME_CONDITIONS):
+            if (price_condition, time_condition) == ("limit", "day"):
+                continue
+            price = "100" if price_condition == "limit" else ""
+            order = self.OPEN + "insert 1 contract 1 buy open {} {} lots {} {}"
+            self.assertEqual(last_code(order.format(price_condition, price, 1, time_condition)), 6)
+            # After 5 and before 7.
+            self.assertEqual(last_code(order.format(price_condition, price, 0, time_condition)), 5)
+            self.assertEqual(last_code(order.format(price_condition, 5_000, 1, time_condition)), 6)
+
+    def test_7_8_and_9_as_ever(self):
+        tight = self.OPEN.replace("limit 1000", "limit 20").replace("account 1,000,000\n", "account 1,500\n")
+        order = tight + "insert 1 contract 1 buy open limit {} lots {} day"
+        self.assertEqual(last_code(order.format(191, 1)), 7)
+        self.assertEqual(last_code(order.format(190, 21)), 8)
+        self.assertEqual(last_code(order.format(190, 16)), 9)
+        self.assertEqual(last_code(order.format(190, 15)), 0)
+        # Orders that rest in auction are charged, and only those of the larger side.
+        charged = order.format(190, 10) + "\n insert 1 contract 1 sell open limit 10 lots 10 day\n"
+        self.assertEqual(codes(charged + "withdraw 1 501\n withdraw 1 500")[-3:], [0, 9, 0])
+
+    def test_10_before_13(self):
+        full = state_after(self.OPEN + self.orders(*["buy 1 at 100"] * 64))
+        full.next_order_number = 1_000_000
+        order = dayfile.insert(1, 1, "buy", "open", "limit", 100, 1, "day")
+        self.assertEqual(model.answer(full, order).code, 10)
+
+    def test_13_whenever_the_own_side_has_64(self):
+        full = self.OPEN + self.orders(*["buy 1 at 100"] * 64, "sell 5 at 100")
+        self.assertEqual(last_answer(full), "0 65 0 5")
+        for order in ("buy 1 at 100", "buy 5 at 101", "buy 6 at 101", "buy 1 at 90"):
+            self.assertEqual(last_answer(full + self.orders(order)), "13 0 0 0")
+        # In continuous an order that is filled at once passes.
+        after = full + self.END + self.orders(*["buy 1 at 99"] * 5, "sell 1 at 101", "buy 1 at 101")
+        self.assertEqual(answers(after)[-8:], ["0 0 5 0", *[f"0 {66 + i} 0 1" for i in range(6)], "0 72 1 0"])
+
+    def test_cancel_and_pull(self):
+        for operator in ("", "operator"):
+            text = self.OPEN + self.orders("buy 5 at 105", "sell 3 at 95", "buy 2 at 100", "sell 4 at 101")
+            text += f"""
+                cancel 1 contract 1 order 1 {operator}
+                cancel 1 contract 1 order 1 {operator}
+                cancel 1 contract 1 order 2 {operator}
+                pull 2 contract 1 {operator}
+                pull 2 contract 1 {operator}
+                """
+            self.assertEqual(answers(text)[-5:], ["0 1 0 5", "14 0 0 0", "15 0 0 0", "0 0 0 7", "0 0 0 0"])
+
+    # --- The match ---
+
+    def test_best_buy_with_best_sell_by_price_and_number(self):
+        # At 100 all 7 buys and all 5 sells take part. Order 4 keeps 2 lots and its place.
+        orders = ("sell 3 at 100", "sell 2 at 99", "buy 4 at 101", "buy 3 at 100", "buy 1 at 100")
+        self.assertEqual(
+            self.match(*orders), ["0 0 5 0", "T 1 1 100 2 3 2", "T 2 1 100 2 3 1", "T 3 1 100 1 4 1"]
+        )
+        contract = state_after(self.OPEN + self.orders(*orders) + self.END).contracts[1]
+        self.assertEqual((contract.state, contract.queues["sell"]), ("continuous", []))
+        self.assertEqual([(order.number, order.lots) for order in contract.queues["buy"]], [(4, 2), (5, 1)])
+
+    def test_a_better_order_may_be_left(self):
+        # At 101, nearer to 100, one of the two buys at 105 trades.
+        contract = state_after(self.OPEN + self.orders("buy 2 at 105", "sell 1 at 101") + self.END).contracts[1]
+        self.assertEqual([(order.price, order.lots) for order in contract.queues["buy"]], [(105, 1)])
+
+    def test_last_price_becomes_the_auction_s(self):
+        # 102. A sell at 99 then meets the buy at 101 at 101, the middle of 101, 99 and 102; from 100 it would be 100.
+        text = self.OPEN + self.orders(*self.LARGEST_VOLUME) + self.END + self.orders("sell 1 at 99")
+        self.assertEqual(lines_of("T", text)[-1], "T 3 1 101 1 2 7")
+
+    def test_methods_play_no_part(self):
+        for method in (0, 1, 2):
+            text = self.OPEN.replace("rate 1000", f"rate 1000 method {method}")
+            self.assertEqual(
+                self.match(*self.LARGEST_VOLUME, text=text), ["0 0 4 0", "T 1 1 102 3 3 4", "T 2 1 102 1 3 5"]
+            )
+
+    def test_another_contract_trades_meanwhile(self):
+        # Contract 2 trades before the auction of contract 1 ends, and after it.
+        text = self.OPEN.replace("account", CONTRACT + "account", 1) + "state 2 continuous\n"
+        crossed = self.orders("sell 2 at 100", "buy 2 at 100")
+        trade = self.orders("sell 1 at 101", "buy 1 at 101", contract=2)
+        self.assertEqual(
+            output(text + crossed + trade + self.END + trade)[2:],
+            [
+                "C 3 0 1 0 2",
+                "C 4 0 2 0 2",
+                "C 5 0 3 0 1",
+                "C 6 0 4 1 0",
+                "T 1 2 101 1 4 3",
+                "C 7 0 0 2 0",
+                "T 2 1 100 2 2 1",
+                "C 8 0 5 0 1",
+                "C 9 0 6 1 0",
+                "T 3 2 101 1 6 5",
+            ],
+        )
+
+    def test_auctions_on_two_days(self):
+        # The first day trades 4 at 102 in the auction and 1 at 105 after it: 513 / 5 is 102.6, so the reference becomes
+        # 102 and the last price 105, to which 106 is nearer than 102.
+        first_day = self.OPEN + self.orders(*self.LARGEST_VOLUME) + self.END
+        first_day += "pull 1 contract 1\n pull 2 contract 1\n" + self.orders("sell 1 at 105", "buy 1 at 105")
+        second_day = "state 1 closed\n settle\n state 1 auction\n" + self.orders("sell 1 at 102", "buy 1 at 106")
+        lines = output(first_day + second_day + self.END)
+        self.assertEqual([line for line in lines if line.startswith("P")], ["P 1 102"])
+        self.assertEqual(lines[-2:], ["C 18 0 0 1 0", "T 1 1 106 1 2 1"])
+
+    def test_own_orders_and_closes(self):
+        # Account 1 holds 5 long and 5 short from the day before. The sell of 2 at 99 and the buy of 2 at 101 trade at
+        # 101, the settlement price: each lot held gains or loses 1 x 10, closed ones and those kept. The charge is 101.
+        held = OPEN_DAY + """
+            insert 1 contract 1 sell open limit 100 lots 5 day
+            insert 1 contract 1 buy open limit 100 lots 5 day
+            state 1 closed
+            settle
+            state 1 auction
+            """
+        balances = {
+            ("open", "open"): "B 1 0 0 10000 707",  # 7 long, 7 short
+            ("open", "close"): "B 1 20 -20 10000 505",  # 2 long closed; 3 long, 5 short and 2 opened are kept
+            ("close", "open"): "B 1 -20 20 10000 505",  # 2 short closed; 5 long, 3 short and 2 opened are kept
+            ("close", "close"): "B 1 0 0 10000 303",  # 2 of each closed
+        }
+        for (buy, sell), balance in balances.items():
+            text = held + f"""
+                insert 1 contract 1 sell {sell} limit 99 lots 2 day
+                insert 1 contract 1 buy {buy} limit 101 lots 2 day
+                state 1 continuous
+                state 1 closed
+                settle
+                """
+            self.assertEqual(lines_of("T", text)[-1], "T 1 1 101 2 2 1")
+            self.assertEqual(lines_of("B", text)[-2], balance)
+        # Resting closes are covered, as ever.
+        closes = held + """
+            insert 1 contract 1 sell close limit 99 lots 3 day
+            insert 1 contract 1 sell close limit 110 lots 3 day
+            insert 1 contract 1 sell close limit 110 lots 2 day
+            """
+        self.assertEqual(codes(closes)[-3:], [0, 8, 0])
+
+    def near_full_day(self, trades):
+        """Contract 1 with a crossed book in auction that needs 3 trades, while contract 2 has made so many."""
+        text = self.OPEN.replace("account", CONTRACT.replace("limit 1000", "limit 100000") + "account", 1)
+        text += "state 2 continuous\n" + self.orders("sell 1000 at 101", "sell 100 at 101", contract=2)
+        text += f"repeat {trades}\n insert 1 contract 2 buy open limit 101 lots 1 immediate\n end\n"
+        state = state_after(text + self.orders("sell 1 at 99", "sell 1 at 99", "sell 1 at 99", "buy 9 at 101"))
+        self.assertEqual(len(state.trades), trades)
+        self.first_sell = state.contracts[1].queues["sell"][0].number
+        return state
+
+    def test_12_if_the_match_needs_more_room(self):
+        state = self.near_full_day(1_022)
+        before = copy.deepcopy(state)
+        self.assertEqual(model.answer(state, dayfile.state(1, "closed")), model.Answer(17))
+        self.assertEqual(model.answer(state, dayfile.state(1, "continuous")), model.Answer(12))
+        self.assertEqual(state, before)
+        # With one sell less the match has just enough room.
+        self.assertEqual(model.answer(state, dayfile.cancel(2, 1, self.first_sell)).code, 0)
+        given = model.answer(state, dayfile.state(1, "continuous"))
+        self.assertEqual((given.code, given.lots_traded, len(state.trades)), (0, 2, 1_024))
+        self.assertTrue(model.well_formed(state))
+
+    def test_12_on_a_full_day(self):
+        state = self.near_full_day(1_024)
+        # Orders still rest in auction, crossed or not.
+        self.assertEqual(model.answer(state, dayfile.insert(1, 1, "buy", "open", "limit", 105, 1, "day")).code, 0)
+        self.assertEqual(model.answer(state, dayfile.state(1, "continuous")).code, 12)
+        self.assertEqual(model.answer(state, dayfile.settle()).code, 18)
+        # Without volume the state changes.
+        self.assertEqual(model.answer(state, dayfile.pull(2, 1)).lots_rested_or_removed, 3)
+        self.assertEqual(model.answer(state, dayfile.state(1, "continuous")), model.Answer(0))
+
+    def test_every_small_book(self):
+        """The match trades the largest volume and leaves the book uncrossed, so trading on while it is crossed would
+        pair the same orders."""
+        rng = random.Random(4)
+        for _ in range(2_000):
+            sides = {
+                side: [
+                    model.Resting(number, 1, "open", rng.randint(1, 7), rng.randint(1, 4))
+                    for number in rng.sample(range(100), rng.randint(0, 5))
+                ]
+                for side in dayfile.SIDES
+            }
+            contract = model.Contract(1, 1, 1, 1, 1, 1, last_price=rng.randint(1, 7), state="auction")
+            contract.queues = {side: model.sort_queue(side, queue) for side, queue in sides.items()}
+            pairs = model.auction_pairs(contract)
+            volumes = [model.volume(contract, price) for price in range(1, 8)]
+            self.assertEqual(sum(lots for _, _, lots in pairs), max(volumes))
+            self.assertEqual([(buy.number, sell.number, lots) for buy, sell, lots in pairs], while_crossed(contract))
+            price = model.auction_price(contract)
+            self.assertTrue(all(sell.price <= price <= buy.price for buy, sell, _ in pairs))
+
+
+def while_crossed(contract):
+    """Best buy with best sell, each the smaller remainder, as long as the book is crossed."""
+    buys, sells = ([[order.price, order.number, order.lots] for order in queue] for queue in contract.queues.values())
+    pairs = []
+    while buys and sells and buys[0][0] >= sells[0][0]:
+        lots = min(buys[0][2], sells[0][2])
+        pairs.append((buys[0][1], sells[0][1], lots))
+        for queue in (buys, sells):
+            queue[0][2] -= lots
+            if queue[0][2] == 0:
+                queue.pop(0)
+    return pairs
+
+
 class SettlementPrices(unittest.TestCase):
     """ "the day's trades weighted by lots, rounded down, then down to a tick"; without a trade the quotes."""
 
@@ -919,6 +1274,21 @@ class WellFormed(unittest.TestCase):
 
     def test_crossed(self):
         self.buys[0].price = 104
+        self.assert_21()
+
+    def test_crossed_in_auction_alone(self):
+        self.buys[0].price = 104
+        for state in dayfile.STATES:
+            self.contract.state = state
+            self.assertEqual(model.well_formed(self.state), state == "auction")
+
+    def test_contract_state(self):
+        self.contract.state = "another"
+        self.assert_21()
+
+    def test_queue_order_in_auction(self):
+        self.contract.state = "auction"
+        self.buys.reverse()
         self.assert_21()
 
     def test_resting_lots(self):

@@ -1,5 +1,6 @@
 """The samples: that they are current and show what their names say."""
 
+import re
 import unittest
 
 import make_samples
@@ -45,6 +46,22 @@ class Samples(unittest.TestCase):
     def test_full_day(self):
         self.assertIn(12, self.codes("full-day"))
         self.assertEqual(max(int(line[1]) for line in self.lines("full-day", "T")), 1_024)
+
+    def test_opening_auction(self):
+        """The prices of the papers' examples, and every line of output that the text works out stands in it, in turn."""
+        text = (make_samples.SAMPLES / "opening-auction.txt").read_text()
+        worked_out = re.findall("^#   ([CTPB] [-0-9 ]+)$", text, re.MULTILINE)
+        output = self.made[make_samples.SAMPLES / "opening-auction.out"].decode().splitlines()
+        lines = iter(output)
+        self.assertEqual([line for line in worked_out if line not in lines], [])
+        for letter in "TPB":
+            self.assertEqual(*([line for line in some if line[0] == letter] for some in (worked_out, output)))
+        first_trades = {line[2]: line[3] for line in reversed(self.lines("opening-auction", "T")[:7])}
+        self.assertEqual(first_trades, {"1": "102", "2": "101", "3": "1608", "4": "101"})
+
+    def test_auction_refusals(self):
+        self.assertEqual(self.codes("auction-refusals"), {0, 5, 6, 7, 8, 9, 12, 13, 14, 15, 17, 18})
+        self.assertEqual(max(int(line[1]) for line in self.lines("auction-refusals", "T")), 1_024)
 
     def test_largest_file(self):
         day = read(self.made[make_samples.SAMPLES / "largest-file.day"])

@@ -12,8 +12,8 @@ use Rattle.rules.specs.declared.Command.{Command}
 use Rattle.rules.specs.declared.Command.the-variants.{Malformed, Deposit, Withdraw, Insert, Cancel, Pull, Phase, Settle}
 use Rattle.rules.proofs.Stages.{decided, Each, each-last}
 use Rattle.accounting.specs.Shape.{Shaped}
-use Rattle.accounting.proofs.StepMoves.{Makes, unchanged, same-listing, paid-in-moves, paid-out-moves, inserted-moves, settled-moves}
-use Rattle.accounting.proofs.StepShape.{SameShape, same-shape, listing-replaced, paid-shape, inserted-shape, settled-shape}
+use Rattle.accounting.proofs.StepMoves.{Makes, unchanged, same-listing, paid-in-moves, paid-out-moves, inserted-moves, matched-moves, settled-moves}
+use Rattle.accounting.proofs.StepShape.{SameShape, same-shape, listing-replaced, paid-shape, inserted-shape, matched-shape, settled-shape}
 
 module _ (x : Exchange) where
   pub kind-shape : (command : Command) → Each (SameShape x) (kindOf x command .effect .stages)
@@ -24,7 +24,7 @@ module _ (x : Exchange) where
   kind-shape (Insert o) = (inserted-shape x o, tt)
   kind-shape (Cancel account contract operator number) = (listing-replaced x (placeOf contract) _, tt)
   kind-shape (Pull account contract operator) = (listing-replaced x (placeOf contract) _, tt)
-  kind-shape (Phase contract phase) = (listing-replaced x (placeOf contract) _, tt)
+  kind-shape (Phase contract phase) = (matched-shape x (placeOf contract) phase, tt)
   kind-shape Settle = (settled-shape x, tt)
 
   kind-moves : replays x ≡ true → Shaped x → (command : Command) → Makes x (kindOf x command .moves) (lastOf x (kindOf x command .effect .stages))
@@ -35,7 +35,7 @@ module _ (x : Exchange) where
   kind-moves r h (Insert o) = inserted-moves x o
   kind-moves r h (Cancel account contract operator number) = same-listing x (placeOf contract) _ refl refl
   kind-moves r h (Pull account contract operator) = same-listing x (placeOf contract) _ refl refl
-  kind-moves r h (Phase contract phase) = same-listing x (placeOf contract) _ refl refl
+  kind-moves r h (Phase contract phase) = matched-moves x (placeOf contract) phase
   kind-moves r h Settle = settled-moves x r h
 
   -- ---- a step, accepted or refused

@@ -1,6 +1,6 @@
 -- What a well-formed state says, as far as money needs it: trades between accounts in use, prices and terms in range, starting
 -- lots within the limit, a replay that holds. Assumes nothing.
-use mathlib.Core.Bool.{true, false, not}
+use mathlib.Core.Bool.{true, false, not, _||_}
 use mathlib.Core.List.{List, [], _∷_}
 use mathlib.Core.Path.{_≡_}
 use Prim.Native.Nat.{ℕ, _+_, _<_, _≤_}
@@ -11,7 +11,7 @@ use lib.Dec.{leb, ltb, eqb}
 use lib.ListN.{length}
 use Rattle.laws.specs.Choice.{all, allOf, all-at, allOf-at, both-true}
 use Rattle.laws.specs.Chains.{Passed, passed}
-use Rattle.rules.specs.Bounds.{within, onTick, dayLow, dayHigh, allowedToday, maxPrice, maxLots}
+use Rattle.rules.specs.Bounds.{within, inAuction, onTick, dayLow, dayHigh, allowedToday, maxPrice, maxLots}
 use Rattle.rules.specs.Exchange.{Exchange, Listing, noListing, listingAt, holdingAt, restingOpens, restingCloses}
 use Rattle.rules.specs.WellFormed.{contractInRange, sorted, uncrossed, orderInRange, listingInRange, tradeInRange, replays, holdingInRange, holdingsInRange, balanceInRange, countersInRange, usedOnce, allNumbers, wellFormedContents}
 use Rattle.rules.specs.declared.Contract.{Contract}
@@ -93,7 +93,7 @@ module _ (x : Exchange) (h : wellFormedContents x ≡ true) where
   unfolding listingInRange
   listing-clauses m e =
       let p = passed (contractInRange (m .contract))
-      (sorted false (m .buys) ∷ sorted true (m .sells) ∷ uncrossed (m .buys) (m .sells)
+      (sorted false (m .buys) ∷ sorted true (m .sells) ∷ (inAuction (m .contract) || uncrossed (m .buys) (m .sells))
       ∷ allOf (orderInRange (length (x .accounts)) (x .next) (m .contract)) (m .buys)
       ∷ allOf (orderInRange (length (x .accounts)) (x .next) (m .contract)) (m .sells) ∷ []) e in
       (p .0, p .1 .1 .1 .1 .0)

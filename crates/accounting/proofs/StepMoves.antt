@@ -3,7 +3,7 @@
 use mathlib.Core.Bool.{Bool, true, false}
 use mathlib.Core.List.{List, [], append-nil}
 use mathlib.Core.Path.{_≡_, refl, sym, ap, subst, _∙_}
-use Prim.Native.Nat.{ℕ, _<_}
+use Prim.Native.Nat.{ℕ, _+_, _<_}
 use borrow.Author.Tests.{eqb-true, eqb-false}
 use lib.Dec.{eqb}
 use lib.IntN.{ℤ, pos, negℤ, _+ℤ_, _-ℤ_, _*ℤ_, +ℤ-idr}
@@ -15,14 +15,16 @@ use Rattle.laws.specs.Sums.{sumTo, sumTo-ext, sumTo-add}
 use Rattle.laws.specs.Tabulate.{getD-tabulate}
 use Rattle.laws.specs.Lists.{kept-at}
 use Rattle.rules.specs.Answers.{listingOf}
+use Rattle.rules.specs.Auction.{matchOf}
 use Rattle.rules.specs.Exchange.{Exchange, Listing, noAccount, noHolding, noListing, listingAt, accountAt, holdingAt, placeOf}
 use Rattle.rules.specs.Kinds.{Move, paysIn, paysOut, makes, settles, nothing}
 use Rattle.rules.specs.Settlement.{dayOf, holdingGain, settlementPrice, closingProfit, holdingProfit, carriedHolding, settledAccount, settledContract, settledListing, settled}
-use Rattle.rules.specs.Step.{withListing, withBalance, paid, enteredOf, listingAfter, exchangeAfter}
+use Rattle.rules.specs.Step.{withListing, withTrades, withBalance, paid, enteredOf, listingAfter, exchangeAfter, listingMatched, exchangeMatched}
 use Rattle.rules.specs.WellFormed.{replays}
 use Rattle.rules.specs.declared.Account.{Account}
 use Rattle.rules.specs.declared.Holding.{Holding}
 use Rattle.rules.specs.declared.NewOrder.{NewOrder}
+use Rattle.rules.specs.declared.Trade.{Trade}
 use Rattle.accounting.specs.Books.{booksOf, marked, paidTo, after, Same, Level}
 use Rattle.accounting.specs.Money.{netAtStart, netNow, AllKnown}
 use Rattle.accounting.specs.Shape.{Shaped}
@@ -105,15 +107,26 @@ paid-out-moves x u n = paid-books x u (negℤ (pos n))
 
 -- ---- trades are made
 
-pub inserted-moves : (x : Exchange) (o : NewOrder) → Makes x (makes (enteredOf x o .trades)) (exchangeAfter x o (enteredOf x o))
-unfolding after booksOf exchangeAfter netAtStart listingAt listingAfter listingOf
-inserted-moves x o = record {
-  balance = λ a l. sym (all-booked-balance (x .accounts) (enteredOf x o .trades) a);
-  start = λ a c l k. sym (all-booked-start (x .accounts) (enteredOf x o .trades) (λ i j. pos i -ℤ pos j) a c);
-  reference = λ c k. sym (kept-at (λ (n : Listing). n .contract .reference) (x .listings) (placeOf (o .contract)) _ noListing refl c);
-  multiplier = λ c k. sym (kept-at (λ (n : Listing). n .contract .multiplier) (x .listings) (placeOf (o .contract)) _ noListing refl c);
+-- by an order that is entered, and by the match of an auction
+traded-moves : (x : Exchange) (c : ℕ) (l : Listing) (ts : List Trade) (next : ℕ) →
+    l .contract .reference ≡ listingAt x c .contract .reference → l .contract .multiplier ≡ listingAt x c .contract .multiplier →
+    Makes x (makes ts) (withTrades x c l ts next)
+unfolding after booksOf netAtStart listingAt
+traded-moves x c l ts next r m = record {
+  balance = λ a k. sym (all-booked-balance (x .accounts) ts a);
+  start = λ a e k j. sym (all-booked-start (x .accounts) ts (λ i j. pos i -ℤ pos j) a e);
+  reference = λ e k. sym (kept-at (λ (n : Listing). n .contract .reference) (x .listings) c l noListing r e);
+  multiplier = λ e k. sym (kept-at (λ (n : Listing). n .contract .multiplier) (x .listings) c l noListing m e);
   trades = refl;
 }
+
+pub inserted-moves : (x : Exchange) (o : NewOrder) → Makes x (makes (enteredOf x o .trades)) (exchangeAfter x o (enteredOf x o))
+unfolding exchangeAfter listingAfter listingOf
+inserted-moves x o = traded-moves x (placeOf (o .contract)) _ (enteredOf x o .trades) (x .next + 1) refl refl
+
+pub matched-moves : (x : Exchange) (c phase : ℕ) → Makes x (makes (matchOf x c .trades)) (exchangeMatched x c phase (matchOf x c))
+unfolding exchangeMatched listingMatched
+matched-moves x c phase = traded-moves x c _ (matchOf x c .trades) (x .next) refl refl
 
 -- ---- all is settled
 

@@ -1,16 +1,19 @@
 -- What commands do changes neither how many accounts and contracts there are nor how many holdings an account has. Assumes
 -- nothing.
+use mathlib.Core.List.{List}
 use mathlib.Core.Path.{_≡_, refl, sym, ap, _∙_}
-use Prim.Native.Nat.{ℕ, _<_}
+use Prim.Native.Nat.{ℕ, _+_, _<_}
 use lib.IntN.{ℤ}
 use lib.ListN.{length, getD, length-set, length-map}
 use Rattle.laws.specs.Tabulate.{length-tabulate, getD-tabulate}
 use Rattle.laws.specs.Lists.{kept-at}
+use Rattle.rules.specs.Auction.{matchOf}
 use Rattle.rules.specs.Exchange.{Exchange, Listing, noAccount, accountAt, placeOf}
 use Rattle.rules.specs.Settlement.{carriedHolding, settledAccount, settledListing, settled}
-use Rattle.rules.specs.Step.{withListing, paid, enteredOf, exchangeAfter}
+use Rattle.rules.specs.Step.{withListing, withTrades, paid, enteredOf, exchangeAfter, exchangeMatched}
 use Rattle.rules.specs.declared.Account.{Account}
 use Rattle.rules.specs.declared.NewOrder.{NewOrder}
+use Rattle.rules.specs.declared.Trade.{Trade}
 use Rattle.accounting.proofs.Booking.{all-booked-length, all-booked-wide}
 
 pub record SameShape (x x′ : Exchange) : Type 0 where
@@ -43,13 +46,20 @@ module _ (x : Exchange) where
     wide = λ a l. kept-at (λ (k : Account). length (k .holdings)) (x .accounts) u _ noAccount refl a;
   }
 
+  traded-shape : (c : ℕ) (l : Listing) (ts : List Trade) (next : ℕ) → SameShape x (withTrades x c l ts next)
+  traded-shape c l ts next = record {
+    listings = length-set (x .listings) c l;
+    accounts = all-booked-length (x .accounts) ts;
+    wide = λ a k. all-booked-wide (x .accounts) ts a;
+  }
+
   pub inserted-shape : (o : NewOrder) → SameShape x (exchangeAfter x o (enteredOf x o))
   unfolding exchangeAfter
-  inserted-shape o = record {
-    listings = length-set (x .listings) (placeOf (o .contract)) _;
-    accounts = all-booked-length (x .accounts) (enteredOf x o .trades);
-    wide = λ a l. all-booked-wide (x .accounts) (enteredOf x o .trades) a;
-  }
+  inserted-shape o = traded-shape (placeOf (o .contract)) _ (enteredOf x o .trades) (x .next + 1)
+
+  pub matched-shape : (c phase : ℕ) → SameShape x (exchangeMatched x c phase (matchOf x c))
+  unfolding exchangeMatched
+  matched-shape c phase = traded-shape c _ (matchOf x c .trades) (x .next)
 
   pub settled-shape : SameShape x (settled x)
   unfolding settled accountAt settledAccount

@@ -13,7 +13,7 @@ use lib.ListN.{length, getD}
 use Rattle.laws.specs.Choice.{all, allOf, all-at, both-true}
 use Rattle.laws.specs.Sums.{sumOf, sumTo}
 use Rattle.rules.specs.Answers.{mark}
-use Rattle.rules.specs.Bounds.{allowedToday, dayHigh, dayLow, onTick, termsInRange, tickMultiple}
+use Rattle.rules.specs.Bounds.{allowedToday, closed, dayHigh, dayLow, onTick, termsInRange, tickMultiple}
 use Rattle.rules.specs.Examples.{Row, _gives_, allRight, up, down}
 use Rattle.rules.specs.Exchange.{Exchange, accountAt, holdingAt, listingAt, lotsWhere, resting}
 use Rattle.rules.specs.Holdings.{afterLeg, bookLeg, bookTrade, bookTrades, legCovered, neverBelowZero, sameHoldings, sameLots, startOfDay}
@@ -82,7 +82,7 @@ pub day : Exchange
 day =
     record {
       listings = record {
-        contract = record { multiplier = 10; tick = 1; reference = 100; band = 10; limit = 10; rate = 1_000; method = 0; phase = 3; last = 103 };
+        contract = record { multiplier = 10; tick = 1; reference = 100; band = 10; limit = 10; rate = 1_000; method = 0; phase = closed; last = 103 };
         buys = [];
         sells = [];
       } ∷ [];

@@ -1,12 +1,12 @@
 -- Each clause of "a state is well formed" as the chain of tests that code makes for it. Assumes nothing.
-use mathlib.Core.Bool.{Bool, true, false, not, _&&_}
+use mathlib.Core.Bool.{Bool, true, false, not, _&&_, _||_}
 use mathlib.Core.List.{List, [], _∷_}
 use mathlib.Core.Path.{refl}
 use Prim.Native.Nat.{ℕ, _+_, _*_}
 use lib.Dec.{leb, ltb, eqb}
 use lib.ListN.{length, getD}
 use Rattle.laws.specs.Choice.{all, allOf}
-use Rattle.rules.specs.Bounds.{within, termsInRange, tickMultiple, allowedToday}
+use Rattle.rules.specs.Bounds.{within, inAuction, maxPhase, termsInRange, tickMultiple, allowedToday}
 use Rattle.rules.specs.Exchange.{Listing, restingOpens, restingCloses}
 use Rattle.rules.specs.Memory.{Memory, countsInRange, hasRoom}
 use Rattle.rules.specs.WellFormed.{contractInRange, orderInRange, sorted, uncrossed, listingInRange, holdingInRange}
@@ -41,7 +41,7 @@ counters-chain next settlements = record { is = refl }
 
 -- ---- a contract with its queues
 
-pub contract-chain : (c : Contract) → Chain (contractInRange c) (termsInRange c ∷ leb (c .phase) 3 ∷ []) (tickMultiple (c .tick) (c .last))
+pub contract-chain : (c : Contract) → Chain (contractInRange c) (termsInRange c ∷ leb (c .phase) maxPhase ∷ []) (tickMultiple (c .tick) (c .last))
 unfolding contractInRange
 contract-chain c = record { is = refl }
 
@@ -57,7 +57,7 @@ pub listing-chain : (accounts next : ℕ) (l : Listing)
     (contractInRange (l .contract)
     ∷ sorted false (l .buys)
     ∷ sorted true (l .sells)
-    ∷ uncrossed (l .buys) (l .sells)
+    ∷ (inAuction (l .contract) || uncrossed (l .buys) (l .sells))
     ∷ allOf (orderInRange accounts next (l .contract)) (l .buys)
     ∷ [])
     (allOf (orderInRange accounts next (l .contract)) (l .sells))

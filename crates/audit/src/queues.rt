@@ -1,11 +1,11 @@
 // A contract with its two queues. Each function asks for the room of the orders it names, and, where prices are tested, for
 // a contract whose terms are within their ranges.
-ghost use mathlib.Core.Bool.{true};
+ghost use mathlib.Core.Bool.{true, _||_};
 ghost use mathlib.Core.Path.{_≡_};
 ghost use Prim.Native.Nat.{_+_, _*_, _≤_, _<_};
 ghost use lib.ListN.{length};
 ghost use Rattle.laws.specs.Choice.{all, allOf};
-ghost use Rattle.rules.specs.Bounds.{termsInRange};
+ghost use Rattle.rules.specs.Bounds.{inAuction, termsInRange};
 ghost use Rattle.rules.specs.Memory.{queueIn};
 ghost use Rattle.rules.specs.WellFormed.{contractInRange, ahead, sorted, uncrossed, orderInRange, listingInRange};
 ghost use Rattle.audit.specs.Parts.{Ready, listing};
@@ -21,7 +21,7 @@ fn contract_in_range(c: Contract) -> bool
     if !terms::terms_in_range(c) {
         return false;
     }
-    if 3 < c.phase {
+    if rules::AUCTION < c.phase {
         return false;
     }
     terms::tick_multiple(c.tick, c.last)
@@ -71,6 +71,24 @@ fn is_uncrossed(buys: &[u32], bids: usize, sells: &[u32], asks: usize, c: usize)
     let b = queue::order_at(buys, c, 0);
     let s = queue::order_at(sells, c, 0);
     b.price < s.price
+}
+
+// In auction the book may be crossed, and in no other state.
+fn is_apart(
+    contract: Contract,
+    buys: &[u32],
+    bids: usize,
+    sells: &[u32],
+    asks: usize,
+    c: usize,
+) -> bool
+    requires { ⌜ (320 * c + 5 * bids ≤ length (now buys)) × (320 * c + 5 * asks ≤ length (now sells)) ⌝ }
+    ensures { λ r. ⌜ r ≡ (inAuction contract || uncrossed (queueIn (now (buys .entry)) c bids) (queueIn (now (sells .entry)) c asks)) ⌝ }
+{
+    if contract.phase == rules::AUCTION {
+        return true;
+    }
+    is_uncrossed(buys, bids, sells, asks, c)
 }
 
 // "1 to 1,000 lots, an existing account, a price allowed today, and a number below the next"
@@ -138,7 +156,7 @@ fn listing_in_range(state: State, c: usize, buys: &[u32], sells: &[u32]) -> bool
     if !is_sorted(sells, c, asks, true) {
         return false;
     }
-    if !is_uncrossed(buys, bids, sells, asks, c) {
+    if !is_apart(contract, buys, bids, sells, asks, c) {
         return false;
     }
     if !orders_in_range(buys, c, bids, accounts, next, contract) {

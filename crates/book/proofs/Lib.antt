@@ -3,3 +3,4 @@ pub mod Queues
 pub mod Recorded
 pub mod Scans
 pub mod Sides
+pub mod Trading

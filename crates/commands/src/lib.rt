@@ -168,20 +168,20 @@ fn pull_of(r: Record) -> Command
     }
 }
 
-// "State flags: 0 pre-open, 1 continuous, 2 no trading, 3 closed; above 3 unknown."
+// "State flags: 0 pre-open, 1 continuous, 2 no trading, 3 closed", and 4, auction: above it they are unknown.
 fn phase_of(r: Record) -> Command
     ensures { λ c. ⌜ c ≡ phaseOf r ⌝ }
 {
     if !all_zero(r.account, 0, 0, r.lots, r.price, r.number, r.amount) {
         return Command::Malformed;
     }
-    let flags = r.flags;
-    if 3 < flags {
+    let phase = r.flags as u32;
+    if rules::AUCTION < phase {
         return Command::Malformed;
     }
     Command::Phase {
         contract: r.contract as u32,
-        phase: flags as u32,
+        phase,
     }
 }
 

@@ -1,47 +1,55 @@
 -- Changes of a contract's state: the code's tests are the rules' refusals, and the contract changed is the rules' state. Assumes
 -- nothing.
-use mathlib.Core.Bool.{Bool, true, false, not, _||_}
-use mathlib.Core.List.{List}
+use mathlib.Core.Bool.{Bool, true, false, not, _||_, true≢false}
+use mathlib.Core.List.{List, append-nil}
 use mathlib.Core.Logic.{_≢_}
-use mathlib.Core.Path.{_≡_, refl, ap, _∙_}
-use Prim.Native.Nat.{ℕ, _-_, _<_}
+use mathlib.Core.Path.{_≡_, refl, sym, ap, _∙_}
+use Prim.Native.Nat.{ℕ, _+_, _-_, _<_}
 use native.Mathlib.Omega.{arith}
-use borrow.Author.Tests.{ne-eqb}
-use lib.Dec.{eqb}
-use lib.ListN.{getD}
+use borrow.Author.Tests.{eqb-true, le-ltb, ne-eqb}
+use lib.Dec.{eqb, ltb}
+use lib.ListN.{length, getD}
 use Rattle.laws.specs.Choice.{pick}
-use Rattle.rules.specs.Kinds.{codeOf, kindOf}
 use Rattle.rules.specs.Answers.{changeListed, firstOf, phaseRefusals}
+use Rattle.rules.specs.Auction.{matchOf, unmatched}
+use Rattle.rules.specs.Bounds.{inAuction}
 use Rattle.rules.specs.Command.{phaseKnown}
-use Rattle.rules.specs.Exchange.{Listing, listingAt, noContract}
-use Rattle.rules.specs.Memory.{Memory, exchangeOf, listingIn, stepIn, memory, WellFormedState, written}
-use Rattle.rules.specs.Step.{phaseChanged, withPhase}
+use Rattle.rules.specs.Exchange.{Listing, listingAt, noContract, Exchange}
+use Rattle.rules.specs.Kinds.{codeOf, done, kindOf}
+use Rattle.rules.specs.Memory.{Memory, WellFormedState, exchangeOf, listingIn, memory, stepIn, written}
+use Rattle.rules.specs.Step.{phaseChanged, withPhase, answerOf, exchangeMatched, listingMatched, withContract, withListing}
 use Rattle.rules.specs.declared.Command.the-variants.{Phase}
 use Rattle.rules.specs.declared.State.{State}
-use Rattle.engine.specs.Outcome.{isAbsent, OutcomeIs, refusedWith, acceptedWith, withPhaseAt}
+use Rattle.engine.specs.Outcome.{isAbsent, OutcomeIs, refusedWith, acceptedWith, withPhaseAt, isMatch}
+use Rattle.rules.specs.Holdings.{bookTrades}
+use Rattle.rules.specs.Matching.{lastPrice}
+use Rattle.rules.proofs.Fillable.{traded-nil}
 use Rattle.engine.specs.declared.answers.Outcome.{Outcome}
 use Rattle.engine.proofs.Formed.{Formed, formed, listing-at, no-contract}
 use Rattle.engine.proofs.Outcomes.{refusal, acceptance}
-use Rattle.engine.proofs.Puts.{put-contract}
+use Rattle.engine.proofs.Puts.{put-contract, trades-count}
 use Rattle.engine.proofs.Tests.{place-below}
 
 -- ---- the changes listed, by the state they start from
 
 module _ (to : ℕ) where
-  pub from-pre-open : changeListed 0 to ≡ (eqb to 1 || eqb to 3)
+  pub from-pre-open : changeListed 0 to ≡ (eqb to 4 || (eqb to 1 || eqb to 3))
   unfolding changeListed
-  from-pre-open = go (eqb to 1) (eqb to 3)
+  from-pre-open = go (eqb to 1) (eqb to 3) (eqb to 4)
     where
-      go : (a b : Bool) → (a || b || false || false || false || false) ≡ (a || b)
-      go true b = refl
-      go false true = refl
-      go false false = refl
+      go : (a b c : Bool) → (a || b || false || false || false || false || c || false) ≡ (c || (a || b))
+      go true b true = refl
+      go true b false = refl
+      go false true true = refl
+      go false true false = refl
+      go false false true = refl
+      go false false false = refl
 
   pub from-continuous : changeListed 1 to ≡ (eqb to 2 || eqb to 3)
   unfolding changeListed
   from-continuous = go (eqb to 2) (eqb to 3)
     where
-      go : (a b : Bool) → (false || false || a || false || b || false) ≡ (a || b)
+      go : (a b : Bool) → (false || false || a || false || b || false || false || false) ≡ (a || b)
       go true b = refl
       go false true = refl
       go false false = refl
@@ -50,13 +58,54 @@ module _ (to : ℕ) where
   unfolding changeListed
   from-no-trading = go (eqb to 1) (eqb to 3)
     where
-      go : (a b : Bool) → (false || false || false || a || false || b) ≡ (a || b)
+      go : (a b : Bool) → (false || false || false || a || false || b || false || false) ≡ (a || b)
       go true b = refl
-      go false b = refl
+      go false true = refl
+      go false false = refl
 
-  pub from-other : (from : ℕ) → from ≢ 0 → from ≢ 1 → from ≢ 2 → changeListed from to ≡ false
+  pub from-auction : changeListed 4 to ≡ eqb to 1
   unfolding changeListed
-  from-other from p q r = simp (ne-eqb from 0 p, ne-eqb from 1 q, ne-eqb from 2 r)
+  from-auction = refl
+
+  pub from-other : (from : ℕ) → from ≢ 0 → from ≢ 1 → from ≢ 2 → from ≢ 4 → changeListed from to ≡ false
+  unfolding changeListed
+  from-other from p q r u = simp (ne-eqb from 0 p, ne-eqb from 1 q, ne-eqb from 2 r, ne-eqb from 4 u)
+
+-- ---- a change that makes a match
+
+module _ (s : State) (contract phase : ℕ) where
+  pub other-phase : phase ≢ 1 → false ≡ isMatch s contract phase
+  unfolding isMatch
+  other-phase h = sym (rw (ne-eqb phase 1 h))
+
+  module _ (e : phase ≡ 1) where
+    pub no-such-contract : isAbsent contract (s .contractcount) ≡ true → false ≡ isMatch s contract phase
+    unfolding isMatch
+    no-such-contract h = sym (rw (e, h))
+
+    -- k is the contract's number as the code widens it
+    pub match-by-phase : isAbsent contract (s .contractcount) ≡ false → {k : ℕ} → k ≡ contract → eqb (getD (s .contracts) (k - 1) noContract .phase) 4 ≡ isMatch s contract phase
+    unfolding isMatch
+    match-by-phase h is = sym (rw (e, h, is))
+
+  -- a contract in auction whose change is listed makes one
+  match-listed : isAbsent contract (s .contractcount) ≡ false → inAuction (getD (s .contracts) (contract - 1) noContract) ≡ true
+      → changeListed (getD (s .contracts) (contract - 1) noContract .phase) phase ≡ true → isMatch s contract phase ≡ true
+  unfolding isMatch
+  match-listed h in-auction listed =
+      let e : getD (s .contracts) (contract - 1) noContract .phase ≡ 4 = eqb-true _ _ in-auction in
+      let one : eqb phase 1 ≡ true = sym (from-auction phase) ∙ (rw e at listed) in
+      rw (h, in-auction, one)
+
+-- a contract that is not in auction is left as it is but for its phase
+module _ (x : Exchange) (c : ℕ) (other : inAuction (listingAt x c .contract) ≡ false) where
+  pub no-match : matchOf x c ≡ unmatched (listingAt x c .buys) (listingAt x c .sells)
+  unfolding matchOf
+  no-match = rw other
+
+  only-phase : (phase : ℕ) → exchangeMatched x c phase (matchOf x c) ≡ withListing x c (withContract (listingAt x c) (withPhase (listingAt x c .contract) phase))
+  unfolding exchangeMatched listingMatched lastPrice bookTrades
+  only-phase phase = rw (no-match, append-nil)
 
 module _ {s : State} {buys sells trades : List ℕ} (w : WellFormedState s buys sells trades) (contract phase : ℕ) where
   abbrev m : Memory
@@ -68,10 +117,13 @@ module _ {s : State} {buys sells trades : List ℕ} (w : WellFormedState s buys 
   abbrev ChangeIs : Outcome → Type 0
   ChangeIs r = OutcomeIs (stepIn m (Phase contract phase)) r buys sells trades
 
-  phase-code : codeOf (exchangeOf m) (Phase contract phase)
-      ≡ pick (not (phaseKnown phase)) 1 (pick (isAbsent contract (s .contractcount)) 3 (pick (not (changeListed (listingAt (exchangeOf m) (contract - 1) .contract .phase) phase)) 17 0))
+  pub phase-code : codeOf (exchangeOf m) (Phase contract phase)
+      ≡ pick (not (phaseKnown phase)) 1
+      (pick (isAbsent contract (s .contractcount)) 3
+      (pick (not (changeListed (listingAt (exchangeOf m) (contract - 1) .contract .phase) phase)) 17
+      (pick (ltb 1_024 (s .tradecount + length (matchOf (exchangeOf m) (contract - 1) .trades))) 12 0)))
   unfolding codeOf kindOf phaseRefusals firstOf
-  phase-code = rw (no-contract m f contract)
+  phase-code = rw (no-contract m f contract, trades-count m f)
 
   phase-refused : (code : ℕ) {r : Outcome} → 0 < code → codeOf (exchangeOf m) (Phase contract phase) ≡ code → r ≡ refusedWith s code → ChangeIs r
   phase-refused code h = refusal s buys sells trades (Phase contract phase) code h
@@ -94,11 +146,28 @@ module _ {s : State} {buys sells trades : List ℕ} (w : WellFormedState s buys 
     pub phase-unlisted : {r : Outcome} → changeListed (getD (s .contracts) (k - 1) noContract .phase) phase ≡ false → r ≡ refusedWith s 17 → ChangeIs r
     phase-unlisted h = phase-refused 17 (omega arith) (rw (phase-code, known, present, terms-are, h))
 
-    phase-lies : written m (kindOf (exchangeOf m) (Phase contract phase) .effect .stages) ≡ memory (withPhaseAt s (k - 1) phase) buys sells trades
-    unfolding kindOf phaseChanged
-    phase-lies =
-        put-contract m f (contract - 1) here (withPhase (listingAt (exchangeOf m) (contract - 1) .contract) phase) ∙ rw (terms-are, is)
+    module _ (listed : changeListed (getD (s .contracts) (k - 1) noContract .phase) phase ≡ true) (no : isMatch s contract phase ≡ false) where
+      other : inAuction (listingAt (exchangeOf m) (contract - 1) .contract) ≡ false
+      other = cases (inAuction (listingAt (exchangeOf m) (contract - 1) .contract)) refl
+        where
+          cases : (t : Bool) → inAuction (listingAt (exchangeOf m) (contract - 1) .contract) ≡ t → t ≡ false
+          cases false e = refl
+          cases true e =
+              absurd (true≢false (sym (match-listed s contract phase present (rw (terms-are, is) at e) (rw is at listed)) ∙ no))
 
-    pub phase-accepted : {r : Outcome} {next : State} → changeListed (getD (s .contracts) (k - 1) noContract .phase) phase ≡ true → next ≡ withPhaseAt s (k - 1) phase → r ≡ acceptedWith next 0 0 0 → ChangeIs r
-    unfolding kindOf phaseChanged
-    phase-accepted h n e = acceptance s buys sells trades (Phase contract phase) (rw (phase-code, known, present, terms-are, h)) refl (phase-lies ∙ rw n) e
+      -- the day has room for no trades
+      accepted-code : codeOf (exchangeOf m) (Phase contract phase) ≡ 0
+      accepted-code = rw (phase-code, known, present, terms-are, listed, no-match (exchangeOf m) (contract - 1) other, le-ltb 1_024 (s .tradecount + 0) (omega (arith, f .trades-high)))
+
+      phase-lies : written m (kindOf (exchangeOf m) (Phase contract phase) .effect .stages) ≡ memory (withPhaseAt s (k - 1) phase) buys sells trades
+      unfolding kindOf phaseChanged
+      phase-lies =
+          rw (only-phase (exchangeOf m) (contract - 1) other phase)
+          (put-contract m f (contract - 1) here (withPhase (listingAt (exchangeOf m) (contract - 1) .contract) phase) ∙ rw (terms-are, is))
+
+      no-lots : done (kindOf (exchangeOf m) (Phase contract phase) .effect) .answer ≡ answerOf 0 0 0 0
+      unfolding kindOf phaseChanged
+      no-lots = rw (no-match (exchangeOf m) (contract - 1) other, traded-nil)
+
+      pub phase-accepted : {r : Outcome} {next : State} → next ≡ withPhaseAt s (k - 1) phase → r ≡ acceptedWith next 0 0 0 → ChangeIs r
+      phase-accepted n e = acceptance s buys sells trades (Phase contract phase) accepted-code no-lots (phase-lies ∙ rw n) e

@@ -9,3 +9,4 @@ pub mod Puts
 pub mod Refusals
 pub mod Removals
 pub mod Tests
+pub mod Traded

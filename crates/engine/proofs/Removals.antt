@@ -1,6 +1,6 @@
 -- Cancel and pull: the code's tests are the rules' refusals, and the queues without the orders taken out are the rules' state.
 -- Assumes nothing.
-use mathlib.Core.Bool.{Bool, true, false, not}
+use mathlib.Core.Bool.{Bool, true, false, not, _&&_, _||_}
 use mathlib.Core.List.{List, [], _∷_, _++_, append-assoc}
 use mathlib.Core.Logic.{_⊎_, _≢_, ⊎-elim}
 use mathlib.Core.Path.{_≡_, refl, sym, ap, _∙_}
@@ -10,13 +10,13 @@ use native.Mathlib.Omega.{arith}
 use borrow.Author.Tests.{eq-eqb, ne-eqb}
 use lib.Dec.{eqb}
 use lib.ListN.{length, getD, set, drop}
-use Rattle.laws.specs.Choice.{pick, allOf, allOf-at}
+use Rattle.laws.specs.Choice.{pick, allOf, allOf-at, either-true}
 use Rattle.laws.specs.Sums.{sumOf-bound}
 use Rattle.areas.specs.Lists.{removeAt}
 use Rattle.areas.proofs.Lists.{length-removeAt}
 use Rattle.rules.specs.Kinds.{codeOf, done, kindOf}
 use Rattle.rules.specs.Answers.{_when_, cancelRefusals, firstOf, noSuchOrder, numbered, ofAnother, pullRefusals, removalRefused, restingOrder}
-use Rattle.rules.specs.Bounds.{maxLots}
+use Rattle.rules.specs.Bounds.{maxLots, inAuction}
 use Rattle.rules.specs.Exchange.{Listing, listingAt, lotsWhere, noContract, noListing, noOrder}
 use Rattle.rules.specs.Memory.{Memory, exchangeOf, listingIn, orderFrom, put, putQueue, queueIn, stepIn, memory, WellFormedState}
 use Rattle.rules.specs.Places.{firstWhere, indexOf}
@@ -42,6 +42,25 @@ use Rattle.engine.proofs.Outcomes.{refusal, acceptance}
 use Rattle.engine.proofs.Puts.{put-queues}
 use Rattle.engine.proofs.Refusals.{first-append}
 use Rattle.engine.proofs.Tests.{place-below}
+
+-- ---- 4, by the contract's state
+
+module _ (c : Contract) (operator : Bool) where
+  pub in-continuous : c .phase ≡ 1 → false ≡ removalRefused c operator
+  unfolding removalRefused
+  in-continuous e = sym (rw e)
+
+  pub in-auction : inAuction c ≡ true → false ≡ removalRefused c operator
+  unfolding removalRefused
+  in-auction e = sym (ap not (either-true (eqb (c .phase) 1 || eqb (c .phase) 2 && operator) (inAuction c) e))
+
+  pub in-no-trading : c .phase ≡ 2 → not operator ≡ removalRefused c operator
+  unfolding removalRefused
+  in-no-trading e = sym (rw e (elim operator [ true ↦ refl | false ↦ refl ]))
+
+  pub in-any-other : c .phase ≢ 1 → c .phase ≢ 2 → inAuction c ≡ false → true ≡ removalRefused c operator
+  unfolding removalRefused
+  in-any-other p q r = sym (rw (ne-eqb (c .phase) 1 p, ne-eqb (c .phase) 2 q, r))
 
 -- ---- a cancel in one queue
 

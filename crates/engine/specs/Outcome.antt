@@ -1,12 +1,13 @@
 -- What a kind gives and leaves, against the rules' response. Assumes nothing.
-use mathlib.Core.Bool.{Bool, _||_}
+use mathlib.Core.Bool.{Bool, not, _&&_, _||_}
 use mathlib.Core.List.{List}
 use mathlib.Core.Path.{_≡_}
 use Prim.Native.Nat.{ℕ}
 use lib.Dec.{eqb, ltb}
 use lib.IntN.{ℤ}
 use lib.ListN.{getD, set}
-use Rattle.rules.specs.Exchange.{noAccount, noContract}
+use Rattle.rules.specs.Bounds.{continuous, inAuction}
+use Rattle.rules.specs.Exchange.{noAccount, noContract, placeOf}
 use Rattle.rules.specs.Step.{answerOf, withBalance, withPhase}
 use Rattle.rules.specs.Memory.{Responded, memory}
 use Rattle.rules.specs.declared.Account.{Account}
@@ -22,6 +23,11 @@ pub record OutcomeIs (response : Responded) (r : Outcome) (buys sells trades : L
 -- a number that no place below a count has
 abbrev pub isAbsent : ℕ → ℕ → Bool
 isAbsent number count = eqb number 0 || ltb count number
+
+-- a change of a contract's state that makes a match: from auction to continuous
+unfoldable pub isMatch : State → ℕ → ℕ → Bool
+isMatch s contract phase =
+    eqb phase continuous && not (isAbsent contract (s .contractcount)) && inAuction (getD (s .contracts) (placeOf contract) noContract)
 
 -- ---- an outcome as the code makes it
 

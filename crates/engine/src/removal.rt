@@ -11,18 +11,21 @@ ghost use Rattle.engine.specs.Outcome.{OutcomeIs, withCountsIn};
 ghost use Rattle.engine.specs.Removal.{removalCode, CancelledIs};
 use crate::answers;
 use crate::answers::Outcome;
+use rules::AUCTION;
+use rules::CONTINUOUS;
 use rules::Contract;
+use rules::NO_TRADING;
 use rules::State;
 
-// "Cancel and pull need continuous, or no trading with the operator bit."
+// "Cancel and pull need continuous, or no trading with the operator bit." In auction they work too.
 fn is_refused(terms: Contract, operator: bool) -> bool
     ensures { λ r. ⌜ r ≡ removalRefused terms operator ⌝ }
 {
     let phase = terms.phase;
-    if phase == 1 {
+    if phase == CONTINUOUS || phase == AUCTION {
         return false;
     }
-    if phase == 2 {
+    if phase == NO_TRADING {
         return !operator;
     }
     true

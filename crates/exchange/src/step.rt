@@ -9,7 +9,6 @@ use crate::settling;
 use crate::settling::Response;
 use engine::answers;
 use engine::payments;
-use engine::phases;
 use engine::removal;
 use rules::Command;
 use rules::State;
@@ -71,14 +70,9 @@ pub fn step(
             contract,
             operator,
         )),
-        Command::Phase { contract, phase } => settling::plain(phases::change(
-            state,
-            &buys[..],
-            &sells[..],
-            &trades[..],
-            contract,
-            phase,
-        )),
+        Command::Phase { contract, phase } => {
+            settling::plain(opening::change(state, buys, sells, trades, contract, phase))
+        }
         Command::Settle => settling::settle(state, buys, sells, trades),
     }
 }

@@ -11,10 +11,11 @@ use matching::entry;
 use matching::entry::Entry;
 use refusals::codes;
 use refusals::orders;
+use rules::AUCTION;
 use rules::NewOrder;
 use rules::State;
 
-// The order enters on its own side, against the opposite one.
+// The order enters on its own side, against the opposite one. In auction it rests whole, whatever it crosses.
 fn enter(
     state: State,
     own: &mut [u32],
@@ -32,10 +33,22 @@ fn enter(
     let terms = contracts[c];
     let t = orders::taker_of(state.next, terms, &opposite[..], oppositecount, o);
     let condition = o.condition;
-    let time = o.time;
     let price = orders::limit_of(condition);
-    let day = orders::is_day(time);
     let accounts = state.accounts;
+    if terms.phase == AUCTION {
+        let resting = entry::rest(own, c, owncount, t, price, o.lots);
+        return Entry {
+            accounts,
+            traded: 0,
+            rested: o.lots,
+            own: resting,
+            opposite: oppositecount,
+            made: state.tradecount,
+            last: terms.last,
+        };
+    }
+    let time = o.time;
+    let day = orders::is_day(time);
     entry::enter(
         own,
         owncount,

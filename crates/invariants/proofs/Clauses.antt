@@ -1,8 +1,8 @@
 -- The clauses of "a state is well formed" as facts with names, and the two ways between them and the test of `WellFormed.antt`.
 -- Assumes nothing.
-use mathlib.Core.Bool.{Bool, true, false, not}
+use mathlib.Core.Bool.{Bool, true, false, not, _||_, true≢false}
 use mathlib.Core.List.{List, [], _∷_}
-use mathlib.Core.Path.{_≡_}
+use mathlib.Core.Path.{_≡_, refl}
 use Prim.Native.Nat.{ℕ, _+_, _*_, _<_, _≤_}
 use native.Mathlib.Omega.{arith}
 use borrow.Author.Tests.{leb-true, ltb-true, le-leb, lt-ltb}
@@ -11,7 +11,7 @@ use lib.IntN.{natAbs}
 use lib.ListN.{length}
 use Rattle.laws.specs.Choice.{pick, all, allOf, all-at, all-true, allOf-at, allOf-true, both-true, true-both}
 use Rattle.laws.specs.Chains.{passed, join}
-use Rattle.rules.specs.Bounds.{within, allowedToday, numbersEnd, maxContracts, maxTrades, maxResting, maxLots, maxSettlements, maxBalance, maxDayProfit}
+use Rattle.rules.specs.Bounds.{within, allowedToday, inAuction, numbersEnd, maxContracts, maxTrades, maxResting, maxLots, maxSettlements, maxBalance, maxDayProfit}
 use Rattle.rules.specs.Exchange.{Exchange, Listing, listingAt, accountAt, holdingAt, own, restingOpens, restingCloses, noListing, noAccount}
 use Rattle.rules.specs.Holdings.{bookTrades, neverBelowZero, startOfDay, sameHoldings}
 use Rattle.rules.specs.WellFormed.{contractInRange, countersInRange, sorted, uncrossed, orderInRange, listingInRange, allNumbers, usedOnce, tradeInRange, replays, holdingInRange, holdingsInRange, balanceInRange, wellFormedContents}
@@ -69,15 +69,24 @@ module _ (accounts next : ℕ) (c : Contract) (o : Order) where
 pub record ListingOk (accounts next : ℕ) (m : Listing) : Type 0 where
   pub contract : contractInRange (m .contract) ≡ true
   pub order : (sell : Bool) → sorted sell (own sell m) ≡ true
-  pub apart : uncrossed (m .buys) (m .sells) ≡ true
+  pub apart : inAuction (m .contract) ≡ false → uncrossed (m .buys) (m .sells) ≡ true
   pub orders : (sell : Bool) → allOf (orderInRange accounts next (m .contract)) (own sell m) ≡ true
+
+-- a test that need not be passed in one case
+unless : (a b : Bool) → (a || b) ≡ true → a ≡ false → b ≡ true
+unless true b h e = absurd (true≢false e)
+unless false b h e = h
+
+or-else : (a b : Bool) → (a ≡ false → b ≡ true) → (a || b) ≡ true
+or-else true b h = refl
+or-else false b h = h refl
 
 module _ (accounts next : ℕ) (m : Listing) where
   abbrev listingTests : List Bool
   listingTests =
       sorted false (m .buys)
       ∷ sorted true (m .sells)
-      ∷ uncrossed (m .buys) (m .sells)
+      ∷ (inAuction (m .contract) || uncrossed (m .buys) (m .sells))
       ∷ allOf (orderInRange accounts next (m .contract)) (m .buys)
       ∷ allOf (orderInRange accounts next (m .contract)) (m .sells)
       ∷ []
@@ -89,7 +98,7 @@ module _ (accounts next : ℕ) (m : Listing) where
       record {
         contract = p .0;
         order = λ sell. elim sell [ false ↦ p .1 .0 | true ↦ p .1 .1 .0 ];
-        apart = p .1 .1 .1 .0;
+        apart = unless (inAuction (m .contract)) (uncrossed (m .buys) (m .sells)) (p .1 .1 .1 .0);
         orders = λ sell. elim sell [ false ↦ p .1 .1 .1 .1 .0 | true ↦ p .1 .1 .1 .1 .1 ];
       }
 
@@ -97,7 +106,7 @@ module _ (accounts next : ℕ) (m : Listing) where
   unfolding listingInRange
   listing-test k =
       join (contractInRange (m .contract)) listingTests
-      (k .contract, (k .order false, (k .order true, (k .apart, (k .orders false, k .orders true)))))
+      (k .contract, (k .order false, (k .order true, (or-else (inAuction (m .contract)) (uncrossed (m .buys) (m .sells)) (k .apart), (k .orders false, k .orders true)))))
 
 -- ---- a recorded trade
 

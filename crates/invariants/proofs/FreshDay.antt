@@ -43,7 +43,7 @@ listing-quiet accounts next c h =
     record {
       contract = h;
       order = λ sell. elim sell [ false ↦ refl | true ↦ refl ];
-      apart = refl;
+      apart = λ e. refl;
       orders = λ sell. elim sell
           [ false ↦ refl | true ↦ refl ];
     }

@@ -1,40 +1,42 @@
--- An accepted insert keeps a state well formed: its trades, its remainder and the number it used. Assumes nothing.
-use mathlib.Core.Bool.{Bool, true, false, not, _&&_}
-use mathlib.Core.List.{List, _∷_, _++_}
-use mathlib.Core.Path.{_≡_, refl, sym, ap, subst}
+-- An accepted insert keeps a state well formed: its trades, what rests of it and the number it used; in auction it rests whole.
+-- Assumes nothing.
+use mathlib.Core.Bool.{Bool, true, false, not, _&&_, true≢false}
+use mathlib.Core.List.{List, _∷_}
+use mathlib.Core.Path.{_≡_, refl, sym, ap, subst, _∙_}
 use Prim.Native.Nat.{ℕ, _+_, _-_, _<_, _≤_}
 use native.Mathlib.Omega.{arith}
 use borrow.Author.Tests.{eqb-true, leb-true, leb-false}
 use lib.Dec.{leb, eqb}
-use lib.ListN.{length, set, length-set, length-append}
-use Rattle.laws.specs.Choice.{pick, allOf, allOf-append, true-both}
-use Rattle.laws.specs.Lists.{at-set}
-use Rattle.rules.specs.Answers.{firstOf, insertRefusals, isGoodForDay, mark, listingOf, takerOf, tradesNeeded, fillableLots}
-use Rattle.rules.specs.Bounds.{maxResting, maxTrades}
-use Rattle.rules.specs.Exchange.{Exchange, Listing, listingAt, holdingAt, placeOf, own, opposite, withQueues, noListing, restingOpens, restingCloses}
+use lib.ListN.{length}
+use Rattle.laws.specs.Choice.{pick, allOf}
+use Rattle.rules.specs.Answers.{firstOf, insertRefusals, isGoodForDay, mark, listingOf, takerOf, fillableLots}
+use Rattle.rules.specs.Bounds.{inAuction, maxResting}
+use Rattle.rules.specs.Exchange.{Exchange, Listing, listingAt, holdingAt, placeOf, own, opposite, withQueues, restingOpens, restingCloses}
 use Rattle.rules.specs.Holdings.{bookTrades}
-use Rattle.rules.specs.Matching.{Swept, tradedLots, remainder, restLots, restedLots, enter}
 use Rattle.rules.specs.Kinds.{lastOf}
-use Rattle.rules.specs.Step.{limitOf, enteredOf, listingAfter, exchangeAfter, inserted}
-use Rattle.rules.specs.WellFormed.{allNumbers, usedOnce, orderInRange, tradeInRange}
+use Rattle.rules.specs.Matching.{Swept, tradedLots, remainder, restLots, restWhole, restedLots, enter}
+use Rattle.rules.specs.Step.{withTrades, limitOf, enteredOf, listingAfter, exchangeAfter, inserted}
+use Rattle.rules.specs.WellFormed.{allNumbers, orderInRange, tradeInRange}
 use Rattle.rules.specs.declared.Account.{Account}
 use Rattle.rules.specs.declared.Contract.{Contract}
 use Rattle.rules.specs.declared.Holding.{Holding}
 use Rattle.rules.specs.declared.NewOrder.{NewOrder}
 use Rattle.rules.specs.declared.Order.{Order}
+use Rattle.rules.proofs.AuctionSteps.{entered-either, entered-elsewhere, trades-needed}
 use Rattle.rules.proofs.Fillable.{swept-fillable}
-use Rattle.rules.proofs.Holdings.{length-bookTrades, booked-balance, booked-start-holding, replay-more, never-more}
+use Rattle.rules.proofs.Holdings.{booked-start-holding}
 use Rattle.rules.proofs.Prices.{method-rounds}
 use Rattle.rules.proofs.Rest.{rest-sum, length-rest}
-use Rattle.invariants.proofs.Carry.{Allows, orders-carried, trades-carried}
-use Rattle.invariants.proofs.Clauses.{ListingOk, held, HoldingOk, WellFormed, Counted}
+use Rattle.invariants.proofs.Carry.{Allows}
+use Rattle.invariants.proofs.Clauses.{held, HoldingOk, WellFormed, Counted}
 use Rattle.invariants.proofs.InsertAccepted.{Passes, passes}
-use Rattle.invariants.proofs.InsertListing.{allows-last, mark-low, contractOf, swept, rested, sides, last-on-tick, tick-low, contractAfter, rested-left, listing-after}
+use Rattle.invariants.proofs.InsertListing.{allows-last, mark-low, contractOf, swept, rested, own-is, sides, last-on-tick, tick-low, contractAfter, rested-left, listing-after}
 use Rattle.invariants.proofs.InsertQueues.{rested-sum, rested-length, rested-length-one, rested-fewer}
 use Rattle.invariants.proofs.Legs.{resting-cons, KeptAt}
-use Rattle.invariants.proofs.Numbers.{occurs, uses, usesIn, once-count, once-changed, next-unused}
-use Rattle.invariants.proofs.SweptHoldings.{SweptKept, swept-kept, fewer-by}
-use Rattle.invariants.proofs.SweptTrades.{ofContract, swept-in-range, swept-contract, other-holding}
+use Rattle.invariants.proofs.Numbers.{occurs, uses, usesIn, once-count, next-unused}
+use Rattle.invariants.proofs.SweptHoldings.{SweptKept, swept-kept, untouched-kept, fewer-by}
+use Rattle.invariants.proofs.SweptTrades.{ofContract, swept-in-range, swept-contract}
+use Rattle.invariants.proofs.Traded.{TradesOk, traded-listings, traded-accounts, traded-allows, traded-counted, traded-keeps}
 
 -- ---- limits and coverage with the arriving lots in front of the own side's queue
 
@@ -70,16 +72,6 @@ own-closes : (b close : Bool) (lots h r : ℕ) → r ≤ h → (b ≡ true → c
 own-closes false close lots h r p q = omega arith
 own-closes true false lots h r p q = omega arith
 own-closes true true lots h r p q = omega (arith, q refl refl)
-
--- a listing that the insert does not touch
-listing-later : (accounts next : ℕ) (m : Listing) → ListingOk accounts next m → ListingOk accounts (next + 1) m
-listing-later accounts next m k =
-    record {
-      contract = k .contract;
-      order = k .order;
-      apart = k .apart;
-      orders = λ sell. orders-carried accounts next (next + 1) (m .contract) (m .contract) (omega arith) (λ p h. h) (own sell m) (k .orders sell);
-    }
 
 module _ (x : Exchange) (k : WellFormed x) (o : NewOrder) (p : Passes x o) where
   abbrev lots-swept : Swept
@@ -121,14 +113,21 @@ module _ (x : Exchange) (k : WellFormed x) (o : NewOrder) (p : Passes x o) where
       (holding-before a l .closes (o .sell))
       (λ e q. rw (← eqb-true account a e) (p .closes q)))
 
-  -- so the sweep keeps them, and its trades close nothing that is not held
+  kept-before : (a : ℕ) → a < length (x .accounts) →
+      KeptAt (contractOf x k o p .limit) place (x .accounts) (pick (o .sell) others (arrived ∷ mine)) (pick (o .sell) (arrived ∷ mine) others) a
+  kept-before a l = kept-by (o .sell) (listingOf x o) place (x .accounts) a arrived (holding-before a l) (opens-start a l) (closes-start a l)
+
+  -- so the order entered keeps them, and its trades close nothing that is not held
   swept-holdings : SweptKept (length (x .accounts)) (contractOf x k o p .limit) (limitOf (o .condition)) (takerOf x o) mine (x .accounts) (o .lots) lots-swept
-  unfolding takerOf
+  unfolding takerOf restWhole enter
   swept-holdings =
-      swept-kept (length (x .accounts)) (contractOf x k o p .limit) (limitOf (o .condition)) (x .next) (contractOf x k o p) (takerOf x o) mine
+      entered-either x o
+      (λ e. SweptKept (length (x .accounts)) (contractOf x k o p .limit) (limitOf (o .condition)) (takerOf x o) mine (x .accounts) (o .lots)
+      (record { trades = e .trades; rest = e .opposite }))
+      (λ e. untouched-kept (length (x .accounts)) (contractOf x k o p .limit) (limitOf (o .condition)) (takerOf x o) mine (x .accounts) (o .lots) others kept-before)
+      (λ e. swept-kept (length (x .accounts)) (contractOf x k o p .limit) (limitOf (o .condition)) (x .next) (contractOf x k o p) (takerOf x o) mine
       (p .account) (mark-low (o .close))
-      (o .lots) (contractOf x k o p .last) others (x .accounts) (sides x k o p .others-orders)
-      (λ a l. kept-by (o .sell) (listingOf x o) place (x .accounts) a arrived (holding-before a l) (opens-start a l) (closes-start a l))
+      (o .lots) (contractOf x k o p .last) others (x .accounts) (sides x k o p .others-orders) kept-before)
 
   -- ---- the parts of the state after it
 
@@ -139,18 +138,19 @@ module _ (x : Exchange) (k : WellFormed x) (o : NewOrder) (p : Passes x o) where
   accountsAfter = bookTrades (x .accounts) (lots-swept .trades)
 
   holding-after : (a : ℕ) → a < length (x .accounts) → HoldingOk after a (holdingAt accountsAfter a place)
-  unfolding listingAfter enteredOf enter takerOf
+  unfolding listingAfter takerOf
   holding-after a l =
       let s = booked-start-holding (x .accounts) (lots-swept .trades) a place in
       let q = holding-before a l in
-      holding-by (o .sell) (contractAfter x k o p) (restLots (takerOf x o) (limitOf (o .condition)) (rested x k o p) mine)
+      rw (own-is x k o p)
+      (holding-by (o .sell) (contractAfter x k o p) (restLots (takerOf x o) (limitOf (o .condition)) (rested x k o p) mine)
       (lots-swept .rest) place accountsAfter a
       (rw (ap (λ (h : Holding). h .startlong) s) (q .startlong)) (rw (ap (λ (h : Holding). h .startshort) s) (q .startshort))
       (fewer-by (o .sell) (length (x .accounts)) (contractOf x k o p .limit) place accountsAfter
       (remainder (takerOf x o) (limitOf (o .condition)) (o .lots - tradedLots (lots-swept .trades)) ∷ mine)
       (restLots (takerOf x o) (limitOf (o .condition)) (rested x k o p) mine) (lots-swept .rest) (lots-swept .rest)
       (rested-fewer (takerOf x o) (limitOf (o .condition)) (rested x k o p) (o .lots - tradedLots (lots-swept .trades)) mine
-      (rested-left x k o p)) (λ close b. omega arith) (swept-holdings .kept) a l)
+      (rested-left x k o p)) (λ close b. omega arith) (swept-holdings .kept) a l))
 
   -- the numbers: one more, the next, if a remainder rests
   uses-by : (n : ℕ) (sell : Bool) (us vs : List Order) → uses n (pick sell vs us) + uses n (pick sell us vs) ≡ uses n us + uses n vs
@@ -166,20 +166,23 @@ module _ (x : Exchange) (k : WellFormed x) (o : NewOrder) (p : Passes x o) where
   mine-uses n = rested-sum (takerOf x o) (limitOf (o .condition)) (λ r. pick (eqb n (r .number)) 1 0) (rested x k o p) mine
 
   others-uses : (n : ℕ) → uses n (lots-swept .rest) ≤ uses n others
-  unfolding uses
-  others-uses n = rest-sum (λ r. pick (eqb n (r .number)) 1 0) (λ r m low high. omega arith) (takerOf x o) (o .lots) (contractOf x k o p .last) others
+  unfolding uses restWhole enter
+  others-uses n =
+      entered-either x o (λ e. uses n (e .opposite) ≤ uses n others) (λ e. omega arith)
+      (λ e. rest-sum (λ r. pick (eqb n (r .number)) 1 0) (λ r m low high. omega arith) (takerOf x o) (o .lots) (contractOf x k o p .last) others)
 
   uses-after : (n : ℕ) → usesIn n after ≤ usesIn n (listingOf x o) + pick (eqb n (x .next)) 1 0
-  unfolding usesIn listingAfter enteredOf enter
+  unfolding usesIn listingAfter
   uses-after n =
-      omega (
+      rw (own-is x k o p)
+      (omega (
         arith,
         uses-by n (o .sell) (restLots (takerOf x o) (limitOf (o .condition)) (rested x k o p) mine) (lots-swept .rest),
         own-uses n
             (o .sell) (listingOf x o),
         mine-uses n,
         others-uses n,
-      )
+      ))
 
   one-more : (n : ℕ) → occurs n (allNumbers (x .listings)) + pick (eqb n (x .next)) 1 0 ≤ 1
   unfolding listingAt
@@ -192,96 +195,68 @@ module _ (x : Exchange) (k : WellFormed x) (o : NewOrder) (p : Passes x o) where
           rw e (omega arith)
       go false e = rw e (omega (arith, once-count (allNumbers (x .listings)) (k .once) n))
 
-  once-after : usedOnce (allNumbers (set (x .listings) place after)) ≡ true
-  unfolding listingOf listingAt
-  once-after = once-changed (x .listings) place after (p .contract) (k .once) (λ n. omega (arith, uses-after n, one-more n))
-
   -- ---- the state after it
 
   abbrev afterwards : Exchange
-  afterwards = exchangeAfter x o (enteredOf x o)
-
-  same-listings : length (afterwards .listings) ≡ length (x .listings)
-  unfolding exchangeAfter
-  same-listings = length-set (x .listings) place after
-
-  same-accounts : length (afterwards .accounts) ≡ length (x .accounts)
-  unfolding exchangeAfter
-  same-accounts = length-bookTrades (x .accounts) _
+  afterwards = withTrades x place after (lots-swept .trades) (x .next + 1)
 
   allows-here : Allows (contractOf x k o p) (after .contract)
   unfolding listingAfter
   allows-here = allows-last (contractOf x k o p) _
 
-  allows-after : (c : ℕ) → Allows (listingAt x c .contract) (listingAt afterwards c .contract)
-  unfolding exchangeAfter listingAt listingOf
-  allows-after c =
-      at-set (λ (j : ℕ) (m : Listing). Allows (listingAt x j .contract) (m .contract)) (x .listings) place after noListing
-      (p .contract) allows-here c (λ n q h. h)
-
-  old-trades : allOf (tradeInRange afterwards) (x .trades) ≡ true
-  unfolding exchangeAfter
-  old-trades = trades-carried x afterwards (sym same-listings) (sym same-accounts) (omega arith) allows-after (x .trades) (k .trades)
-
   new-trades : allOf (tradeInRange afterwards) (lots-swept .trades) ≡ true
-  unfolding exchangeAfter takerOf listingOf
+  unfolding takerOf listingOf restWhole enter allOf
   new-trades =
-      swept-in-range afterwards (takerOf x o) (contractOf x k o p) (omega (arith, same-listings, p .contract))
-      (omega (arith, same-accounts, p .account)) (k .next-low) (omega arith) (mark-low (o .close)) (p .price)
-      (tick-low x k o p) (method-rounds (contractOf x k o p)) (allows-after place) (o .lots) (contractOf x k o p .last) others (last-on-tick x k o p)
-      (subst (λ (n : ℕ). allOf (orderInRange n (x .next) (contractOf x k o p)) others ≡ true) (sym same-accounts) (sides x k o p .others-orders))
+      let listings = traded-listings x place after (lots-swept .trades) (x .next + 1) in
+      let accounts = traded-accounts x place after (lots-swept .trades) (x .next + 1) in
+      entered-either x o (λ e. allOf (tradeInRange afterwards) (e .trades) ≡ true) (λ e. refl)
+      (λ e. swept-in-range afterwards (takerOf x o) (contractOf x k o p) (omega (arith, p .contract))
+      (omega (arith, p .account)) (k .next-low) (omega arith) (mark-low (o .close)) (p .price)
+      (tick-low x k o p) (method-rounds (contractOf x k o p)) (traded-allows x place after (lots-swept .trades) (x .next + 1) (p .contract) allows-here place)
+      (o .lots) (contractOf x k o p .last) others (last-on-tick x k o p)
+      (subst (λ (n : ℕ). allOf (orderInRange n (x .next) (contractOf x k o p)) others ≡ true) (sym accounts) (sides x k o p .others-orders)))
 
   its-trades : allOf (ofContract place) (lots-swept .trades) ≡ true
-  unfolding takerOf
-  its-trades = swept-contract (takerOf x o) (o .lots) (contractOf x k o p .last) others
+  unfolding takerOf restWhole enter allOf
+  its-trades =
+      entered-either x o (λ e. allOf (ofContract place) (e .trades) ≡ true) (λ e. refl)
+      (λ e. swept-contract (takerOf x o) (o .lots) (contractOf x k o p .last) others)
 
-  holdings-after : (a c : ℕ) → a < length (x .accounts) → c < length (x .listings) →
-      HoldingOk (listingAt afterwards c) a (holdingAt accountsAfter a c)
-  unfolding exchangeAfter listingAt
-  holdings-after a c la lc =
-      at-set (λ (j : ℕ) (m : Listing). HoldingOk m a (holdingAt accountsAfter a j)) (x .listings) place after noListing (p .contract)
-      (holding-after a la) c
-      (λ n. rw (other-holding place (x .accounts) (lots-swept .trades) a c its-trades n) (k .holding a c la lc))
-
-  listings-after : (c : ℕ) → c < length (x .listings) → ListingOk (length (afterwards .accounts)) (x .next + 1) (listingAt afterwards c)
-  unfolding exchangeAfter listingAt
-  listings-after c l =
-      subst (λ (n : ℕ). ListingOk n (x .next + 1) (listingAt afterwards c)) (sym same-accounts)
-      (at-set (λ (j : ℕ) (m : Listing). ListingOk (length (x .accounts)) (x .next + 1) m) (x .listings) place after noListing (p .contract)
-      (listing-after x k o p) c
-      (λ n. listing-later (length (x .accounts)) (x .next) (listingAt x c) (k .listing c l)))
-
-  pub inserted-keeps : WellFormed afterwards
-  unfolding exchangeAfter enteredOf enter
-  inserted-keeps =
+  trades-ok : TradesOk x place after (lots-swept .trades) (x .next + 1)
+  unfolding listingOf listingAt
+  trades-ok =
       record {
-        next-low = omega arith;
-        next-high = omega (arith, p .next);
-        settlements = k .settlements;
-        listing = λ c l. listings-after c (omega (arith, same-listings));
-        once = once-after;
-        trades =
-            rw (allOf-append (tradeInRange afterwards) (x .trades) (lots-swept .trades))
-            (true-both (allOf (tradeInRange afterwards) (x .trades)) (allOf (tradeInRange afterwards) (lots-swept .trades)) old-trades new-trades);
-        covered = never-more (x .accounts) (x .trades) (lots-swept .trades) (k .replay) (k .covered) (swept-holdings .never);
-        replay = replay-more (x .accounts) (x .trades) (lots-swept .trades) (k .replay);
-        holding = λ a c la lc. holdings-after a c (omega (arith, same-accounts)) (omega (arith, same-listings));
-        balance = λ a l. rw (booked-balance (x .accounts) (lots-swept .trades) a) (k .balance a (omega (arith, same-accounts)));
+        there = p .contract;
+        later = omega arith;
+        high = omega (arith, p .next);
+        listing = listing-after x k o p;
+        allows = allows-here;
+        numbers = λ n. omega (arith, uses-after n, one-more n);
+        ranges = new-trades;
+        here = its-trades;
+        never = swept-holdings .never;
+        holding = holding-after;
       }
 
   -- ---- the counts
 
-  filled : o .lots ≤ fillableLots x o → tradedLots (lots-swept .trades) ≡ o .lots
-  unfolding takerOf fillableLots
-  filled h = omega (arith, swept-fillable (takerOf x o) (o .lots) (contractOf x k o p .last) others (sides x k o p .others-sorted) refl)
+  filled : inAuction (contractOf x k o p) ≡ false → o .lots ≤ fillableLots x o → tradedLots (lots-swept .trades) ≡ o .lots
+  unfolding takerOf fillableLots enter
+  filled a h =
+      rw (entered-elsewhere x o a)
+      (omega (arith, swept-fillable (takerOf x o) (o .lots) (contractOf x k o p .last) others (sides x k o p .others-sorted) refl))
+
+  none-rested : isGoodForDay (o .time) ≡ false → rested x k o p ≡ 0
+  unfolding restWhole enter restedLots
+  none-rested e = entered-either x o (λ r. r .rested ≡ 0) (λ a. absurd (true≢false (sym (p .rests a) ∙ e))) (λ a. rw e)
 
   -- code 13: with 64 on its own side nothing rests
   none-rests : maxResting ≤ length mine → rested x k o p ≡ 0
   none-rests full = go (isGoodForDay (o .time)) refl
     where
       go : (b : Bool) → isGoodForDay (o .time) ≡ b → rested x k o p ≡ 0
-      go true e = omega (arith, rested-left x k o p, filled (p .room e full))
-      go false e = rw e (unfold restedLots in refl)
+      go true e = let r = p .room e full in omega (arith, rested-left x k o p, filled (r .0) (r .1))
+      go false e = none-rested e
 
   mine-length : length mine ≤ maxResting → length (restLots (takerOf x o) (limitOf (o .condition)) (rested x k o p) mine) ≤ maxResting
   mine-length h = go (leb maxResting (length mine)) refl
@@ -291,11 +266,14 @@ module _ (x : Exchange) (k : WellFormed x) (o : NewOrder) (p : Passes x o) where
       go false e = omega (arith, rested-length-one (takerOf x o) (limitOf (o .condition)) (rested x k o p) mine, leb-false maxResting (length mine) e)
 
   others-length : length (lots-swept .rest) ≤ length others
-  others-length = length-rest (takerOf x o) (o .lots) (contractOf x k o p .last) others
+  unfolding restWhole enter
+  others-length =
+      entered-either x o (λ e. length (e .opposite) ≤ length others) (λ e. omega arith)
+      (λ e. length-rest (takerOf x o) (o .lots) (contractOf x k o p .last) others)
 
   queue-after : ((sell : Bool) → length (own sell (listingOf x o)) ≤ maxResting) → (sell : Bool) → length (own sell after) ≤ maxResting
-  unfolding listingAfter enteredOf enter
-  queue-after h = by (o .sell) _ _ (mine-length (h (o .sell))) (omega (arith, others-length, either (o .sell)))
+  unfolding listingAfter
+  queue-after h = rw (own-is x k o p) (by (o .sell) _ _ (mine-length (h (o .sell))) (omega (arith, others-length, either (o .sell))))
     where
       by : (s : Bool) (us vs : List Order) → length us ≤ maxResting → length vs ≤ maxResting → (sell : Bool) →
           length (pick sell (pick s us vs) (pick s vs us)) ≤ maxResting
@@ -308,20 +286,15 @@ module _ (x : Exchange) (k : WellFormed x) (o : NewOrder) (p : Passes x o) where
       either true = h false
       either false = h true
 
-  -- code 12
-  trades-length : length (x .trades ++ lots-swept .trades) ≤ maxTrades
-  unfolding tradesNeeded
-  trades-length = rw length-append (p .trades)
+  pub inserted-keeps : WellFormed (exchangeAfter x o (enteredOf x o))
+  unfolding exchangeAfter
+  inserted-keeps = traded-keeps x k place after (lots-swept .trades) (x .next + 1) trades-ok
 
-  pub inserted-counted : Counted x → Counted afterwards
-  unfolding exchangeAfter enteredOf enter listingAt listingOf
+  pub inserted-counted : Counted x → Counted (exchangeAfter x o (enteredOf x o))
+  unfolding exchangeAfter listingOf
   inserted-counted n =
-      record {
-        contracts = omega (arith, same-listings, n .contracts);
-        trades = trades-length;
-        queues = λ c sell l. at-set (λ (j : ℕ) (m : Listing). length (own sell m) ≤ maxResting) (x .listings) place after noListing (p .contract)
-            (queue-after (λ s. n .queues place s (p .contract)) sell) c (λ q. n .queues c sell (omega (arith, same-listings)));
-      }
+      traded-counted x place after (lots-swept .trades) (x .next + 1) (p .contract) (queue-after (λ s. n .queues place s (p .contract)))
+      (omega (arith, p .trades, trades-needed x o)) n
 
 module _ (x : Exchange) (o : NewOrder) (e : firstOf (insertRefusals x o) ≡ 0) (k : WellFormed x) where
   pub insert-keeps : WellFormed (lastOf x (inserted x o .stages))

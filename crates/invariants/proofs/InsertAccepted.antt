@@ -1,5 +1,5 @@
 -- What an accepted insert has passed, as facts with names. Assumes nothing.
-use mathlib.Core.Bool.{Bool, true, false, not, _&&_, true≢false, false≢true}
+use mathlib.Core.Bool.{Bool, true, false, not, _&&_, _||_, true≢false, false≢true}
 use mathlib.Core.List.{List}
 use mathlib.Core.Path.{_≡_, refl, sym, _∙_}
 use Prim.Native.Nat.{ℕ, _+_, _<_, _≤_}
@@ -7,9 +7,9 @@ use native.Mathlib.Omega.{arith}
 use borrow.Author.Tests.{leb-true, leb-false, ltb-false, le-leb, not-false}
 use lib.Dec.{leb, ltb}
 use lib.ListN.{length}
-use Rattle.laws.specs.Choice.{pick, pick-true, pick-false, both-true, true-both}
-use Rattle.rules.specs.Answers.{firstOf, insertRefusals, isGoodForDay, isLimit, listingOf, priceRefusedBy, holdingRefused, overLimit, overHolding, fillableLots, tradesNeeded}
-use Rattle.rules.specs.Bounds.{within, allowedToday, numbersEnd, maxLots, maxTrades, maxResting}
+use Rattle.laws.specs.Choice.{pick, pick-true, pick-false, both-true, true-both, either-false}
+use Rattle.rules.specs.Answers.{firstOf, insertRefusals, isGoodForDay, isLimit, listingOf, priceRefusedBy, holdingRefused, overLimit, overHolding, fillableLots, tradesNeeded, conditionsRefused, dayWithoutLimit}
+use Rattle.rules.specs.Bounds.{within, allowedToday, numbersEnd, maxLots, maxTrades, maxResting, inAuction}
 use Rattle.rules.specs.Exchange.{Exchange, placeOf, own, holdingAt, restingOpens, restingCloses}
 use Rattle.rules.specs.declared.Contract.{Contract}
 use Rattle.rules.specs.declared.Holding.{Holding}
@@ -33,13 +33,16 @@ pub record Passes (x : Exchange) (o : NewOrder) : Type 0 where
   pub lots-high : o .lots ≤ maxLots
   -- only a limit order rests
   pub limited : isGoodForDay (o .time) ≡ true → isLimit (o .condition) ≡ true
+  -- in auction every order is to rest
+  pub rests : inAuction (listingOf x o .contract) ≡ true → isGoodForDay (o .time) ≡ true
   pub price : (limit : ℕ) → o .condition ≡ Limit limit → allowedToday (listingOf x o .contract) limit ≡ true
   pub opens : o .close ≡ false →
       held (o .sell) (itsHolding x o) + restingOpens (placeOf (o .account)) (itsQueue x o) + o .lots ≤ listingOf x o .contract .limit
   pub closes : o .close ≡ true → restingCloses (placeOf (o .account)) (itsQueue x o) + o .lots ≤ held (not (o .sell)) (itsHolding x o)
   pub next : x .next < numbersEnd
   pub trades : length (x .trades) + tradesNeeded x o ≤ maxTrades
-  pub room : isGoodForDay (o .time) ≡ true → maxResting ≤ length (itsQueue x o) → o .lots ≤ fillableLots x o
+  pub room : isGoodForDay (o .time) ≡ true → maxResting ≤ length (itsQueue x o) →
+      (inAuction (listingOf x o .contract) ≡ false) × (o .lots ≤ fillableLots x o)
 
 both-failed : (a b : Bool) → (a && b) ≡ false → a ≡ true → b ≡ false
 both-failed true b e h = e
@@ -57,6 +60,30 @@ other-side false h = refl
 not-first : (a b : Bool) → (not a && b) ≡ false → b ≡ true → a ≡ true
 not-first true b e h = refl
 not-first false b e h = absurd (true≢false (sym h ∙ e))
+
+module _ (c : Contract) (o : NewOrder) (e : conditionsRefused c o ≡ false) where
+  conditions : (dayWithoutLimit (o .condition) (o .time) ≡ false) × ((inAuction c && not (isLimit (o .condition) && isGoodForDay (o .time))) ≡ false)
+  unfolding conditionsRefused
+  conditions =
+      either-false (dayWithoutLimit (o .condition) (o .time)) (inAuction c && not (isLimit (o .condition) && isGoodForDay (o .time))) e
+
+  day-limit : isGoodForDay (o .time) ≡ true → isLimit (o .condition) ≡ true
+  day-limit = not-first (isLimit (o .condition)) (isGoodForDay (o .time)) (conditions .0)
+
+  auction-day : inAuction c ≡ true → isGoodForDay (o .time) ≡ true
+  auction-day h =
+      both-true (isLimit (o .condition)) (isGoodForDay (o .time))
+      (not-false (isLimit (o .condition) && isGoodForDay (o .time))
+      (both-failed (inAuction c) (not (isLimit (o .condition) && isGoodForDay (o .time))) (conditions .1) h)) .1
+
+-- 13 failed: in auction the own side has room
+has-room : (c : Contract) (day : Bool) (queue lots fillable : ℕ) →
+    (day && leb maxResting queue && (inAuction c || ltb fillable lots)) ≡ false → day ≡ true → maxResting ≤ queue →
+    (inAuction c ≡ false) × (lots ≤ fillable)
+has-room c day queue lots fillable e g l =
+    let p = either-false (inAuction c) (ltb fillable lots)
+    (both-failed (day && leb maxResting queue) (inAuction c || ltb fillable lots) e (true-both day (leb maxResting queue) g (le-leb _ _ l))) in
+    (p .0, ltb-false _ _ (p .1))
 
 module _ (x : Exchange) (o : NewOrder) (e : holdingRefused x o ≡ false) where
   open-lots : o .close ≡ false →
@@ -78,14 +105,12 @@ passes x o e =
       contract = present (o .contract) (x .listings) (f .1 .0);
       lots-low = leb-true _ _ (lots .0);
       lots-high = leb-true _ _ (lots .1);
-      limited = λ g. not-first (isLimit (o .condition)) (isGoodForDay (o .time)) (f .1 .1 .1 .1 .0) g;
+      limited = day-limit (listingOf x o .contract) o (f .1 .1 .1 .1 .0);
+      rests = auction-day (listingOf x o .contract) o (f .1 .1 .1 .1 .0);
       price = λ limit q. limit-allowed (listingOf x o .contract) (o .condition) (o .price) limit (f .1 .1 .1 .1 .1 .0) q;
       opens = open-lots x o (f .1 .1 .1 .1 .1 .1 .0);
       closes = close-lots x o (f .1 .1 .1 .1 .1 .1 .0);
       next = leb-false _ _ (f .1 .1 .1 .1 .1 .1 .1 .1 .0);
       trades = ltb-false _ _ (f .1 .1 .1 .1 .1 .1 .1 .1 .1 .1 .0);
-      room =
-          λ g l. ltb-false _ _
-          (both-failed (isGoodForDay (o .time) && leb maxResting (length (itsQueue x o))) (ltb (fillableLots x o) (o .lots))
-          (f .1 .1 .1 .1 .1 .1 .1 .1 .1 .1 .1 .0) (true-both (isGoodForDay (o .time)) (leb maxResting (length (itsQueue x o))) g (le-leb _ _ l)));
+      room = has-room (listingOf x o .contract) (isGoodForDay (o .time)) (length (itsQueue x o)) (o .lots) (fillableLots x o) (f .1 .1 .1 .1 .1 .1 .1 .1 .1 .1 .1 .0);
     }

@@ -1,7 +1,7 @@
 -- The contract after an accepted insert: its last price is a tick multiple and its queues are in order. Assumes nothing.
-use mathlib.Core.Bool.{Bool, true, false, not, false≢true}
+use mathlib.Core.Bool.{Bool, true, false, not, true≢false, false≢true}
 use mathlib.Core.List.{List, [], _∷_}
-use mathlib.Core.Path.{_≡_, refl}
+use mathlib.Core.Path.{_≡_, refl, sym, _∙_}
 use Prim.Native.Nat.{ℕ, _+_, _-_, _<_, _≤_}
 use native.Mathlib.Omega.{arith}
 use borrow.Author.Tests.{lt-ltb}
@@ -10,17 +10,19 @@ use lib.ListN.{length}
 use Rattle.laws.specs.Choice.{allOf, allOf-imp}
 use Rattle.laws.specs.Chains.{passed, join}
 use Rattle.rules.specs.Answers.{isGoodForDay, isLimit, mark, listingOf, takerOf}
-use Rattle.rules.specs.Bounds.{onTick, tickMultiple, termsInRange, allowedToday, dayLow, dayHigh}
+use Rattle.rules.specs.Bounds.{inAuction, maxPhase, onTick, tickMultiple, termsInRange, allowedToday, dayLow, dayHigh}
 use Rattle.rules.specs.Exchange.{Exchange, placeOf, own, opposite}
-use Rattle.rules.specs.Matching.{Swept, sweep, tradedLots, lastPrice, remainder, restLots, restedLots, enter}
+use Rattle.rules.specs.Matching.{Swept, tradedLots, lastPrice, remainder, restLots, restWhole, restedLots, enter}
 use Rattle.rules.specs.Step.{withLast, limitOf, enteredOf, listingAfter}
-use Rattle.rules.specs.WellFormed.{contractInRange, orderInRange}
+use Rattle.rules.specs.WellFormed.{contractInRange, orderInRange, sorted}
 use Rattle.rules.specs.declared.Contract.{Contract}
 use Rattle.rules.specs.declared.NewOrder.{NewOrder}
 use Rattle.rules.specs.declared.Order.{Order}
 use Rattle.rules.specs.declared.PriceCondition.{PriceCondition}
 use Rattle.rules.specs.declared.PriceCondition.the-variants.{Limit, Market, Best}
 use Rattle.rules.specs.declared.Trade.{Trade}
+use Rattle.rules.proofs.AuctionSteps.{entered-either}
+use Rattle.rules.proofs.Fillable.{traded-nil}
 use Rattle.rules.proofs.Prices.{swept-allowed, last-test, method-rounds}
 use Rattle.rules.proofs.Rest.{rest-sorted, uncrossedFrom, entered-uncrossed}
 use Rattle.rules.proofs.Terms.{contract-terms, multiple, multiple-test}
@@ -39,12 +41,21 @@ allows-last c last price h = h
 contract-last : (c : Contract) (last : ℕ) → contractInRange c ≡ true → tickMultiple (c .tick) last ≡ true → contractInRange (withLast c last) ≡ true
 unfolding contractInRange termsInRange
 contract-last c last h m =
-    let p = passed (termsInRange c) (leb (c .phase) 3 ∷ tickMultiple (c .tick) (c .last) ∷ []) h in
-    join (termsInRange c) (leb (c .phase) 3 ∷ tickMultiple (c .tick) last ∷ []) (p .0, (p .1 .0, m))
+    let p = passed (termsInRange c) (leb (c .phase) maxPhase ∷ tickMultiple (c .tick) (c .last) ∷ []) h in
+    join (termsInRange c) (leb (c .phase) maxPhase ∷ tickMultiple (c .tick) last ∷ []) (p .0, (p .1 .0, m))
 
 pub last-multiple : (c : Contract) → contractInRange c ≡ true → tickMultiple (c .tick) (c .last) ≡ true
 unfolding contractInRange
-last-multiple c h = passed (termsInRange c) (leb (c .phase) 3 ∷ tickMultiple (c .tick) (c .last) ∷ []) h .1 .1
+last-multiple c h = passed (termsInRange c) (leb (c .phase) maxPhase ∷ tickMultiple (c .tick) (c .last) ∷ []) h .1 .1
+
+-- after trades at prices allowed today
+pub contract-traded : (c : Contract) (ts : List Trade) → contractInRange c ≡ true → allOf (λ t. allowedToday c (t .price)) ts ≡ true →
+    contractInRange (withLast c (lastPrice (c .last) ts)) ≡ true
+contract-traded c ts h allowed =
+    contract-last c (lastPrice (c .last) ts) h
+    (last-test (tickMultiple (c .tick)) (c .last) ts (last-multiple c h)
+    (allOf-imp (λ t. allowedToday c (t .price)) (λ t. tickMultiple (c .tick) (t .price)) ts
+    (λ t k. multiple-test (c .tick) (t .price) (allowed-multiple c (t .price) k)) allowed))
 
 -- ---- what rests
 
@@ -71,18 +82,29 @@ module _ (x : Exchange) (k : WellFormed x) (o : NewOrder) (p : Passes x o) where
   abbrev pub contractOf : Contract
   contractOf = listingOf x o .contract
 
+  abbrev pub mine : List Order
+  mine = own (o .sell) (listingOf x o)
+
+  abbrev pub others : List Order
+  others = opposite (o .sell) (listingOf x o)
+
   -- its trades, the opposite queue after them, and the lots that rest
   abbrev pub swept : Swept
-  swept = sweep (takerOf x o) (o .lots) (contractOf .last) (opposite (o .sell) (listingOf x o))
+  swept = record { trades = enteredOf x o .trades; rest = enteredOf x o .opposite }
 
   abbrev pub rested : ℕ
-  rested = restedLots (isGoodForDay (o .time)) (o .lots) (swept .trades)
+  rested = enteredOf x o .rested
+
+  -- its own queue: in auction too, what rests does so at its place
+  pub own-is : enteredOf x o .own ≡ restLots (takerOf x o) (limitOf (o .condition)) rested mine
+  unfolding restWhole enter
+  own-is = entered-either x o (λ e. e .own ≡ restLots (takerOf x o) (limitOf (o .condition)) (e .rested) mine) (λ a. refl) (λ a. refl)
 
   pub listing-ok : ListingOk (length (x .accounts)) (x .next) (listingOf x o)
   unfolding listingOf
   listing-ok = k .listing (placeOf (o .contract)) (p .contract)
 
-  pub sides : SidesOk (length (x .accounts)) (x .next) contractOf (o .sell) (own (o .sell) (listingOf x o)) (opposite (o .sell) (listingOf x o))
+  pub sides : SidesOk (length (x .accounts)) (x .next) contractOf (o .sell) mine others
   sides = listing-sides (length (x .accounts)) (x .next) (o .sell) (listingOf x o) listing-ok
 
   pub last-on-tick : onTick (contractOf .tick) (contractOf .last) ≡ true
@@ -92,29 +114,32 @@ module _ (x : Exchange) (k : WellFormed x) (o : NewOrder) (p : Passes x o) where
   tick-low = contract-terms contractOf (listing-ok .contract) .tick-low
 
   trade-prices : allOf (λ t. allowedToday contractOf (t .price)) (swept .trades) ≡ true
-  unfolding takerOf
+  unfolding restWhole enter allOf takerOf
   trade-prices =
-      swept-allowed contractOf tick-low (takerOf x o) (method-rounds contractOf) (o .lots) (contractOf .last) (opposite (o .sell) (listingOf x o)) (p .price) last-on-tick
-      (allOf-imp (orderInRange (length (x .accounts)) (x .next) contractOf) (λ r. allowedToday contractOf (r .price))
-      (opposite (o .sell) (listingOf x o))
-      (λ r h. order-ok (length (x .accounts)) (x .next) contractOf r h .price) (sides .others-orders))
+      entered-either x o (λ e. allOf (λ t. allowedToday contractOf (t .price)) (e .trades) ≡ true) (λ a. refl)
+      (λ a. swept-allowed contractOf tick-low (takerOf x o) (method-rounds contractOf) (o .lots) (contractOf .last) others (p .price) last-on-tick
+      (allOf-imp (orderInRange (length (x .accounts)) (x .next) contractOf) (λ r. allowedToday contractOf (r .price)) others
+      (λ r h. order-ok (length (x .accounts)) (x .next) contractOf r h .price) (sides .others-orders)))
 
   abbrev pub contractAfter : Contract
   contractAfter = withLast contractOf (lastPrice (contractOf .last) (swept .trades))
 
   contract-ok : contractInRange contractAfter ≡ true
-  contract-ok =
-      contract-last contractOf (lastPrice (contractOf .last) (swept .trades)) (listing-ok .contract)
-      (last-test (tickMultiple (contractOf .tick)) (contractOf .last) (swept .trades) (last-multiple contractOf (listing-ok .contract))
-      (allOf-imp (λ t. allowedToday contractOf (t .price)) (λ t. tickMultiple (contractOf .tick) (t .price)) (swept .trades)
-      (λ t h. multiple-test (contractOf .tick) (t .price) (allowed-multiple contractOf (t .price) h)) trade-prices))
+  contract-ok = contract-traded contractOf (swept .trades) (listing-ok .contract) trade-prices
 
   -- a remainder rests only at a limit, and only where the sweep stopped short of its lots
   limit-rests : 0 < rested → o .condition ≡ Limit (limitOf (o .condition))
-  limit-rests some = is-limit (o .condition) (p .limited (rested-day (isGoodForDay (o .time)) (o .lots) (swept .trades) some))
+  unfolding restWhole enter
+  limit-rests =
+      entered-either x o (λ e. 0 < e .rested → o .condition ≡ Limit (limitOf (o .condition)))
+      (λ a some. is-limit (o .condition) (p .limited (p .rests a)))
+      (λ a some. is-limit (o .condition) (p .limited (rested-day (isGoodForDay (o .time)) (o .lots) _ some)))
 
   pub rested-left : rested ≤ o .lots - tradedLots (swept .trades)
-  rested-left = rested-most (isGoodForDay (o .time)) (o .lots) (swept .trades)
+  unfolding restWhole enter
+  rested-left =
+      entered-either x o (λ e. e .rested ≤ o .lots - tradedLots (e .trades)) (λ a. omega (arith, traded-nil))
+      (λ a. rested-most (isGoodForDay (o .time)) (o .lots) _)
 
   remainder-ok : 0 < rested →
       orderInRange (length (x .accounts)) (x .next + 1) contractAfter (remainder (takerOf x o) (limitOf (o .condition)) rested) ≡ true
@@ -139,32 +164,42 @@ module _ (x : Exchange) (k : WellFormed x) (o : NewOrder) (p : Passes x o) where
       orders-carried (length (x .accounts)) (x .next) (x .next + 1) contractOf contractAfter (omega arith)
       (allows-last contractOf (lastPrice (contractOf .last) (swept .trades)))
 
-  uncrossed-after : uncrossedFrom (o .sell) (restLots (takerOf x o) (limitOf (o .condition)) rested (own (o .sell) (listingOf x o))) (swept .rest) ≡ true
-  unfolding takerOf enter
+  uncrossed-after : inAuction contractOf ≡ false → uncrossedFrom (o .sell) (restLots (takerOf x o) (limitOf (o .condition)) rested mine) (swept .rest) ≡ true
+  unfolding takerOf restWhole enter
   uncrossed-after =
-      entered-uncrossed (takerOf x o) (o .lots) (limitOf (o .condition)) (isGoodForDay (o .time)) (contractOf .last)
-      (own (o .sell) (listingOf x o)) (opposite (o .sell) (listingOf x o))
-      (λ g. is-limit (o .condition) (p .limited g)) (sides .others-sorted) (sides .sides-uncrossed)
+      entered-either x o
+      (λ e. inAuction contractOf ≡ false → uncrossedFrom (o .sell) (restLots (takerOf x o) (limitOf (o .condition)) (e .rested) mine) (e .opposite) ≡ true)
+      (λ a b. absurd (true≢false (sym a ∙ b)))
+      (λ a b. entered-uncrossed (takerOf x o) (o .lots) (limitOf (o .condition)) (isGoodForDay (o .time)) (contractOf .last) mine others
+      (λ g. is-limit (o .condition) (p .limited g)) (sides .others-sorted) (sides .sides-uncrossed b))
 
-  sides-after : SidesOk (length (x .accounts)) (x .next + 1) contractAfter (o .sell) (restLots (takerOf x o) (limitOf (o .condition)) rested (own (o .sell) (listingOf x o))) (swept .rest)
+  left-sorted : sorted (not (o .sell)) (swept .rest) ≡ true
+  unfolding restWhole enter
+  left-sorted =
+      entered-either x o (λ e. sorted (not (o .sell)) (e .opposite) ≡ true) (λ a. sides .others-sorted)
+      (λ a. rest-sorted (not (o .sell)) (takerOf x o) (o .lots) (contractOf .last) others (sides .others-sorted))
+
+  left-orders : allOf (orderInRange (length (x .accounts)) (x .next) contractOf) (swept .rest) ≡ true
+  unfolding restWhole enter
+  left-orders =
+      entered-either x o (λ e. allOf (orderInRange (length (x .accounts)) (x .next) contractOf) (e .opposite) ≡ true) (λ a. sides .others-orders)
+      (λ a. rest-orders (length (x .accounts)) (x .next) contractOf (takerOf x o) (o .lots) (contractOf .last) others (sides .others-orders))
+
+  sides-after : SidesOk (length (x .accounts)) (x .next + 1) contractAfter (o .sell) (restLots (takerOf x o) (limitOf (o .condition)) rested mine) (swept .rest)
   unfolding takerOf
   sides-after =
       record {
-        mine-sorted = rested-sorted (takerOf x o) (limitOf (o .condition)) rested (own (o .sell) (listingOf x o)) (sides .mine-sorted)
-            (allOf-imp (orderInRange (length (x .accounts)) (x .next) contractOf) (λ r. ltb (r .number) (x .next)) (own (o .sell) (listingOf x o))
+        mine-sorted = rested-sorted (takerOf x o) (limitOf (o .condition)) rested mine (sides .mine-sorted)
+            (allOf-imp (orderInRange (length (x .accounts)) (x .next) contractOf) (λ r. ltb (r .number) (x .next)) mine
             (λ r h. lt-ltb (r .number) (x .next) (order-ok (length (x .accounts)) (x .next) contractOf r h .number-high)) (sides .mine-orders));
-        others-sorted =
-            rest-sorted (not (o .sell)) (takerOf x o) (o .lots) (contractOf .last) (opposite (o .sell) (listingOf x o)) (sides .others-sorted);
+        others-sorted = left-sorted;
         sides-uncrossed = uncrossed-after;
         mine-orders =
-            rested-all (takerOf x o) (limitOf (o .condition)) _ rested (own (o .sell) (listingOf x o)) remainder-ok
-            (carried (own (o .sell) (listingOf x o)) (sides .mine-orders));
-        others-orders =
-            carried (swept .rest)
-            (rest-orders (length (x .accounts)) (x .next) contractOf (takerOf x o) (o .lots) (contractOf .last)
-            (opposite (o .sell) (listingOf x o)) (sides .others-orders));
+            rested-all (takerOf x o) (limitOf (o .condition)) _ rested mine remainder-ok
+            (carried mine (sides .mine-orders));
+        others-orders = carried (swept .rest) left-orders;
       }
 
   pub listing-after : ListingOk (length (x .accounts)) (x .next + 1) (listingAfter (listingOf x o) (o .sell) (enteredOf x o))
-  unfolding listingAfter enteredOf enter
-  listing-after = sides-listing (length (x .accounts)) (x .next + 1) (o .sell) contractAfter _ _ contract-ok sides-after
+  unfolding listingAfter
+  listing-after = rw own-is (sides-listing (length (x .accounts)) (x .next + 1) (o .sell) contractAfter _ _ contract-ok sides-after)

@@ -9,6 +9,7 @@ use lib.Dec.{ltb, eqb}
 use lib.ListN.{length}
 use Rattle.laws.specs.Choice.{pick, allOf}
 use Rattle.laws.specs.Sums.{sumOf}
+use Rattle.rules.specs.Bounds.{inAuction}
 use Rattle.rules.specs.Exchange.{Listing, own, opposite, withQueues, resting, lotsWhere}
 use Rattle.rules.specs.Matching.{withLots, sweep, remainder, restLots}
 use Rattle.rules.specs.WellFormed.{contractInRange, sorted, orderInRange}
@@ -30,7 +31,7 @@ other-own false m = refl
 pub record SidesOk (accounts next : ℕ) (c : Contract) (sell : Bool) (mine others : List Order) : Type 0 where
   pub mine-sorted : sorted sell mine ≡ true
   pub others-sorted : sorted (not sell) others ≡ true
-  pub sides-uncrossed : uncrossedFrom sell mine others ≡ true
+  pub sides-uncrossed : inAuction c ≡ false → uncrossedFrom sell mine others ≡ true
   pub mine-orders : allOf (orderInRange accounts next c) mine ≡ true
   pub others-orders : allOf (orderInRange accounts next c) others ≡ true
 
@@ -46,7 +47,7 @@ module _ (accounts next : ℕ) where
         others-orders = rw other-own at (k .orders (not sell));
       }
     where
-      by : (b : Bool) → uncrossedFrom b (own b m) (opposite b m) ≡ true
+      by : (b : Bool) → inAuction (m .contract) ≡ false → uncrossedFrom b (own b m) (opposite b m) ≡ true
       by true = k .apart
       by false = k .apart
 
@@ -112,13 +113,11 @@ module _ (t : Taker) (price : ℕ) where
       more true = h
       more false = omega arith
 
--- ---- the opposite queue: an order that traded a part of its lots stays in range
+-- ---- an order that traded a part of its lots stays in range
 
-pub rest-orders : (accounts next : ℕ) (c : Contract) (t : Taker) (left last : ℕ) (os : List Order) →
-    allOf (orderInRange accounts next c) os ≡ true → allOf (orderInRange accounts next c) (sweep t left last os .rest) ≡ true
-rest-orders accounts next c =
-    rest-all (orderInRange accounts next c)
-    (λ o lots low high h.
+pub order-fewer : (accounts next : ℕ) (c : Contract) (o : Order) (lots : ℕ) → 1 ≤ lots → lots ≤ o .lots →
+    orderInRange accounts next c o ≡ true → orderInRange accounts next c (withLots o lots) ≡ true
+order-fewer accounts next c o lots low high h =
     let k = order-ok accounts next c o h in
     order-test accounts next c (withLots o lots)
     (record {
@@ -129,4 +128,8 @@ rest-orders accounts next c =
       number-low = k .number-low;
       number-high = k .number-high;
       close = k .close;
-    }))
+    })
+
+pub rest-orders : (accounts next : ℕ) (c : Contract) (t : Taker) (left last : ℕ) (os : List Order) →
+    allOf (orderInRange accounts next c) os ≡ true → allOf (orderInRange accounts next c) (sweep t left last os .rest) ≡ true
+rest-orders accounts next c = rest-all (orderInRange accounts next c) (order-fewer accounts next c)

@@ -42,7 +42,7 @@ kind-counted x (Withdraw account amount) k e = (withdraw-counted x account amoun
 kind-counted x (Insert o) k e = (insert-counted x o e (k .contents) (k .counts), tt)
 kind-counted x (Cancel account contract operator number) k e = (cancel-counted x account contract operator number e (k .counts), tt)
 kind-counted x (Pull account contract operator) k e = (pull-counted x account contract operator e (k .counts), tt)
-kind-counted x (Phase contract phase) k e = (phase-counted x contract phase e (k .counts), tt)
+kind-counted x (Phase contract phase) k e = (phase-counted x contract phase e (k .contents) (k .counts), tt)
 kind-counted x Settle k e = (settle-counted x e (k .contents) (k .counts), tt)
 
 -- any command: a refusal changes nothing

@@ -5,7 +5,6 @@ pub mod Carry
 pub mod Payments
 pub mod Numbers
 pub mod OneListing
-pub mod Phases
 pub mod Sorting
 pub mod Removal
 pub mod Ticks
@@ -14,10 +13,14 @@ pub mod Settle
 pub mod Legs
 pub mod SweptHoldings
 pub mod SweptTrades
+pub mod Traded
 pub mod InsertAccepted
 pub mod InsertQueues
 pub mod InsertListing
 pub mod Insert
+pub mod MatchedHoldings
+pub mod MatchedTrades
+pub mod Phases
 pub mod Keeps
 pub mod MemoryRoom
 pub mod MemoryLaws

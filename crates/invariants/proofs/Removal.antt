@@ -78,8 +78,8 @@ module _ (test : Order → Bool) where
           contract = k .contract;
           order = λ sell. rw (own-without m sell) (without-sorted sell (own sell m) (k .order sell));
           apart =
-              apart-uncrossed (without test (m .buys)) (without test (m .sells))
-              (without-apart (m .buys) (m .sells) (uncrossed-apart (m .buys) (m .sells) (k .order false) (k .order true) (k .apart)));
+              λ e. apart-uncrossed (without test (m .buys)) (without test (m .sells))
+              (without-apart (m .buys) (m .sells) (uncrossed-apart (m .buys) (m .sells) (k .order false) (k .order true) (k .apart e)));
           orders = λ sell. rw (own-without m sell) (without-all (orderInRange accounts next (m .contract)) (own sell m) (k .orders sell));
         }
 

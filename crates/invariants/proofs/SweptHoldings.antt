@@ -9,7 +9,7 @@ use Rattle.laws.specs.Choice.{pick, allOf, both-true}
 use Rattle.laws.specs.Chains.{join}
 use Rattle.rules.specs.Exchange.{resting}
 use Rattle.rules.specs.Holdings.{bookTrade, bookTrades, legCovered, bookBuyer, neverBelowZero}
-use Rattle.rules.specs.Matching.{withLots, remainder, Swept, sweep, tradedLots, tradeWith}
+use Rattle.rules.specs.Matching.{withLots, remainder, Swept, untouched, sweep, tradedLots, tradeWith}
 use Rattle.rules.specs.WellFormed.{orderInRange}
 use Rattle.rules.specs.declared.Account.{Account}
 use Rattle.rules.specs.declared.Contract.{Contract}
@@ -67,7 +67,7 @@ module _ (accounts limit price : ℕ) (account contract close number best : ℕ)
 abbrev pub Fewer : List Order → List Order → Type 0
 Fewer queue′ queue = (close a : ℕ) → resting close a queue′ ≤ resting close a queue
 
-fewer-kept : (accounts limit c : ℕ) (l : List Account) (buys buys′ sells sells′ : List Order) → Fewer buys′ buys → Fewer sells′ sells →
+pub fewer-kept : (accounts limit c : ℕ) (l : List Account) (buys buys′ sells sells′ : List Order) → Fewer buys′ buys → Fewer sells′ sells →
     Kept accounts limit c l buys sells → Kept accounts limit c l buys′ sells′
 fewer-kept accounts limit c l buys buys′ sells sells′ f g k a h =
     let p = k a h in
@@ -85,7 +85,7 @@ fewer-by false accounts limit c l own own′ opposite opposite′ f g = fewer-ke
 fewer-by true accounts limit c l own own′ opposite opposite′ f g = fewer-kept accounts limit c l opposite opposite′ own own′ g f
 
 -- an order without lots counts for nothing
-fewer-none : (o : Order) (os : List Order) → Fewer os (o ∷ os)
+pub fewer-none : (o : Order) (os : List Order) → Fewer os (o ∷ os)
 fewer-none o os close a = omega (arith, resting-cons close a o os)
 
 fewer-same : (os : List Order) → Fewer os os
@@ -95,6 +95,14 @@ fewer-same os close a = omega arith
 pub record SweptKept (accounts limit price : ℕ) (t : Taker) (own : List Order) (l : List Account) (left : ℕ) (s : Swept) : Type 0 where
   pub never : neverBelowZero l (s .trades) ≡ true
   pub kept : KeptBy (t .sell) accounts limit (t .contract) (bookTrades l (s .trades)) (remainder t price (left - tradedLots (s .trades)) ∷ own) (s .rest)
+
+-- an order that rests without matching makes no trades
+pub untouched-kept : (accounts limit price : ℕ) (t : Taker) (own : List Order) (l : List Account) (left : ℕ) (os : List Order) →
+    KeptBy (t .sell) accounts limit (t .contract) l (remainder t price left ∷ own) os → SweptKept accounts limit price t own l left (untouched os)
+unfolding bookTrades
+untouched-kept accounts limit price t own l left os kept =
+    let e : left - tradedLots [] ≡ left = omega (arith, traded-nil) in
+    record { never = never-nil l; kept = rw e kept }
 
 module _ (accounts limit price next : ℕ) (contract : Contract) (t : Taker) (own : List Order) (here : t .account < accounts)
     (mark : t .close ≤ 1) where

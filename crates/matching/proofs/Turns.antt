@@ -3,66 +3,50 @@
 use mathlib.Core.Bool.{Bool, true, false}
 use mathlib.Core.List.{List, [], _∷_, _++_}
 use mathlib.Core.Path.{_≡_, sym, ap, _∙_}
-use Prim.Native.Nat.{ℕ, suc, _+_, _-_, _*_, _<_, _≤_, min}
+use Prim.Native.Nat.{ℕ, _+_, _-_, _*_, _<_, _≤_, min}
 use native.Mathlib.Numerals.{add-one}
 use native.Mathlib.Omega.{arith}
 use lib.ListN.{length, take, drop, getD, set, length-drop, take-append-drop}
 use lib.Seq.{set-split}
 use Rattle.laws.specs.Choice.{pick}
 use Rattle.areas.specs.Records.{store}
-use Rattle.areas.proofs.Records.{length-store, store-nil, store-append}
+use Rattle.areas.proofs.Records.{length-store}
 use Rattle.rules.specs.EarlyStop.{countTrades}
 use Rattle.rules.specs.Exchange.{noOrder}
-use Rattle.rules.specs.Holdings.{bookTrade, bookTrades}
-use Rattle.rules.specs.Matching.{counterpart, tradePrice, tradeWith, withLots, Swept, untouched, sweep, tradedLots, lastPrice}
+use Rattle.rules.specs.Holdings.{bookTrade}
+use Rattle.rules.specs.Matching.{counterpart, tradePrice, tradeWith, withLots, Swept, untouched, sweep}
 use Rattle.rules.specs.Memory.{tradeWords, orderFrom, queueIn, putQueue}
 use Rattle.rules.specs.declared.Account.{Account}
 use Rattle.rules.specs.declared.Order.{Order}
 use Rattle.rules.specs.declared.Taker.{Taker}
 use Rattle.rules.specs.declared.Trade.{Trade}
 use Rattle.rules.proofs.Codecs.{trade-codec, length-queue, order-at, put-queue}
-use Rattle.rules.proofs.Fillable.{traded-nil, traded-cons, trades-counted, count-met}
+use Rattle.rules.proofs.Fillable.{trades-counted, count-met}
 use Rattle.rules.proofs.Sweep.{trade-lots, trade-price, sweep-end, sweep-used, sweep-unmet, sweep-part, sweep-full}
 use Rattle.holdings.specs.Bounds.{HeldWithin}
 use Rattle.matching.specs.Sweep.{Parties, FilledIs}
 use Rattle.holdings.proofs.Bookings.{held-more, held-trade}
 use Rattle.book.proofs.Queues.{next-order, no-more}
+use Rattle.book.proofs.Trading.{Booked, booked, booked-trade, all-booked, still-made}
 
 -- ---- what the loop ends with
 
--- the numbers and the area that stand after a sweep, and the rest of the queue
+-- what stands after a sweep, and the rest of the queue
 pub record Outcome : Type 0 where
-  pub traded : ℕ
-  pub made : ℕ
-  pub last : ℕ
-  pub accounts : List Account
-  pub area : List ℕ
+  pub booked : Booked
   pub rest : List Order
 
--- so many lots traded and trades made, a last price, accounts and the trade area as they are, and a sweep still to come
+-- so much booked as it is, and a sweep still to come
 unfoldable pub finish : ℕ → ℕ → ℕ → List Account → List ℕ → Swept → Outcome
-finish done made last held area s =
-    record {
-      traded = done + tradedLots (s .trades);
-      made = made + length (s .trades);
-      last = lastPrice last (s .trades);
-      accounts = bookTrades held (s .trades);
-      area = store tradeWords area (9 * made) (s .trades);
-      rest = s .rest;
-    }
+finish done made last held area s = record { booked = booked done made last held area (s .trades); rest = s .rest }
 
 -- a trade passes from what is to come to what is done
 finish-trade : (done made last : ℕ) (held : List Account) (area : List ℕ) (tr : Trade) (s : Swept) → 9 * made ≤ length area
     → finish done made last held area (record { trades = tr ∷ s .trades; rest = s .rest })
     ≡ finish (done + tr .lots) (made + 1) (tr .price) (bookTrade held tr) (store tradeWords area (9 * made) (tr ∷ [])) s
-unfolding finish lastPrice bookTrades
+unfolding finish
 finish-trade done made last held area tr s room =
-    let t : done + tradedLots (tr ∷ s .trades) ≡ done + tr .lots + tradedLots (s .trades) = omega (arith, traded-cons tr (s .trades)) in
-    let m : made + suc (length (s .trades)) ≡ made + 1 + length (s .trades) = omega arith in
-    let w : 9 * made + 9 * 1 ≡ 9 * (made + 1) = omega arith in
-    let a : store tradeWords area (9 * made) (tr ∷ s .trades) ≡ store tradeWords (store tradeWords area (9 * made) (tr ∷ [])) (9 * (made + 1)) (s .trades)
-    = store-append trade-codec area (9 * made) (tr ∷ []) (s .trades) room ∙ ap (λ (k : ℕ). store tradeWords (store tradeWords area (9 * made) (tr ∷ [])) k (s .trades)) w in
-    λ i. record { traded = t i; made = m i; last = lastPrice (tr .price) (s .trades); accounts = bookTrades (bookTrade held tr) (s .trades); area = a i; rest = s .rest }
+    ap (λ (b : Booked). record { booked = b; rest = s .rest }) (booked-trade done made last held area tr (s .trades) room)
 
 -- nothing is to come: what stands is the answer
 finished : (s : Swept) (queues : List ℕ) (c count : ℕ) (area₀ : List ℕ) (before last : ℕ) (held₀ : List Account)
@@ -70,16 +54,17 @@ finished : (s : Swept) (queues : List ℕ) (c count : ℕ) (area₀ : List ℕ) 
     → finish done made price held area (untouched rest) ≡ finish 0 before last held₀ area₀ s
     → at + length rest ≡ count → queues′ ≡ putQueue queues c count (take at (queueIn queues c count) ++ rest)
     → FilledIs s queues c count area₀ before last held₀ (record { traded = done; filled = at; made = made; last = price; accounts = held }) queues′ area
-unfolding finish lastPrice bookTrades
+unfolding finish
 finished s queues c count area₀ before last held₀ queues′ area held price made at done rest e l q =
     let r : rest ≡ s .rest = ap (λ o. o .rest) e in
+    let b = all-booked (s .trades) (ap (λ o. o .booked) e) in
     record {
-      traded = omega (arith, traded-nil, ap (λ o. o .traded) e);
+      traded = b .traded;
       filled = ap (λ (os : List Order). at + length os) (sym r) ∙ l;
-      made = omega (arith, ap (λ o. o .made) e);
-      last = ap (λ o. o .last) e;
-      accounts = ap (λ o. o .accounts) e;
-      trades = sym (store-nil trade-codec area (9 * made)) ∙ ap (λ o. o .area) e;
+      made = b .made;
+      last = b .last;
+      accounts = b .accounts;
+      trades = b .trades;
       queue = q ∙ ap (λ (os : List Order). putQueue queues c count (take at (queueIn queues c count) ++ os)) r;
     }
 
@@ -181,7 +166,7 @@ module _
         let q : List Order = queueIn queues (t .contract) count in
         let n : length (sweep t (lots - done) price (drop at q) .trades) ≡ 1 + countTrades t (lots - done - o .lots) (drop (at + 1) q)
         = trades-counted t (lots - done) price (drop at q) ∙ rw next (count-met t (lots - done) o (drop (at + 1) q) (m .some) (m .met)) in
-        omega (arith, ap (λ x. x .made) (g .answer), g .long)
+        omega (arith, ap (λ x. x .booked .made) (g .answer), still-made done made price held area (sweep t (lots - done) price (drop at q) .trades), still-made 0 before last held₀ area₀ (sweep t lots last q .trades), g .long)
 
     module _ (fits : 9 * made + 9 ≤ length area) {held′ : List Account} (eh : held′ ≡ bookTrade held tr) {area′ : List ℕ} (ea : area′ ≡ store tradeWords area (9 * made) (tr ∷ [])) where
       long-still : length area′ ≡ length area₀

@@ -34,7 +34,7 @@ fn remaining(day: bool, lots: u32, traded: u32) -> u32
 }
 
 // The remainder takes its place in the own queue; the number of orders there.
-fn rest(own: &mut [u32], c: usize, count: usize, t: Taker, price: u32, lots: u32) -> usize
+pub fn rest(own: &mut [u32], c: usize, count: usize, t: Taker, price: u32, lots: u32) -> usize
     requires { ⌜ 320 * c + 5 * length (matching.restLots t price lots (queueIn (now own) c count)) ≤ length (now own) ⌝ }
     ensures { λ r. ⌜ r ≡ length (matching.restLots t price lots (queueIn (now (own .entry)) c count)) ⌝ }
     ensures { λ _. ⌜ now (own .exit) ≡ putQueue (now (own .entry)) c count (matching.restLots t price lots (queueIn (now (own .entry)) c count)) ⌝ }

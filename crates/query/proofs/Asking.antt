@@ -7,7 +7,7 @@ use Prim.Native.Nat.{ℕ, _-_}
 use borrow.Author.Tests.{ne-eqb}
 use lib.ListN.{getD}
 use Rattle.laws.specs.Choice.{pick}
-use Rattle.rules.specs.Answers.{fillableLots, firstOf, listingOf, takerOf}
+use Rattle.rules.specs.Answers.{dayWithoutLimit, fillableLots, firstOf, listingOf, takerOf}
 use Rattle.rules.specs.Command.{commandOf, isInsert, newOrder}
 use Rattle.rules.specs.Exchange.{Exchange, listingAt, noContract, opposite, placeOf}
 use Rattle.rules.specs.Matching.{sweep, tradedLots}
@@ -42,7 +42,7 @@ module _ {s : State} {buys sells trades : List ℕ} (w : WellFormedState s buys 
   abbrev c : ℕ
   c = placeOf (o .contract)
 
-  in-parts : firstOf (orderRefusals x o) ≡ pick (isAbsent (o .account) (s .accountcount)) 2 (pick (isAbsent (o .contract) (s .contractcount)) 3 (firstOf (fieldsRefusals (listingOf x o .contract) o)))
+  in-parts : firstOf (orderRefusals x o) ≡ pick (isAbsent (o .account) (s .accountcount)) 2 (pick (isAbsent (o .contract) (s .contractcount)) 3 (firstOf (fieldsRefusals (dayWithoutLimit (o .condition) (o .time)) (listingOf x o .contract) o)))
   unfolding firstOf orderRefusals
   in-parts = rw (no-account m f (o .account), no-contract m f (o .contract))
 
@@ -57,7 +57,7 @@ module _ {s : State} {buys sells trades : List ℕ} (w : WellFormedState s buys 
 
     -- k is the contract's number as the code widens it
     module _ (g : isAbsent (o .contract) (s .contractcount) ≡ false) (p : Present s o) {k : ℕ} (is : k ≡ o .contract) {fields : ℕ}
-        (ef : fields ≡ firstOf (fieldsRefusals (getD (s .contracts) (k - 1) noContract) o)) where
+        (ef : fields ≡ firstOf (fieldsRefusals (dayWithoutLimit (o .condition) (o .time)) (getD (s .contracts) (k - 1) noContract) o)) where
       code-is : firstOf (orderRefusals x o) ≡ fields
       unfolding listingOf
       code-is = in-parts ∙ rw (e, g, ef, is, contract-is m f c (p .contract))

@@ -1,12 +1,12 @@
 -- How much could I get? What an order would trade now, and how many resting orders are read to know it (document 02, ticket 3).
 -- The contract's state plays no part, nor does the time condition beyond code 6. Assumes nothing.
-use mathlib.Core.Bool.{not, _&&_}
+use mathlib.Core.Bool.{not}
 use mathlib.Core.List.{List, [], _∷_}
 use mathlib.Core.Path.{_≡_}
 use Prim.Native.Nat.{ℕ, _+_, _-_, min}
 use lib.Dec.{eqb, ltb}
 use Rattle.laws.specs.Choice.{pick}
-use Rattle.rules.specs.Answers.{Refusal, _when_, fillableLots, firstOf, isGoodForDay, isLimit, listingOf, priceRefused, takerOf}
+use Rattle.rules.specs.Answers.{Refusal, _when_, dayWithoutLimit, fillableLots, firstOf, listingOf, priceRefused, takerOf}
 use Rattle.rules.specs.Bounds.{maxLots, within}
 use Rattle.rules.specs.Command.{commandOf, isInsert, newOrder}
 use Rattle.rules.specs.Exchange.{Exchange, absent, opposite}
@@ -44,8 +44,8 @@ orderRefusals x o =
     ∷ (3 when absent (o .contract) (x .listings))
     -- "lots outside 1 to 1,000"
     ∷ (5 when not (within 1 maxLots (o .lots)))
-    -- "market or best with good for day"
-    ∷ (6 when (not (isLimit (o .condition)) && isGoodForDay (o .time)))
+    -- "market or best with good for day", "in every state": auction's own 6 is no part of it (02, ticket 4)
+    ∷ (6 when dayWithoutLimit (o .condition) (o .time))
     -- "limit price off tick or outside low to high; market or best with a price not 0"
     ∷ (7 when priceRefused (listingOf x o .contract) o)
     ∷ []

@@ -12,7 +12,7 @@ use Rattle.laws.specs.Sums.{sumOf}
 use Rattle.laws.specs.Tabulate.{tabulate}
 use Rattle.areas.specs.Records.{decode, records}
 use Rattle.rules.specs.Answers.{fillableLots, firstOf, listingOf, priceRefusedBy, takerOf}
-use Rattle.rules.specs.Bounds.{allowedToday, dayHigh, dayLow, onTick, termsInRange, tickMultiple}
+use Rattle.rules.specs.Bounds.{allowedToday, auction, closed, continuous, dayHigh, dayLow, noTrading, onTick, preOpen, termsInRange, tickMultiple}
 use Rattle.rules.specs.Exchange.{Exchange, absent, accountAt, bestPrice, holdingAt, listingAt, lotsWhere, noHolding, resting}
 use Rattle.rules.specs.Command.{bits, commandOf, insertFlags, insertOf, newOrder, priceCondition, pullOf, timeCondition, zeros}
 use Rattle.rules.specs.Holdings.{afterLeg, bookLeg, bookTrade, bookTrades, legCovered, neverBelowZero, sameHoldings, sameLots, startOfDay}
@@ -73,14 +73,14 @@ from account contract =
 
 -- the answer in continuous
 now′ : NewOrder → Reading
-now′ o = orderReading (book 1 sells) o
+now′ o = orderReading (book continuous sells) o
 
 -- ---- a state in memory with one contract and one account, its arrays and areas empty but for these; so many contracts in use
 memoryOf : ℕ → Memory
 memoryOf contracts =
     record {
       state = record {
-        contracts = record { multiplier = 10; tick = 1; reference = 110; band = 10; limit = 1_000; rate = 1_000; method = 0; phase = 0; last = 110 } ∷ [];
+        contracts = record { multiplier = 10; tick = 1; reference = 110; band = 10; limit = 1_000; rate = 1_000; method = 0; phase = preOpen; last = 110 } ∷ [];
         accounts = record { balance = pos 0; holdings = noHolding ∷ [] } ∷ [];
         buys = 0 ∷ [];
         sells = 0 ∷ [];
@@ -130,15 +130,21 @@ table =
     ∷ case (now′ (sellAt 109 5)) 0 3 1
     ∷ case (now′ (sellAt 110 5)) 0 0 1
     -- nothing rests
-    ∷ case (orderReading (book 1 []) (buyAt 111 12)) 0 0 0
-    ∷ case (orderReading (book 1 []) (best 12)) 0 0 0
+    ∷ case (orderReading (book continuous []) (buyAt 111 12)) 0 0 0
+    ∷ case (orderReading (book continuous []) (best 12)) 0 0 0
     -- the time condition plays no part: fill or kill for 13, which an insert would refuse, gets 12 lots
     ∷ case (now′ (asking false 13 111 (Limit 111) ImmediateOrCancel)) 0 12 3
     ∷ case (now′ (asking false 13 111 (Limit 111) FillOrKill)) 0 12 3
-    -- nor does the contract's state: pre-open, no trading, closed
-    ∷ case (orderReading (book 0 sells) (buyAt 111 13)) 0 12 3
-    ∷ case (orderReading (book 2 sells) (buyAt 111 13)) 0 12 3
-    ∷ case (orderReading (book 3 sells) (buyAt 111 13)) 0 12 3
+    -- nor does the contract's state
+    ∷ case (orderReading (book preOpen sells) (buyAt 111 13)) 0 12 3
+    ∷ case (orderReading (book noTrading sells) (buyAt 111 13)) 0 12 3
+    ∷ case (orderReading (book closed sells) (buyAt 111 13)) 0 12 3
+    -- in auction neither, crossed or not: its own 6 is for inserts alone
+    ∷ case (orderReading (book auction sells) (buyAt 111 13)) 0 12 3
+    ∷ case (orderReading (book auction (order 1 108 7 ∷ [])) (buyAt 108 9)) 0 7 1
+    ∷ case (orderReading (book auction sells) (asking false 13 111 (Limit 111) FillOrKill)) 0 12 3
+    ∷ case (orderReading (book auction sells) (market 12)) 0 12 2
+    ∷ case (orderReading (book auction sells) (asking false 1 5 Market GoodForDay)) 6 0 0
     -- account before contract before lots, lots before 6, 6 before 7; both numbers are then 0
     ∷ case (now′ (from 0 0)) 2 0 0
     ∷ case (now′ (from 3 1)) 2 0 0

@@ -1,13 +1,18 @@
 // How much could I get? What an order would trade now, asked without sending it: the areas are lent for reading only, and nothing is
 // changed.
+ghost use mathlib.Core.Bool.{true};
 ghost use mathlib.Core.Path.{_≡_};
+ghost use Rattle.rules.specs.Answers as answer;
+ghost use Rattle.rules.specs.Bounds.{termsInRange};
 ghost use Rattle.rules.specs.DayFile.{recordFrom};
 ghost use Rattle.rules.specs.Memory.{exchangeOf, memory, WellFormedState};
+ghost use Rattle.refusals.specs.Insertion.{fieldsRefusals};
 ghost use Rattle.query.specs.Gettable.{gettableNow, orderReading, refusedReading};
 use engine::answers;
 use refusals::codes;
 use refusals::orders;
 use rules::Command;
+use rules::Contract;
 use rules::NewOrder;
 use rules::State;
 
@@ -31,6 +36,17 @@ fn refused(code: u32) -> Reading
     }
 }
 
+// Codes 5 to 7 of the question: its 6 is that of document 01 in every state, auction too.
+fn fields_code(terms: Contract, o: NewOrder) -> u32
+    requires { ⌜ termsInRange terms ≡ true ⌝ }
+    ensures { λ r. ⌜ r ≡ answer.firstOf (fieldsRefusals (answer.dayWithoutLimit (o .condition) (o .time)) terms o) ⌝ }
+{
+    let condition = o.condition;
+    let time = o.time;
+    let conditions = codes::is_day_without_limit(condition, time);
+    codes::fields_code(terms, conditions, o)
+}
+
 // An order on a well-formed state. Its contract's state and its time condition are not looked at beyond code 6.
 fn reading_of<'a>(
     state: State,
@@ -51,7 +67,7 @@ fn reading_of<'a>(
     let c = laws::wide(o.contract) - 1;
     let contracts = state.contracts;
     let terms = contracts[c];
-    let fields = codes::fields_code(terms, o);
+    let fields = fields_code(terms, o);
     if fields != 0 {
         return refused(fields);
     }

@@ -53,8 +53,12 @@ module _ (t : Taker) (lots : ℕ) {area : List ℕ} {c count : ℕ} (room : Queu
   pub few-trades : countTrades t lots (queueIn area c count) ≤ 64
   few-trades = omega (arith, count-within t lots (queueIn area c count), length-queue area c count, room .few)
 
-  pub trades-fit : (recorded : ℕ) → recorded ≤ 960 → tradesRefused recorded t (queueIn area c count) lots ≡ false
+  pub trades-fit : (recorded : ℕ) → recorded ≤ 960 → tradesRefused false recorded t (queueIn area c count) lots ≡ false
   trades-fit recorded h = le-ltb 1_024 (recorded + countTrades t lots (queueIn area c count)) (omega (arith, few-trades))
+
+-- in auction there are none
+pub trades-none : (recorded : ℕ) → recorded ≤ 1_024 → ltb 1_024 (recorded + 0) ≡ false
+trades-none recorded h = le-ltb 1_024 (recorded + 0) (omega arith)
 
 -- ---- the lots that can be filled
 

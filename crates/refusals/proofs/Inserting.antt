@@ -10,7 +10,7 @@ use lib.ListN.{length, getD}
 use Rattle.laws.specs.Choice.{both-true, pick}
 use Rattle.rules.specs.Kinds.{codeOf, kindOf}
 use Rattle.rules.specs.Answers.{Refusal, firstOf, fillableLots, holdingRefused, insertRefusals, listingOf, mark, moneyRefused, overHolding, overLimit, takerOf, tradesNeeded}
-use Rattle.rules.specs.Bounds.{maxLots, termsInRange, within}
+use Rattle.rules.specs.Bounds.{inAuction, maxLots, termsInRange, within}
 use Rattle.rules.specs.Exchange.{Exchange, accountAt, holdingAt, noAccount, noContract, noHolding, opposite, own, placeOf, resting}
 use Rattle.rules.specs.Memory.{Memory, exchangeOf, queueIn, memory, WellFormedState}
 use Rattle.rules.specs.declared.Account.{Account}
@@ -60,7 +60,7 @@ module _ {s : State} {buys sells trades : List ℕ} (w : WellFormedState s buys 
 
   bookPart : List Refusal
   bookPart =
-      bookRefusals (x .next) (length (x .trades)) (length (own (o .sell) (listingOf x o))) (takerOf x o) (opposite (o .sell) (listingOf x o)) o
+      bookRefusals (inAuction (listingOf x o .contract)) (x .next) (length (x .trades)) (length (own (o .sell) (listingOf x o))) (takerOf x o) (opposite (o .sell) (listingOf x o)) o
 
   in-parts : codeOf x (Insert o) ≡ pick (isAbsent (o .account) (s .accountcount)) 2 (pick (isAbsent (o .contract) (s .contractcount)) 3 (firstOf (termsPart ++ (accountRefusals x o ++ bookPart))))
   unfolding codeOf kindOf insertRefusals firstOf termsRefusals accountRefusals bookRefusals fillableLots tradesNeeded termsPart bookPart
@@ -181,11 +181,11 @@ module _ {s : State} {buys sells trades : List ℕ} (w : WellFormedState s buys 
               pub recorded-few : s .tradecount ≤ 1_024
               recorded-few = f .trades-high
 
-              book-is : firstOf (bookRefusals (s .next) (s .tradecount) own₁ t (queueIn area (k - 1) count) o) ≡ firstOf bookPart
+              book-is : firstOf (bookRefusals (inAuction (getD (s .contracts) (k - 1) noContract)) (s .next) (s .tradecount) own₁ t (queueIn area (k - 1) count) o) ≡ firstOf bookPart
               unfolding bookPart listingOf takerOf exchangeOf
               book-is =
                   rw (er, eo, ec, ea, is, trades-count m f, side-is m f c (p .contract) (o .sell), length-queue, opposite-is m f c (p .contract) (o .sell), contract-is m f c (p .contract))
 
-              pub code-book : {book : ℕ} → book ≡ firstOf (bookRefusals (s .next) (s .tradecount) own₁ t (queueIn area (k - 1) count) o)
+              pub code-book : {book : ℕ} → book ≡ firstOf (bookRefusals (inAuction (getD (s .contracts) (k - 1) noContract)) (s .next) (s .tradecount) own₁ t (queueIn area (k - 1) count) o)
                   → book ≡ codeOf x (Insert o)
               code-book eb = eb ∙ book-is ∙ sym (on-to-account ∙ rw (account-first, ← ex, clear))

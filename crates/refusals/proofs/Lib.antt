@@ -1,4 +1,5 @@
 pub mod Affording
 pub mod Arrivals
+pub mod Conditions
 pub mod Inserting
 pub mod Sides

@@ -1,14 +1,14 @@
 -- An insert's refusals in the parts in which the code tries them, over plain values; the side of a contract as it lies; and the
 -- order as it meets the book. Together with codes 2 and 3 the parts are the rules' list (proofs/Inserting.antt). Assumes nothing.
-use mathlib.Core.Bool.{Bool, true, false, not, _&&_}
+use mathlib.Core.Bool.{Bool, true, false, not, _&&_, _||_}
 use mathlib.Core.List.{List, [], _∷_}
 use mathlib.Core.Path.{_≡_}
 use Prim.Native.Nat.{ℕ, _+_, _*_, _<_, _≤_}
-use lib.Dec.{leb, ltb, eqb}
+use lib.Dec.{leb, ltb}
 use lib.ListN.{length, getD}
 use Rattle.laws.specs.Choice.{pick}
-use Rattle.rules.specs.Answers.{Refusal, _when_, holdingRefused, moneyRefused, isFillOrKill, isGoodForDay, isLimit, mark, priceRefused}
-use Rattle.rules.specs.Bounds.{within, maxLots, maxResting, maxTrades, numbersEnd}
+use Rattle.rules.specs.Answers.{Refusal, _when_, conditionsRefused, holdingRefused, moneyRefused, isFillOrKill, isGoodForDay, mark, priceRefused, takesOrders}
+use Rattle.rules.specs.Bounds.{inAuction, within, maxLots, maxResting, maxTrades, numbersEnd}
 use Rattle.rules.specs.EarlyStop.{countTrades}
 use Rattle.rules.specs.Exchange.{Exchange, bestPrice, noAccount, placeOf}
 use Rattle.rules.specs.Matching.{fillable, methodOf}
@@ -27,21 +27,17 @@ use Rattle.engine.specs.Outcome.{isAbsent}
 
 -- ---- the refusals
 
--- 6: "market or best with good for day"
-abbrev pub dayWithoutLimit : PriceCondition → TimeCondition → Bool
-dayWithoutLimit condition time = not (isLimit condition) && isGoodForDay time
-
--- 5 to 7: the order's own fields, by the contract's terms
-abbrev pub fieldsRefusals : Contract → NewOrder → List Refusal
-fieldsRefusals c o =
+-- 5 to 7: the order's own fields, by the contract's terms; `conditions` is the test of 6
+abbrev pub fieldsRefusals : Bool → Contract → NewOrder → List Refusal
+fieldsRefusals conditions c o =
     (5 when not (within 1 maxLots (o .lots)))
-    ∷ (6 when dayWithoutLimit (o .condition) (o .time))
+    ∷ (6 when conditions)
     ∷ (7 when priceRefused c o)
     ∷ []
 
 -- 4 to 7: the contract's phase, then the fields
 unfoldable pub termsRefusals : Contract → NewOrder → List Refusal
-termsRefusals c o = (4 when not (eqb (c .phase) 1)) ∷ fieldsRefusals c o
+termsRefusals c o = (4 when not (takesOrders c)) ∷ fieldsRefusals (conditionsRefused c o) c o
 
 -- 8, with the account's resting lots on the order's own side: opens of an open, closes of a close
 unfoldable pub lotsRefused : Contract → Holding → ℕ → NewOrder → Bool
@@ -58,21 +54,22 @@ accountRefusals x o = (8 when holdingRefused x o) ∷ (9 when moneyRefused x o) 
 abbrev pub killRefused : Taker → List Order → ℕ → TimeCondition → Bool
 killRefused t queue lots time = isFillOrKill time && ltb (fillable t queue) lots
 
--- 12: "it would make more trades than the day has room for"
-abbrev pub tradesRefused : ℕ → Taker → List Order → ℕ → Bool
-tradesRefused recorded t queue lots = ltb maxTrades (recorded + countTrades t lots queue)
+-- 12: "it would make more trades than the day has room for"; in auction it makes none
+abbrev pub tradesRefused : Bool → ℕ → Taker → List Order → ℕ → Bool
+tradesRefused auction recorded t queue lots = ltb maxTrades (recorded + pick auction 0 (countTrades t lots queue))
 
--- 13: "good for day, own side has 64, fillable lots below lots"
-abbrev pub fullRefused : ℕ → Taker → List Order → ℕ → TimeCondition → Bool
-fullRefused own t queue lots time = isGoodForDay time && leb maxResting own && ltb (fillable t queue) lots
+-- 13: "good for day, own side has 64, fillable lots below lots"; in auction "whenever the own side has 64"
+abbrev pub fullRefused : Bool → ℕ → Taker → List Order → ℕ → TimeCondition → Bool
+fullRefused auction own t queue lots time = isGoodForDay time && leb maxResting own && (auction || ltb (fillable t queue) lots)
 
--- 10 to 13: the next number, the trades recorded, the orders on the own side, the order as it meets the opposite queue
-unfoldable pub bookRefusals : ℕ → ℕ → ℕ → Taker → List Order → NewOrder → List Refusal
-bookRefusals next recorded own t queue o =
+-- 10 to 13: whether the contract is in auction, the next number, the trades recorded, the orders on the own side, the order as it
+-- meets the opposite queue
+unfoldable pub bookRefusals : Bool → ℕ → ℕ → ℕ → Taker → List Order → NewOrder → List Refusal
+bookRefusals auction next recorded own t queue o =
     (10 when leb numbersEnd next)
     ∷ (11 when killRefused t queue (o .lots) (o .time))
-    ∷ (12 when tradesRefused recorded t queue (o .lots))
-    ∷ (13 when fullRefused own t queue (o .lots) (o .time))
+    ∷ (12 when tradesRefused auction recorded t queue (o .lots))
+    ∷ (13 when fullRefused auction own t queue (o .lots) (o .time))
     ∷ []
 
 -- ---- one side of a contract, as it lies

@@ -1,21 +1,23 @@
 // The code of an insert: the refusals 3 to 13 in their order. For our own crates: `code_of` asks for a well-formed state and an order
 // whose account is in use, the others for what they read of it.
-ghost use mathlib.Core.Bool.{true};
+ghost use mathlib.Core.Bool.{true, _&&_};
 ghost use mathlib.Core.Path.{_≡_};
 ghost use Prim.Native.Nat.{_-_, _≤_};
 ghost use lib.Dec.{ltb};
 ghost use lib.ListN.{getD};
 ghost use Rattle.rules.specs.Answers as answer;
-ghost use Rattle.rules.specs.Bounds.{termsInRange};
+ghost use Rattle.rules.specs.Bounds.{inAuction, termsInRange};
 ghost use Rattle.rules.specs.Exchange.{noAccount};
 ghost use Rattle.rules.specs.Matching as matching;
 ghost use Rattle.rules.specs.Kinds.{codeOf};
 ghost use Rattle.rules.specs.Memory.{exchangeOf, queueIn, memory, WellFormedState};
 ghost use Rattle.rules.specs.declared.Command.the-variants.{Insert};
-ghost use Rattle.refusals.specs.Insertion.{dayWithoutLimit, fieldsRefusals, termsRefusals, lotsRefused, killRefused, tradesRefused, fullRefused, accountRefusals, bookRefusals, Present, OwnedBy, QueueRoom, Facing};
+ghost use Rattle.refusals.specs.Insertion.{fieldsRefusals, termsRefusals, lotsRefused, killRefused, tradesRefused, fullRefused, accountRefusals, bookRefusals, Present, OwnedBy, QueueRoom, Facing};
 use crate::orders;
 use engine::answers;
+use rules::AUCTION;
 use rules::Account;
+use rules::CONTINUOUS;
 use rules::Contract;
 use rules::Holding;
 use rules::NewOrder;
@@ -24,14 +26,46 @@ use rules::State;
 use rules::Taker;
 use rules::TimeCondition;
 
-// 6: "market or best with good for day".
-fn is_day_without_limit(condition: PriceCondition, time: TimeCondition) -> bool
-    ensures { λ r. ⌜ r ≡ dayWithoutLimit condition time ⌝ }
+// 4: "Insert needs continuous.", and auction.
+fn takes_orders(terms: Contract) -> bool
+    ensures { λ r. ⌜ r ≡ answer.takesOrders terms ⌝ }
+{
+    if terms.phase == CONTINUOUS {
+        return true;
+    }
+    terms.phase == AUCTION
+}
+
+// 6: "market or best with good for day". Another crate asks for it too.
+pub fn is_day_without_limit(condition: PriceCondition, time: TimeCondition) -> bool
+    ensures { λ r. ⌜ r ≡ answer.dayWithoutLimit condition time ⌝ }
 {
     if orders::is_limit(condition) {
         return false;
     }
     orders::is_day(time)
+}
+
+// Whether an order is limit good for day.
+fn is_limit_day(condition: PriceCondition, time: TimeCondition) -> bool
+    ensures { λ r. ⌜ r ≡ (answer.isLimit condition && answer.isGoodForDay time) ⌝ }
+{
+    if !orders::is_limit(condition) {
+        return false;
+    }
+    orders::is_day(time)
+}
+
+// 6 of an insert: in auction any order that is not limit good for day.
+fn conditions_refused(terms: Contract, o: NewOrder) -> bool
+    ensures { λ r. ⌜ r ≡ answer.conditionsRefused terms o ⌝ }
+{
+    let condition = o.condition;
+    let time = o.time;
+    if terms.phase == AUCTION {
+        return !is_limit_day(condition, time);
+    }
+    is_day_without_limit(condition, time)
 }
 
 // 7: a limit must be allowed today, market and best have no price.
@@ -46,18 +80,17 @@ fn price_refused(terms: Contract, condition: PriceCondition, price: u32) -> bool
     }
 }
 
-// Codes 5 to 7, 0 where none holds: what an order's own fields are refused for, whatever its contract's state. Another crate asks
+// Codes 5 to 7, 0 where none holds: what an order's own fields are refused for. `conditions` is the test of 6. Another crate asks
 // for it too.
-pub fn fields_code(terms: Contract, o: NewOrder) -> u32
+pub fn fields_code(terms: Contract, conditions: bool, o: NewOrder) -> u32
     requires { ⌜ termsInRange terms ≡ true ⌝ }
-    ensures { λ r. ⌜ r ≡ answer.firstOf (fieldsRefusals terms o) ⌝ }
+    ensures { λ r. ⌜ r ≡ answer.firstOf (fieldsRefusals conditions terms o) ⌝ }
 {
     let condition = o.condition;
-    let time = o.time;
     if !terms::within(1, 1000, o.lots) {
         return 5;
     }
-    if is_day_without_limit(condition, time) {
+    if conditions {
         return 6;
     }
     if price_refused(terms, condition, o.price) {
@@ -71,10 +104,11 @@ fn terms_code(terms: Contract, o: NewOrder) -> u32
     requires { ⌜ termsInRange terms ≡ true ⌝ }
     ensures { λ r. ⌜ r ≡ answer.firstOf (termsRefusals terms o) ⌝ }
 {
-    if terms.phase != 1 {
+    if !takes_orders(terms) {
         return 4;
     }
-    fields_code(terms, o)
+    let conditions = conditions_refused(terms, o);
+    fields_code(terms, conditions, o)
 }
 
 // 8: an open may not lift holding and resting opens above the limit, a close may not exceed what is held less resting closes.
@@ -185,8 +219,9 @@ fn kill_refused(
 }
 
 // 12: more trades than the day has room for. An order trades at most once with each order of the opposite queue, so up to 960
-// recorded trades nothing needs to be counted.
+// recorded trades nothing needs to be counted. In auction it makes no trades.
 fn trades_refused(
+    auction: bool,
     recorded: usize,
     area: &[u32],
     c: usize,
@@ -195,16 +230,21 @@ fn trades_refused(
     lots: u32,
 ) -> bool
     requires { ⌜ QueueRoom (now area) c count × (recorded ≤ 1024) ⌝ }
-    ensures { λ r. ⌜ r ≡ tradesRefused recorded t (queueIn (now (area .entry)) c count) lots ⌝ }
+    ensures { λ r. ⌜ r ≡ tradesRefused auction recorded t (queueIn (now (area .entry)) c count) lots ⌝ }
 {
+    if auction {
+        return false;
+    }
     if recorded <= 960 {
         return false;
     }
     1024 < recorded + book::scan::count_trades(area, c, count, t, lots)
 }
 
-// 13: "good for day, own side has 64, fillable lots below lots". `own` is the number of orders on the own side.
+// 13: "good for day, own side has 64, fillable lots below lots", in auction "whenever the own side has 64". `own` is the number of
+// orders on the own side.
 fn full_refused(
+    auction: bool,
     own: usize,
     area: &[u32],
     c: usize,
@@ -214,7 +254,7 @@ fn full_refused(
     time: TimeCondition,
 ) -> bool
     requires { ⌜ Facing t (now area) c count ⌝ }
-    ensures { λ r. ⌜ r ≡ fullRefused own t (queueIn (now (area .entry)) c count) lots time ⌝ }
+    ensures { λ r. ⌜ r ≡ fullRefused auction own t (queueIn (now (area .entry)) c count) lots time ⌝ }
 {
     if !orders::is_day(time) {
         return false;
@@ -222,12 +262,16 @@ fn full_refused(
     if own < 64 {
         return false;
     }
+    if auction {
+        return true;
+    }
     is_short(area, c, count, t, lots)
 }
 
 // Codes 10 to 13, 0 where none holds: the order as it meets the opposite queue, with so many orders on its own side.
 fn book_code(
     state: State,
+    terms: Contract,
     own: usize,
     area: &[u32],
     c: usize,
@@ -236,20 +280,21 @@ fn book_code(
     o: NewOrder,
 ) -> u32
     requires { ⌜ Facing t (now area) c count × (state .tradecount ≤ 1024) ⌝ }
-    ensures { λ r. ⌜ r ≡ answer.firstOf (bookRefusals (state .next) (state .tradecount) own t (queueIn (now (area .entry)) c count) o) ⌝ }
+    ensures { λ r. ⌜ r ≡ answer.firstOf (bookRefusals (inAuction terms) (state .next) (state .tradecount) own t (queueIn (now (area .entry)) c count) o) ⌝ }
 {
     let time = o.time;
     let lots = o.lots;
+    let auction = terms.phase == AUCTION;
     if 1000000 <= state.next {
         return 10;
     }
     if kill_refused(area, c, count, t, lots, time) {
         return 11;
     }
-    if trades_refused(state.tradecount, area, c, count, t, lots) {
+    if trades_refused(auction, state.tradecount, area, c, count, t, lots) {
         return 12;
     }
-    if full_refused(own, area, c, count, t, lots, time) {
+    if full_refused(auction, own, area, c, count, t, lots, time) {
         return 13;
     }
     0
@@ -287,5 +332,5 @@ pub fn code_of<'a>(
     }
     let area = orders::side_area(!o.sell, buys, sells);
     let t = orders::taker_of(state.next, terms, area, count, o);
-    book_code(state, own, area, c, count, t, o)
+    book_code(state, terms, own, area, c, count, t, o)
 }

@@ -10,3 +10,11 @@ pub mod InUse
 pub mod Terms
 pub mod Stages
 pub mod EachKind
+pub mod AuctionTurns
+pub mod AuctionTaken
+pub mod AuctionPrice
+pub mod AuctionTraded
+pub mod AuctionTrades
+pub mod AuctionUncrossed
+pub mod AuctionOutcome
+pub mod AuctionSteps

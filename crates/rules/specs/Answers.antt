@@ -9,7 +9,8 @@ use lib.IntN.{pos, _+ℤ_, _-ℤ_}
 use lib.Signed.{ltZ}
 use lib.ListN.{length}
 use Rattle.laws.specs.Choice.{pick, allOf}
-use Rattle.rules.specs.Bounds.{within, allowedToday, maxLots, maxResting, maxTrades, maxSettlements, numbersEnd, maxAmount, maxBalance}
+use Rattle.rules.specs.Bounds.{within, allowedToday, preOpen, continuous, noTrading, closed, auction, inAuction, maxLots, maxResting, maxTrades, maxSettlements, numbersEnd, maxAmount, maxBalance}
+use Rattle.rules.specs.Auction.{matchOf}
 use Rattle.rules.specs.Exchange.{Exchange, Listing, listingAt, accountAt, holdingAt, placeOf, absent, own, opposite, bestPrice, restingOpens, restingCloses}
 use Rattle.rules.specs.Margin.{charged, chargedWith}
 use Rattle.rules.specs.Matching.{sweep, fillable, methodOf}
@@ -74,11 +75,26 @@ takerOf x o =
 unfoldable pub fillableLots : Exchange → NewOrder → ℕ
 fillableLots x o = fillable (takerOf x o) (opposite (o .sell) (listingOf x o))
 
--- how many trades the order would make
+-- how many trades the order would make: in auction none, since orders "rest without matching" (02, ticket 4)
 unfoldable pub tradesNeeded : Exchange → NewOrder → ℕ
-tradesNeeded x o = length (sweep (takerOf x o) (o .lots) (listingOf x o .contract .last) (opposite (o .sell) (listingOf x o)) .trades)
+tradesNeeded x o =
+    pick (inAuction (listingOf x o .contract)) 0
+    (length (sweep (takerOf x o) (o .lots) (listingOf x o .contract .last) (opposite (o .sell) (listingOf x o)) .trades))
 
 -- ---- the tests of an insert
+
+-- 4: "Insert needs continuous.", and auction (02, ticket 4)
+unfoldable pub takesOrders : Contract → Bool
+takesOrders c = eqb (c .phase) continuous || inAuction c
+
+-- 6: "market or best with good for day", whatever the contract's state
+abbrev pub dayWithoutLimit : PriceCondition → TimeCondition → Bool
+dayWithoutLimit condition time = not (isLimit condition) && isGoodForDay time
+
+-- 6: "in auction 6 for any insert not limit good for day" (02, ticket 4)
+unfoldable pub conditionsRefused : Contract → NewOrder → Bool
+conditionsRefused c o =
+    dayWithoutLimit (o .condition) (o .time) || inAuction c && not (isLimit (o .condition) && isGoodForDay (o .time))
 
 -- 7: "limit price off tick or outside low to high; market or best with a price not 0"
 unfoldable pub priceRefusedBy : Contract → PriceCondition → ℕ → Bool
@@ -120,12 +136,11 @@ insertRefusals x o =
     -- "account 0 or absent"; "contract 0 or absent"
     (2 when absent (o .account) (x .accounts))
     ∷ (3 when absent (o .contract) (x .listings))
-    -- "contract state forbids it": "Insert needs continuous."
-    ∷ (4 when not (eqb (listingOf x o .contract .phase) 1))
+    -- "contract state forbids it"
+    ∷ (4 when not (takesOrders (listingOf x o .contract)))
     -- "lots outside 1 to 1,000"
     ∷ (5 when not (within 1 maxLots (o .lots)))
-    -- "market or best with good for day"
-    ∷ (6 when (not (isLimit (o .condition)) && isGoodForDay (o .time)))
+    ∷ (6 when conditionsRefused (listingOf x o .contract) o)
     ∷ (7 when priceRefused (listingOf x o .contract) o)
     ∷ (8 when holdingRefused x o)
     ∷ (9 when moneyRefused x o)
@@ -135,13 +150,14 @@ insertRefusals x o =
     ∷ (11 when (isFillOrKill (o .time) && ltb (fillableLots x o) (o .lots)))
     -- "it would make more trades than the day has room for"
     ∷ (12 when ltb maxTrades (length (x .trades) + tradesNeeded x o))
-    -- "good for day, own side has 64, fillable lots below lots"
-    ∷ (13 when (isGoodForDay (o .time) && leb maxResting (length (own (o .sell) (listingOf x o))) && ltb (fillableLots x o) (o .lots)))
+    -- "good for day, own side has 64, fillable lots below lots"; in auction "13 whenever the own side has 64" (02, ticket 4)
+    ∷ (13 when (isGoodForDay (o .time) && leb maxResting (length (own (o .sell) (listingOf x o))) && (inAuction (listingOf x o .contract) || ltb (fillableLots x o) (o .lots))))
     ∷ []
 
--- 4: "Cancel and pull need continuous, or no trading with the operator bit (001, table 2)."
+-- 4: "Cancel and pull need continuous, or no trading with the operator bit (001, table 2)." In auction "cancel and pull work"
+-- (02, ticket 4), with the operator bit or without.
 unfoldable pub removalRefused : Contract → Bool → Bool
-removalRefused c operator = not (eqb (c .phase) 1 || eqb (c .phase) 2 && operator)
+removalRefused c operator = not (eqb (c .phase) continuous || eqb (c .phase) noTrading && operator || inAuction c)
 
 -- the resting order with a number, buys first: a list of one, empty where there is none
 unfoldable pub numbered : ℕ → List Order → List Order
@@ -204,26 +220,30 @@ withdrawRefusals x account amount =
     ∷ (9 when leavesTooLittle x account amount)
     ∷ []
 
--- 17: "State changes (house ..): 0 to 1, 0 to 3, 1 to 2, 2 to 1, 1 to 3, 2 to 3."
+-- 17: "State changes (house ..): 0 to 1, 0 to 3, 1 to 2, 2 to 1, 1 to 3, 2 to 3." Auction is "reached from pre-open, left only to
+-- continuous" (02, ticket 4): 0 to 4, 4 to 1.
 unfoldable pub changeListed : ℕ → ℕ → Bool
 changeListed from to =
-    eqb from 0 && eqb to 1
-    || eqb from 0 && eqb to 3
-    || eqb from 1 && eqb to 2
-    || eqb from 2 && eqb to 1
-    || eqb from 1 && eqb to 3
-    || eqb from 2 && eqb to 3
+    eqb from preOpen && eqb to continuous
+    || eqb from preOpen && eqb to closed
+    || eqb from continuous && eqb to noTrading
+    || eqb from noTrading && eqb to continuous
+    || eqb from continuous && eqb to closed
+    || eqb from noTrading && eqb to closed
+    || eqb from preOpen && eqb to auction
+    || eqb from auction && eqb to continuous
 
--- "state 3, 17"
+-- "state 3, 17", "then 12 for the state change if the match needs more room" (02, ticket 4)
 unfoldable pub phaseRefusals : Exchange → ℕ → ℕ → List Refusal
 phaseRefusals x contract phase =
     (3 when absent contract (x .listings))
     ∷ (17 when not (changeListed (listingAt x (placeOf contract) .contract .phase) phase))
+    ∷ (12 when ltb maxTrades (length (x .trades) + length (matchOf x (placeOf contract) .trades)))
     ∷ []
 
 -- "settle 18, 19"
 unfoldable pub settleRefusals : Exchange → List Refusal
 settleRefusals x =
-    (18 when not (allOf (λ l. eqb (l .contract .phase) 3) (x .listings)))
+    (18 when not (allOf (λ l. eqb (l .contract .phase) closed) (x .listings)))
     ∷ (19 when leb maxSettlements (x .settlements))
     ∷ []

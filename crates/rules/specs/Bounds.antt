@@ -47,6 +47,29 @@ maxDayProfit = 3 * 10 ^ 15
 abbrev pub maxMethod : ℕ
 maxMethod = 2
 
+-- "0 pre-open, 1 continuous, 2 no trading, 3 closed", and "contract state 4, auction (flags above 4 are unknown)" (document 02,
+-- ticket 4). What the papers call a contract's state is its `phase` here: `State` is the exchange's.
+abbrev pub preOpen : ℕ
+preOpen = 0
+
+abbrev pub continuous : ℕ
+continuous = 1
+
+abbrev pub noTrading : ℕ
+noTrading = 2
+
+abbrev pub closed : ℕ
+closed = 3
+
+abbrev pub auction : ℕ
+auction = 4
+
+abbrev pub maxPhase : ℕ
+maxPhase = auction
+
+abbrev pub inAuction : Contract → Bool
+inAuction c = eqb (c .phase) auction
+
 abbrev pub within : ℕ → ℕ → ℕ → Bool
 within low high n = leb low n && leb n high
 

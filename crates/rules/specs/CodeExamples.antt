@@ -9,8 +9,9 @@ use lib.ListN.{replicate}
 use Rattle.laws.specs.Choice.{all, allOf}
 use Rattle.laws.specs.Sums.{sumOf}
 use Rattle.laws.specs.Tabulate.{tabulate}
-use Rattle.rules.specs.Answers.{amountRefused, cancelRefusals, changeListed, depositRefusals, fillableLots, firstOf, insertRefusals, leavesTooLittle, liftsTooHigh, listingOf, holdingRefused, moneyRefused, noSuchOrder, numbered, ofAnother, overHolding, overLimit, phaseRefusals, priceRefusedBy, pullRefusals, removalRefused, restingOrder, settleRefusals, takerOf, tradesNeeded, withdrawRefusals}
-use Rattle.rules.specs.Bounds.{allowedToday, dayHigh, dayLow, onTick}
+use Rattle.rules.specs.Answers.{amountRefused, cancelRefusals, changeListed, depositRefusals, fillableLots, firstOf, insertRefusals, leavesTooLittle, liftsTooHigh, listingOf, holdingRefused, moneyRefused, noSuchOrder, numbered, ofAnother, overHolding, overLimit, phaseRefusals, priceRefusedBy, pullRefusals, removalRefused, restingOrder, settleRefusals, takerOf, tradesNeeded, withdrawRefusals, conditionsRefused, takesOrders}
+use Rattle.rules.specs.Bounds.{allowedToday, dayHigh, dayLow, onTick, auction, closed, continuous, noTrading, preOpen}
+use Rattle.rules.specs.Auction.{auctionMatch, bestFrom, bestOf, better, chosenPrice, lotsReaching, matchAt, matchIn, matchOf, prices, surplus, tradeAt, volume}
 use Rattle.rules.specs.Command.{bits, commandOf, insertFlags, insertOf, newOrder, phaseOf, priceCondition, settleOf, timeCondition, zeros}
 use Rattle.rules.specs.Examples.{Row, _gives_, allRight}
 use Rattle.rules.specs.Exchange.{Exchange, absent, accountAt, bestPrice, holdingAt, listingAt, lotsWhere, noHolding, noTrade, resting}
@@ -60,7 +61,18 @@ asked phase buys trades next settlements =
     }
 
 open′ : Exchange
-open′ = asked 1 0 0 100 0
+open′ = asked continuous 0 0 100 0
+
+-- the contract in auction, a buy of 9 at 112 resting too, so many trades made: its match makes two trades
+crossed : ℕ → Exchange
+crossed trades =
+    record {
+      listings = record { contract = contract auction; buys = order 3 112 9 ∷ []; sells = order 1 110 7 ∷ order 2 112 5 ∷ [] } ∷ [];
+      accounts = rich ∷ poor ∷ [];
+      trades = replicate trades noTrade;
+      next = 100;
+      settlements = 0;
+    }
 
 -- a buy open of an account in a contract
 buy : ℕ → ℕ → ℕ → ℕ → PriceCondition → TimeCondition → Command
@@ -91,8 +103,8 @@ codes =
     -- account before contract before state before lots
     ∷ (codeOf open′ (buy 0 0 1 100 (Limit 100) GoodForDay) gives 2)
     ∷ (codeOf open′ (buy 3 1 1 100 (Limit 100) GoodForDay) gives 2)
-    ∷ (codeOf (asked 3 0 0 100 0) (buy 1 2 0 100 (Limit 100) GoodForDay) gives 3)
-    ∷ (codeOf (asked 3 0 0 100 0) (buy 1 1 0 100 (Limit 100) GoodForDay) gives 4)
+    ∷ (codeOf (asked closed 0 0 100 0) (buy 1 2 0 100 (Limit 100) GoodForDay) gives 3)
+    ∷ (codeOf (asked closed 0 0 100 0) (buy 1 1 0 100 (Limit 100) GoodForDay) gives 4)
     -- market with good for day and a price: lots 0 gives 5, lots 1 gives 6; with immediate or cancel 7
     ∷ (codeOf open′ (buy 1 1 0 5 Market GoodForDay) gives 5)
     ∷ (codeOf open′ (buy 1 1 1 5 Market GoodForDay) gives 6)
@@ -106,28 +118,49 @@ codes =
     ∷ (codeOf open′ (sell 2 false 6) gives 8)
     ∷ (codeOf open′ (buy 2 1 998 100 (Limit 100) GoodForDay) gives 0)
     ∷ (codeOf open′ (buy 2 1 999 100 (Limit 100) GoodForDay) gives 9)
-    ∷ (codeOf (asked 1 1 0 100 0) (buy 1 1 1_000 100 (Limit 100) GoodForDay) gives 8)
+    ∷ (codeOf (asked continuous 1 0 100 0) (buy 1 1 1_000 100 (Limit 100) GoodForDay) gives 8)
     ∷ (codeOf open′ (sell 1 true 1) gives 8)
     -- money before numbers, numbers before fill or kill; the number 999,999 is still given
-    ∷ (codeOf (asked 1 0 0 1_000_000 0) (buy 2 1 999 100 (Limit 100) GoodForDay) gives 9)
-    ∷ (codeOf (asked 1 0 0 1_000_000 0) (buy 1 1 13 112 (Limit 112) FillOrKill) gives 10)
-    ∷ (codeOf (asked 1 0 0 999_999 0) (buy 1 1 12 112 (Limit 112) FillOrKill) gives 0)
+    ∷ (codeOf (asked continuous 0 0 1_000_000 0) (buy 2 1 999 100 (Limit 100) GoodForDay) gives 9)
+    ∷ (codeOf (asked continuous 0 0 1_000_000 0) (buy 1 1 13 112 (Limit 112) FillOrKill) gives 10)
+    ∷ (codeOf (asked continuous 0 0 999_999 0) (buy 1 1 12 112 (Limit 112) FillOrKill) gives 0)
     -- fill or kill before the room for trades, that before the room in the queue
-    ∷ (codeOf (asked 1 0 1_023 100 0) (buy 1 1 13 112 (Limit 112) FillOrKill) gives 11)
-    ∷ (codeOf (asked 1 0 1_023 100 0) (buy 1 1 12 112 (Limit 112) FillOrKill) gives 12)
-    ∷ (codeOf (asked 1 0 1_022 100 0) (buy 1 1 12 112 (Limit 112) FillOrKill) gives 0)
-    ∷ (codeOf (asked 1 64 1_023 100 0) (buy 1 1 13 112 (Limit 112) GoodForDay) gives 12)
+    ∷ (codeOf (asked continuous 0 1_023 100 0) (buy 1 1 13 112 (Limit 112) FillOrKill) gives 11)
+    ∷ (codeOf (asked continuous 0 1_023 100 0) (buy 1 1 12 112 (Limit 112) FillOrKill) gives 12)
+    ∷ (codeOf (asked continuous 0 1_022 100 0) (buy 1 1 12 112 (Limit 112) FillOrKill) gives 0)
+    ∷ (codeOf (asked continuous 64 1_023 100 0) (buy 1 1 13 112 (Limit 112) GoodForDay) gives 12)
     -- "The 65th rester gives 13", an order that fills at once does not
-    ∷ (codeOf (asked 1 63 0 100 0) (buy 1 1 1 100 (Limit 100) GoodForDay) gives 0)
-    ∷ (codeOf (asked 1 64 0 100 0) (buy 1 1 1 100 (Limit 100) GoodForDay) gives 13)
-    ∷ (codeOf (asked 1 64 0 100 0) (buy 1 1 12 112 (Limit 112) GoodForDay) gives 0)
-    ∷ (codeOf (asked 1 64 0 100 0) (buy 1 1 13 112 (Limit 112) GoodForDay) gives 13)
+    ∷ (codeOf (asked continuous 63 0 100 0) (buy 1 1 1 100 (Limit 100) GoodForDay) gives 0)
+    ∷ (codeOf (asked continuous 64 0 100 0) (buy 1 1 1 100 (Limit 100) GoodForDay) gives 13)
+    ∷ (codeOf (asked continuous 64 0 100 0) (buy 1 1 12 112 (Limit 112) GoodForDay) gives 0)
+    ∷ (codeOf (asked continuous 64 0 100 0) (buy 1 1 13 112 (Limit 112) GoodForDay) gives 13)
+    -- in auction a limit order for the day rests, crossing or not; every other insert gives 6, after 5
+    ∷ (codeOf (asked auction 0 0 100 0) (buy 1 1 12 112 (Limit 112) GoodForDay) gives 0)
+    ∷ (codeOf (asked auction 0 0 100 0) (buy 1 1 12 112 (Limit 112) ImmediateOrCancel) gives 6)
+    ∷ (codeOf (asked auction 0 0 100 0) (buy 1 1 13 112 (Limit 112) FillOrKill) gives 6)
+    ∷ (codeOf (asked auction 0 0 100 0) (buy 1 1 1 5 Market ImmediateOrCancel) gives 6)
+    ∷ (codeOf (asked auction 0 0 100 0) (buy 1 1 1 0 Market GoodForDay) gives 6)
+    ∷ (codeOf (asked auction 0 0 100 0) (buy 1 1 0 0 Market FillOrKill) gives 5)
+    -- 7 to 10 there as ever; no trade is made, so none is too many; 13 though the order would fill at once
+    ∷ (codeOf (asked auction 0 0 100 0) (buy 1 1 1 122 (Limit 122) GoodForDay) gives 7)
+    ∷ (codeOf (asked auction 0 0 100 0) (sell 1 true 1) gives 8)
+    ∷ (codeOf (asked auction 0 0 100 0) (sell 2 false 4) gives 9)
+    ∷ (codeOf (asked auction 64 0 1_000_000 0) (buy 1 1 12 112 (Limit 112) GoodForDay) gives 10)
+    ∷ (codeOf (asked auction 0 1_024 100 0) (buy 1 1 12 112 (Limit 112) GoodForDay) gives 0)
+    ∷ (codeOf (asked auction 63 0 100 0) (buy 1 1 12 112 (Limit 112) GoodForDay) gives 0)
+    ∷ (codeOf (asked auction 64 0 100 0) (buy 1 1 12 112 (Limit 112) GoodForDay) gives 13)
+    -- cancel and pull work in auction, with the operator bit or without; number before owner as ever
+    ∷ (codeOf (asked auction 0 0 100 0) (Cancel 1 1 false 1) gives 0)
+    ∷ (codeOf (asked auction 0 0 100 0) (Cancel 1 1 true 1) gives 0)
+    ∷ (codeOf (asked auction 0 0 100 0) (Cancel 2 1 false 1) gives 15)
+    ∷ (codeOf (asked auction 0 0 100 0) (Pull 2 1 false) gives 0)
+    ∷ (codeOf (asked auction 0 0 100 0) (Pull 2 1 true) gives 0)
     -- cancel: state before number before owner; no trading needs the operator
-    ∷ (codeOf (asked 2 0 0 100 0) (Cancel 1 1 false 9) gives 4)
-    ∷ (codeOf (asked 2 0 0 100 0) (Cancel 2 1 true 9) gives 14)
-    ∷ (codeOf (asked 2 0 0 100 0) (Cancel 2 1 true 1) gives 15)
-    ∷ (codeOf (asked 2 0 0 100 0) (Cancel 1 1 true 1) gives 0)
-    ∷ (codeOf (asked 0 0 0 100 0) (Cancel 1 1 true 1) gives 4)
+    ∷ (codeOf (asked noTrading 0 0 100 0) (Cancel 1 1 false 9) gives 4)
+    ∷ (codeOf (asked noTrading 0 0 100 0) (Cancel 2 1 true 9) gives 14)
+    ∷ (codeOf (asked noTrading 0 0 100 0) (Cancel 2 1 true 1) gives 15)
+    ∷ (codeOf (asked noTrading 0 0 100 0) (Cancel 1 1 true 1) gives 0)
+    ∷ (codeOf (asked preOpen 0 0 100 0) (Cancel 1 1 true 1) gives 4)
     -- a pull of contract 0 is no pull of all contracts
     ∷ (codeOf open′ (Pull 1 0 false) gives 3)
     ∷ (codeOf open′ (Pull 2 1 false) gives 0)
@@ -142,20 +175,37 @@ codes =
     ∷ (codeOf open′ (Withdraw 1 1_098_681) gives 9)
     ∷ (codeOf open′ (Withdraw 1 1_098_680) gives 0)
     -- state: contract before change; no change to the same state
-    ∷ (codeOf open′ (Phase 2 1) gives 3)
-    ∷ (codeOf open′ (Phase 1 1) gives 17)
-    ∷ (codeOf open′ (Phase 1 3) gives 0)
-    ∷ (codeOf (asked 3 0 0 100 0) (Phase 1 0) gives 17)
-    -- settle: closed before the count
-    ∷ (codeOf (asked 2 0 0 100 250) Settle gives 18)
-    ∷ (codeOf (asked 3 0 0 100 250) Settle gives 19)
-    ∷ (codeOf (asked 3 0 0 100 249) Settle gives 0)
+    ∷ (codeOf open′ (Phase 2 continuous) gives 3)
+    ∷ (codeOf open′ (Phase 1 continuous) gives 17)
+    ∷ (codeOf open′ (Phase 1 closed) gives 0)
+    ∷ (codeOf (asked closed 0 0 100 0) (Phase 1 preOpen) gives 17)
+    -- auction: reached from pre-open alone, left to continuous alone
+    ∷ (codeOf (asked preOpen 0 0 100 0) (Phase 1 auction) gives 0)
+    ∷ (codeOf open′ (Phase 1 auction) gives 17)
+    ∷ (codeOf (asked noTrading 0 0 100 0) (Phase 1 auction) gives 17)
+    ∷ (codeOf (asked closed 0 0 100 0) (Phase 1 auction) gives 17)
+    ∷ (codeOf (crossed 0) (Phase 1 continuous) gives 0)
+    ∷ (codeOf (crossed 0) (Phase 1 preOpen) gives 17)
+    ∷ (codeOf (crossed 0) (Phase 1 noTrading) gives 17)
+    ∷ (codeOf (crossed 0) (Phase 1 closed) gives 17)
+    ∷ (codeOf (crossed 0) (Phase 1 auction) gives 17)
+    -- the two trades of the match have room, or not; 17 before 12; with all room used up a state changes still where no trade is made
+    ∷ (codeOf (crossed 1_022) (Phase 1 continuous) gives 0)
+    ∷ (codeOf (crossed 1_023) (Phase 1 continuous) gives 12)
+    ∷ (codeOf (crossed 1_023) (Phase 1 closed) gives 17)
+    ∷ (codeOf (asked auction 1 1_024 100 0) (Phase 1 continuous) gives 0)
+    ∷ (codeOf (asked continuous 0 1_024 100 0) (Phase 1 closed) gives 0)
+    -- settle: closed before the count; a contract in auction is not closed
+    ∷ (codeOf (crossed 0) Settle gives 18)
+    ∷ (codeOf (asked noTrading 0 0 100 250) Settle gives 18)
+    ∷ (codeOf (asked closed 0 0 100 250) Settle gives 19)
+    ∷ (codeOf (asked closed 0 0 100 249) Settle gives 0)
     -- code 1 before all: an unknown state, bits 6 and 7, an unused field, a kind that does not exist
-    ∷ (codeOf open′ (commandOf (raw 6 0 9 4 0)) gives 1)
-    ∷ (codeOf open′ (commandOf (raw 6 0 9 3 0)) gives 3)
+    ∷ (codeOf open′ (commandOf (raw 6 0 9 5 0)) gives 1)
+    ∷ (codeOf open′ (commandOf (raw 6 0 9 4 0)) gives 3)
     -- .. also where no bytes give it
-    ∷ (codeOf open′ (Phase 9 4) gives 1)
-    ∷ (codeOf open′ (Phase 9 3) gives 3)
+    ∷ (codeOf open′ (Phase 9 5) gives 1)
+    ∷ (codeOf open′ (Phase 9 auction) gives 3)
     ∷ (codeOf open′ (commandOf (raw 3 0 0 64 0)) gives 1)
     ∷ (codeOf open′ (commandOf (raw 3 0 0 48 0)) gives 1)
     ∷ (codeOf open′ (commandOf (raw 3 0 0 12 0)) gives 1)
@@ -165,5 +215,5 @@ codes =
     ∷ []
 
 pub code-examples : allRight codes ≡ true
-unfolding allRight codes contract order rich poor asked open′ buy sell raw absent accountAt afterLeg all allOf allowedToday amountRefused bestPrice bits bookLeg cancelRefusals changeListed chargeOf chargedLots chargedTo codeOf commandOf dayHigh dayLow depositRefusals fillable fillableLots firstOf holdingAt insertFlags insertOf insertRefusals kindOf leavesTooLittle liftsTooHigh listingAt listingOf holdingRefused lotsWhere meets methodOf middle pairedPrice moneyRefused newOrder noSuchOrder numbered ofAnother onTick overHolding overLimit phaseOf phaseRefusals priceCondition priceRefusedBy pullRefusals removalRefused resting restingOrder settleOf settleRefusals stays sumOf sweep tabulate takerOf timeCondition tradePrice tradeWith tradesNeeded withdrawRefusals zeros
+unfolding allRight codes contract order rich poor asked open′ buy sell raw absent accountAt afterLeg all allOf allowedToday amountRefused bestPrice bits bookLeg cancelRefusals changeListed chargeOf chargedLots chargedTo codeOf commandOf dayHigh dayLow depositRefusals fillable fillableLots firstOf holdingAt insertFlags insertOf insertRefusals kindOf leavesTooLittle liftsTooHigh listingAt listingOf holdingRefused lotsWhere meets methodOf middle pairedPrice moneyRefused newOrder noSuchOrder numbered ofAnother onTick overHolding overLimit phaseOf phaseRefusals priceCondition priceRefusedBy pullRefusals removalRefused resting restingOrder settleOf settleRefusals stays sumOf sweep tabulate takerOf timeCondition tradePrice tradeWith tradesNeeded withdrawRefusals zeros crossed auctionMatch bestFrom bestOf better chosenPrice conditionsRefused lotsReaching matchAt matchIn matchOf prices surplus takesOrders tradeAt volume
 code-examples = refl

@@ -5,17 +5,20 @@ use mathlib.Core.List.{List, [], _∷_}
 use mathlib.Core.Path.{_≡_, refl}
 use Prim.Native.Nat.{ℕ}
 use lib.IntN.{ℤ, pos, _+ℤ_}
+use Rattle.laws.specs.Choice.{all}
 use Rattle.laws.specs.Sums.{sumOf, sumTo}
 use Rattle.laws.specs.Tabulate.{tabulate}
 use Rattle.areas.specs.Records.{decode, records}
-use Rattle.rules.specs.Condition3.{inTo, outOf, sales, costs, bought, sold, netHolding, loadedWorth, loaded, opened, worth}
+use Rattle.rules.specs.Bounds.{preOpen}
+use Rattle.rules.specs.Condition3.{inTo, outOf, paidIn, movesOf, moveOf, isAccepted, sales, costs, bought, sold, netHolding, loadedWorth, loaded, opened, worth}
 use Rattle.rules.specs.Examples.{Row, _gives_, allRight, up, down}
 use Rattle.rules.specs.Exchange.{Exchange, accountAt, holdingAt, listingAt}
-use Rattle.rules.specs.Kinds.{paysIn, paysOut}
+use Rattle.rules.specs.Kinds.{kindOf, paysIn, paysOut}
 use Rattle.rules.specs.Matching.{tradedLots}
-use Rattle.rules.specs.Memory.{Memory, exchangeOf, listingIn, memory, queueIn, recordedTrades}
+use Rattle.rules.specs.Memory.{Memory, countsInRange, exchangeOf, hasRoom, listingIn, memory, queueIn, recordedTrades, respond, wellFormedMemory}
 use Rattle.rules.specs.Settlement.{priceFrom, settlementPrice, tradedValue, tradesIn, weightedPrice}
 use Rattle.rules.specs.declared.Account.{Account}
+use Rattle.rules.specs.declared.Command.the-variants.{Deposit, Withdraw}
 use Rattle.rules.specs.declared.Trade.{Trade}
 
 -- two accounts with 10,000 each in one contract, multiplier 10, reference 100; the first long and the second short so many lots
@@ -26,7 +29,7 @@ start : ℕ → Memory
 start lots =
     memory
     (record {
-      contracts = record { multiplier = 10; tick = 1; reference = 100; band = 10; limit = 1_000; rate = 1_000; method = 0; phase = 0; last = 107 } ∷ [];
+      contracts = record { multiplier = 10; tick = 1; reference = 100; band = 10; limit = 1_000; rate = 1_000; method = 0; phase = preOpen; last = 107 } ∷ [];
       accounts = account lots 0 ∷ account 0 lots ∷ [];
       buys = 0 ∷ [];
       sells = 0 ∷ [];
@@ -80,8 +83,12 @@ table =
     ∷ (outOf 0 (paysIn 0 5) gives 0)
     ∷ (inTo 0 (paysOut 0 5) gives 0)
     ∷ (outOf 0 (paysOut 0 5) gives 5)
+    -- a deposit is paid in, a withdrawal out; a refused one, here for want of room in the areas, is neither
+    ∷ (inTo 0 (kindOf (exchangeOf (start 0)) (Deposit 1 5) .moves) gives 5)
+    ∷ (outOf 1 (kindOf (exchangeOf (start 0)) (Withdraw 2 5) .moves) gives 5)
+    ∷ (paidIn 0 (start 0) (Deposit 1 5 ∷ []) gives 0)
     ∷ []
 
 pub condition-3-examples : allRight table ≡ true
-unfolding allRight table account start trade day found worthOf up down sumOf sumTo tabulate decode records inTo outOf sales costs bought sold netHolding loadedWorth worth accountAt holdingAt listingAt tradedLots exchangeOf listingIn queueIn recordedTrades priceFrom settlementPrice tradedValue tradesIn weightedPrice
+unfolding allRight table account start trade day found worthOf up down sumOf sumTo tabulate all decode records inTo outOf paidIn movesOf moveOf isAccepted kindOf respond wellFormedMemory countsInRange hasRoom sales costs bought sold netHolding loadedWorth worth accountAt holdingAt listingAt tradedLots exchangeOf listingIn queueIn recordedTrades priceFrom settlementPrice tradedValue tradesIn weightedPrice
 condition-3-examples = refl

@@ -7,7 +7,7 @@ use lib.IntN.{pos}
 use lib.ListN.{length, getD, replicate}
 use Rattle.laws.specs.Choice.{all}
 use Rattle.laws.specs.Tabulate.{tabulate}
-use Rattle.rules.specs.Bounds.{within, maxContracts, maxAccounts, maxBalance, termsInRange}
+use Rattle.rules.specs.Bounds.{within, maxContracts, maxAccounts, maxBalance, termsInRange, preOpen}
 use Rattle.rules.specs.Command.{commandOf}
 use Rattle.rules.specs.Exchange.{Exchange, Listing, noHolding}
 use Rattle.rules.specs.declared.Account.{Account}
@@ -70,7 +70,7 @@ contractFrom file at =
       limit = u32At file (at + 12);
       rate = u16At file (at + 16);
       method = u16At file (at + 18);
-      phase = 0;
+      phase = preOpen;
       last = u32At file (at + 4);
     }
 

@@ -8,6 +8,7 @@ use lib.IntN.{pos}
 use lib.ListN.{length, getD}
 use Rattle.laws.specs.Choice.{pick}
 use Rattle.laws.specs.Sums.{sumOf}
+use Rattle.rules.specs.Bounds.{preOpen}
 use Rattle.rules.specs.declared.Account.{Account}
 use Rattle.rules.specs.declared.Contract.{Contract}
 use Rattle.rules.specs.declared.Holding.{Holding}
@@ -33,7 +34,7 @@ pub record Exchange : Type 0 where
 -- ---- a place of a list, and what stands past its end
 
 abbrev pub noContract : Contract
-noContract = record { multiplier = 0; tick = 0; reference = 0; band = 0; limit = 0; rate = 0; method = 0; phase = 0; last = 0 }
+noContract = record { multiplier = 0; tick = 0; reference = 0; band = 0; limit = 0; rate = 0; method = 0; phase = preOpen; last = 0 }
 
 abbrev pub noHolding : Holding
 noHolding = record { long = 0; short = 0; startlong = 0; startshort = 0 }

@@ -7,6 +7,7 @@ use Prim.Native.Nat.{ℕ}
 use lib.Dec.{eqb}
 use Rattle.laws.specs.Choice.{pick}
 use Rattle.rules.specs.Answers.{Refusal, _when_, firstOf, depositRefusals, withdrawRefusals, insertRefusals, cancelRefusals, pullRefusals, phaseRefusals, settleRefusals}
+use Rattle.rules.specs.Auction.{matchOf}
 use Rattle.rules.specs.Command.{phaseKnown}
 use Rattle.rules.specs.Exchange.{Exchange, placeOf}
 use Rattle.rules.specs.Settlement.{settlementPrice}
@@ -81,7 +82,7 @@ kindOf x (Phase contract phase) =
     record {
       refusals = (1 when not (phaseKnown phase)) ∷ phaseRefusals x contract phase;
       effect = phaseChanged x (placeOf contract) phase;
-      moves = nothing;
+      moves = makes (matchOf x (placeOf contract) .trades);
     }
 -- 7 settle
 kindOf x Settle =

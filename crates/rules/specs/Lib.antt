@@ -8,6 +8,7 @@ pub mod EarlyStop
 pub mod Places
 pub mod Margin
 pub mod Settlement
+pub mod Auction
 pub mod Answers
 pub mod Step
 pub mod Kinds
@@ -20,6 +21,7 @@ pub mod CodeExamples
 pub mod Condition3Examples
 pub mod MarginExamples
 pub mod MatchingExamples
+pub mod AuctionExamples
 pub mod MethodExamples
 pub mod ProfitExamples
 pub mod WellFormedExamples

@@ -7,8 +7,8 @@ use Prim.Native.Nat.{ℕ}
 use lib.IntN.{ℤ, pos, negsuc}
 use Rattle.laws.specs.Choice.{pick}
 use Rattle.laws.specs.Sums.{sumOf}
-use Rattle.rules.specs.Answers.{amountRefused, fillableLots, firstOf, holdingRefused, insertRefusals, leavesTooLittle, listingOf, moneyRefused, overHolding, overLimit, priceRefusedBy, takerOf, tradesNeeded, withdrawRefusals}
-use Rattle.rules.specs.Bounds.{allowedToday, dayHigh, dayLow, onTick}
+use Rattle.rules.specs.Answers.{amountRefused, fillableLots, firstOf, holdingRefused, insertRefusals, leavesTooLittle, listingOf, moneyRefused, overHolding, overLimit, priceRefusedBy, takerOf, tradesNeeded, withdrawRefusals, conditionsRefused, takesOrders}
+use Rattle.rules.specs.Bounds.{allowedToday, dayHigh, dayLow, onTick, continuous}
 use Rattle.rules.specs.Examples.{Row, _gives_, allRight}
 use Rattle.rules.specs.Exchange.{Exchange, absent, accountAt, bestPrice, holdingAt, listingAt, lotsWhere, noHolding, resting}
 use Rattle.rules.specs.Holdings.{afterLeg, bookLeg}
@@ -26,7 +26,7 @@ use Rattle.rules.specs.declared.TimeCondition.the-variants.{GoodForDay}
 
 -- the charge is 10 a lot for each unit of the multiplier
 contract : ℕ → Contract
-contract multiplier = record { multiplier = multiplier; tick = 1; reference = 100; band = 10; limit = 1_000; rate = 1_000; method = 0; phase = 1; last = 100 }
+contract multiplier = record { multiplier = multiplier; tick = 1; reference = 100; band = 10; limit = 1_000; rate = 1_000; method = 0; phase = continuous; last = 100 }
 
 -- orders of account 1
 order : ℕ → ℕ → ℕ → ℕ → Order
@@ -128,5 +128,5 @@ table =
     ∷ []
 
 pub margin-examples : allRight table ≡ true
-unfolding allRight table contract order held account x insert buyOpen sellOpen absent accountAt afterLeg allowedToday amountRefused bestPrice bookLeg chargeOf chargedLots chargedTo codeOf dayHigh dayLow fillable fillableLots firstOf holdingAt holdingRefused insertRefusals kindOf leavesTooLittle listingAt listingOf lotsWhere meets methodOf middle moneyRefused onTick overHolding overLimit pairedPrice priceRefusedBy resting stays sumOf sweep takerOf tradePrice tradeWith tradesNeeded withdrawRefusals
+unfolding allRight table contract order held account x insert buyOpen sellOpen absent accountAt afterLeg allowedToday amountRefused bestPrice bookLeg chargeOf chargedLots chargedTo codeOf dayHigh dayLow fillable fillableLots firstOf holdingAt holdingRefused insertRefusals kindOf leavesTooLittle listingAt listingOf lotsWhere meets methodOf middle moneyRefused onTick overHolding overLimit pairedPrice priceRefusedBy resting stays sumOf sweep takerOf tradePrice tradeWith tradesNeeded withdrawRefusals conditionsRefused takesOrders
 margin-examples = refl

@@ -1,4 +1,4 @@
--- What an arriving order trades, with whom and at what price (document 01, "Matching"; 001, 4.3.2; document 02, ticket 6).
+-- What an arriving order trades, with whom and at what price (document 01, "Matching"; 001, 4.3.2; document 02, tickets 4 and 6).
 -- Assumes nothing.
 use mathlib.Core.Bool.{Bool, true, _&&_}
 use mathlib.Core.List.{List, [], _∷_, _++_}
@@ -135,6 +135,10 @@ restLots t price (suc n) queue = restIn (t .sell) (remainder t price (suc n)) qu
 -- "A good-for-day remainder rests .. Other remainders vanish"
 unfoldable pub restedLots : Bool → ℕ → List Trade → ℕ
 restedLots goodForDay lots trades = pick goodForDay (lots - tradedLots trades) 0
+
+-- "rest without matching" (document 02, ticket 4): the order rests with all its lots, whatever it crosses
+unfoldable pub restWhole : Taker → ℕ → ℕ → List Order → List Order → Entered
+restWhole t lots price own opposite = record { trades = []; rested = lots; own = restLots t price lots own; opposite = opposite }
 
 unfoldable pub enter : Taker → ℕ → ℕ → Bool → ℕ → List Order → List Order → Entered
 enter t lots price goodForDay last own opposite =

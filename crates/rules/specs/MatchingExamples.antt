@@ -8,7 +8,7 @@ use lib.ListN.{length, getD}
 use Rattle.laws.specs.Sums.{sumOf}
 use Rattle.rules.specs.Examples.{Row, _gives_, allRight}
 use Rattle.rules.specs.Exchange.{noOrder, noTrade}
-use Rattle.rules.specs.Matching.{Swept, enter, meets, middle, pairedPrice, remainder, restIn, restLots, restedLots, stays, sweep, tradePrice, tradeWith, tradedLots}
+use Rattle.rules.specs.Matching.{Swept, enter, meets, middle, pairedPrice, remainder, restIn, restLots, restWhole, restedLots, stays, sweep, tradePrice, tradeWith, tradedLots}
 use Rattle.rules.specs.declared.Order.{Order}
 use Rattle.rules.specs.declared.PairingMethod.the-variants.{Middle}
 use Rattle.rules.specs.declared.PriceCondition.{PriceCondition}
@@ -54,8 +54,13 @@ table =
     ∷ (enter (buyer (Limit 111)) 20 111 true 109 (order 4 111 1 ∷ order 5 110 1 ∷ []) sells .rested gives 8)
     ∷ (lotsAt (enter (buyer (Limit 111)) 20 111 true 109 (order 4 111 1 ∷ order 5 110 1 ∷ []) sells .own) 1 gives 8)
     ∷ (length (enter (buyer (Limit 111)) 20 111 false 109 [] sells .own) gives 0)
+    -- in auction it rests with all its lots at its place by price, though it crosses, and the opposite queue stays
+    ∷ (restWhole (buyer (Limit 111)) 20 111 (order 4 111 1 ∷ order 5 110 1 ∷ []) sells .rested gives 20)
+    ∷ (lotsAt (restWhole (buyer (Limit 111)) 20 111 (order 4 111 1 ∷ order 5 110 1 ∷ []) sells .own) 1 gives 20)
+    ∷ (length (restWhole (buyer (Limit 111)) 20 111 [] sells .opposite) gives 3)
+    ∷ (length (restWhole (buyer (Limit 111)) 20 111 [] sells .trades) gives 0)
     ∷ []
 
 pub matching-examples : allRight table ≡ true
-unfolding allRight table order sells buyer swept price lotsAt sumOf enter meets middle pairedPrice remainder restIn restLots restedLots stays sweep tradePrice tradeWith tradedLots
+unfolding allRight table order sells buyer swept price lotsAt sumOf enter meets middle pairedPrice remainder restIn restLots restWhole restedLots stays sweep tradePrice tradeWith tradedLots
 matching-examples = refl

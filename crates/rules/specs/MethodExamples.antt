@@ -6,7 +6,7 @@ use mathlib.Core.Path.{_≡_, refl}
 use Prim.Native.Nat.{ℕ}
 use lib.ListN.{getD, length}
 use Rattle.rules.specs.Answers.{mark}
-use Rattle.rules.specs.Bounds.{onTick, termsInRange, tickMultiple}
+use Rattle.rules.specs.Bounds.{continuous, onTick, termsInRange, tickMultiple}
 use Rattle.rules.specs.DayFile.{contractFrom, contractPlace, contractSound, u16At, u32At, u8At}
 use Rattle.rules.specs.Examples.{Row, _gives_, allRight}
 use Rattle.rules.specs.Exchange.{noTrade}
@@ -20,7 +20,7 @@ use Rattle.rules.specs.declared.Taker.{Taker}
 
 contract : ℕ → ℕ → Contract
 contract method tick =
-    record { multiplier = 10; tick = tick; reference = 120; band = 60; limit = 1_000; rate = 1_000; method = method; phase = 1; last = 120 }
+    record { multiplier = 10; tick = tick; reference = 120; band = 60; limit = 1_000; rate = 1_000; method = method; phase = continuous; last = 120 }
 
 -- the price of a limit order's trade by a contract's method: the tick, the limit, the resting price, the last price
 priced : ℕ → ℕ → ℕ → ℕ → ℕ → ℕ

@@ -9,6 +9,7 @@ use lib.ListN.{length}
 use Rattle.laws.specs.Choice.{pick}
 use Rattle.laws.specs.Sums.{sumTo, sumOf}
 use Rattle.laws.specs.Tabulate.{tabulate}
+use Rattle.rules.specs.Bounds.{preOpen}
 use Rattle.rules.specs.Exchange.{Exchange, Listing, listingAt, accountAt, holdingAt}
 use Rattle.rules.specs.Matching.{middle, tradedLots}
 use Rattle.rules.specs.declared.Account.{Account}
@@ -164,7 +165,7 @@ settledContract c price =
       limit = c .limit;
       rate = c .rate;
       method = c .method;
-      phase = 0;
+      phase = preOpen;
       last = c .last;
     }
 

@@ -7,9 +7,11 @@ use lib.IntN.{ℤ, pos, _+ℤ_, _-ℤ_}
 use lib.ListN.{set}
 use Rattle.laws.specs.Choice.{pick}
 use Rattle.rules.specs.Answers.{takerOf, listingOf, isGoodForDay}
+use Rattle.rules.specs.Auction.{Matched, matchOf}
+use Rattle.rules.specs.Bounds.{inAuction}
 use Rattle.rules.specs.Exchange.{Exchange, Listing, listingAt, accountAt, placeOf, own, opposite, withQueues, lotsWhere}
 use Rattle.rules.specs.Holdings.{bookTrades}
-use Rattle.rules.specs.Matching.{Entered, enter, tradedLots, lastPrice}
+use Rattle.rules.specs.Matching.{Entered, enter, restWhole, tradedLots, lastPrice}
 use Rattle.rules.specs.Settlement.{settled}
 use Rattle.rules.specs.declared.Account.{Account}
 use Rattle.rules.specs.declared.Answer.{Answer}
@@ -18,6 +20,7 @@ use Rattle.rules.specs.declared.NewOrder.{NewOrder}
 use Rattle.rules.specs.declared.Order.{Order}
 use Rattle.rules.specs.declared.PriceCondition.{PriceCondition}
 use Rattle.rules.specs.declared.PriceCondition.the-variants.{Limit, Market, Best}
+use Rattle.rules.specs.declared.Trade.{Trade}
 
 -- "Each answer holds a code, an order number, lots traded and lots rested .. or removed. .. Numbers not named are 0"
 abbrev pub answerOf : ℕ → ℕ → ℕ → ℕ → Answer
@@ -53,6 +56,17 @@ abbrev pub withPhase : Contract → ℕ → Contract
 withPhase c phase =
     record { multiplier = c .multiplier; tick = c .tick; reference = c .reference; band = c .band; limit = c .limit; rate = c .rate; method = c .method; phase = phase; last = c .last }
 
+-- a contract's listing replaced, and trades made: booked on the accounts, and recorded behind those of the day
+abbrev pub withTrades : Exchange → ℕ → Listing → List Trade → ℕ → Exchange
+withTrades x c l trades next =
+    record {
+      listings = set (x .listings) c l;
+      accounts = bookTrades (x .accounts) trades;
+      trades = x .trades ++ trades;
+      next = next;
+      settlements = x .settlements;
+    }
+
 -- ---- deposit and withdraw
 
 unfoldable pub paid : Exchange → ℕ → ℤ → Exchange
@@ -79,11 +93,14 @@ limitOf (Limit limit) = limit
 limitOf Market = 0
 limitOf Best = 0
 
+-- "In auction, limit good-for-day orders rest without matching" (02, ticket 4)
 unfoldable pub enteredOf : Exchange → NewOrder → Entered
 enteredOf x o =
-    enter (takerOf x o) (o .lots) (limitOf (o .condition)) (isGoodForDay (o .time)) (listingOf x o .contract .last)
+    pick (inAuction (listingOf x o .contract))
+    (restWhole (takerOf x o) (o .lots) (limitOf (o .condition)) (own (o .sell) (listingOf x o)) (opposite (o .sell) (listingOf x o)))
+    (enter (takerOf x o) (o .lots) (limitOf (o .condition)) (isGoodForDay (o .time)) (listingOf x o .contract .last)
     (own (o .sell) (listingOf x o))
-    (opposite (o .sell) (listingOf x o))
+    (opposite (o .sell) (listingOf x o)))
 
 -- the listing with an order entered, and the state
 unfoldable pub listingAfter : Listing → Bool → Entered → Listing
@@ -91,14 +108,7 @@ listingAfter l sell e = withQueues sell (withLast (l .contract) (lastPrice (l .c
 
 -- "given to accepted orders in turn over all contracts": the next number is one more
 unfoldable pub exchangeAfter : Exchange → NewOrder → Entered → Exchange
-exchangeAfter x o e =
-    record {
-      listings = set (x .listings) (placeOf (o .contract)) (listingAfter (listingOf x o) (o .sell) e);
-      accounts = bookTrades (x .accounts) (e .trades);
-      trades = x .trades ++ e .trades;
-      next = x .next + 1;
-      settlements = x .settlements;
-    }
+exchangeAfter x o e = withTrades x (placeOf (o .contract)) (listingAfter (listingOf x o) (o .sell) e) (e .trades) (x .next + 1)
 
 unfoldable pub inserted : Exchange → NewOrder → Effect
 inserted x o =
@@ -135,8 +145,21 @@ pulled x a c = removed x c (isOf a) 0
 
 -- ---- state
 
+-- the listing in its new state, and after the match where the change makes one: "The last price .. becomes each trade's price"
+unfoldable pub listingMatched : Listing → ℕ → Matched → Listing
+listingMatched l phase m =
+    record {
+      contract = withPhase (withLast (l .contract) (lastPrice (l .contract .last) (m .trades))) phase;
+      buys = m .buys;
+      sells = m .sells;
+    }
+
+unfoldable pub exchangeMatched : Exchange → ℕ → ℕ → Matched → Exchange
+exchangeMatched x c phase m = withTrades x c (listingMatched (listingAt x c) phase m) (m .trades) (x .next)
+
+-- its trades "appear after the state command's C line, whose traded field is their lots" (02, ticket 4): none but the match's
 unfoldable pub phaseChanged : Exchange → ℕ → ℕ → Effect
-phaseChanged x c phase = accepted 0 0 0 (withListing x c (withContract (listingAt x c) (withPhase (listingAt x c .contract) phase)))
+phaseChanged x c phase = accepted 0 (tradedLots (matchOf x c .trades)) 0 (exchangeMatched x c phase (matchOf x c))
 
 -- ---- settle
 

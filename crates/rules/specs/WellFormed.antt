@@ -7,7 +7,7 @@ use lib.Dec.{leb, ltb, eqb}
 use lib.IntN.{natAbs}
 use lib.ListN.{length}
 use Rattle.laws.specs.Choice.{all, allOf}
-use Rattle.rules.specs.Bounds.{within, termsInRange, tickMultiple, allowedToday, numbersEnd, maxLots, maxSettlements, maxBalance, maxDayProfit}
+use Rattle.rules.specs.Bounds.{within, inAuction, termsInRange, tickMultiple, allowedToday, maxPhase, numbersEnd, maxLots, maxSettlements, maxBalance, maxDayProfit}
 use Rattle.rules.specs.Exchange.{Exchange, Listing, listingAt, holdingAt, worse, restingOpens, restingCloses}
 use Rattle.rules.specs.Holdings.{bookTrades, neverBelowZero, startOfDay, sameHoldings}
 use Rattle.rules.specs.declared.Account.{Account}
@@ -20,12 +20,13 @@ use Rattle.rules.specs.declared.Trade.{Trade}
 -- last prices are tick multiples"
 
 unfoldable pub contractInRange : Contract → Bool
-contractInRange c = termsInRange c && leb (c .phase) 3 && tickMultiple (c .tick) (c .last)
+contractInRange c = termsInRange c && leb (c .phase) maxPhase && tickMultiple (c .tick) (c .last)
 
 unfoldable pub countersInRange : Exchange → Bool
 countersInRange x = within 1 numbersEnd (x .next) && leb (x .settlements) maxSettlements
 
--- ---- "each queue is sorted best price first, then lower order number; the two are uncrossed (best buy below best sell)"
+-- ---- "each queue is sorted best price first, then lower order number; the two are uncrossed (best buy below best sell)", but
+-- in auction "the book may be crossed" (02, ticket 4)
 
 unfoldable pub ahead : Bool → Order → Order → Bool
 ahead sell o p = worse sell (p .price) (o .price) || eqb (o .price) (p .price) && ltb (o .number) (p .number)
@@ -60,7 +61,7 @@ listingInRange accounts next l =
     contractInRange (l .contract)
     && sorted false (l .buys)
     && sorted true (l .sells)
-    && uncrossed (l .buys) (l .sells)
+    && (inAuction (l .contract) || uncrossed (l .buys) (l .sells))
     && allOf (orderInRange accounts next (l .contract)) (l .buys)
     && allOf (orderInRange accounts next (l .contract)) (l .sells)
 

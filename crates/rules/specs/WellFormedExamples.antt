@@ -8,7 +8,7 @@ use lib.IntN.{ℤ, pos, negℤ}
 use lib.ListN.{replicate}
 use Rattle.laws.specs.Choice.{all, allOf}
 use Rattle.laws.specs.Sums.{sumOf}
-use Rattle.rules.specs.Bounds.{allowedToday, dayHigh, dayLow, onTick, termsInRange, tickMultiple, within}
+use Rattle.rules.specs.Bounds.{allowedToday, dayHigh, dayLow, onTick, termsInRange, tickMultiple, within, auction, closed, continuous, noTrading, preOpen}
 use Rattle.rules.specs.Examples.{Row, _gives_, allRight}
 use Rattle.rules.specs.Exchange.{Exchange, accountAt, holdingAt, listingAt, lotsWhere, resting}
 use Rattle.rules.specs.Holdings.{afterLeg, bookLeg, bookTrade, bookTrades, legCovered, neverBelowZero, sameHoldings, sameLots, startOfDay}
@@ -21,8 +21,8 @@ use Rattle.rules.specs.declared.Order.{Order}
 use Rattle.rules.specs.declared.State.{State}
 use Rattle.rules.specs.declared.Trade.{Trade}
 
-contract : ℕ → Contract
-contract last = record { multiplier = 10; tick = 2; reference = 110; band = 10; limit = 10; rate = 1_000; method = 0; phase = 1; last = last }
+contract : ℕ → ℕ → Contract
+contract phase last = record { multiplier = 10; tick = 2; reference = 110; band = 10; limit = 10; rate = 1_000; method = 0; phase = phase; last = last }
 
 order : ℕ → ℕ → ℕ → ℕ → Order
 order number price lots close = record { price = price; number = number; account = 0; lots = lots; close = close }
@@ -37,10 +37,10 @@ account balance long short startlong startshort =
     record { balance = balance; holdings = record { long = long; short = short; startlong = startlong; startshort = startshort } ∷ [] }
 
 -- account 1 starts with 2 long, account 2 with 2 short
-asked : ℕ → List Order → List Order → List Trade → ℕ → ℕ → ℤ → Exchange
-asked last buys sells trades short next balance =
+asked : ℕ → ℕ → List Order → List Order → List Trade → ℕ → ℕ → ℤ → Exchange
+asked phase last buys sells trades short next balance =
     record {
-      listings = record { contract = contract last; buys = buys; sells = sells } ∷ [];
+      listings = record { contract = contract phase last; buys = buys; sells = sells } ∷ [];
       accounts = account balance 2 short 2 0 ∷ account (pos 0) 3 2 0 2 ∷ [];
       trades = trades;
       next = next;
@@ -56,9 +56,13 @@ sells = order 5 110 7 0 ∷ order 7 112 2 1 ∷ []
 trades : List Trade
 trades = trade 110 3 2 ∷ []
 
--- the state with the given parts, 1 where it is well formed
+-- the state with the given parts, in continuous, 1 where it is well formed
 test : ℕ → List Order → List Order → List Trade → ℕ → ℕ → ℤ → ℕ
-test last b s t short next balance = mark (wellFormedContents (asked last b s t short next balance))
+test last b s t short next balance = mark (wellFormedContents (asked continuous last b s t short next balance))
+
+-- a contract's state with its buys
+testIn : ℕ → List Order → ℕ
+testIn phase b = mark (wellFormedContents (asked phase 110 b sells trades 3 8 (pos 0)))
 
 pub table : List Row
 table =
@@ -71,6 +75,13 @@ table =
     ∷ (test 110 (order 6 106 1 1 ∷ order 3 108 4 0 ∷ []) sells trades 3 8 (pos 0) gives 0)
     ∷ (test 110 (order 4 108 4 0 ∷ order 3 108 4 0 ∷ []) sells trades 3 8 (pos 0) gives 0)
     ∷ (test 110 (order 3 110 4 0 ∷ []) sells trades 3 8 (pos 0) gives 0)
+    -- that in auction, the one state in which it may be; a queue out of order in auction; a state that is unknown
+    ∷ (testIn auction (order 3 110 4 0 ∷ []) gives 1)
+    ∷ (testIn preOpen (order 3 110 4 0 ∷ []) gives 0)
+    ∷ (testIn noTrading (order 3 110 4 0 ∷ []) gives 0)
+    ∷ (testIn closed (order 3 110 4 0 ∷ []) gives 0)
+    ∷ (testIn auction (order 4 112 1 0 ∷ order 3 112 1 0 ∷ []) gives 0)
+    ∷ (testIn 5 buys gives 0)
     -- no lots, a price past the band, a third mark, a number used twice
     ∷ (test 110 (order 3 108 0 0 ∷ []) sells trades 3 8 (pos 0) gives 0)
     ∷ (test 110 buys (order 5 122 1 0 ∷ []) trades 3 8 (pos 0) gives 0)
@@ -92,7 +103,7 @@ table =
     ∷ []
 
 pub well-formed-examples : allRight table ≡ true
-unfolding allRight table contract order trade account asked buys sells trades test all allOf sumOf accountAt afterLeg ahead aheadOfFirst allNumbers allowedToday balanceInRange bookLeg bookTrade bookTrades contractInRange countersInRange dayHigh dayLow holdingAt holdingInRange holdingsInRange legCovered listingAt listingInRange lotsWhere neverBelowZero numbers onTick orderInRange replays resting sameHoldings sameLots sorted startOfDay termsInRange tickMultiple tradeInRange uncrossed usedOnce wellFormedContents
+unfolding allRight table contract order trade account asked buys sells trades test testIn all allOf sumOf accountAt afterLeg ahead aheadOfFirst allNumbers allowedToday balanceInRange bookLeg bookTrade bookTrades contractInRange countersInRange dayHigh dayLow holdingAt holdingInRange holdingsInRange legCovered listingAt listingInRange lotsWhere neverBelowZero numbers onTick orderInRange replays resting sameHoldings sameLots sorted startOfDay termsInRange tickMultiple tradeInRange uncrossed usedOnce wellFormedContents
 well-formed-examples = refl
 
 -- ---- counts and room, on a state as it lies, and the replay of closes
@@ -101,7 +112,7 @@ well-formed-examples = refl
 counted : ℕ → State
 counted orders =
     record {
-      contracts = contract 110 ∷ [];
+      contracts = contract continuous 110 ∷ [];
       accounts = account (pos 0) 0 0 0 0 ∷ account (pos 0) 0 0 0 0 ∷ [];
       buys = 0 ∷ [];
       sells = orders ∷ [];
@@ -118,10 +129,10 @@ lying queue day =
     record { state = counted 0; buys = replicate queue 0; sells = replicate queue 0; trades = replicate day 0 }
 
 -- account 1 starts with 2 long and 3 short and sells so many to close, account 2 buys them to open
-closed : ℕ → Exchange
-closed lots =
+replayed : ℕ → Exchange
+replayed lots =
     record {
-      listings = record { contract = contract 110; buys = []; sells = [] } ∷ [];
+      listings = record { contract = contract continuous 110; buys = []; sells = [] } ∷ [];
       accounts = account (pos 0) 0 3 2 3 ∷ account (pos 0) lots 0 0 0 ∷ [];
       trades = record { contract = 0; price = 110; lots = lots; buyorder = 1; sellorder = 2; buyer = 1; seller = 0; buyclose = 0; sellclose = 1 } ∷ [];
       next = 3;
@@ -137,10 +148,10 @@ laid =
     ∷ (mark (hasRoom (lying 319 9_216)) gives 0)
     ∷ (mark (hasRoom (lying 320 9_215)) gives 0)
     -- a close of what is held, and of one lot more: the short lots do not cover it
-    ∷ (mark (replays (closed 2)) gives 1)
-    ∷ (mark (replays (closed 3)) gives 0)
+    ∷ (mark (replays (replayed 2)) gives 1)
+    ∷ (mark (replays (replayed 3)) gives 0)
     ∷ []
 
 pub laid-examples : allRight laid ≡ true
-unfolding allRight laid contract account counted lying closed all sumOf accountAt afterLeg bookLeg bookTrade bookTrades countsInRange hasRoom holdingAt legCovered neverBelowZero replays sameHoldings sameLots startOfDay
+unfolding allRight laid contract account counted lying replayed all sumOf accountAt afterLeg bookLeg bookTrade bookTrades countsInRange hasRoom holdingAt legCovered neverBelowZero replays sameHoldings sameLots startOfDay
 laid-examples = refl

@@ -18,6 +18,17 @@ pub struct Contract {
     pub last: u32,
 }
 
+// A contract's phases.
+pub const PRE_OPEN: u32 = 0;
+
+pub const CONTINUOUS: u32 = 1;
+
+pub const NO_TRADING: u32 = 2;
+
+pub const CLOSED: u32 = 3;
+
+pub const AUCTION: u32 = 4;
+
 // What one account holds in one contract: lots now, and lots at the start of the day.
 pub struct Holding {
     pub long: u32,

@@ -13,24 +13,26 @@ returns : tie.Need-returns
 unfolding zeros allOf phaseOf
 returns c = rw (← c .before .all-zero .ensures, not-true (c .before .all-zero .result) (c .if1 .taken))
 
+cast-phase : tie.Need-cast-phase
+cast-phase c = search needs
+
 returns-2 : tie.Need-returns-2
 unfolding zeros allOf phaseOf
-returns-2 c = rw (
-  ← c .before .before .all-zero .ensures,
-  not-false (c .before .before .all-zero .result) (c .before .if1 .left),
-  lt-leb _ _ (c .if2 .taken),
-)
+returns-2 c =
+    let b = c .before .before in
+    rw (
+      ← b .before .all-zero .ensures,
+      not-false (b .before .all-zero .result) (b .if1 .left),
+      lt-leb _ _ (c .if2 .taken),
+    )
 
 cast-t5 : tie.Need-cast-t5
 cast-t5 c = search needs
 
-cast-t6 : tie.Need-cast-t6
-cast-t6 c = search needs
-
 returns-3 : tie.Need-returns-3
 unfolding zeros allOf phaseOf
 returns-3 c =
-    let b = c .before .before in
+    let b = c .before .before .before in
     rw (
       ← b .before .all-zero .ensures,
       not-false (b .before .all-zero .result) (b .if1 .left),
@@ -38,4 +40,4 @@ returns-3 c =
     )
 
 pub phase-of-spec : {M : Type 1} → statement M
-phase-of-spec = tie.close (tie.spec all-zero-requires returns returns-2 cast-t5 cast-t6 returns-3)
+phase-of-spec = tie.close (tie.spec all-zero-requires returns cast-phase returns-2 cast-t5 returns-3)

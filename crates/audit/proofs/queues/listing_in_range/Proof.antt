@@ -52,13 +52,13 @@ returns-3 : tie.Need-returns-3
 unfolding listingIn
 returns-3 c = fails (listing-chain _ _ _) 2 (refused (c .before .is-sorted2 .ensures) (c .if3 .taken))
 
-is-uncrossed-requires : tie.Need-is-uncrossed-requires
-is-uncrossed-requires c κs =
+is-apart-requires : tie.Need-is-apart-requires
+is-apart-requires c κs =
     (buys-room (c .before .before .before .before .before .before .before .before .before .before .before .pre .0) (c .before .before .before .before .before .before .before .before .before .before .before .pre .1), sells-room (c .before .before .before .before .before .before .before .before .before .before .before .pre .0) (c .before .before .before .before .before .before .before .before .before .before .before .pre .1))
 
 returns-4 : tie.Need-returns-4
 unfolding listingIn
-returns-4 c = fails (listing-chain _ _ _) 3 (refused (c .before .is-uncrossed .ensures) (c .if4 .taken))
+returns-4 c = fails (listing-chain _ _ _) 3 (refused (c .before .is-apart .ensures) (c .if4 .taken))
 
 orders-in-range-requires : tie.Need-orders-in-range-requires
 orders-in-range-requires c κs =
@@ -83,7 +83,7 @@ returns-6 c =
         passed (c .before .before .before .before .before .before .before .before .is-sorted .ensures) (c .before .before .before .before .before .before .before .if2 .left),
         (
           passed (c .before .before .before .before .before .before .is-sorted2 .ensures) (c .before .before .before .before .before .if3 .left),
-          (passed (c .before .before .before .before .is-uncrossed .ensures) (c .before .before .before .if4 .left), (passed (c .before .before .orders-in-range .ensures) (c .before .if5 .left), tt)),
+          (passed (c .before .before .before .before .is-apart .ensures) (c .before .before .before .if4 .left), (passed (c .before .before .orders-in-range .ensures) (c .before .if5 .left), tt)),
         ),
       ),
     )
@@ -104,7 +104,7 @@ listing-in-range-spec =
     returns-2
     is-sorted-requires-2
     returns-3
-    is-uncrossed-requires
+    is-apart-requires
     returns-4
     orders-in-range-requires
     returns-5

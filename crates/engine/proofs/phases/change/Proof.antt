@@ -23,7 +23,7 @@ refused-requires : tie.Need-refused-requires
 refused-requires c κs = search needs
 
 returns : tie.Need-returns
-returns c = phase-unknown (c .before .before .before .before .before .before .pre) _ _ (sym (c .before .before .is-known .ensures) ∙ not-true _ (c .before .if1 .taken)) (c .refused .ensures)
+returns c = phase-unknown (c .before .before .before .before .before .before .pre .0) _ _ (sym (c .before .before .is-known .ensures) ∙ not-true _ (c .before .if1 .taken)) (c .refused .ensures)
 
 is-absent-requires : tie.Need-is-absent-requires
 is-absent-requires c κs = search needs
@@ -32,19 +32,19 @@ refused-requires-2 : tie.Need-refused-requires-2
 refused-requires-2 c κs = search needs
 
 returns-2 : tie.Need-returns-2
-returns-2 c = phase-absent (c .before .before .before .before .before .before .before .before .pre) _ _ (known (c .before .before .before)) (sym (c .before .before .is-absent .ensures) ∙ c .before .if2 .taken) (c .refused2 .ensures)
+returns-2 c = phase-absent (c .before .before .before .before .before .before .before .before .pre .0) _ _ (known (c .before .before .before)) (sym (c .before .before .is-absent .ensures) ∙ c .before .if2 .taken) (c .refused2 .ensures)
 
 wide-requires : tie.Need-wide-requires
 wide-requires c κs = search needs
 
 sub-place : tie.Need-sub-place
-sub-place c = contract-low (c .before .before .before .before .before .before .before .before .pre) _ (c .wide .ensures) (present (c .before))
+sub-place c = contract-low (c .before .before .before .before .before .before .before .before .pre .0) _ (c .wide .ensures) (present (c .before))
 
 mul-terms : tie.Need-mul-terms
 mul-terms c = search needs
 
 array-copy-out-terms : tie.Need-array-copy-out-terms
-array-copy-out-terms c = contract-fits (c .before .before .before .before .before .before .before .before .before .pre) _ (c .before .wide .ensures) (present (c .before .before))
+array-copy-out-terms c = contract-fits (c .before .before .before .before .before .before .before .before .before .pre .0) _ (c .before .wide .ensures) (present (c .before .before))
 
 is-listed-requires : tie.Need-is-listed-requires
 is-listed-requires c κs = search needs
@@ -54,19 +54,20 @@ refused-requires-3 c κs = search needs
 
 returns-3 : tie.Need-returns-3
 returns-3 c =
-    phase-unlisted (c .before .before .before .before .before .before .before .before .before .before .before .before .before .pre) _ _ (known (c .before .before .before .before .before .before .before .before)) (present (c .before .before .before .before .before .before)) (c .before .before .before .before .before .wide .ensures)
+    phase-unlisted (c .before .before .before .before .before .before .before .before .before .before .before .before .before .pre .0) _ _ (known (c .before .before .before .before .before .before .before .before)) (present (c .before .before .before .before .before .before)) (c .before .before .before .before .before .wide .ensures)
     (sym (c .before .before .is-listed .ensures) ∙ not-true _ (c .before .if3 .taken)) (c .refused3 .ensures)
 
 with-phase-requires : tie.Need-with-phase-requires
-with-phase-requires c κs = contract-fits (c .before .before .before .before .before .before .before .before .before .before .before .before .pre) _ (c .before .before .before .before .wide .ensures) (present (c .before .before .before .before .before))
+with-phase-requires c κs = contract-fits (c .before .before .before .before .before .before .before .before .before .before .before .before .pre .0) _ (c .before .before .before .before .wide .ensures) (present (c .before .before .before .before .before))
 
 accepted-requires : tie.Need-accepted-requires
 accepted-requires c κs = search needs
 
 returns-4 : tie.Need-returns-4
 returns-4 c =
-    phase-accepted (c .before .before .before .before .before .before .before .before .before .before .before .before .before .before .pre) _ _ (known (c .before .before .before .before .before .before .before .before .before)) (present (c .before .before .before .before .before .before .before)) (c .before .before .before .before .before .before .wide .ensures)
-    (sym (c .before .before .before .is-listed .ensures) ∙ not-false _ (c .before .before .if3 .left)) (c .before .with-phase .ensures) (c .accepted .ensures)
+    let start = c .before .before .before .before .before .before .before .before .before .before .before .before .before .before in
+    phase-accepted (start .pre .0) _ _ (known (c .before .before .before .before .before .before .before .before .before)) (present (c .before .before .before .before .before .before .before)) (c .before .before .before .before .before .before .wide .ensures)
+    (sym (c .before .before .before .is-listed .ensures) ∙ not-false _ (c .before .before .if3 .left)) (start .pre .1) (c .before .with-phase .ensures) (c .accepted .ensures)
 
 pub change-spec : {M : Type 1} → statement M
 change-spec =

@@ -1,20 +1,17 @@
--- `removal::is_refused` meets its contract: continuous, no trading, any other state. Assumes nothing.
-use borrow.Author.Tests.{ne-eqb}
-use Rattle.rules.specs.Answers.{removalRefused}
+-- `removal::is_refused` meets its contract: continuous or auction, no trading, any other state. Assumes nothing.
+use mathlib.Core.Logic.{⊎-elim}
+use Rattle.engine.proofs.Removals.{in-continuous, in-auction, in-no-trading, in-any-other}
 use Rattle.engine.proofs.removal.is_refused.Statement.{statement}
 use Rattle.engine.proofs.removal.is_refused.Tie as tie
 
 returns : tie.Need-returns
-unfolding removalRefused
-returns c = rw (c .if1 .taken)
+returns c = ⊎-elim (λ came. in-continuous _ _ (came .taken)) (λ came. in-auction _ _ (came .1 .taken)) (c .if1 .came)
 
 returns-2 : tie.Need-returns-2
-unfolding removalRefused
-returns-2 c = rw (c .if2 .taken)
+returns-2 c = in-no-trading _ _ (c .if3 .taken)
 
 returns-3 : tie.Need-returns-3
-unfolding removalRefused
-returns-3 c = simp (ne-eqb (c .before .before .args .terms .phase) 1 (c .before .if1 .left), ne-eqb (c .before .before .args .terms .phase) 2 (c .if2 .left))
+returns-3 c = in-any-other _ _ (c .before .before .if1 .left) (c .if3 .left) (c .before .if2 .left)
 
 pub is-refused-spec : {M : Type 1} → statement M
 is-refused-spec = tie.close (tie.spec returns returns-2 returns-3)

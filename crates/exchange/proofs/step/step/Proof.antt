@@ -12,7 +12,7 @@ use Rattle.engine.proofs.answers.refused.Reads as refused-reads
 use Rattle.insertion.proofs.insert.Reads as insert-reads
 use Rattle.engine.proofs.payments.deposit.Reads as deposit-reads
 use Rattle.engine.proofs.payments.withdraw.Reads as withdraw-reads
-use Rattle.engine.proofs.phases.change.Reads as change-reads
+use Rattle.opening.proofs.change.Reads as change-reads
 use Rattle.engine.proofs.removal.cancel.Reads as cancel-reads
 use Rattle.engine.proofs.removal.pull.Reads as pull-reads
 use Rattle.exchange.proofs.settling.plain.Reads as plain-reads
@@ -208,7 +208,7 @@ same-length-18 c = search needs
 
 -- src/step.rt:14:1
 returns-7 : tie.Need-returns-7
-returns-7 c = plain-as (memory (c .before .before .before .before .before .before .before .before .before .before .before .args .state) (now (c .before .before .before .before .before .before .before .before .before .before .before .args .buys)) (now (c .before .before .before .before .before .before .before .before .before .before .before .args .sells)) (now (c .before .before .before .before .before .before .before .before .before .before .before .args .trades))) (c .before .change .result) (c .before .before .before .before .before .before .command6 .given .1) refl (c .before .change .ensures) (c .plain7 .ensures)
+returns-7 c = plain-as (memory (c .before .before .before .before .before .before .before .before .before .before .before .before .before .before .before .before .before .args .state) (now (c .before .before .before .before .before .before .before .before .before .before .before .before .before .before .before .before .before .args .buys)) (now (c .before .before .before .before .before .before .before .before .before .before .before .before .before .before .before .before .before .args .sells)) (now (c .before .before .before .before .before .before .before .before .before .before .before .before .before .before .before .before .before .args .trades))) (c .before .before .before .before .before .before .before .change .result) (c .before .before .before .before .before .before .before .before .before .before .before .before .command6 .given .1) refl (c .before .before .before .before .before .before .before .change .ensures) (c .plain7 .ensures)
 
 -- src/step.rt:14:1
 same-length-19 : tie.Need-same-length-19

@@ -3,6 +3,7 @@ use mathlib.Core.Path.{_≡_}
 use borrow.Author.Tests.{le-leb, lt-leb}
 use borrow.Author.Needs.{needs}
 use Rattle.rules.specs.Answers.{firstOf}
+use Rattle.rules.specs.Bounds.{inAuction}
 use Rattle.rules.specs.declared.NewOrder.{NewOrder}
 use Rattle.refusals.specs.Insertion.{bookRefusals, fullRefused, killRefused}
 use Rattle.refusals.proofs.codes.book_code.Statement.{statement}
@@ -18,7 +19,7 @@ kill-refused-requires c κs = search needs
 returns-2 : tie.Need-returns-2
 unfolding firstOf bookRefusals
 returns-2 c =
-    let o : NewOrder = c .before .before .before .before .before .args .o in
+    let o : NewOrder = c .before .before .before .before .before .before .args .o in
     let e : c .before .kill-refused .result ≡ killRefused _ _ (o .lots) (o .time) = c .before .kill-refused .ensures in
     rw (lt-leb _ _ (c .before .before .if1 .left), ← e, c .if2 .taken)
 
@@ -35,8 +36,9 @@ full-refused-requires c κs = search needs
 returns-4 : tie.Need-returns-4
 unfolding firstOf bookRefusals
 returns-4 c =
-    let o : NewOrder = c .before .before .before .before .before .before .before .before .before .args .o in
-    let e : c .before .full-refused .result ≡ fullRefused (c .before .before .before .before .before .before .before .before .before .args .own) _ _ (o .lots) (o .time) = c .before .full-refused .ensures in
+    let start = c .before .before .before .before .before .before .before .before .before .before in
+    let o : NewOrder = start .args .o in
+    let e : c .before .full-refused .result ≡ fullRefused (inAuction (start .args .terms)) (start .args .own) _ _ (o .lots) (o .time) = c .before .full-refused .ensures in
     rw (lt-leb _ _ (c .before .before .before .before .before .before .if1 .left), ← c .before .before .before .before .before .kill-refused .ensures, c .before .before .before .before .if2 .left, ← c .before .before .before .trades-refused .ensures, c .before .before .if3 .left, ← e, c .if4 .taken)
 
 returns-5 : tie.Need-returns-5

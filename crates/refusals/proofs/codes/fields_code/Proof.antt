@@ -12,23 +12,20 @@ returns : tie.Need-returns
 unfolding firstOf
 returns c = rw (← c .before .within .ensures, not-true (c .before .within .result) (c .if1 .taken))
 
-is-day-without-limit-requires : tie.Need-is-day-without-limit-requires
-is-day-without-limit-requires c κs = search needs
-
 returns-2 : tie.Need-returns-2
 unfolding firstOf
-returns-2 c = rw (← c .before .before .before .within .ensures, not-false (c .before .before .before .within .result) (c .before .before .if1 .left), ← c .before .is-day-without-limit .ensures, c .if2 .taken)
+returns-2 c = rw (← c .before .before .within .ensures, not-false (c .before .before .within .result) (c .before .if1 .left), c .if2 .taken)
 
 price-refused-requires : tie.Need-price-refused-requires
 price-refused-requires c κs = search needs
 
 returns-3 : tie.Need-returns-3
 unfolding firstOf
-returns-3 c = rw (← c .before .before .before .before .before .within .ensures, not-false (c .before .before .before .before .before .within .result) (c .before .before .before .before .if1 .left), ← c .before .before .before .is-day-without-limit .ensures, c .before .before .if2 .left, ← c .before .price-refused .ensures, c .if3 .taken)
+returns-3 c = rw (← c .before .before .before .before .within .ensures, not-false (c .before .before .before .before .within .result) (c .before .before .before .if1 .left), c .before .before .if2 .left, ← c .before .price-refused .ensures, c .if3 .taken)
 
 returns-4 : tie.Need-returns-4
 unfolding firstOf
-returns-4 c = rw (← c .before .before .before .before .before .within .ensures, not-false (c .before .before .before .before .before .within .result) (c .before .before .before .before .if1 .left), ← c .before .before .before .is-day-without-limit .ensures, c .before .before .if2 .left, ← c .before .price-refused .ensures, c .if3 .left)
+returns-4 c = rw (← c .before .before .before .before .within .ensures, not-false (c .before .before .before .before .within .result) (c .before .before .before .if1 .left), c .before .before .if2 .left, ← c .before .price-refused .ensures, c .if3 .left)
 
 pub fields-code-spec : {M : Type 1} → statement M
 fields-code-spec =
@@ -36,7 +33,6 @@ fields-code-spec =
     (tie.spec
     within-requires
     returns
-    is-day-without-limit-requires
     returns-2
     price-refused-requires
     returns-3

@@ -1,0 +1,82 @@
+-- One side of a match as it lies: the area differs from what it was in one queue alone, of which the first orders are filled.
+-- Assumes nothing.
+use mathlib.Core.List.{List, _∷_, _++_}
+use mathlib.Core.Path.{_≡_, sym, ap, _∙_}
+use Prim.Native.Nat.{ℕ, _+_, _-_, _*_, _≤_, _<_}
+use native.Mathlib.Numerals.{add-one}
+use native.Mathlib.Omega.{arith}
+use lib.ListN.{length, getD, set, take, drop, length-drop, length-set}
+use lib.Seq.{drop-at, length-take-le, set-split}
+use Rattle.rules.specs.Auction.{lessFirst}
+use Rattle.rules.specs.Exchange.{noOrder}
+use Rattle.rules.specs.Matching.{withLots}
+use Rattle.rules.specs.Memory.{orderFrom, putQueue, queueIn}
+use Rattle.rules.specs.declared.Order.{Order}
+use Rattle.rules.proofs.AuctionTurns.{less-filled, less-part}
+use Rattle.rules.proofs.Codecs.{length-queue, order-at, put-queue, putQueue-again, queue-put}
+use Rattle.auction.specs.Matched.{LeftIn}
+
+pub record Side (area₀ : List ℕ) (c n : ℕ) (area : List ℕ) (i : ℕ) : Type 0 where
+  pub room : 320 * c + 5 * n ≤ length area₀
+  pub long : length area ≡ length area₀
+  pub within : i ≤ n
+  pub lies : area ≡ putQueue area₀ c n (queueIn area c n)
+
+pub side-begins : {area : List ℕ} {c n : ℕ} → 320 * c + 5 * n ≤ length area → Side area c n area 0
+side-begins {area} {c} {n} room = record { room = room; long = omega arith; within = omega arith; lies = sym (put-queue area c n room) }
+
+module _ {area₀ : List ℕ} {c n : ℕ} {area : List ℕ} {i : ℕ} (s : Side area₀ c n area i) where
+  abbrev queue : List Order
+  queue = queueIn area c n
+
+  -- another queue of as many orders written over it is written over what was
+  over-first : (q : List Order) → putQueue area c n q ≡ putQueue area₀ c n q
+  over-first q =
+      ap (λ (a : List ℕ). putQueue a c n q) (s .lies) ∙ putQueue-again area₀ c n queue q (omega (arith, length-queue area c n)) (omega (arith, s .room))
+
+  pub left-in : {q : List Order} → drop i queue ≡ q → LeftIn q area₀ c n i area
+  left-in {q} e =
+      record {
+        within = s .within;
+        count = rw (← e, length-drop) (omega (arith, s .within, length-queue area c n));
+        dropped = rw e (over-first q);
+      }
+
+  module _ {o : Order} (here : i < n) (read : o ≡ orderFrom (drop (320 * c + 5 * i) area)) where
+    -- the order is filled: the queue goes on behind it
+    pub side-filled : Side area₀ c n area (i + 1)
+    side-filled = record { room = s .room; long = s .long; within = omega arith; lies = s .lies }
+
+    pub left-filled : (k : ℕ) → o .lots ≤ k → drop (i + 1) queue ≡ lessFirst k o (drop (i + 1) queue)
+    left-filled k h = sym (less-filled k o (drop (i + 1) queue) h)
+
+    -- k of its lots are, and the others are written
+    module _ (k : ℕ) (part : k < o .lots) {area′ : List ℕ} (same : length area′ ≡ length area) (written : area′ ≡ putQueue area c n (set queue i (withLots (getD queue i noOrder) (o .lots - k)))) where
+      changed : List Order
+      changed = set queue i (withLots o (o .lots - k))
+
+      length-changed : length changed ≡ n
+      unfolding changed
+      length-changed = rw length-set (length-queue area c n)
+
+      lies-changed : area′ ≡ putQueue area₀ c n changed
+      unfolding changed
+      lies-changed =
+          written
+          ∙ ap (λ (p : Order). putQueue area c n (set queue i (withLots p (o .lots - k)))) (order-at area c n i here ∙ sym read)
+          ∙ over-first (set queue i (withLots o (o .lots - k)))
+
+      queue-changed : queueIn area′ c n ≡ changed
+      queue-changed =
+          ap (λ (a : List ℕ). queueIn a c n) lies-changed
+          ∙ ap (queueIn (putQueue area₀ c n changed) c) (sym length-changed) ∙ queue-put area₀ c n changed (omega (arith, s .room))
+
+      pub side-part : Side area₀ c n area′ i
+      side-part = record { room = s .room; long = same ∙ s .long; within = s .within; lies = lies-changed ∙ ap (putQueue area₀ c n) (sym queue-changed) }
+
+      pub left-part : drop i (queueIn area′ c n) ≡ lessFirst k o (drop (i + 1) queue)
+      unfolding changed
+      left-part =
+          let l : length (take i queue) ≡ i = length-take-le i queue (rw length-queue (omega arith)) in
+          rw (queue-changed, set-split queue i (withLots o (o .lots - k)) (rw length-queue here), drop-at (take i queue) _ i l, ← add-one)
+          (sym (less-part k o (drop (i + 1) queue) part))

@@ -1,0 +1,5 @@
+pub mod Chosen
+pub mod Counting
+pub mod Filling
+pub mod Levels
+pub mod Turns

@@ -1,0 +1,104 @@
+// A change of a contract's state, with the match where it leaves auction (document 02, ticket 4). For our own crates: it asks for a
+// well-formed state.
+ghost use mathlib.Core.Bool.{true};
+ghost use mathlib.Core.Path.{_≡_};
+ghost use Prim.Native.Nat.{_<_};
+ghost use Rattle.rules.specs.Memory.{WellFormedState, memory, stepIn};
+ghost use Rattle.rules.specs.declared.Command.the-variants.{Phase};
+ghost use Rattle.engine.specs.Outcome.{OutcomeIs, isMatch};
+ghost use Rattle.opening.specs.Opening.{withMatch};
+use auction::matched;
+use auction::matched::Match;
+use auction::price;
+use engine::answers;
+use engine::answers::Outcome;
+use engine::phases;
+use rules::CONTINUOUS;
+use rules::State;
+
+// "Trades: 1,024 a day."
+const MAX_TRADES: usize = 1024;
+
+// The state after the match: the contract trades on.
+fn with_match(state: State, c: usize, m: Match) -> State
+    requires { ⌜ c < 4 ⌝ }
+    ensures { λ r. ⌜ r ≡ withMatch state c m ⌝ }
+{
+    let mut contracts = state.contracts;
+    let mut bids = state.buys;
+    let mut offers = state.sells;
+    let accounts = m.accounts;
+    let mut terms = contracts[c];
+    terms.last = m.last;
+    terms.phase = CONTINUOUS;
+    contracts[c] = terms;
+    bids[c] = m.bought;
+    offers[c] = m.sold;
+    State {
+        contracts,
+        accounts,
+        buys: bids,
+        sells: offers,
+        contractcount: state.contractcount,
+        accountcount: state.accountcount,
+        tradecount: m.made,
+        next: state.next,
+        settlements: state.settlements,
+    }
+}
+
+// The change from auction to continuous: 12 if the match needs more room than the day has left, and then nothing has happened.
+fn leave_auction(
+    state: State,
+    buys: &mut [u32],
+    sells: &mut [u32],
+    trades: &mut [u32],
+    contract: u32,
+) -> Outcome
+    requires { ⌜ WellFormedState state (now buys) (now sells) (now trades) × (isMatch state contract 1 ≡ true) ⌝ }
+    ensures { λ r. ⌜ OutcomeIs (stepIn (memory state (now (buys .entry)) (now (sells .entry)) (now (trades .entry))) (Phase contract 1)) r (now (buys .exit)) (now (sells .exit)) (now (trades .exit)) ⌝ }
+{
+    let c = laws::wide(contract) - 1;
+    let bids = state.buys;
+    let offers = state.sells;
+    let bought = bids[c];
+    let sold = offers[c];
+    let contracts = state.contracts;
+    let terms = contracts[c];
+    let chosen = price::chosen(&buys[..], bought, &sells[..], sold, c, terms.last);
+    let needed = matched::trades_needed(&buys[..], bought, &sells[..], sold, c, chosen);
+    if MAX_TRADES < state.tradecount + needed {
+        return answers::refused(state, 12);
+    }
+    let accounts = state.accounts;
+    let m = matched::match_queues(
+        buys,
+        bought,
+        sells,
+        sold,
+        trades,
+        state.tradecount,
+        contract - 1,
+        chosen,
+        terms.last,
+        accounts,
+    );
+    answers::accepted(with_match(state, c, m), 0, m.traded, 0)
+}
+
+pub fn change(
+    state: State,
+    buys: &mut [u32],
+    sells: &mut [u32],
+    trades: &mut [u32],
+    contract: u32,
+    phase: u32,
+) -> Outcome
+    requires { ⌜ WellFormedState state (now buys) (now sells) (now trades) ⌝ }
+    ensures { λ r. ⌜ OutcomeIs (stepIn (memory state (now (buys .entry)) (now (sells .entry)) (now (trades .entry))) (Phase contract phase)) r (now (buys .exit)) (now (sells .exit)) (now (trades .exit)) ⌝ }
+{
+    if phases::is_match(state, contract, phase) {
+        return leave_auction(state, buys, sells, trades, contract);
+    }
+    phases::change(state, &buys[..], &sells[..], &trades[..], contract, phase)
+}

@@ -1,0 +1,13 @@
+-- `codes::takes_orders` meets its contract. Assumes nothing.
+use Rattle.refusals.proofs.Conditions.{in-continuous, by-auction}
+use Rattle.refusals.proofs.codes.takes_orders.Statement.{statement}
+use Rattle.refusals.proofs.codes.takes_orders.Tie as tie
+
+returns : tie.Need-returns
+returns c = in-continuous _ (c .if1 .taken)
+
+returns-2 : tie.Need-returns-2
+returns-2 c = by-auction _ (c .before .if1 .left)
+
+pub takes-orders-spec : {M : Type 1} → statement M
+takes-orders-spec = tie.close (tie.spec returns returns-2)
