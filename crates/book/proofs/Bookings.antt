@@ -1,4 +1,4 @@
--- Positions while trades are booked: a bound on those of the accounts in use grows by the lots of each leg, and the two places that code changes
+-- Holdings while trades are booked: a bound on those of the accounts in use grows by the lots of each leg, and the two places that code changes
 -- are the two legs of the trade. Assumes nothing.
 use mathlib.Core.Bool.{Bool, true, false}
 use mathlib.Core.List.{List, [], _∷_}
@@ -8,12 +8,12 @@ use native.Mathlib.Omega.{arith}
 use lib.Dec.{eqb}
 use lib.ListN.{getD, set}
 use Rattle.laws.specs.Choice.{pick}
-use Rattle.rules.specs.Exchange.{noHolding}
-use Rattle.rules.specs.Holdings.{withLong, withShort, afterLeg}
+use Rattle.rules.specs.Exchange.{noAccount, noHolding, accountAt, holdingAt}
+use Rattle.rules.specs.Holdings.{withLong, withShort, withHolding, afterLeg, bookLeg, bookBuyer, bookTrade}
+use Rattle.rules.specs.declared.Account.{Account}
 use Rattle.rules.specs.declared.Holding.{Holding}
 use Rattle.rules.specs.declared.Trade.{Trade}
-use Rattle.book.specs.Positions.{PositionWithin, PositionsWithin, noPosition, positionOf, withPosition, afterLegOn, bookLegOn, bookTradeOn}
-use Rattle.book.specs.declared.holdings.Position.{Position}
+use Rattle.book.specs.Bounds.{HoldingWithin, HeldWithin}
 
 -- ---- bounds
 
@@ -25,69 +25,77 @@ all-set P d (x ∷ xs) zero v h hv (suc k) = h (suc k)
 all-set P d (x ∷ xs) (suc i) v h hv zero = h zero
 all-set P d (x ∷ xs) (suc i) v h hv (suc k) = all-set (λ j. P (suc j)) d xs i v (λ j. h (suc j)) hv k
 
-pub position-more : {a b : ℕ} {p : Position} → PositionWithin a p → a ≤ b → PositionWithin b p
-position-more w more = record { long = omega arith; short = omega arith }
+-- what holds of an element and of what is stored over it holds of the place
+set-here : {A : Type 0} (P : A → Type 0) (d : A) (l : List A) (i : ℕ) (v : A) → P (getD l i d) → P v → P (getD (set l i v) i d)
+set-here P d [] i v h hv = h
+set-here P d (x ∷ xs) zero v h hv = hv
+set-here P d (x ∷ xs) (suc i) v h hv = set-here P d xs i v h hv
 
-pub positions-more : {a b used : ℕ} {ps : List Position} → PositionsWithin a used ps → a ≤ b → PositionsWithin b used ps
-positions-more w more = record { each = λ a h. position-more (w .each a h) more }
+pub holding-more : {a b : ℕ} {h : Holding} → HoldingWithin a h → a ≤ b → HoldingWithin b h
+holding-more w more = record { long = omega arith; short = omega arith }
 
-position-leg : {b : ℕ} (p : Position) (sell : Bool) (close lots : ℕ) → PositionWithin b p → PositionWithin (b + lots) (afterLegOn p sell close lots)
-unfolding afterLegOn afterLeg
-position-leg {b} p sell close lots w = go sell (eqb close 0)
+pub held-more : {a b used c : ℕ} {l : List Account} → HeldWithin a used c l → a ≤ b → HeldWithin b used c l
+held-more w more = record { each = λ a h. holding-more (w .each a h) more }
+
+-- one of them, as code reads it
+pub holding-read : {a b used c k : ℕ} {l : List Account} (who : ℕ) → HeldWithin a used c l → who < used → k ≡ c → a ≤ b → HoldingWithin b (getD (getD l who noAccount .holdings) k noHolding)
+unfolding accountAt holdingAt
+holding-read who w h e more = rw e (holding-more (w .each who h) more)
+
+holding-leg : {b : ℕ} (h : Holding) (sell : Bool) (close lots : ℕ) → HoldingWithin b h → HoldingWithin (b + lots) (afterLeg h sell close lots)
+unfolding afterLeg
+holding-leg {b} h sell close lots w = go sell (eqb close 0)
   where
-    h : Holding
-    h = withPosition noHolding p
-
     go : (s o : Bool)
-        → PositionWithin (b + lots)
-        (positionOf
+        → HoldingWithin (b + lots)
         (pick s
         (pick o (withShort h (h .short + lots)) (withLong h (h .long - lots)))
-        (pick o (withLong h (h .long + lots)) (withShort h (h .short - lots)))))
+        (pick o (withLong h (h .long + lots)) (withShort h (h .short - lots))))
     go true true = record { long = omega arith; short = omega arith }
     go true false = record { long = omega arith; short = omega arith }
     go false true = record { long = omega arith; short = omega arith }
     go false false = record { long = omega arith; short = omega arith }
 
-positions-leg : {b used : ℕ} (ps : List Position) (a : ℕ) (sell : Bool) (close lots : ℕ) → a < used → PositionsWithin b used ps → PositionsWithin (b + lots) used (bookLegOn ps a sell close lots)
-unfolding bookLegOn
-positions-leg {b} {used} ps a sell close lots h w =
+held-leg : {b used : ℕ} (l : List Account) (a c : ℕ) (sell : Bool) (close lots : ℕ) → a < used → HeldWithin b used c l → HeldWithin (b + lots) used c (bookLeg l a c sell close lots)
+unfolding bookLeg accountAt holdingAt
+held-leg {b} {used} l a c sell close lots h w =
     record {
       each =
-          all-set (λ k p. k < used → PositionWithin (b + lots) p) noPosition ps a _
-          (λ k i. position-more (w .each k i) (omega arith))
-          (λ i. position-leg _ sell close lots (w .each a i));
+          all-set (λ k x. k < used → HoldingWithin (b + lots) (getD (x .holdings) c noHolding)) noAccount l a _
+          (λ k i. holding-more (w .each k i) (omega arith))
+          (λ i. set-here (HoldingWithin (b + lots)) noHolding (getD l a noAccount .holdings) c _ (holding-more (w .each a i) (omega arith)) (holding-leg _ sell close lots (w .each a i)));
     }
 
 -- both parties in use
-pub positions-trade : {b used : ℕ} (ps : List Position) (t : Trade) → t .buyer < used → t .seller < used
-    → PositionsWithin b used ps → PositionsWithin (b + t .lots + t .lots) used (bookTradeOn ps t)
-unfolding bookTradeOn
-positions-trade ps t buyer seller w =
-    positions-leg _ (t .seller) true (t .sellclose) (t .lots) seller (positions-leg ps (t .buyer) false (t .buyclose) (t .lots) buyer w)
+pub held-trade : {b used c : ℕ} (l : List Account) (t : Trade) → t .contract ≡ c → t .buyer < used → t .seller < used
+    → HeldWithin b used c l → HeldWithin (b + t .lots + t .lots) used c (bookTrade l t)
+unfolding bookTrade
+held-trade l t e buyer seller w =
+    rw (← e)
+    (held-leg (bookBuyer l t) (t .seller) (t .contract) true (t .sellclose) (t .lots) seller (held-leg l (t .buyer) (t .contract) false (t .buyclose) (t .lots) buyer (rw e w)))
 
 -- ---- one changed place for each leg
 
--- the position at a place, with a leg booked
-leg-booked : (ps : List Position) (a who : ℕ) (sell : Bool) (close lots : ℕ) (p : Position) → who ≡ a
-    → p ≡ afterLegOn (getD ps who noPosition) sell close lots
-    → set ps who p ≡ bookLegOn ps a sell close lots
-unfolding bookLegOn
-leg-booked ps a who sell close lots p ea ep = rw (ep, ea)
+-- the account at a place, with a leg booked
+leg-booked : (l : List Account) (a c who contract : ℕ) (sell : Bool) (close lots : ℕ) (x : Account) → who ≡ a → contract ≡ c
+    → x ≡ withHolding (getD l who noAccount) contract (afterLeg (getD (getD l who noAccount .holdings) contract noHolding) sell close lots)
+    → set l who x ≡ bookLeg l a c sell close lots
+unfolding bookLeg accountAt holdingAt
+leg-booked l a c who contract sell close lots x ea ec ex = rw (ex, ea, ec)
 
-module _ (ps : List Position) (t : Trade) {buyer : ℕ} {p : Position} (eb : buyer ≡ t .buyer)
-    (ep : p ≡ afterLegOn (getD ps buyer noPosition) false (t .buyclose) (t .lots)) where
-  buyer-booked : set ps buyer p ≡ bookLegOn ps (t .buyer) false (t .buyclose) (t .lots)
-  buyer-booked = leg-booked ps (t .buyer) buyer false (t .buyclose) (t .lots) p eb ep
+module _ (l : List Account) (t : Trade) {c buyer : ℕ} {x : Account} (ec : c ≡ t .contract) (eb : buyer ≡ t .buyer)
+    (ex : x ≡ withHolding (getD l buyer noAccount) c (afterLeg (getD (getD l buyer noAccount .holdings) c noHolding) false (t .buyclose) (t .lots))) where
+  buyer-booked : set l buyer x ≡ bookBuyer l t
+  buyer-booked = leg-booked l (t .buyer) (t .contract) buyer c false (t .buyclose) (t .lots) x eb ec ex
 
-  pub buyer-within : {b used : ℕ} → t .buyer < used → PositionsWithin b used ps → PositionsWithin (b + t .lots) used (set ps buyer p)
-  buyer-within h w = rw buyer-booked (positions-leg ps (t .buyer) false (t .buyclose) (t .lots) h w)
+  pub buyer-held : {b used d : ℕ} → t .contract ≡ d → t .buyer < used → HeldWithin b used d l → HeldWithin (b + t .lots) used d (set l buyer x)
+  buyer-held e h w = rw (buyer-booked, ← e) (held-leg l (t .buyer) (t .contract) false (t .buyclose) (t .lots) h (rw e w))
 
   -- "the buyer's leg is booked first"
-  pub trade-booked : {seller : ℕ} {q : Position} → seller ≡ t .seller
-      → q ≡ afterLegOn (getD (set ps buyer p) seller noPosition) true (t .sellclose) (t .lots)
-      → set (set ps buyer p) seller q ≡ bookTradeOn ps t
-  unfolding bookTradeOn
-  trade-booked {seller} {q} es eq =
-      leg-booked (set ps buyer p) (t .seller) seller true (t .sellclose) (t .lots) q es eq
-      ∙ ap (λ (m : List Position). bookLegOn m (t .seller) true (t .sellclose) (t .lots)) buyer-booked
+  pub trade-booked : {seller : ℕ} {y : Account} → seller ≡ t .seller
+      → y ≡ withHolding (getD (set l buyer x) seller noAccount) c (afterLeg (getD (getD (set l buyer x) seller noAccount .holdings) c noHolding) true (t .sellclose) (t .lots))
+      → set (set l buyer x) seller y ≡ bookTrade l t
+  unfolding bookTrade
+  trade-booked {seller} {y} es ey =
+      leg-booked (set l buyer x) (t .seller) (t .contract) seller c true (t .sellclose) (t .lots) y es ec ey
+      ∙ ap (λ (m : List Account). bookLeg m (t .seller) (t .contract) true (t .sellclose) (t .lots)) buyer-booked

@@ -1,6 +1,5 @@
 pub mod Bookings
 pub mod Methods
-pub mod Positions
 pub mod Pulls
 pub mod Queues
 pub mod Recorded

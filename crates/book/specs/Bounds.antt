@@ -1,7 +1,14 @@
 -- Bounds on holdings, so that no sum of lots passes its width. Assumes nothing.
-use Prim.Native.Nat.{ℕ, _≤_}
+use mathlib.Core.List.{List}
+use Prim.Native.Nat.{ℕ, _<_, _≤_}
+use Rattle.rules.specs.Exchange.{holdingAt}
+use Rattle.rules.specs.declared.Account.{Account}
 use Rattle.rules.specs.declared.Holding.{Holding}
 
 pub record HoldingWithin (b : ℕ) (h : Holding) : Type 0 where
   pub long : h .long ≤ b
   pub short : h .short ≤ b
+
+-- in one contract, of the accounts in use: other places may hold anything
+pub record HeldWithin (b used c : ℕ) (accounts : List Account) : Type 0 where
+  pub each : (a : ℕ) → a < used → HoldingWithin b (holdingAt accounts a c)

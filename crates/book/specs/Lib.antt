@@ -1,5 +1,4 @@
 pub mod Bounds
 pub mod Methods
-pub mod Positions
 pub mod Removal
 pub mod Side

@@ -4,11 +4,13 @@ use mathlib.Core.List.{List}
 use mathlib.Core.Path.{_≡_, ap, _∙_}
 use Prim.Native.Nat.{ℕ, zero, suc, _+_, _*_, _<_, _≤_}
 use native.Mathlib.Omega.{arith}
+use lib.IntN.{pos}
 use lib.ListN.{length, drop, getD, replicate}
 use Rattle.rules.specs.EarlyStop.{countTrades}
-use Rattle.rules.specs.Exchange.{noOrder}
+use Rattle.rules.specs.Exchange.{noOrder, noHolding, noAccount, accountAt, holdingAt}
 use Rattle.rules.specs.Matching.{restLots, restedLots, enter, sweep}
 use Rattle.rules.specs.Memory.{orderFrom, queueIn}
+use Rattle.rules.specs.declared.Account.{Account}
 use Rattle.rules.specs.declared.Order.{Order}
 use Rattle.rules.specs.declared.PairingMethod.the-variants.{Middle}
 use Rattle.rules.specs.declared.Taker.{Taker}
@@ -16,10 +18,9 @@ use Rattle.rules.specs.declared.Trade.{Trade}
 use Rattle.rules.proofs.Codecs.{length-queue, order-at, order-words}
 use Rattle.rules.proofs.Fillable.{trades-counted}
 use Rattle.rules.proofs.Queue.{length-restIn}
-use Rattle.book.specs.Positions.{PositionWithin, noPosition}
-use Rattle.book.specs.declared.holdings.Position.{Position}
+use Rattle.book.specs.Bounds.{HoldingWithin}
 use Rattle.matching.specs.Entry.{EntryReady}
-use Rattle.book_examples.specs.Known.{AccountsKnown, noPositions}
+use Rattle.book_examples.specs.Known.{AccountsKnown, noHoldings}
 
 -- at most one order rests
 rest-most : (t : Taker) (price lots : ℕ) (queue : List Order) → length (restLots t price lots queue) ≤ length queue + 1
@@ -33,11 +34,14 @@ getD-copies P zero v d hv hd i = hd
 getD-copies P (suc n) v d hv hd zero = hv
 getD-copies P (suc n) v d hv hd (suc i) = getD-copies P n v d hv hd i
 
-none-held : (b a : ℕ) → PositionWithin b (getD noPositions a noPosition)
-unfolding noPositions
-none-held b = getD-copies (PositionWithin b) 32 noPosition noPosition nothing nothing
+none-held : (b a c : ℕ) → HoldingWithin b (holdingAt noHoldings a c)
+unfolding noHoldings accountAt holdingAt
+none-held b =
+    getD-copies (λ (x : Account). (c : ℕ) → HoldingWithin b (getD (x .holdings) c noHolding)) 32
+    (record { balance = pos 0; holdings = replicate 4 noHolding }) noAccount
+    (getD-copies (HoldingWithin b) 4 noHolding noHolding nothing nothing) (λ c. nothing)
   where
-    nothing : PositionWithin b noPosition
+    nothing : HoldingWithin b noHolding
     nothing = record { long = omega arith; short = omega arith }
 
 module _ (t : Taker) (lots : ℕ) (opposite : List ℕ) (count : ℕ) (contract : t .contract ≡ 0) (method : t .method ≡ Middle) where
@@ -51,10 +55,10 @@ module _ (t : Taker) (lots : ℕ) (opposite : List ℕ) (count : ℕ) (contract 
       ∙ order-words opposite (5 * i))
 
   -- all that `enter` asks for, of an order that makes at most two trades
-  pub ready : (price last : ℕ) {held : List Position} (own : List ℕ) (owncount : ℕ) (area : List ℕ) (before : ℕ)
+  pub ready : (price last : ℕ) {held : List Account} (own : List ℕ) (owncount : ℕ) (area : List ℕ) (before : ℕ)
       → t .account ≤ 31 → lots ≤ 1000 → owncount ≤ 63 → count ≤ 64 → before ≤ 8
       → length own ≡ 320 → length opposite ≡ 320 → length area ≡ 90
-      → AccountsKnown opposite count → countTrades t lots (queueIn opposite 0 count) ≤ 2 → held ≡ noPositions
+      → AccountsKnown opposite count → countTrades t lots (queueIn opposite 0 count) ≤ 2 → held ≡ noHoldings
       → EntryReady t lots price true last held own owncount opposite count area before
   unfolding enter
   ready price last own owncount area before account size few fewer early room opposite-room trade-room known two none =
@@ -79,7 +83,7 @@ module _ (t : Taker) (lots : ℕ) (opposite : List ℕ) (count : ℕ) (contract 
                     few = omega arith;
                     taker = omega arith;
                     resting = λ i h. omega (arith, account-at i h, known .each i h);
-                    positions = record { each = λ a h. rw none (none-held 1_000_000 a) };
+                    holdings = record { each = λ a h. rw none (none-held 1_000_000 a (t .contract)) };
                   };
             };
         rests =

@@ -1,2 +1,2 @@
+pub mod HoldingExamples
 pub mod Known
-pub mod PositionExamples

@@ -4,13 +4,14 @@ ghost use mathlib.Core.Bool.{true};
 ghost use mathlib.Core.Path.{_≡_};
 ghost use Prim.Native.Nat.{_≤_};
 ghost use Rattle.rules.specs.declared.PairingMethod.the-variants.{Middle};
-ghost use Rattle.book_examples.specs.Known.{AccountsKnown, noPositions};
-use book::holdings::Position;
+ghost use Rattle.book_examples.specs.Known.{AccountsKnown, noHoldings};
 use book::queue;
 use book::scan;
 use book::trades;
 use matching::entry;
 use matching::entry::Entry;
+use rules::Account;
+use rules::Holding;
 use rules::PairingMethod;
 use rules::PriceCondition;
 use rules::Taker;
@@ -23,11 +24,20 @@ struct Standing {
     last: u32,
 }
 
-fn no_positions() -> [Position; 32]
-    ensures { λ r. ⌜ r ≡ noPositions ⌝ }
+fn no_holdings() -> [Account; 32]
+    ensures { λ r. ⌜ r ≡ noHoldings ⌝ }
 {
-    let none = Position { long: 0, short: 0 };
-    [none; 32]
+    let none = Holding {
+        long: 0,
+        short: 0,
+        startlong: 0,
+        startshort: 0,
+    };
+    let empty = Account {
+        balance: 0,
+        holdings: [none; 4],
+    };
+    [empty; 32]
 }
 
 // A limit order of account 0 in contract 0, paired by the middle price.
@@ -63,7 +73,7 @@ fn accounts_known(area: &[u32; 320], count: usize) -> bool
 }
 
 fn nothing() -> Entry {
-    let held = no_positions();
+    let held = no_holdings();
     Entry {
         traded: 0,
         rested: 0,
@@ -71,7 +81,7 @@ fn nothing() -> Entry {
         opposite: 0,
         made: 0,
         last: 0,
-        positions: held,
+        accounts: held,
     }
 }
 
@@ -103,7 +113,7 @@ fn submit(
     if new > 2 {
         return nothing();
     }
-    let held = no_positions();
+    let held = no_holdings();
     entry::enter(
         own,
         owncount,

@@ -2,16 +2,18 @@
 use mathlib.Core.List.{List}
 use mathlib.Core.Path.{_≡_}
 use Prim.Native.Nat.{ℕ, zero, suc, _+_, _*_, _<_}
-use lib.ListN.{length, getD, replicate}
+use lib.IntN.{pos}
+use lib.ListN.{length, replicate}
 use Rattle.areas.specs.Records.{store}
 use Rattle.rules.specs.Command.{priceCondition}
+use Rattle.rules.specs.Exchange.{holdingAt}
+use Rattle.rules.specs.Holdings.{bookTrades}
 use Rattle.rules.specs.Matching.{Entered, enter, lastPrice}
 use Rattle.rules.specs.Memory.{queueIn, putQueue, tradeWords}
+use Rattle.rules.specs.declared.Account.{Account}
 use Rattle.rules.specs.declared.Order.{Order}
 use Rattle.rules.specs.declared.PairingMethod.the-variants.{Middle}
 use Rattle.rules.specs.declared.Taker.{Taker}
-use Rattle.book.specs.Positions.{noPosition, bookTradesOn}
-use Rattle.book.specs.declared.holdings.Position.{Position}
 use Rattle.matching.specs.Entry.{EntryReady}
 use Rattle.book_exports.specs.declared.Sweeps.{Sweeps}
 use Rattle.book_exports.specs.declared.Swept.{Swept}
@@ -32,13 +34,15 @@ takerOf s =
       best = s .best;
     }
 
--- 32 accounts that have as many lots on either side
-abbrev pub positionsOf : ℕ → List Position
-positionsOf lots = replicate 32 (record { long = lots; short = lots })
+-- 32 accounts that hold as many lots of everything
+abbrev pub accountsOf : ℕ → List Account
+accountsOf lots =
+    replicate 32
+    (record { balance = pos 0; holdings = replicate 4 (record { long = lots; short = lots; startlong = lots; startshort = lots }) })
 
 -- ---- one order entered again and again
 
--- the areas, the counts, the last price and the positions between two orders
+-- the areas, the counts, the last price and the accounts between two orders
 pub record Book : Type 0 where
   pub owns : List ℕ
   pub own : ℕ
@@ -47,7 +51,7 @@ pub record Book : Type 0 where
   pub area : List ℕ
   pub made : ℕ
   pub last : ℕ
-  pub positions : List Position
+  pub accounts : List Account
 
 abbrev pub start : Sweeps → List ℕ → List ℕ → List ℕ → Book
 start s owns opposites area =
@@ -59,7 +63,7 @@ start s owns opposites area =
       area = area;
       made = s .made;
       last = s .last;
-      positions = positionsOf (s .held);
+      accounts = accountsOf (s .held);
     }
 
 -- what the order does to a book
@@ -77,7 +81,7 @@ after s b e =
       area = store tradeWords (b .area) (9 * b .made) (e .trades);
       made = b .made + length (e .trades);
       last = lastPrice (b .last) (e .trades);
-      positions = bookTradesOn (b .positions) (e .trades);
+      accounts = bookTrades (b .accounts) (e .trades);
     }
 
 unfoldable pub entered : Sweeps → Book → ℕ → Book
@@ -87,9 +91,10 @@ entered s b (suc n) = after s (entered s b n) (outcome s (entered s b n))
 -- what the book asks for, each time
 abbrev pub Ready : Sweeps → Book → Type 0
 Ready s b =
-    EntryReady (takerOf s) (s .lots) (s .price) (s .day) (b .last) (b .positions) (b .owns) (b .own) (b .opposites) (b .opposite) (b .area) (b .made)
+    EntryReady (takerOf s) (s .lots) (s .price) (s .day) (b .last) (b .accounts) (b .owns) (b .own) (b .opposites) (b .opposite) (b .area) (b .made)
 
 pub record SweepsReady (s : Sweeps) (times : ℕ) (owns opposites area : List ℕ) : Type 0 where
+  pub contract : s .contract < 4
   pub probe : s .probe < 32
   pub each : (n : ℕ) → n < times → Ready s (entered s (start s owns opposites area) n)
 
@@ -99,8 +104,8 @@ pub record SweptOf (s : Sweeps) (b : Book) (r : Swept) (owns opposites area : Li
   pub opposite : r .opposite ≡ b .opposite
   pub made : r .made ≡ b .made
   pub last : r .last ≡ b .last
-  pub long : r .long ≡ getD (b .positions) (s .probe) noPosition .long
-  pub short : r .short ≡ getD (b .positions) (s .probe) noPosition .short
+  pub long : r .long ≡ holdingAt (b .accounts) (s .probe) (s .contract) .long
+  pub short : r .short ≡ holdingAt (b .accounts) (s .probe) (s .contract) .short
   pub own-queue : owns ≡ b .owns
   pub opposite-queue : opposites ≡ b .opposites
   pub trades : area ≡ b .area

@@ -8,11 +8,12 @@ ghost use Rattle.rules.specs.Command.{priceCondition};
 ghost use Rattle.rules.specs.Matching.{restIn};
 ghost use Rattle.rules.specs.Memory.{queueIn, putQueue};
 ghost use Rattle.rules.specs.Places.{indexOf};
-ghost use Rattle.book_exports.specs.Calls.{orderOf, takerOf, positionsOf, SweepsReady, SweptIs};
-use book::holdings::Position;
+ghost use Rattle.book_exports.specs.Calls.{orderOf, takerOf, accountsOf, SweepsReady, SweptIs};
 use book::queue;
 use book::removal;
 use matching::entry;
+use rules::Account;
+use rules::Holding;
 use rules::Order;
 use rules::PairingMethod;
 use rules::PriceCondition;
@@ -59,7 +60,7 @@ pub extern "C" fn zelvorm_cancel(area: &mut [u32], c: usize, count: usize, numbe
 }
 
 // An order, paired by the middle price: `kind` is its price condition (0 limit, 1 market, 2 best), `own`, `opposite` and `made` are the counts before it,
-// `held` the long and the short lots that each account has, `probe` the account whose position is asked for.
+// `held` the lots that each account holds of everything, `probe` the account whose holding is asked for.
 #[repr(C)]
 pub struct Sweeps {
     pub account: u32,
@@ -80,7 +81,7 @@ pub struct Sweeps {
     pub made: usize,
 }
 
-// The counts, the last price and one account's position after the orders.
+// The counts, the last price and one account's holding after the orders.
 #[repr(C)]
 pub struct Swept {
     pub own: usize,
@@ -117,17 +118,24 @@ fn taker(s: Sweeps) -> Taker
     }
 }
 
-fn positions_with(lots: u32) -> [Position; 32]
-    ensures { λ r. ⌜ r ≡ positionsOf lots ⌝ }
+fn accounts_with(lots: u32) -> [Account; 32]
+    ensures { λ r. ⌜ r ≡ accountsOf lots ⌝ }
 {
-    let position = Position {
+    let holding = Holding {
         long: lots,
         short: lots,
+        startlong: lots,
+        startshort: lots,
     };
-    [position; 32]
+    let holdings = [holding; 4];
+    let account = Account {
+        balance: 0,
+        holdings: holdings,
+    };
+    [account; 32]
 }
 
-// Enters the order so many times, over positions made here and kept by value from one order to the next.
+// Enters the order so many times, over accounts made here and kept by value from one order to the next.
 #[no_mangle]
 pub extern "C" fn zelvorm_sweeps(
     own: &mut [u32],
@@ -140,7 +148,7 @@ pub extern "C" fn zelvorm_sweeps(
     ensures { λ r. ⌜ SweptIs s times (now (own .entry)) (now (opposite .entry)) (now (trades .entry)) r (now (own .exit)) (now (opposite .exit)) (now (trades .exit)) ⌝ }
 {
     let t = taker(s);
-    let mut positions = positions_with(s.held);
+    let mut accounts = accounts_with(s.held);
     let mut own_count = s.own;
     let mut opposite_count = s.opposite;
     let mut made = s.made;
@@ -159,23 +167,25 @@ pub extern "C" fn zelvorm_sweeps(
             s.price,
             s.day,
             last,
-            positions,
+            accounts,
         );
         own_count = e.own;
         opposite_count = e.opposite;
         made = e.made;
         last = e.last;
-        positions = e.positions;
+        accounts = e.accounts;
         done += 1;
     }
     let probe = laws::wide(s.probe);
-    let position = positions[probe];
+    let c = laws::wide(s.contract);
+    let account = accounts[probe];
+    let holding = account.holdings[c];
     Swept {
         own: own_count,
         opposite: opposite_count,
         made,
         last,
-        long: position.long,
-        short: position.short,
+        long: holding.long,
+        short: holding.short,
     }
 }

@@ -1,5 +1,5 @@
--- What is read of the opposite queue on an order's arrival: its best price, whether there is a trade at all, how many trades there can
--- be, and the lots that can be filled. Assumes nothing.
+-- What is read of the opposite queue on an order's arrival: its best price, how many trades there can be, and the lots that can be
+-- filled. Assumes nothing.
 use mathlib.Core.Bool.{Bool, true, false, _&&_}
 use mathlib.Core.List.{List, [], _∷_}
 use mathlib.Core.Path.{_≡_, refl, sym, ap, _∙_}
@@ -11,15 +11,13 @@ use lib.ListN.{length, getD, drop}
 use Rattle.laws.specs.Choice.{pick}
 use Rattle.rules.specs.EarlyStop.{countTrades, fillableFront}
 use Rattle.rules.specs.Exchange.{bestPrice, noOrder}
-use Rattle.rules.specs.Matching.{Swept, counterpart, fillable, meets, sweep}
+use Rattle.rules.specs.Matching.{counterpart, fillable}
 use Rattle.rules.specs.Memory.{orderFrom, queueIn}
 use Rattle.rules.specs.declared.Order.{Order}
-use Rattle.rules.specs.declared.PriceCondition.{PriceCondition}
 use Rattle.rules.specs.declared.Taker.{Taker}
 use Rattle.rules.proofs.Codecs.{length-queue, order-at}
 use Rattle.rules.proofs.Fillable.{front-fillable}
-use Rattle.rules.proofs.Sweep.{sweep-end, sweep-unmet}
-use Rattle.insertion.specs.Insertion.{Facing, QueueRoom, meetsAny, tradesRefused}
+use Rattle.insertion.specs.Insertion.{Facing, QueueRoom, tradesRefused}
 
 -- ---- the best price
 
@@ -39,34 +37,6 @@ module _ (area : List ℕ) (c count : ℕ) where
 
   pub best-first : {o : Order} → (count ≡ 0 → ⊥) → o ≡ orderFrom (drop (320 * c + 5 * 0) area) → o .price ≡ bestPrice (queueIn area c count)
   best-first some e = ap (λ (p : Order). p .price) (e ∙ sym (order-at area c count 0 (omega arith))) ∙ sym (best-at (queueIn area c count))
-
--- ---- whether there is a trade
-
-meets-at : (condition : PriceCondition) (sell : Bool) (queue : List Order) → (length queue ≡ 0 → ⊥)
-    → meetsAny condition sell queue ≡ meets condition sell (getD queue 0 noOrder .price) (getD queue 0 noOrder .price)
-unfolding meetsAny
-meets-at condition sell [] some = absurd (some refl)
-meets-at condition sell (o ∷ os) some = refl
-
-meets-empty : (condition : PriceCondition) (sell : Bool) (queue : List Order) → length queue ≡ 0 → meetsAny condition sell queue ≡ false
-unfolding meetsAny
-meets-empty condition sell [] e = refl
-meets-empty condition sell (o ∷ os) e = absurd (omega arith)
-
-module _ (condition : PriceCondition) (sell : Bool) (area : List ℕ) (c count : ℕ) where
-  pub meets-none : count ≡ 0 → false ≡ meetsAny condition sell (queueIn area c count)
-  meets-none e = sym (meets-empty condition sell (queueIn area c count) (length-queue area c count ∙ e))
-
-  pub meets-first : {o : Order} → (count ≡ 0 → ⊥) → o ≡ orderFrom (drop (320 * c + 5 * 0) area) → meets condition sell (o .price) (o .price) ≡ meetsAny condition sell (queueIn area c count)
-  meets-first some e =
-      ap (λ (p : Order). meets condition sell (p .price) (p .price)) (e ∙ sym (order-at area c count 0 (omega arith)))
-      ∙ sym (meets-at condition sell (queueIn area c count) (λ z. some (sym (length-queue area c count) ∙ z)))
-
--- where there is none, the sweep makes none
-pub meets-not : (t : Taker) (lots last : ℕ) (queue : List Order) → t .best ≡ bestPrice queue → meetsAny (t .condition) (t .sell) queue ≡ false → sweep t lots last queue .trades ≡ []
-unfolding bestPrice meetsAny
-meets-not t lots last [] best e = ap (λ (s : Swept). s .trades) (sweep-end t lots last)
-meets-not t lots last (o ∷ os) best e = ap (λ (s : Swept). s .trades) (sweep-unmet t lots last o os (rw best e))
 
 -- ---- the trades: at most one with each order
 

@@ -4,18 +4,17 @@ use mathlib.Core.List.{List, [], _∷_, _++_}
 use mathlib.Core.Path.{_≡_, refl, sym, ap, _∙_}
 use Prim.Native.Nat.{ℕ, _+_, _-_, _*_, _<_, _≤_}
 use native.Mathlib.Omega.{arith}
-use lib.ListN.{length, getD, getD-replicate, length-append, length-set}
+use lib.ListN.{length, getD, length-append, length-set}
 use lib.Seq.{getD-set-same}
 use Rattle.laws.specs.Choice.{allOf, allOf-append, ap-pick, both-true, pick}
 use Rattle.areas.specs.Records.{store}
 use Rattle.rules.specs.Answers.{codeOf, insertRefusals, listingOf, refusals, takerOf, tradesNeeded}
 use Rattle.rules.specs.Exchange.{Exchange, Listing, listingAt, noListing, opposite, own, placeOf, withQueues}
 use Rattle.rules.specs.Holdings.{bookTrades}
-use Rattle.rules.specs.Matching.{Entered, enter, sweep}
+use Rattle.rules.specs.Matching.{Entered, sweep}
 use Rattle.rules.specs.Memory.{Memory, exchangeOf, put, putAccounts, putQueue, putTrades, queueIn, stepIn, tradeWords}
 use Rattle.rules.specs.Step.{answerOf, carriedOut, enteredOf, exchangeAfter, inserted, listingAfter}
 use Rattle.rules.specs.WellFormed.{tradeInRange}
-use Rattle.rules.specs.declared.Account.{Account}
 use Rattle.rules.specs.declared.Command.the-variants.{Insert}
 use Rattle.rules.specs.declared.Contract.{Contract}
 use Rattle.rules.specs.declared.NewOrder.{NewOrder}
@@ -25,24 +24,19 @@ use Rattle.rules.specs.declared.Trade.{Trade}
 use Rattle.rules.proofs.Codecs.{store-trades}
 use Rattle.rules.proofs.Holdings.{length-bookTrades}
 use Rattle.rules.proofs.Terms.{terms}
-use Rattle.book.specs.Positions.{PositionsWithin, bookTradesOn, noPosition, withChanged}
-use Rattle.book.specs.declared.holdings.Position.{Position}
 use Rattle.book.proofs.Methods.{method-has-tick}
-use Rattle.book.proofs.Positions.{changed-none, positions-within, trades-changed}
 use Rattle.matching.specs.Entry.{EntryIs}
 use Rattle.matching.specs.declared.entry.Entry.{Entry}
-use Rattle.matching.proofs.Entries.{trades-contract}
 use Rattle.invariants.proofs.Accepted.{failed}
 use Rattle.invariants.proofs.Clauses.{Counted, WellFormed, trade-ok}
 use Rattle.invariants.proofs.Insert.{insert-counted, insert-keeps}
 use Rattle.invariants.proofs.InsertAccepted.{Passes, passes}
 use Rattle.invariants.proofs.MemoryKeeps.{sound}
-use Rattle.insertion.specs.Insertion.{Arrived, Arriving, Present, QueueRoom, enteredFor, lastIn, meetsAny, positionsFor, sideArea, sideCount, takerFor, termsIn, withEntry}
+use Rattle.insertion.specs.Insertion.{Arrived, Arriving, Present, enteredFor, lastIn, sideArea, sideCount, takerFor, termsIn, withEntry}
 use Rattle.engine.specs.Outcome.{memory, OutcomeIs, WellFormedState, acceptedWith}
 use Rattle.engine.specs.declared.answers.Outcome.{Outcome}
 use Rattle.engine.proofs.Accounts.{TradesUsed, put-trades-booked}
 use Rattle.engine.proofs.Formed.{Formed, accounts-count, contracts-count, few-accounts, formed, no-account, no-contract, wide}
-use Rattle.insertion.proofs.Arrivals.{meets-not}
 use Rattle.insertion.proofs.Inserting.{present}
 use Rattle.engine.proofs.Outcomes.{acceptance}
 use Rattle.engine.proofs.Puts.{put-one-listing, trades-count}
@@ -66,11 +60,6 @@ module _ (buys sells bought sold : List ℕ) (c : ℕ) (mine others : List Order
       ≡ pick sell (putQueue (pick sell sells buys) c (getD (pick sell sold bought) c 0) mine) (putQueue (pick (not sell) sells buys) c (getD (pick (not sell) sold bought) c 0) others)
   put-sells true = refl
   put-sells false = refl
-
--- nothing is written back where there is no trade
-none-changed : (c : ℕ) (l : List Account) (ps : List Position) {ts : List Trade} → ts ≡ [] → withChanged c l ps (bookTradesOn ps ts) ≡ bookTrades l ts
-unfolding bookTradesOn bookTrades
-none-changed c l ps none = rw none (changed-none c l ps)
 
 -- trades in range are of contracts and accounts in use
 trades-used : (y : Exchange) (k n : ℕ) → length (y .listings) ≡ k → length (y .accounts) ≡ n → (ts : List Trade) → allOf (tradeInRange y) ts ≡ true → TradesUsed k n ts
@@ -174,20 +163,10 @@ module _ {s : State} {buys sells trades : List ℕ} (w : WellFormedState s buys 
 
   -- ---- ready for the book; k is the contract's number as the code widens it
 
-  -- the opposite queue, as code looks for a first counterpart in it
-  pub meeting-room : (side : Bool) {k : ℕ} → k ≡ o .contract → (1 ≤ o .contract) × QueueRoom (sideArea side buys sells) (o .contract - 1) (sideCount side s (k - 1))
-  meeting-room side is = rw is (here .contract-low, side-room m f c (here .contract) side)
-
-  -- whether the positions were read or not
-  positions-low : (meets : Bool) → PositionsWithin 1_000_000 (s .accountcount) (positionsFor (s .accounts) c meets)
-  positions-low true = positions-within c (s .accounts) 1_000_000 (s .accountcount) (few-accounts m f) (held-low m f c (here .contract))
-  positions-low false =
-      record { each = λ a l. rw (getD-replicate 32 a noPosition noPosition (omega (arith, f .accounts-high))) (record { long = omega arith; short = omega arith }) }
-
-  pub arriving : (side : Bool) → o .sell ≡ side → {k : ℕ} → k ≡ o .contract → {held : List Position} (meets : Bool) → held ≡ positionsFor (s .accounts) (k - 1) meets
-      → Arriving s held (sideArea side buys sells) (sideCount side s (k - 1)) (sideArea (not side) buys sells) (sideCount (not side) s (k - 1)) trades o
-  arriving side es is meets eh =
-      rw (eh, ← es, is)
+  pub arriving : (side : Bool) → o .sell ≡ side → {k : ℕ} → k ≡ o .contract
+      → Arriving s (sideArea side buys sells) (sideCount side s (k - 1)) (sideArea (not side) buys sells) (sideCount (not side) s (k - 1)) trades o
+  arriving side es is =
+      rw (← es, is)
       (record {
         account-low = here .account-low;
         contract-low = here .contract-low;
@@ -207,7 +186,7 @@ module _ {s : State} {buys sells trades : List ℕ} (w : WellFormedState s buys 
                           few = f .accounts-high;
                           taker = here .account;
                           resting = side-account m f c (here .contract) (not (o .sell));
-                          positions = positions-low meets;
+                          holdings = record { each = λ a l. held-low m f c (here .contract) a l };
                         };
                   };
               rests = omega (arith, own-few, side-long m f c (here .contract) (o .sell));
@@ -223,23 +202,16 @@ module _ {s : State} {buys sells trades : List ℕ} (w : WellFormedState s buys 
       (trades-used after (s .contractcount) (s .accountcount) after-contracts after-accounts (entered .trades)
       (both-true (allOf (tradeInRange after) (x .trades)) (allOf (tradeInRange after) (entered .trades)) (rw allOf-append at (after-formed .trades)) .1))
 
-  -- the positions written back: all trades are of the contract, and there are none where the positions were not read
-  accounts-changed : (meets : Bool) → meets ≡ meetsAny (o .condition) (o .sell) others
-      → withChanged c (s .accounts) (positionsFor (s .accounts) c meets) (bookTradesOn (positionsFor (s .accounts) c meets) (entered .trades)) ≡ bookTrades (s .accounts) (entered .trades)
-  unfolding enter
-  accounts-changed true e = trades-changed c (s .accounts) _ (trades-contract (takerFor (s .next) (termsIn s o) others o) (o .lots) (lastIn s o) others)
-  accounts-changed false e = none-changed c (s .accounts) _ (meets-not (takerFor (s .next) (termsIn s o) others o) (o .lots) (lastIn s o) others refl (sym e))
-
   trades-stored : putTrades trades (s .tradecount) (x .trades ++ entered .trades) ≡ store tradeWords trades (9 * s .tradecount) (entered .trades)
   unfolding exchangeOf
   trades-stored = sym (store-trades trades (s .tradecount) (entered .trades) (omega (arith, f .trades-room, f .trades-high)))
 
-  module _ {held : List Position} {meets : Bool} (eh : held ≡ positionsFor (s .accounts) c meets) (em : meets ≡ meetsAny (o .condition) (o .sell) others) {r : Entry} {owns′ opposites′ area′ : List ℕ}
-      (is : EntryIs entered c (sideArea (o .sell) buys sells) (sideCount (o .sell) s c) (sideArea (not (o .sell)) buys sells) (sideCount (not (o .sell)) s c) trades (s .tradecount) (lastIn s o) held r owns′ opposites′ area′) where
-    lies : put m after ≡ memory (withEntry s c (pick (o .sell) (r .opposite) (r .own)) (pick (o .sell) (r .own) (r .opposite)) held r) (pick (o .sell) opposites′ owns′) (pick (o .sell) owns′ opposites′) area′
+  module _ {r : Entry} {owns′ opposites′ area′ : List ℕ}
+      (is : EntryIs entered c (sideArea (o .sell) buys sells) (sideCount (o .sell) s c) (sideArea (not (o .sell)) buys sells) (sideCount (not (o .sell)) s c) trades (s .tradecount) (lastIn s o) (s .accounts) r owns′ opposites′ area′) where
+    lies : put m after ≡ memory (withEntry s c (pick (o .sell) (r .opposite) (r .own)) (pick (o .sell) (r .own) (r .opposite)) r) (pick (o .sell) opposites′ owns′) (pick (o .sell) owns′ opposites′) area′
     unfolding exchangeAfter listingAfter listingOf exchangeOf
     lies =
-        rw (is .last, is .made, is .positions, eh, accounts-changed meets em, is .own-count, is .opposite-count, is .own-queue, is .opposite-queue, is .trades)
+        rw (is .last, is .made, is .accounts, is .own-count, is .opposite-count, is .own-queue, is .opposite-queue, is .trades)
         (put-one-listing m f (bookTrades (x .accounts) (entered .trades)) (x .trades ++ entered .trades) (x .next + 1) (x .settlements) c listing (here .contract) (after-few false) (after-few true)
         ∙ rw (
           contract-is m f c (here .contract),
@@ -255,10 +227,9 @@ module _ {s : State} {buys sells trades : List ℕ} (w : WellFormedState s buys 
 
   -- ---- the outcome, for a side as the code calls it
 
-  module _ (side : Bool) (es : o .sell ≡ side) {k : ℕ} (is : k ≡ o .contract) {held : List Position} {meets : Bool} (eh : held ≡ positionsFor (s .accounts) (k - 1) meets)
-      (em : meets ≡ meetsAny (o .condition) (o .sell) (queueIn (sideArea (not side) buys sells) (o .contract - 1) (sideCount (not side) s (k - 1)))) {r : Entry} {owns′ opposites′ area′ : List ℕ}
-      (arrived : Arrived s held (sideArea side buys sells) (sideCount side s (k - 1)) (sideArea (not side) buys sells) (sideCount (not side) s (k - 1)) trades o r owns′ opposites′ area′) where
-    entry : EntryIs entered c (sideArea (o .sell) buys sells) (sideCount (o .sell) s c) (sideArea (not (o .sell)) buys sells) (sideCount (not (o .sell)) s c) trades (s .tradecount) (lastIn s o) held r owns′ opposites′ area′
+  module _ (side : Bool) (es : o .sell ≡ side) {k : ℕ} (is : k ≡ o .contract) {r : Entry} {owns′ opposites′ area′ : List ℕ}
+      (arrived : Arrived s (sideArea side buys sells) (sideCount side s (k - 1)) (sideArea (not side) buys sells) (sideCount (not side) s (k - 1)) trades o r owns′ opposites′ area′) where
+    entry : EntryIs entered c (sideArea (o .sell) buys sells) (sideCount (o .sell) s c) (sideArea (not (o .sell)) buys sells) (sideCount (not (o .sell)) s c) trades (s .tradecount) (lastIn s o) (s .accounts) r owns′ opposites′ area′
     entry = rw (← es, is) at (arrived .entry)
 
     answer-is : carriedOut x (Insert o) .answer ≡ answerOf 0 (s .next) (r .traded) (r .rested)
@@ -266,11 +237,11 @@ module _ {s : State} {buys sells trades : List ℕ} (w : WellFormedState s buys 
     answer-is = rw (entered-is, entry .traded, entry .rested)
 
     state-is : put m (carriedOut x (Insert o) .exchange)
-        ≡ memory (withEntry s (k - 1) (pick side (r .opposite) (r .own)) (pick side (r .own) (r .opposite)) held r) (pick side opposites′ owns′) (pick side owns′ opposites′) area′
+        ≡ memory (withEntry s (k - 1) (pick side (r .opposite) (r .own)) (pick side (r .own) (r .opposite)) r) (pick side opposites′ owns′) (pick side owns′ opposites′) area′
     unfolding carriedOut inserted
-    state-is = rw (← es, is, entered-is) (lies (rw is at eh) (rw (← es, is) at em) entry)
+    state-is = rw (← es, is, entered-is) (lies entry)
 
-    pub insert-accepted : {next : State} {result : Outcome} → next ≡ withEntry s (k - 1) (pick side (r .opposite) (r .own)) (pick side (r .own) (r .opposite)) held r
+    pub insert-accepted : {next : State} {result : Outcome} → next ≡ withEntry s (k - 1) (pick side (r .opposite) (r .own)) (pick side (r .own) (r .opposite)) r
         → result ≡ acceptedWith next (s .next) (r .traded) (r .rested)
         → OutcomeIs (stepIn m (Insert o)) result (pick side opposites′ owns′) (pick side owns′ opposites′) area′
     insert-accepted en e = acceptance s buys sells trades (Insert o) accepted answer-is (state-is ∙ rw en) e

@@ -6,13 +6,13 @@ use mathlib.Core.List.{List, [], _∷_}
 use mathlib.Core.Path.{_≡_}
 use Prim.Native.Nat.{ℕ, _+_, _*_, _<_, _≤_}
 use lib.Dec.{leb, ltb, eqb}
-use lib.ListN.{length, getD, replicate, set}
+use lib.ListN.{length, getD, set}
 use Rattle.laws.specs.Choice.{pick}
 use Rattle.rules.specs.Answers.{Refusal, _when_, holdingRefused, moneyRefused, isFillOrKill, isGoodForDay, isLimit, mark, priceRefused}
 use Rattle.rules.specs.Bounds.{within, maxLots, maxResting, maxTrades, numbersEnd}
 use Rattle.rules.specs.EarlyStop.{countTrades}
 use Rattle.rules.specs.Exchange.{Exchange, bestPrice, noAccount, noContract, placeOf}
-use Rattle.rules.specs.Matching.{Entered, enter, fillable, meets, methodOf}
+use Rattle.rules.specs.Matching.{Entered, enter, fillable, methodOf}
 use Rattle.rules.specs.Memory.{queueIn}
 use Rattle.rules.specs.Step.{limitOf, withLast}
 use Rattle.rules.specs.WellFormed.{sorted}
@@ -25,8 +25,6 @@ use Rattle.rules.specs.declared.PriceCondition.{PriceCondition}
 use Rattle.rules.specs.declared.State.{State}
 use Rattle.rules.specs.declared.Taker.{Taker}
 use Rattle.rules.specs.declared.TimeCondition.{TimeCondition}
-use Rattle.book.specs.Positions.{noPosition, positionsIn, withChanged}
-use Rattle.book.specs.declared.holdings.Position.{Position}
 use Rattle.engine.specs.Outcome.{isAbsent}
 use Rattle.matching.specs.Entry.{EntryReady, EntryIs}
 use Rattle.matching.specs.declared.entry.Entry.{Entry}
@@ -135,39 +133,29 @@ termsIn s o = getD (s .contracts) (placeOf (o .contract)) noContract
 abbrev pub lastIn : State → NewOrder → ℕ
 lastIn s o = termsIn s o .last
 
--- whether an order trades: the first opposite order is its counterpart; for a best order the price of that one is the best
-unfoldable pub meetsAny : PriceCondition → Bool → List Order → Bool
-meetsAny condition sell [] = false
-meetsAny condition sell (first ∷ others) = meets condition sell (first .price) (first .price)
-
--- the positions in the contract of an order that trades; none are read for one that does not
-abbrev pub positionsFor : List Account → ℕ → Bool → List Position
-positionsFor accounts c trades = pick trades (positionsIn c accounts) (replicate 32 noPosition)
-
 -- ready to be entered on a side that lies in `owns`, against one that lies in `opposites`
-pub record Arriving (s : State) (held : List Position) (owns : List ℕ) (own : ℕ) (opposites : List ℕ) (opposite : ℕ) (area : List ℕ) (o : NewOrder) : Type 0 where
+pub record Arriving (s : State) (owns : List ℕ) (own : ℕ) (opposites : List ℕ) (opposite : ℕ) (area : List ℕ) (o : NewOrder) : Type 0 where
   pub account-low : 1 ≤ o .account
   pub contract-low : 1 ≤ o .contract
   pub queue : QueueRoom opposites (placeOf (o .contract)) opposite
-  pub ready : EntryReady (takerFor (s .next) (termsIn s o) (queueIn opposites (placeOf (o .contract)) opposite) o) (o .lots) (limitOf (o .condition)) (isGoodForDay (o .time)) (lastIn s o) held owns own opposites opposite area (s .tradecount)
+  pub ready : EntryReady (takerFor (s .next) (termsIn s o) (queueIn opposites (placeOf (o .contract)) opposite) o) (o .lots) (limitOf (o .condition)) (isGoodForDay (o .time)) (lastIn s o) (s .accounts) owns own opposites opposite area (s .tradecount)
 
 -- what it trades and leaves
 abbrev pub enteredFor : State → List Order → List Order → NewOrder → Entered
 enteredFor s own opposite o =
     enter (takerFor (s .next) (termsIn s o) opposite o) (o .lots) (limitOf (o .condition)) (isGoodForDay (o .time)) (lastIn s o) own opposite
 
-pub record Arrived (s : State) (held : List Position) (owns : List ℕ) (own : ℕ) (opposites : List ℕ) (opposite : ℕ) (area : List ℕ) (o : NewOrder) (r : Entry) (owns′ opposites′ area′ : List ℕ) : Type 0 where
-  pub entry : EntryIs (enteredFor s (queueIn owns (placeOf (o .contract)) own) (queueIn opposites (placeOf (o .contract)) opposite) o) (placeOf (o .contract)) owns own opposites opposite area (s .tradecount) (lastIn s o) held r owns′ opposites′ area′
+pub record Arrived (s : State) (owns : List ℕ) (own : ℕ) (opposites : List ℕ) (opposite : ℕ) (area : List ℕ) (o : NewOrder) (r : Entry) (owns′ opposites′ area′ : List ℕ) : Type 0 where
+  pub entry : EntryIs (enteredFor s (queueIn owns (placeOf (o .contract)) own) (queueIn opposites (placeOf (o .contract)) opposite) o) (placeOf (o .contract)) owns own opposites opposite area (s .tradecount) (lastIn s o) (s .accounts) r owns′ opposites′ area′
 
 -- ---- the state after it
 
--- the contract's last price and its counts of orders, the accounts whose position is another than before, the trades, and one
--- number more
-abbrev pub withEntry : State → ℕ → ℕ → ℕ → List Position → Entry → State
-withEntry s c bought sold before e =
+-- the contract's last price and its counts of orders, the accounts, the trades, and one number more
+abbrev pub withEntry : State → ℕ → ℕ → ℕ → Entry → State
+withEntry s c bought sold e =
     record {
       contracts = set (s .contracts) c (withLast (getD (s .contracts) c noContract) (e .last));
-      accounts = withChanged c (s .accounts) before (e .positions);
+      accounts = e .accounts;
       buys = set (s .buys) c bought;
       sells = set (s .sells) c sold;
       contractcount = s .contractcount;

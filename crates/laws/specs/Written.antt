@@ -1,12 +1,12 @@
 -- A list whose first places are written anew, and a loop that writes them one after the other. Assumes nothing.
-use mathlib.Core.List.{List, [], _∷_, _++_, append-assoc, append-nil}
+use mathlib.Core.List.{List, [], _∷_, _++_, append-assoc}
 use mathlib.Core.Path.{_≡_, refl, sym, ap, _∙_}
 use Prim.Native.Nat.{ℕ, suc, _+_, _<_, _≤_}
 use native.Mathlib.Numerals.{add-one}
 use native.Mathlib.Omega.{arith}
 use lib.ListN.{length, getD, set, drop, length-append, length-drop}
-use lib.Seq.{drop-cons, drop-length, set-at}
-use Rattle.laws.specs.Tabulate.{tabulate, length-tabulate, tabulate-below, tabulate-last}
+use lib.Seq.{drop-cons, set-at}
+use Rattle.laws.specs.Tabulate.{tabulate, length-tabulate, tabulate-last}
 
 -- the first n places hold f's values, the rest is as it was
 unfoldable pub written : {A : Type 0} → (ℕ → A) → List A → ℕ → List A
@@ -29,11 +29,6 @@ module _ {A : Type 0} (f : ℕ → A) (l : List A) where
   unfolding written
   length-written n h = simp (length-append, length-tabulate, length-drop) (omega arith)
 
--- other values that agree on the places written
-pub written-ext : {A : Type 0} (f g : ℕ → A) (l : List A) (n : ℕ) → ((i : ℕ) → i < n → f i ≡ g i) → written f l n ≡ written g l n
-unfolding written
-written-ext f g l n h = rw (tabulate-below n f g h)
-
 -- ---- the loop: the first c of `count` places are written
 
 pub record Writing {A : Type 0} (f : ℕ → A) (l : List A) (count c : ℕ) (next : List A) : Type 0 where
@@ -52,8 +47,3 @@ module _ {A : Type 0} (f : ℕ → A) (l : List A) (count : ℕ) where
   writing-done c next h w =
       let e : c ≡ count = omega (arith, w .within) in
       w .places ∙ rw e
-
--- all places are written
-pub written-all : {A : Type 0} (f : ℕ → A) (l : List A) (n : ℕ) → length l ≡ n → written f l n ≡ tabulate n f
-unfolding written
-written-all f l n e = rw (← e, drop-length l) (append-nil (tabulate (length l) f))

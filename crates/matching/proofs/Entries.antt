@@ -1,26 +1,21 @@
 -- An order entered: what a remainder does to its own queue, what is left of the opposite one without its filled orders, and both
 -- as one answer. Assumes nothing.
-use mathlib.Core.Bool.{Bool, true}
+use mathlib.Core.Bool.{Bool}
 use mathlib.Core.List.{List, _++_}
 use mathlib.Core.Path.{_≡_, refl, sym, ap, _∙_}
 use Prim.Native.Nat.{ℕ, zero, suc, _+_, _-_, _*_, _<_, _≤_}
 use native.Mathlib.Omega.{arith}
-use borrow.Author.Tests.{eq-eqb}
-use lib.Dec.{eqb}
 use lib.ListN.{length, take, drop, length-append}
 use lib.Seq.{drop-at, length-take-le}
-use Rattle.laws.specs.Choice.{allOf, allOf-true, pick}
-use Rattle.rules.specs.Exchange.{noOrder}
-use Rattle.rules.specs.Matching.{tradeWith, sweep, restIn, remainder, restLots, restedLots, enter}
+use Rattle.laws.specs.Choice.{pick}
+use Rattle.rules.specs.Matching.{sweep, restIn, remainder, restLots, restedLots, enter}
 use Rattle.rules.specs.Memory.{queueIn, putQueue}
+use Rattle.rules.specs.declared.Account.{Account}
 use Rattle.rules.specs.declared.Order.{Order}
 use Rattle.rules.specs.declared.Taker.{Taker}
-use Rattle.rules.specs.declared.Trade.{Trade}
 use Rattle.rules.proofs.Codecs.{length-queue, put-queue, queue-put, putQueue-again}
 use Rattle.rules.proofs.Fillable.{swept-at-most}
 use Rattle.rules.proofs.Queue.{length-restIn}
-use Rattle.rules.proofs.Sweep.{swept-each}
-use Rattle.book.specs.declared.holdings.Position.{Position}
 use Rattle.matching.specs.Entry.{EntryReady, EntryIs}
 use Rattle.matching.specs.Sweep.{FilledIs}
 use Rattle.matching.specs.declared.sweep.Filled.{Filled}
@@ -75,7 +70,7 @@ front-dropped queues queues′ c count k rest room l e =
 
 -- ---- the answer
 
-module _ {t : Taker} {lots price : ℕ} {day : Bool} {last : ℕ} {held : List Position} {owns : List ℕ} {own : ℕ} {opposites : List ℕ} {opposite : ℕ} {area : List ℕ} {before : ℕ}
+module _ {t : Taker} {lots price : ℕ} {day : Bool} {last : ℕ} {held : List Account} {owns : List ℕ} {own : ℕ} {opposites : List ℕ} {opposite : ℕ} {area : List ℕ} {before : ℕ}
     (ready : EntryReady t lots price day last held owns own opposites opposite area before) {f : Filled} {opposites₁ area′ : List ℕ}
     (swept : FilledIs (sweep t lots last (queueIn opposites (t .contract) opposite)) opposites (t .contract) opposite area before last held f opposites₁ area′) where
   pub traded-within : f .traded ≤ lots
@@ -97,7 +92,7 @@ module _ {t : Taker} {lots price : ℕ} {day : Bool} {last : ℕ} {held : List P
         → opposites′ ≡ putQueue opposites₁ c opposite (drop (f .filled) (queueIn opposites₁ c opposite))
         → (resting ≡ length (restLots t price rested (queueIn owns c own))) × (owns′ ≡ putQueue owns c own (restLots t price rested (queueIn owns c own)))
         → EntryIs (enter t lots price day last (queueIn owns (t .contract) own) (queueIn opposites (t .contract) opposite)) (t .contract) owns own opposites opposite area before last held
-        (record { traded = f .traded; rested = rested; own = resting; opposite = opposite - f .filled; made = f .made; last = f .last; positions = f .positions }) owns′ opposites′ area′
+        (record { traded = f .traded; rested = rested; own = resting; opposite = opposite - f .filled; made = f .made; last = f .last; accounts = f .accounts }) owns′ opposites′ area′
     unfolding enter
     entered eo (el, eq) =
         let s = sweep t lots last (queueIn opposites (t .contract) opposite) in
@@ -108,17 +103,8 @@ module _ {t : Taker} {lots price : ℕ} {day : Bool} {last : ℕ} {held : List P
           opposite-count = omega (arith, swept .filled);
           made = swept .made;
           last = swept .last;
-          positions = swept .positions;
+          accounts = swept .accounts;
           own-queue = eq ∙ ap (λ (k : ℕ). putQueue owns k own (restLots t price rested (queueIn owns c own))) ec ∙ ap (putQueue owns (t .contract) own) own-is;
           opposite-queue = eo ∙ rw ec (front-dropped opposites opposites₁ (t .contract) opposite (f .filled) (s .rest) (ready .sweeps .queue) (swept .filled) (swept .queue));
           trades = swept .trades;
         }
-
--- ---- its trades
-
--- all are of the order's contract
-pub trades-contract : (t : Taker) (lots last : ℕ) (queue : List Order) → allOf (λ (tr : Trade). eqb (tr .contract) (t .contract)) (sweep t lots last queue .trades) ≡ true
-unfolding tradeWith
-trades-contract t lots last queue =
-    swept-each t (λ (tr : Trade). eqb (tr .contract) (t .contract)) (λ o. true) (λ n. Unit {0}) (λ o left n some met fit l. (eq-eqb (t .contract) (t .contract) refl, tt)) lots last queue tt
-    (allOf-true (λ o. true) queue noOrder (λ i b. refl))

@@ -13,18 +13,19 @@ use Rattle.areas.specs.Records.{store}
 use Rattle.areas.proofs.Records.{length-store, store-nil, store-append}
 use Rattle.rules.specs.EarlyStop.{countTrades}
 use Rattle.rules.specs.Exchange.{noOrder}
+use Rattle.rules.specs.Holdings.{bookTrade, bookTrades}
 use Rattle.rules.specs.Matching.{counterpart, tradePrice, tradeWith, withLots, Swept, untouched, sweep, tradedLots, lastPrice}
 use Rattle.rules.specs.Memory.{tradeWords, orderFrom, queueIn, putQueue}
+use Rattle.rules.specs.declared.Account.{Account}
 use Rattle.rules.specs.declared.Order.{Order}
 use Rattle.rules.specs.declared.Taker.{Taker}
 use Rattle.rules.specs.declared.Trade.{Trade}
 use Rattle.rules.proofs.Codecs.{trade-codec, length-queue, order-at, put-queue}
 use Rattle.rules.proofs.Fillable.{traded-nil, traded-cons, trades-counted, count-met}
 use Rattle.rules.proofs.Sweep.{trade-lots, trade-price, sweep-end, sweep-used, sweep-unmet, sweep-part, sweep-full}
-use Rattle.book.specs.Positions.{PositionsWithin, bookTradeOn, bookTradesOn}
-use Rattle.book.specs.declared.holdings.Position.{Position}
+use Rattle.book.specs.Bounds.{HeldWithin}
 use Rattle.matching.specs.Sweep.{Parties, FilledIs}
-use Rattle.book.proofs.Bookings.{positions-more, positions-trade}
+use Rattle.book.proofs.Bookings.{held-more, held-trade}
 use Rattle.book.proofs.Queues.{next-order, no-more}
 
 -- ---- what the loop ends with
@@ -34,42 +35,42 @@ pub record Outcome : Type 0 where
   pub traded : ℕ
   pub made : ℕ
   pub last : ℕ
-  pub positions : List Position
+  pub accounts : List Account
   pub area : List ℕ
   pub rest : List Order
 
--- so many lots traded and trades made, a last price, positions and the trade area as they are, and a sweep still to come
-unfoldable pub finish : ℕ → ℕ → ℕ → List Position → List ℕ → Swept → Outcome
+-- so many lots traded and trades made, a last price, accounts and the trade area as they are, and a sweep still to come
+unfoldable pub finish : ℕ → ℕ → ℕ → List Account → List ℕ → Swept → Outcome
 finish done made last held area s =
     record {
       traded = done + tradedLots (s .trades);
       made = made + length (s .trades);
       last = lastPrice last (s .trades);
-      positions = bookTradesOn held (s .trades);
+      accounts = bookTrades held (s .trades);
       area = store tradeWords area (9 * made) (s .trades);
       rest = s .rest;
     }
 
 -- a trade passes from what is to come to what is done
-finish-trade : (done made last : ℕ) (held : List Position) (area : List ℕ) (tr : Trade) (s : Swept) → 9 * made ≤ length area
+finish-trade : (done made last : ℕ) (held : List Account) (area : List ℕ) (tr : Trade) (s : Swept) → 9 * made ≤ length area
     → finish done made last held area (record { trades = tr ∷ s .trades; rest = s .rest })
-    ≡ finish (done + tr .lots) (made + 1) (tr .price) (bookTradeOn held tr) (store tradeWords area (9 * made) (tr ∷ [])) s
-unfolding finish lastPrice bookTradesOn
+    ≡ finish (done + tr .lots) (made + 1) (tr .price) (bookTrade held tr) (store tradeWords area (9 * made) (tr ∷ [])) s
+unfolding finish lastPrice bookTrades
 finish-trade done made last held area tr s room =
     let t : done + tradedLots (tr ∷ s .trades) ≡ done + tr .lots + tradedLots (s .trades) = omega (arith, traded-cons tr (s .trades)) in
     let m : made + suc (length (s .trades)) ≡ made + 1 + length (s .trades) = omega arith in
     let w : 9 * made + 9 * 1 ≡ 9 * (made + 1) = omega arith in
     let a : store tradeWords area (9 * made) (tr ∷ s .trades) ≡ store tradeWords (store tradeWords area (9 * made) (tr ∷ [])) (9 * (made + 1)) (s .trades)
     = store-append trade-codec area (9 * made) (tr ∷ []) (s .trades) room ∙ ap (λ (k : ℕ). store tradeWords (store tradeWords area (9 * made) (tr ∷ [])) k (s .trades)) w in
-    λ i. record { traded = t i; made = m i; last = lastPrice (tr .price) (s .trades); positions = bookTradesOn (bookTradeOn held tr) (s .trades); area = a i; rest = s .rest }
+    λ i. record { traded = t i; made = m i; last = lastPrice (tr .price) (s .trades); accounts = bookTrades (bookTrade held tr) (s .trades); area = a i; rest = s .rest }
 
 -- nothing is to come: what stands is the answer
-finished : (s : Swept) (queues : List ℕ) (c count : ℕ) (area₀ : List ℕ) (before last : ℕ) (held₀ : List Position)
-    (queues′ area : List ℕ) (held : List Position) (price made at done : ℕ) (rest : List Order)
+finished : (s : Swept) (queues : List ℕ) (c count : ℕ) (area₀ : List ℕ) (before last : ℕ) (held₀ : List Account)
+    (queues′ area : List ℕ) (held : List Account) (price made at done : ℕ) (rest : List Order)
     → finish done made price held area (untouched rest) ≡ finish 0 before last held₀ area₀ s
     → at + length rest ≡ count → queues′ ≡ putQueue queues c count (take at (queueIn queues c count) ++ rest)
-    → FilledIs s queues c count area₀ before last held₀ (record { traded = done; filled = at; made = made; last = price; positions = held }) queues′ area
-unfolding finish lastPrice bookTradesOn
+    → FilledIs s queues c count area₀ before last held₀ (record { traded = done; filled = at; made = made; last = price; accounts = held }) queues′ area
+unfolding finish lastPrice bookTrades
 finished s queues c count area₀ before last held₀ queues′ area held price made at done rest e l q =
     let r : rest ≡ s .rest = ap (λ o. o .rest) e in
     record {
@@ -77,7 +78,7 @@ finished s queues c count area₀ before last held₀ queues′ area held price 
       filled = ap (λ (os : List Order). at + length os) (sym r) ∙ l;
       made = omega (arith, ap (λ o. o .made) e);
       last = ap (λ o. o .last) e;
-      positions = ap (λ o. o .positions) e;
+      accounts = ap (λ o. o .accounts) e;
       trades = sym (store-nil trade-codec area (9 * made)) ∙ ap (λ o. o .area) e;
       queue = q ∙ ap (λ (os : List Order). putQueue queues c count (take at (queueIn queues c count) ++ os)) r;
     }
@@ -85,8 +86,8 @@ finished s queues c count area₀ before last held₀ queues′ area held price 
 -- ---- what the loop keeps
 
 pub record Going
-    (t : Taker) (lots last : ℕ) (held₀ : List Position) (queues : List ℕ) (count : ℕ) (area₀ : List ℕ) (before : ℕ)
-    (queues′ area : List ℕ) (held : List Position) (price made at done : ℕ) : Type 0 where
+    (t : Taker) (lots last : ℕ) (held₀ : List Account) (queues : List ℕ) (count : ℕ) (area₀ : List ℕ) (before : ℕ)
+    (queues′ area : List ℕ) (held : List Account) (price made at done : ℕ) : Type 0 where
   pub same : queues′ ≡ queues
   pub within : at ≤ count
   pub some : done ≤ lots
@@ -112,20 +113,24 @@ either-party : (used : ℕ) (sell : Bool) (a b : ℕ) → a < used → b < used 
 either-party used true a b ha hb = ha
 either-party used false a b ha hb = hb
 
--- the same accounts, with another bound on their positions
-pub parties-with : {b b′ : ℕ} {t : Taker} {held held′ : List Position} {queues : List ℕ} {count : ℕ} (p : Parties b t held queues count)
-    → PositionsWithin b′ (p .used) held′ → Parties b′ t held′ queues count
-parties-with p w = record { used = p .used; few = p .few; taker = p .taker; resting = p .resting; positions = w }
+-- the same accounts, with another bound on what they hold
+pub parties-with : {b b′ : ℕ} {t : Taker} {held held′ : List Account} {queues : List ℕ} {count : ℕ} (p : Parties b t held queues count)
+    → HeldWithin b′ (p .used) (t .contract) held′ → Parties b′ t held′ queues count
+parties-with p w = record { used = p .used; few = p .few; taker = p .taker; resting = p .resting; holdings = w }
 
 module _ {t : Taker} {queues : List ℕ} {count at left price : ℕ} {o : Order} {tr : Trade} (m : Meeting t queues count at left price o tr) where
   pub trade-size : tr .lots ≡ min left (o .lots)
   trade-size = ap (λ (x : Trade). x .lots) (m .trade) ∙ trade-lots t o left price
 
+  pub trade-contract : tr .contract ≡ t .contract
+  unfolding tradeWith
+  trade-contract = ap (λ (x : Trade). x .contract) (m .trade)
+
   standing : getD (queueIn queues (t .contract) count) at noOrder ≡ o
   standing = order-at queues (t .contract) count at (m .here) ∙ sym (m .order)
 
   -- the two accounts are the taker's and the order's
-  pub trade-parties : {b : ℕ} {held : List Position} (p : Parties b t held queues count) → (tr .buyer < p .used) × (tr .seller < p .used)
+  pub trade-parties : {b : ℕ} {held : List Account} (p : Parties b t held queues count) → (tr .buyer < p .used) × (tr .seller < p .used)
   unfolding tradeWith
   trade-parties p =
       let resting : o .account < p .used = rw standing at (p .resting at (m .here)) in
@@ -151,13 +156,13 @@ module _ {t : Taker} {left price : ℕ} {queues : List ℕ} {count at : ℕ} whe
 -- ---- the ways on and out
 
 module _
-    {t : Taker} {lots last : ℕ} {held₀ : List Position} {queues : List ℕ} {count : ℕ} {area₀ : List ℕ} {before : ℕ} {queues′ area : List ℕ}
-    {held : List Position} {price made at done : ℕ} (g : Going t lots last held₀ queues count area₀ before queues′ area held price made at done)
+    {t : Taker} {lots last : ℕ} {held₀ : List Account} {queues : List ℕ} {count : ℕ} {area₀ : List ℕ} {before : ℕ} {queues′ area : List ℕ}
+    {held : List Account} {price made at done : ℕ} (g : Going t lots last held₀ queues count area₀ before queues′ area held price made at done)
     (room : 320 * t .contract + 5 * count ≤ length queues) where
   -- the loop is left before a trade
   pub stopped : Stops t (lots - done) price queues count at
       → FilledIs (sweep t lots last (queueIn queues (t .contract) count)) queues (t .contract) count area₀ before last held₀
-      (record { traded = done; filled = at; made = made; last = price; positions = held }) queues′ area
+      (record { traded = done; filled = at; made = made; last = price; accounts = held }) queues′ area
   stopped stops =
       let q : List Order = queueIn queues (t .contract) count in
       let l : at + length (drop at q) ≡ count = rw length-drop (omega (arith, g .within, length-queue queues (t .contract) count)) in
@@ -178,7 +183,7 @@ module _
         = trades-counted t (lots - done) price (drop at q) ∙ rw next (count-met t (lots - done) o (drop (at + 1) q) (m .some) (m .met)) in
         omega (arith, ap (λ x. x .made) (g .answer), g .long)
 
-    module _ (fits : 9 * made + 9 ≤ length area) {held′ : List Position} (eh : held′ ≡ bookTradeOn held tr) {area′ : List ℕ} (ea : area′ ≡ store tradeWords area (9 * made) (tr ∷ [])) where
+    module _ (fits : 9 * made + 9 ≤ length area) {held′ : List Account} (eh : held′ ≡ bookTrade held tr) {area′ : List ℕ} (ea : area′ ≡ store tradeWords area (9 * made) (tr ∷ [])) where
       long-still : length area′ ≡ length area₀
       long-still = ap length ea ∙ length-store trade-codec area (9 * made) (tr ∷ []) fits ∙ g .long
 
@@ -206,7 +211,7 @@ module _
             long = long-still;
             parties =
                 let both = trade-parties m (g .parties) in
-                rw eh (parties-with (g .parties) (positions-more (positions-trade held tr (both .0) (both .1) (g .parties .positions)) (omega arith)));
+                rw eh (parties-with (g .parties) (held-more (held-trade held tr (trade-contract m) (both .0) (both .1) (g .parties .holdings)) (omega arith)));
             answer = traded-on _ (rw (← left, ← p) (sweep-full t (lots - done) price o _ (m .some) (m .met) (omega arith)));
           }
 
@@ -214,7 +219,7 @@ module _
       pub part-filled : tr .lots < o .lots → {c : ℕ} {queues″ : List ℕ} → c ≡ t .contract
           → queues″ ≡ putQueue queues′ c count (set (queueIn queues′ c count) at (withLots (getD (queueIn queues′ c count) at noOrder) (o .lots - tr .lots)))
           → FilledIs (sweep t lots last (queueIn queues (t .contract) count)) queues (t .contract) count area₀ before last held₀
-          (record { traded = done + tr .lots; filled = at; made = made + 1; last = tr .price; positions = held′ }) queues″ area′
+          (record { traded = done + tr .lots; filled = at; made = made + 1; last = tr .price; accounts = held′ }) queues″ area′
       part-filled short ec eq =
           let q : List Order = queueIn queues (t .contract) count in
           let size : tr .lots ≡ min (lots - done) (o .lots) = trade-size m in

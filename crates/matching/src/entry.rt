@@ -8,15 +8,15 @@ ghost use Rattle.rules.specs.Matching as matching;
 ghost use Rattle.rules.specs.Memory.{queueIn, putQueue};
 ghost use Rattle.matching.specs.Entry.{EntryReady, EntryIs};
 use crate::sweep;
-use book::holdings::Position;
 use book::queue;
+use rules::Account;
 use rules::Order;
 use rules::Taker;
 
-// The accounts' positions, first as in `Filled`; lots traded and rested; orders in the own and in the opposite queue, trades of the
-// day; the last price.
+// The accounts, first as in `Filled`; lots traded and rested; orders in the own and in the opposite queue, trades of the day; the
+// last price.
 pub struct Entry {
-    pub positions: [Position; 32],
+    pub accounts: [Account; 32],
     pub traded: u32,
     pub rested: u32,
     pub own: usize,
@@ -65,10 +65,10 @@ pub fn enter(
     price: u32,
     day: bool,
     last: u32,
-    positions: [Position; 32],
+    accounts: [Account; 32],
 ) -> Entry
-    requires { ⌜ EntryReady t lots price day last positions (now own) owncount (now opposite) oppositecount (now area) before ⌝ }
-    ensures { λ r. ⌜ EntryIs (matching.enter t lots price day last (queueIn (now (own .entry)) (t .contract) owncount) (queueIn (now (opposite .entry)) (t .contract) oppositecount)) (t .contract) (now (own .entry)) owncount (now (opposite .entry)) oppositecount (now (area .entry)) before last positions r (now (own .exit)) (now (opposite .exit)) (now (area .exit)) ⌝ }
+    requires { ⌜ EntryReady t lots price day last accounts (now own) owncount (now opposite) oppositecount (now area) before ⌝ }
+    ensures { λ r. ⌜ EntryIs (matching.enter t lots price day last (queueIn (now (own .entry)) (t .contract) owncount) (queueIn (now (opposite .entry)) (t .contract) oppositecount)) (t .contract) (now (own .entry)) owncount (now (opposite .entry)) oppositecount (now (area .entry)) before last accounts r (now (own .exit)) (now (opposite .exit)) (now (area .exit)) ⌝ }
 {
     let c = laws::wide(t.contract);
     let f = sweep::sweep(
@@ -79,13 +79,13 @@ pub fn enter(
         t,
         lots,
         last,
-        positions,
+        accounts,
     );
     let filled = f.filled;
     queue::drop_front(opposite, c, oppositecount, filled);
     let rested = remaining(day, lots, f.traded);
     let resting = rest(own, c, owncount, t, price, rested);
-    let held = f.positions;
+    let held = f.accounts;
     Entry {
         traded: f.traded,
         rested,
@@ -93,6 +93,6 @@ pub fn enter(
         opposite: oppositecount - filled,
         made: f.made,
         last: f.last,
-        positions: held,
+        accounts: held,
     }
 }

@@ -4,16 +4,16 @@ ghost use Rattle.rules.specs.Matching as matching;
 ghost use Rattle.rules.specs.Memory.{queueIn};
 ghost use Rattle.matching.specs.Sweep.{FilledIs, SweepReady};
 use book::holdings;
-use book::holdings::Position;
 use book::prices;
 use book::queue;
 use book::trades;
+use rules::Account;
 use rules::Taker;
 
-// The accounts' positions; lots traded, the last price, resting orders filled, trades of the day. The array stands first, so that
-// nothing pads it and fewer copies of it are made.
+// The accounts; lots traded, the last price, resting orders filled, trades of the day. The array stands first, so that nothing
+// pads it and fewer copies of it are made.
 pub struct Filled {
-    pub positions: [Position; 32],
+    pub accounts: [Account; 32],
     pub traded: u32,
     pub last: u32,
     pub filled: usize,
@@ -29,13 +29,13 @@ pub fn sweep(
     t: Taker,
     lots: u32,
     last: u32,
-    positions: [Position; 32],
+    accounts: [Account; 32],
 ) -> Filled
-    requires { ⌜ SweepReady t lots last positions (now opposite) count (now area) before ⌝ }
-    ensures { λ r. ⌜ FilledIs (matching.sweep t lots last (queueIn (now (opposite .entry)) (t .contract) count)) (now (opposite .entry)) (t .contract) count (now (area .entry)) before last positions r (now (opposite .exit)) (now (area .exit)) ⌝ }
+    requires { ⌜ SweepReady t lots last accounts (now opposite) count (now area) before ⌝ }
+    ensures { λ r. ⌜ FilledIs (matching.sweep t lots last (queueIn (now (opposite .entry)) (t .contract) count)) (now (opposite .entry)) (t .contract) count (now (area .entry)) before last accounts r (now (opposite .exit)) (now (area .exit)) ⌝ }
 {
     let c = laws::wide(t.contract);
-    let mut held = positions;
+    let mut held = accounts;
     let mut price = last;
     let mut made = before;
     let mut filled: usize = 0;
@@ -52,9 +52,9 @@ pub fn sweep(
         let trade = prices::trade_with(t, o, left, price);
         let size = trade.lots;
         let buyer = laws::wide(trade.buyer);
-        held[buyer] = holdings::after_leg(held[buyer], false, trade.buyclose, size);
+        held[buyer] = holdings::book_leg(held[buyer], c, false, trade.buyclose, size);
         let seller = laws::wide(trade.seller);
-        held[seller] = holdings::after_leg(held[seller], true, trade.sellclose, size);
+        held[seller] = holdings::book_leg(held[seller], c, true, trade.sellclose, size);
         trades::put_trade(area, made, trade);
         made += 1;
         price = trade.price;
@@ -71,6 +71,6 @@ pub fn sweep(
         filled,
         made,
         last: price,
-        positions: held,
+        accounts: held,
     }
 }

@@ -38,8 +38,8 @@ nothing-requires-4 c κs = search needs
 returns-4 : tie.Need-returns-4
 returns-4 c = search needs
 
-no-positions-requires : tie.Need-no-positions-requires
-no-positions-requires c κs = search needs
+no-holdings-requires : tie.Need-no-holdings-requires
+no-holdings-requires c κs = search needs
 
 enter-requires : tie.Need-enter-requires
 enter-requires c κs =
@@ -57,7 +57,7 @@ enter-requires c κs =
     (omega (arith, start .good)) (omega (arith, start .good)) (omega (arith, start .good))
     (known .accounts-known .ensures (not-false _ (c .before .before .before .before .before .before .before .before .if7 .left)))
     (omega (arith, c .before .before .before .before .before .count-trades .ensures, c .before .before .before .before .if8 .left))
-    (c .before .before .before .no-positions .ensures)
+    (c .before .before .before .no-holdings .ensures)
 
 returns-5 : tie.Need-returns-5
 returns-5 c = search needs
@@ -76,6 +76,6 @@ submit-spec =
     count-trades-requires
     nothing-requires-4
     returns-4
-    no-positions-requires
+    no-holdings-requires
     enter-requires
     returns-5)

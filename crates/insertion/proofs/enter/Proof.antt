@@ -26,8 +26,8 @@ is-day-requires c κs = search needs
 
 enter-requires : tie.Need-enter-requires
 enter-requires c κs =
-    let start = c .before .before .before .before .before .before .before .before .before .before .before .before .before in
-    rw (c .before .before .before .before .before .taker-of .ensures, c .before .before .before .before .limit-of .ensures, c .before .before .before .is-day .ensures, c .before .before .before .before .before .before .before .before .before .wide .ensures) (start .pre .ready)
+    let start = c .before .before .before .before .before .before .before .before .before .before .before .before .before .before in
+    rw (c .before .before .before .before .before .before .taker-of .ensures, c .before .before .before .before .before .limit-of .ensures, c .before .before .before .before .is-day .ensures, c .before .before .before .before .before .before .before .before .before .before .wide .ensures) (start .pre .ready)
 
 same-length : tie.Need-same-length
 same-length c = search needs
@@ -39,7 +39,7 @@ same-length-3 : tie.Need-same-length-3
 same-length-3 c = search needs
 
 returns : tie.Need-returns
-returns c = record { entry = rw (c .before .before .before .before .before .before .before .before .before .before .before .before .taker-of .ensures, c .before .before .before .before .before .before .before .before .before .before .before .limit-of .ensures, c .before .before .before .before .before .before .before .before .before .before .is-day .ensures, c .before .before .before .before .before .before .before .before .before .before .before .before .before .before .before .before .wide .ensures) at (c .before .before .before .before .before .before .enter .ensures) }
+returns c = record { entry = rw (c .before .before .before .before .before .before .before .before .before .before .before .before .before .taker-of .ensures, c .before .before .before .before .before .before .before .before .before .before .before .before .limit-of .ensures, c .before .before .before .before .before .before .before .before .before .before .before .is-day .ensures, c .before .before .before .before .before .before .before .before .before .before .before .before .before .before .before .before .before .wide .ensures) at (c .before .before .before .before .before .before .enter .ensures) }
 
 pub enter-spec : {M : Type 1} → statement M
 enter-spec =

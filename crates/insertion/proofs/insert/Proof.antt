@@ -1,17 +1,16 @@
 -- `insertion::insert` meets its contract: a refusal leaves all as it was, and an accepted order enters by one law over the side.
 -- Assumes nothing.
-use mathlib.Core.Bool.{Bool, true, false, not, true≢false}
-use mathlib.Core.Logic.{⊎-elim}
+use mathlib.Core.Bool.{true, false}
 use mathlib.Core.Path.{_≡_, sym, _∙_}
 use Prim.Native.Nat.{_-_, _<_}
 use native.Mathlib.Omega.{arith}
 use Rattle.rules.specs.Answers.{codeOf}
-use Rattle.rules.specs.Memory.{exchangeOf, queueIn}
+use Rattle.rules.specs.Memory.{exchangeOf}
 use Rattle.rules.specs.declared.Command.the-variants.{Insert}
 use Rattle.engine.specs.Outcome.{isAbsent, memory}
 use Rattle.engine.proofs.Outcomes.{refusal}
-use Rattle.insertion.specs.Insertion.{Present, meetsAny, sideArea, sideCount}
-use Rattle.insertion.proofs.Entering.{here as present-accepted, next-low, arriving, meeting-room, insert-accepted}
+use Rattle.insertion.specs.Insertion.{Present}
+use Rattle.insertion.proofs.Entering.{here as present-accepted, next-low, arriving, insert-accepted}
 use Rattle.insertion.proofs.Inserting.{code-account, holder-fits, holder-low, place-fits}
 use borrow.Author.Needs.{needs}
 use Rattle.insertion.proofs.insert.Statement.{statement}
@@ -37,14 +36,6 @@ place : (c : tie.After-wide2) → c .wide2 .result - 1 < 4
 place c =
     let start = c .before .before .before .before .before .before .before .before .before .before .before .before .before .before .before in
     place-fits (start .pre) (start .args .o) (here (c .before)) (c .wide2 .ensures)
-
--- whether it trades, by its side
-met : (c : tie.Joined3) (side : Bool)
-    → let a = c .before .before .before .before .before .before .before .before .before .before .before .before .before .before .before .before .args in
-    a .o .sell ≡ side
-    → c .if3 .meets ≡ meetsAny (a .o .condition) (a .o .sell) (queueIn (sideArea (not side) (a .buys .now) (a .sells .now)) (a .o .contract - 1) (sideCount (not side) (a .t1) (c .before .wide2 .result - 1)))
-met c true e = ⊎-elim (λ sold. sold .3 ∙ sold .2 .ensures) (λ bought. absurd (true≢false (sym e ∙ bought .0 .left))) (c .if3 .came)
-met c false e = ⊎-elim (λ sold. absurd (true≢false (sym (sold .0 .taken) ∙ e))) (λ bought. bought .3 ∙ bought .2 .ensures) (c .if3 .came)
 
 -- ---- the needs
 
@@ -111,28 +102,15 @@ mul-sold c = search needs
 array-read-sold : tie.Need-array-read-sold
 array-read-sold c = place (c)
 
-meets-any-requires : tie.Need-meets-any-requires
-meets-any-requires c κs =
-    let start = c .before .before .before .before .before .before .before .before .before .before .before .before .before .before .before .before .before in
-    meeting-room (start .pre) (start .args .o) (accepted (c .before .before .before)) false (c .before .before .wide2 .ensures)
-
-meets-any-requires-2 : tie.Need-meets-any-requires-2
-meets-any-requires-2 c κs =
-    let start = c .before .before .before .before .before .before .before .before .before .before .before .before .before .before .before .before .before in
-    meeting-room (start .pre) (start .args .o) (accepted (c .before .before .before)) true (c .before .before .wide2 .ensures)
-
-positions-for-requires : tie.Need-positions-for-requires
-positions-for-requires c κs = place (c .before .before)
-
 enter-requires : tie.Need-enter-requires
 enter-requires c κs =
-    let start = c .before .before .before .before .before .before .before .before .before .before .before .before .before .before .before .before .before .before .before .before .before .before in
-    arriving (start .pre) (start .args .o) (accepted (c .before .before .before .before .before .before .before .before)) true (c .before .before .before .if4 .taken) (c .before .before .before .before .before .before .before .wide2 .ensures) (c .before .before .before .before .before .before .if3 .meets) (c .before .before .before .before .positions-for .ensures)
+    let start = c .before .before .before .before .before .before .before .before .before .before .before .before .before .before .before .before .before .before .before in
+    arriving (start .pre) (start .args .o) (accepted (c .before .before .before .before .before)) true (c .before .before .before .if3 .taken) (c .before .before .before .before .wide2 .ensures)
 
 with-entry-requires : tie.Need-with-entry-requires
 with-entry-requires c κs =
-    let start = c .before .before .before .before .before .before .before .before .before .before .before .before .before .before .before .before .before .before .before .before .before .before .before .before .before .before .before .before .before in
-    (place (c .before .before .before .before .before .before .before .before .before .before .before .before .before .before), next-low (start .pre) (start .args .o) (accepted (c .before .before .before .before .before .before .before .before .before .before .before .before .before .before .before)))
+    let start = c .before .before .before .before .before .before .before .before .before .before .before .before .before .before .before .before .before .before .before .before .before .before .before .before .before .before in
+    (place (c .before .before .before .before .before .before .before .before .before .before .before), next-low (start .pre) (start .args .o) (accepted (c .before .before .before .before .before .before .before .before .before .before .before .before)))
 
 accepted-requires : tie.Need-accepted-requires
 accepted-requires c κs = search needs
@@ -148,18 +126,18 @@ same-length-6 c = search needs
 
 returns-3 : tie.Need-returns-3
 returns-3 c =
-    let start = c .before .before .before .before .before .before .before .before .before .before .before .before .before .before .before .before .before .before .before .before .before .before .before .before .before .before .before .before .before .before .before in
-    insert-accepted (start .pre) (start .args .o) (accepted (c .before .before .before .before .before .before .before .before .before .before .before .before .before .before .before .before .before)) true (c .before .before .before .before .before .before .before .before .before .before .before .before .if4 .taken) (c .before .before .before .before .before .before .before .before .before .before .before .before .before .before .before .before .wide2 .ensures) (c .before .before .before .before .before .before .before .before .before .before .before .before .before .positions-for .ensures) (met (c .before .before .before .before .before .before .before .before .before .before .before .before .before .before .before) true (c .before .before .before .before .before .before .before .before .before .before .before .before .if4 .taken)) (c .before .before .before .before .before .before .before .before .enter .ensures) (c .before .with-entry .ensures) (c .accepted .ensures)
+    let start = c .before .before .before .before .before .before .before .before .before .before .before .before .before .before .before .before .before .before .before .before .before .before .before .before .before .before .before .before in
+    insert-accepted (start .pre) (start .args .o) (accepted (c .before .before .before .before .before .before .before .before .before .before .before .before .before .before)) true (c .before .before .before .before .before .before .before .before .before .before .before .before .if3 .taken) (c .before .before .before .before .before .before .before .before .before .before .before .before .before .wide2 .ensures) (c .before .before .before .before .before .before .before .before .enter .ensures) (c .before .with-entry .ensures) (c .accepted .ensures)
 
 enter-requires-2 : tie.Need-enter-requires-2
 enter-requires-2 c κs =
-    let start = c .before .before .before .before .before .before .before .before .before .before .before .before .before .before .before .before .before .before .before .before .before .before in
-    arriving (start .pre) (start .args .o) (accepted (c .before .before .before .before .before .before .before .before)) false (c .before .before .before .if4 .left) (c .before .before .before .before .before .before .before .wide2 .ensures) (c .before .before .before .before .before .before .if3 .meets) (c .before .before .before .before .positions-for .ensures)
+    let start = c .before .before .before .before .before .before .before .before .before .before .before .before .before .before .before .before .before .before .before in
+    arriving (start .pre) (start .args .o) (accepted (c .before .before .before .before .before)) false (c .before .before .before .if3 .left) (c .before .before .before .before .wide2 .ensures)
 
 with-entry-requires-2 : tie.Need-with-entry-requires-2
 with-entry-requires-2 c κs =
-    let start = c .before .before .before .before .before .before .before .before .before .before .before .before .before .before .before .before .before .before .before .before .before .before .before .before .before .before .before .before .before in
-    (place (c .before .before .before .before .before .before .before .before .before .before .before .before .before .before), next-low (start .pre) (start .args .o) (accepted (c .before .before .before .before .before .before .before .before .before .before .before .before .before .before .before)))
+    let start = c .before .before .before .before .before .before .before .before .before .before .before .before .before .before .before .before .before .before .before .before .before .before .before .before .before .before in
+    (place (c .before .before .before .before .before .before .before .before .before .before .before), next-low (start .pre) (start .args .o) (accepted (c .before .before .before .before .before .before .before .before .before .before .before .before)))
 
 accepted-requires-2 : tie.Need-accepted-requires-2
 accepted-requires-2 c κs = search needs
@@ -175,8 +153,8 @@ same-length-9 c = search needs
 
 returns-4 : tie.Need-returns-4
 returns-4 c =
-    let start = c .before .before .before .before .before .before .before .before .before .before .before .before .before .before .before .before .before .before .before .before .before .before .before .before .before .before .before .before .before .before .before in
-    insert-accepted (start .pre) (start .args .o) (accepted (c .before .before .before .before .before .before .before .before .before .before .before .before .before .before .before .before .before)) false (c .before .before .before .before .before .before .before .before .before .before .before .before .if4 .left) (c .before .before .before .before .before .before .before .before .before .before .before .before .before .before .before .before .wide2 .ensures) (c .before .before .before .before .before .before .before .before .before .before .before .before .before .positions-for .ensures) (met (c .before .before .before .before .before .before .before .before .before .before .before .before .before .before .before) false (c .before .before .before .before .before .before .before .before .before .before .before .before .if4 .left)) (c .before .before .before .before .before .before .before .before .enter2 .ensures) (c .before .with-entry2 .ensures) (c .accepted2 .ensures)
+    let start = c .before .before .before .before .before .before .before .before .before .before .before .before .before .before .before .before .before .before .before .before .before .before .before .before .before .before .before .before in
+    insert-accepted (start .pre) (start .args .o) (accepted (c .before .before .before .before .before .before .before .before .before .before .before .before .before .before)) false (c .before .before .before .before .before .before .before .before .before .before .before .before .if3 .left) (c .before .before .before .before .before .before .before .before .before .before .before .before .before .wide2 .ensures) (c .before .before .before .before .before .before .before .before .enter2 .ensures) (c .before .with-entry2 .ensures) (c .accepted2 .ensures)
 
 pub insert-spec : {M : Type 1} → statement M
 insert-spec =
@@ -201,9 +179,6 @@ insert-spec =
     array-read-bought
     mul-sold
     array-read-sold
-    meets-any-requires
-    meets-any-requires-2
-    positions-for-requires
     enter-requires
     with-entry-requires
     accepted-requires

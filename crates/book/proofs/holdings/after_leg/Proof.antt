@@ -2,7 +2,6 @@
 use borrow.Author.Needs.{needs}
 use borrow.Author.Tests.{eq-eqb, ne-eqb}
 use Rattle.rules.specs.Holdings.{afterLeg}
-use Rattle.book.specs.Positions.{afterLegOn}
 use Rattle.book.proofs.holdings.after_leg.Statement.{statement}
 use Rattle.book.proofs.holdings.after_leg.Tie as tie
 
@@ -19,19 +18,19 @@ lowered-requires-2 : tie.Need-lowered-requires-2
 lowered-requires-2 c κs = search needs
 
 returns : tie.Need-returns
-unfolding afterLegOn afterLeg
+unfolding afterLeg
 returns c = rw (c .before .if1 .taken, eq-eqb _ _ (c .if2 .taken))
 
 returns-2 : tie.Need-returns-2
-unfolding afterLegOn afterLeg
+unfolding afterLeg
 returns-2 c = rw (c .before .before .if1 .taken, ne-eqb _ _ (c .before .if2 .left), c .lowered .ensures)
 
 returns-3 : tie.Need-returns-3
-unfolding afterLegOn afterLeg
+unfolding afterLeg
 returns-3 c = rw (c .before .if1 .left, eq-eqb _ _ (c .if3 .taken))
 
 returns-4 : tie.Need-returns-4
-unfolding afterLegOn afterLeg
+unfolding afterLeg
 returns-4 c = rw (c .before .before .if1 .left, ne-eqb _ _ (c .before .if3 .left), c .lowered2 .ensures)
 
 pub after-leg-spec : {M : Type 1} → statement M

@@ -8,9 +8,9 @@ use native.Mathlib.Omega.{arith}
 use borrow.Author.Needs.{needs}
 use borrow.Author.Tests.{eqb-true, eqb-false, not-true, not-false}
 use lib.ListN.{length, set}
-use Rattle.book.specs.Positions.{bookTradeOn}
-use Rattle.book.proofs.Bookings.{position-more, positions-more, buyer-within, trade-booked}
-use Rattle.matching.proofs.Turns.{Going, Meeting, order-read, trade-size, trade-parties, parties-with, stopped, queue-ended, lots-used, no-counterpart, trade-room, going-on, part-filled}
+use Rattle.rules.specs.Holdings.{bookTrade}
+use Rattle.book.proofs.Bookings.{held-more, holding-read, buyer-held, trade-booked}
+use Rattle.matching.proofs.Turns.{Going, Meeting, order-read, trade-size, trade-contract, trade-parties, parties-with, stopped, queue-ended, lots-used, no-counterpart, trade-room, going-on, part-filled}
 use Rattle.matching.proofs.sweep.sweep.Statement.{statement}
 use Rattle.matching.proofs.sweep.sweep.Tie as tie
 
@@ -34,7 +34,7 @@ sweep-holds c =
       long = refl;
       parties =
           let p = c .before .before .before .pre .parties in
-          parties-with p (positions-more (p .positions) (omega arith));
+          parties-with p (held-more (p .holdings) (omega arith));
       answer = simp sub-zero;
     }
 
@@ -91,17 +91,17 @@ booking c = trade-parties (meeting c) (Head c .sweep .inv .parties)
 buyer : (c : tie.After-wide2 Inv-sweep μ-sweep) → c .wide2 .result < 32
 buyer c = rw (c .wide2 .ensures) (omega (arith, booking (c .before) .0, Head (c .before) .sweep .inv .parties .few))
 
-mul-after-leg : tie.Need-mul-after-leg Inv-sweep μ-sweep
-mul-after-leg c = omega (arith, buyer c)
+mul-book-leg : tie.Need-mul-book-leg Inv-sweep μ-sweep
+mul-book-leg c = omega (arith, buyer c)
 
-array-copy-out-after-leg : tie.Need-array-copy-out-after-leg Inv-sweep μ-sweep
-array-copy-out-after-leg c = buyer c
+array-copy-out-book-leg : tie.Need-array-copy-out-book-leg Inv-sweep μ-sweep
+array-copy-out-book-leg c = buyer c
 
-after-leg-requires : tie.Need-after-leg-requires Inv-sweep μ-sweep
-after-leg-requires c κs =
+book-leg-requires : tie.Need-book-leg-requires Inv-sweep μ-sweep
+book-leg-requires c κs =
     let w = c .before .before in
     let s = Head w in
-    (omega (arith, few w), position-more (s .sweep .inv .parties .positions .each _ (rw (c .before .wide2 .ensures) (booking w .0))) (omega (arith, few w)))
+    (rw (s .before .wide .ensures) (Begun s .pre .contract), omega (arith, few w), holding-read _ (s .sweep .inv .parties .holdings) (rw (c .before .wide2 .ensures) (booking w .0)) (s .before .wide .ensures) (omega (arith, few w)))
 
 mul-held : tie.Need-mul-held Inv-sweep μ-sweep
 mul-held c = omega (arith, buyer (c .before .before))
@@ -119,18 +119,22 @@ Selling c = c .before .before .before .before
 seller : (c : tie.After-wide3 Inv-sweep μ-sweep) → c .wide3 .result < 32
 seller c = rw (c .wide3 .ensures) (omega (arith, booking (Selling c) .1, Head (Selling c) .sweep .inv .parties .few))
 
-mul-after-leg-2 : tie.Need-mul-after-leg-2 Inv-sweep μ-sweep
-mul-after-leg-2 c = omega (arith, seller c)
+-- the contract's place is the trade's
+place : (c : tie.After-trade-with Inv-sweep μ-sweep) → Head c .before .wide .result ≡ c .trade-with .result .contract
+place c = Head c .before .wide .ensures ∙ sym (trade-contract (meeting c))
 
-array-copy-out-after-leg-2 : tie.Need-array-copy-out-after-leg-2 Inv-sweep μ-sweep
-array-copy-out-after-leg-2 c = seller c
+mul-book-leg-2 : tie.Need-mul-book-leg-2 Inv-sweep μ-sweep
+mul-book-leg-2 c = omega (arith, seller c)
 
-after-leg-requires-2 : tie.Need-after-leg-requires-2 Inv-sweep μ-sweep
-after-leg-requires-2 c κs =
+array-copy-out-book-leg-2 : tie.Need-array-copy-out-book-leg-2 Inv-sweep μ-sweep
+array-copy-out-book-leg-2 c = seller c
+
+book-leg-requires-2 : tie.Need-book-leg-requires-2 Inv-sweep μ-sweep
+book-leg-requires-2 c κs =
     let w = Selling (c .before) in
     let s = Head w in
-    let bought = buyer-within (s .sweep .held) (w .trade-with .result) (c .before .before .before .before .wide2 .ensures) (c .before .before .after-leg .ensures) (booking w .0) (s .sweep .inv .parties .positions) in
-    (omega (arith, few w), position-more (bought .each _ (rw (c .before .wide3 .ensures) (booking w .1))) (omega (arith, few w)))
+    let bought = buyer-held (s .sweep .held) (w .trade-with .result) (place w) (c .before .before .before .before .wide2 .ensures) (c .before .before .book-leg .ensures) (trade-contract (meeting w)) (booking w .0) (s .sweep .inv .parties .holdings) in
+    (rw (s .before .wide .ensures) (Begun s .pre .contract), omega (arith, few w), holding-read _ bought (rw (c .before .wide3 .ensures) (booking w .1)) (s .before .wide .ensures) (omega (arith, few w)))
 
 mul-held-2 : tie.Need-mul-held-2 Inv-sweep μ-sweep
 mul-held-2 c = omega (arith, seller (c .before .before))
@@ -139,13 +143,13 @@ array-set-from-held-2 : tie.Need-array-set-from-held-2 Inv-sweep μ-sweep
 array-set-from-held-2 c = seller (c .before .before)
 
 -- both legs are booked
-legs : (c : tie.After-after-leg2 Inv-sweep μ-sweep)
+legs : (c : tie.After-book-leg2 Inv-sweep μ-sweep)
     → let w = Selling (c .before .before) in
-    set (set (Head w .sweep .held) (c .before .before .before .before .before .wide2 .result) (c .before .before .before .after-leg .result)) (c .before .before .wide3 .result) (c .after-leg2 .result)
-    ≡ bookTradeOn (Head w .sweep .held) (w .trade-with .result)
+    set (set (Head w .sweep .held) (c .before .before .before .before .before .wide2 .result) (c .before .before .before .book-leg .result)) (c .before .before .wide3 .result) (c .book-leg2 .result)
+    ≡ bookTrade (Head w .sweep .held) (w .trade-with .result)
 legs c =
     let w = Selling (c .before .before) in
-    trade-booked (Head w .sweep .held) (w .trade-with .result) (c .before .before .before .before .before .wide2 .ensures) (c .before .before .before .after-leg .ensures) (c .before .before .wide3 .ensures) (c .after-leg2 .ensures)
+    trade-booked (Head w .sweep .held) (w .trade-with .result) (place w) (c .before .before .before .before .before .wide2 .ensures) (c .before .before .before .book-leg .ensures) (c .before .before .wide3 .ensures) (c .book-leg2 .ensures)
 
 -- the area has room for the trade
 fits : (c : tie.After-trade-with Inv-sweep μ-sweep) → 9 * Head c .sweep .made + 9 ≤ length (Head c .sweep .area)
@@ -239,15 +243,15 @@ sweep-spec =
     is-counterpart-requires
     trade-with-requires
     wide-requires-2
-    mul-after-leg
-    array-copy-out-after-leg
-    after-leg-requires
+    mul-book-leg
+    array-copy-out-book-leg
+    book-leg-requires
     mul-held
     array-set-from-held
     wide-requires-3
-    mul-after-leg-2
-    array-copy-out-after-leg-2
-    after-leg-requires-2
+    mul-book-leg-2
+    array-copy-out-book-leg-2
+    book-leg-requires-2
     mul-held-2
     array-set-from-held-2
     put-trade-requires
