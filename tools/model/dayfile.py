@@ -98,9 +98,8 @@ def flags_known(kind, flags):
     if kind in ("cancel", "pull"):
         # "Cancel and pull flags: bit 0 operator, the rest zero."
         return flags <= 1
-    if kind == "state":
-        return flags < len(STATES)
-    return flags == 0
+    # The kinds that are left do not use their flags, but for state.
+    return flags < len(STATES)
 
 
 # One command of each kind, with the fields that it does not use left zero.
@@ -179,19 +178,27 @@ def section(rest, name, record):
 def check_ranges(day):
     """Raises Broken where a count or value is out of range. "Bad command fields don't break a file." """
     # "contracts (1 to 4), accounts (1 to 32), commands (0 to 2,000)"
-    if not 1 <= len(day.contracts) <= MOST_CONTRACTS:
-        raise Broken("contracts not 1 to 4")
-    if not 1 <= len(day.balances) <= MOST_ACCOUNTS:
-        raise Broken("accounts not 1 to 32")
-    if not 0 <= len(day.commands) <= MOST_COMMANDS:
+    check_contracts(day.contracts)
+    check_balances(day.balances)
+    if len(day.commands) > MOST_COMMANDS:
         raise Broken("commands not 0 to 2,000")
-    for number, contract in enumerate(day.contracts, 1):
+
+
+def check_contracts(contracts):
+    if not 1 <= len(contracts) <= MOST_CONTRACTS:
+        raise Broken("contracts not 1 to 4")
+    for number, contract in enumerate(contracts, 1):
         fault = contract_fault(contract)
         if fault:
             raise Broken(fault, f"contract {number}: ")
-    for number, balance in enumerate(day.balances, 1):
+
+
+def check_balances(balances):
+    if not 1 <= len(balances) <= MOST_ACCOUNTS:
+        raise Broken("accounts not 1 to 32")
+    for number, balance in enumerate(balances, 1):
         # "opening balance, 0 to 10^18"
-        if not 0 <= balance <= TOP_BALANCE:
+        if balance > TOP_BALANCE:
             raise Broken("balance not 0 to 10^18", f"account {number}: ")
 
 
