@@ -24,7 +24,7 @@ def submit(state, commands):
         return 21
     if len(commands) > MOST_IN_A_BUNDLE:
         return 22
-    if state.answers.room < len(commands):
+    if memory.room_of(state.answers) < len(commands):
         return 22
     for place, command in enumerate(commands):
         given = memory.execute(state, command)

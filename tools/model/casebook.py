@@ -2,7 +2,7 @@
 
 import dayfile
 from bounds import MOST_ACCOUNTS, MOST_CONTRACTS, MOST_RESTING
-from memory import Area, Contract, Holding, Memory, Order, Trade
+from memory import Area, Contract, Holding, Memory, Order, Trade, room_of
 from vectors import Case
 
 PRE_OPEN, CONTINUOUS, NO_TRADING, CLOSED, AUCTION = range(5)
@@ -117,7 +117,7 @@ def tempting(state):
             if count < MOST_RESTING:
                 place = MOST_RESTING * contract + count
                 state.orders[side].contents.setdefault(place, Order(price, 99, 0, 7, contract % 2))
-    if state.trade_count < state.trades.room:
+    if state.trade_count < room_of(state.trades):
         state.trades.contents.setdefault(state.trade_count, Trade(0, 95, 7, 97, 98, 0, 1, OPEN, OPEN))
     return state
 

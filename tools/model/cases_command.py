@@ -79,8 +79,28 @@ def not_well_formed():
         yield given(f"{kind}: trade area too short", areas(state, trades=(1_024, -1)), command, 21)
     state, command = sound_commands()["deposit"]
     yield given("kind 0: rate 0", terms(state, 2, rate=0), Command(0), 21)
+    # Nothing is written back, whatever the state holds.
+    for name, spoilt in spoilt_states():
+        yield given(f"deposit: {name}", spoilt, dayfile.deposit(1, 5), 21)
     state, command = sound_commands()["insert"]
     yield given("insert of account 0: buy area too short", areas(state, buys=(128, -1)), command._replace(account=0), 21)
+
+
+def spoilt_states():
+    def book():
+        return traded(rest(exchange(2), "buy", 1, (100, 3, 1), (95, 3, 2)), 1, 100, 2, 1, 2)
+
+    yield "five contracts", counts(book(), contract_count=5)
+    yield "33 accounts", counts(book(), account_count=33)
+    yield "a contract state that has no name", terms(book(), 2, phase=5)
+    yield "an order that neither opens nor closes", change_order(book(), "buy", 1, 1, close=2)
+    yield "an order of an account past all places", change_order(book(), "buy", 1, 1, account=40)
+    yield "a trade that neither opens nor closes", change_trade(book(), 0, buyclose=2)
+    yield "a trade of a contract past all places", change_trade(book(), 0, contract=9)
+    yield "buys out of order", change_order(book(), "buy", 1, 1, price=105)
+    yield "65 buys", counts(book(), order_counts={"buy": [65, 0, 0, 0], "sell": [0] * 4})
+    yield "1,025 trades", counts(book(), trade_count=1_025)
+    yield "a million and one", counts(book(), next=10**6 + 1)
 
 
 # "2: account 0 or absent", for these two accounts: numbers that have none
@@ -166,6 +186,8 @@ def with_margin():
     yield "each contract at its own charge, rounded up", own, 10_000 - 300 - 4 * 3
     exact = start(terms(poor(), 2, multiplier=20, reference=105, rate=5_000), 1, 2, long=4)
     yield "a charge that needs no rounding", exact, 10_000 - 4 * 1_050
+    least = dict(multiplier=1, tick=1, reference=10_001, band=10, rate=1)
+    yield "a charge of 1 and a ten-thousandth", start(terms(poor(), 2, **least), 1, 2, long=4), 10_000 - 4 * 2
 
 
 # "2", "3", "4", "5", "6", "7"

@@ -273,10 +273,11 @@ def replays():
         yield verdict(f"a buy close of {lots} with 3 short", unsigned(buy_close))
 
     # Below zero on the way, and not at the end.
-    dip = traded(exchange(), 1, 100, 2, 1, 2, sellclose=CLOSE)
-    yield ill("a sell close before the buy that opens", unsigned(traded(dip, 1, 100, 2, 2, 1)))
-    dip = traded(exchange(), 1, 100, 2, 1, 2, buyclose=CLOSE)
-    yield ill("a buy close before the sell that opens", unsigned(traded(dip, 1, 100, 2, 2, 1)))
+    for lots in (1, 2):
+        dip = traded(exchange(), 1, 100, lots, 1, 2, sellclose=CLOSE)
+        yield ill(f"a sell close before the buy that opens, {lots} lots", unsigned(traded(dip, 1, 100, lots, 2, 1)))
+        dip = traded(exchange(), 1, 100, lots, 1, 2, buyclose=CLOSE)
+        yield ill(f"a buy close before the sell that opens, {lots} lots", unsigned(traded(dip, 1, 100, lots, 2, 1)))
     later = traded(traded(exchange(), 1, 100, 2, 2, 1), 1, 100, 2, 1, 2, sellclose=CLOSE)
     yield well("a sell close after the buy that opens", later)
     later = traded(traded(exchange(), 1, 100, 2, 2, 1), 1, 100, 2, 1, 2, buyclose=CLOSE)

@@ -3,7 +3,7 @@
 
 Each test of the model (a comparison, a condition, a part of one, a bound, a row of a table, the order of two refusals) is
 in turn dropped, turned round or moved by one, and the vectors and samples are run again. An edit that changes no answer
-is unnoticed: nothing pins what it edits. Prints the edits that are unnoticed, and the counts.
+is unnoticed: nothing pins what it edits. The papers' worked examples (`tables.py`) are held beside them. Prints the edits that are unnoticed, and the counts.
 
     tools/model/delete_tests.py            all edits
     tools/model/delete_tests.py TEXT       those of functions or tables whose name contains TEXT
@@ -22,13 +22,14 @@ HERE = Path(__file__).resolve().parent
 sys.path.insert(0, str(HERE.parent))
 
 import make_vectors  # noqa: E402
+import tables  # noqa: E402
 
 # The modules of the rules, each after those that it imports; the last is not edited, it runs the calls.
 RULES = ("bounds", "dayfile", "model", "memory", "baskets", "question", "mending", "statements")
 MODULES = (*RULES, "vectors")
 
-# What states no rule: the model's checks of itself, and what the generator and the tools call.
-NO_RULE = ("Condition3", "run", "free_balance", "write", "insert_flags")
+# What states no rule: the model's checks of itself, what the generator and the tools call, and the filling of room.
+NO_RULE = ("Condition3", "run", "free_balance", "write", "insert_flags", "FILLING", "FILLED_CONTRACT", "FILLED_COUNT")
 
 # Longer samples take too long to be run for each edit.
 LARGEST_SAMPLE = 3_000
@@ -287,6 +288,13 @@ def written(modules, case):
         return type(error).__name__
 
 
+def worked_out(modules, name, arguments):
+    try:
+        return within_time(lambda: getattr(modules["model"], name)(*arguments))
+    except Exception as error:
+        return type(error).__name__
+
+
 def output(modules, file):
     try:
         return within_time(lambda: modules["model"].run(file))
@@ -384,7 +392,7 @@ class Notice:
     def __init__(self, trees):
         self.trees = trees
         self.codes = {name: compile(tree, f"{name}.py", "exec") for name, tree in trees.items()}
-        self.cases = [case for name in make_vectors.NAMES for case in make_vectors.cases_of(name)]
+        self.cases = [case for name in make_vectors.NAMES + make_vectors.LATER for case in make_vectors.cases_of(name)]
         self.reached = cases_by_place(trees, self.cases)
         modules = load(self.codes)
         self.wanted = [written(modules, case) for case in self.cases]
@@ -404,6 +412,9 @@ class Notice:
         for k in self.candidates(edit):
             if written(modules, self.cases[k]) != self.wanted[k]:
                 return f"{self.cases[k].call}: {self.cases[k].name}"
+        for name, arguments, result in tables.WORKED:
+            if worked_out(modules, name, arguments) != result:
+                return f"table: {name}"
         for k, file in enumerate(self.samples):
             if k not in self.outputs:
                 self.outputs[k] = output(load(self.codes), file)

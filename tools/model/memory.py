@@ -75,10 +75,10 @@ class Area:
     words: int = 0
     contents: dict = field(default_factory=dict)
 
-    # How many whole records it has room for.
-    @property
-    def room(self):
-        return self.length if self.words >= 0 else self.length - 1
+
+# How many whole records an area has room for.
+def room_of(area):
+    return area.length if area.words >= 0 else area.length - 1
 
 
 @dataclass
@@ -131,8 +131,8 @@ def in_use(memory):
         trades=[trade_in_use(memory.trades.contents.get(place, NO_TRADE)) for place in range(trade_count)],
         next_order_number=memory.next,
         settlements=memory.settlements,
-        room_for_orders={side: area.room for side, area in memory.orders.items()},
-        room_for_trades=memory.trades.room,
+        room_for_orders={side: room_of(area) for side, area in memory.orders.items()},
+        room_for_trades=room_of(memory.trades),
     )
 
 
@@ -281,6 +281,6 @@ def resting_orders(orders, side, contract, contracts, count):
     if count > MOST_RESTING:
         return []
     first = MOST_RESTING * (contract - 1)
-    if orders[side].room < first + count:
+    if room_of(orders[side]) < first + count:
         return []
     return [orders[side].contents[first + place] for place in range(count)]

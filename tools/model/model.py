@@ -560,7 +560,8 @@ def state_code(state, command):
     if (dayfile.STATES.index(contract.state), command.flags) not in LISTED_STATE_CHANGES:
         return 17
     # "17 for other exits, then 12 for the state change if the match needs more room"
-    if contract.state == "auction" and len(auction_pairs(contract)) > MOST_TRADES - len(state.trades):
+    # A book is crossed in auction alone: no other change finds anything to match.
+    if len(auction_pairs(contract)) > MOST_TRADES - len(state.trades):
         return 12
     return 0
 
@@ -569,7 +570,7 @@ def state_code(state, command):
 def change_state(state, command):
     contract = state.contracts[command.contract]
     # "left only to continuous, when the match happens"
-    trades = match_auction(state, command.contract) if contract.state == "auction" else []
+    trades = match_auction(state, command.contract)
     contract.state = dayfile.STATES[command.flags]
     return Answer(0, lots_traded=sum(trade.lots for trade in trades), trades=trades)
 
