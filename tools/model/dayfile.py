@@ -98,9 +98,8 @@ def flags_known(kind, flags):
     if kind in ("cancel", "pull"):
         # "Cancel and pull flags: bit 0 operator, the rest zero."
         return flags <= 1
-    if kind == "state":
-        return flags < len(STATES)
-    return flags == 0
+    # The kinds that are left do not use their flags, but for state.
+    return flags < len(STATES)
 
 
 # One command of each kind, with the fields that it does not use left zero.
@@ -195,20 +194,38 @@ def check_ranges(day):
 def range_faults(day):
     """Each count out of range, then the first value out of range of each contract and account."""
     # "contracts (1 to 4), accounts (1 to 32), commands (0 to 2,000)"
-    if not 1 <= len(day.contracts) <= MOST_CONTRACTS:
-        yield Broken("contracts not 1 to 4")
-    if not 1 <= len(day.balances) <= MOST_ACCOUNTS:
-        yield Broken("accounts not 1 to 32")
-    if not 0 <= len(day.commands) <= MOST_COMMANDS:
+    yield from contracts_faults(day.contracts)
+    yield from balances_faults(day.balances)
+    if len(day.commands) > MOST_COMMANDS:
         yield Broken("commands not 0 to 2,000")
-    for number, contract in enumerate(day.contracts, 1):
+
+
+def contracts_faults(contracts):
+    if not 1 <= len(contracts) <= MOST_CONTRACTS:
+        yield Broken("contracts not 1 to 4")
+    for number, contract in enumerate(contracts, 1):
         fault = contract_fault(contract)
         if fault:
             yield Broken(fault, f"contract {number}: ")
-    for number, balance in enumerate(day.balances, 1):
+
+
+def balances_faults(balances):
+    if not 1 <= len(balances) <= MOST_ACCOUNTS:
+        yield Broken("accounts not 1 to 32")
+    for number, balance in enumerate(balances, 1):
         # "opening balance, 0 to 10^18"
-        if not 0 <= balance <= TOP_BALANCE:
+        if balance > TOP_BALANCE:
             yield Broken("balance not 0 to 10^18", f"account {number}: ")
+
+
+def check_contracts(contracts):
+    for broken in contracts_faults(contracts):
+        raise broken
+
+
+def check_balances(balances):
+    for broken in balances_faults(balances):
+        raise broken
 
 
 def write(day):

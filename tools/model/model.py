@@ -84,6 +84,7 @@ class Contract:
 # balances; queues; the day's trades; each contract's state, reference and last price; the next order number; the count
 # of settlements."
 # Contracts and balances stand under their numbers from 1, holdings under (account, contract, "long" or "short").
+# The room is that of the lent areas: how many orders the area of each side holds, and how many trades the trade area.
 @dataclass
 class State:
     contracts: dict
@@ -93,6 +94,10 @@ class State:
     trades: list = field(default_factory=list)
     next_order_number: int = 1
     settlements: int = 0
+    room_for_orders: dict = field(
+        default_factory=lambda: {side: MOST_CONTRACTS * MOST_RESTING for side in dayfile.SIDES}
+    )
+    room_for_trades: int = MOST_TRADES
 
 
 # "Its run opens in pre-open, with no orders, trades, holdings or settlements."
@@ -182,13 +187,16 @@ def well_formed(state):
 
 # "counts, numbers, parameters and prices keep the ranges above, the next order number 1 to 1,000,000; references and
 # last prices are tick multiples; each queue area has room for 64 orders and the trade area for 1,024 trades"
+# One area has the queues of one side of all contracts, and needs the room of those in use.
 def ranges_are_kept(state):
     return (
         1 <= len(state.contracts) <= MOST_CONTRACTS
         and 1 <= len(state.balances) <= MOST_ACCOUNTS
         and len(state.trades) <= MOST_TRADES
-        and 0 <= state.settlements <= MOST_SETTLEMENTS
+        and state.settlements <= MOST_SETTLEMENTS
         and 1 <= state.next_order_number <= LAST_ORDER_NUMBER + 1
+        and all(room >= len(state.contracts) * MOST_RESTING for room in state.room_for_orders.values())
+        and state.room_for_trades >= MOST_TRADES
         and all(
             contract_fault(contract) is None
             and contract.state in dayfile.STATES
@@ -252,8 +260,6 @@ def trades_are_sound(state):
 # "replaying the day's trades over the starting holdings never goes below zero and gives the holdings now"
 def replay_gives_the_holdings(state):
     replayed = dict(state.holdings_at_start)
-    if min(replayed.values()) < 0:
-        return False
     for trade in state.trades:
         for leg in trade.legs():
             book(replayed, trade.contract, leg, trade.lots)
@@ -366,32 +372,18 @@ def arriving(command):
 
 def insert_code(state, command):
     order = arriving(command)
-    # "2: account 0 or absent"
-    if order.account not in state.balances:
-        return 2
-    # "3: contract 0 or absent"
-    if order.contract not in state.contracts:
-        return 3
+    code = absence_code(state, command)
+    if code != 0:
+        return code
     contract = state.contracts[order.contract]
     # "4: contract state forbids it": "Insert needs continuous."
     # "In auction, limit good-for-day orders rest" (document 02, ticket 4, as all below on the auction).
     in_auction = contract.state == "auction"
     if contract.state != "continuous" and not in_auction:
         return 4
-    # "5: lots outside 1 to 1,000"
-    if not 1 <= order.lots <= MOST_LOTS:
-        return 5
-    # "6: market or best with good for day"
-    if order.price_condition != "limit" and order.time_condition == "day":
-        return 6
-    # "in auction 6 for any insert not limit good for day"
-    if in_auction and (order.price_condition, order.time_condition) != ("limit", "day"):
-        return 6
-    # "7: limit price off tick or outside low to high; market or best with a price not 0"
-    if order.price_condition == "limit" and not allowed_today(contract, order.price):
-        return 7
-    if order.price_condition != "limit" and order.price != 0:
-        return 7
+    code = order_code(contract, order, in_auction)
+    if code != 0:
+        return code
     # "8: open: holding, resting opens on that side and lots exceed the limit; close: lots exceed holding less own
     # resting closes on it"
     if order.lots > most_lots_by_holding(state, order):
@@ -415,6 +407,36 @@ def insert_code(state, command):
     # "in auction [...] 13 whenever the own side has 64"
     if in_auction and own_side_is_full:
         return 13
+    return 0
+
+
+# The refusals of a command that names an account and a contract.
+def absence_code(state, command):
+    # "2: account 0 or absent"
+    if command.account not in state.balances:
+        return 2
+    # "3: contract 0 or absent"
+    if command.contract not in state.contracts:
+        return 3
+    return 0
+
+
+# The refusals of an order for what it says itself.
+def order_code(contract, order, in_auction):
+    # "5: lots outside 1 to 1,000"
+    if not 1 <= order.lots <= MOST_LOTS:
+        return 5
+    # "6: market or best with good for day"
+    if order.price_condition != "limit" and order.time_condition == "day":
+        return 6
+    # "in auction 6 for any insert not limit good for day"
+    if in_auction and (order.price_condition, order.time_condition) != ("limit", "day"):
+        return 6
+    # "7: limit price off tick or outside low to high; market or best with a price not 0"
+    if order.price_condition == "limit" and not allowed_today(contract, order.price):
+        return 7
+    if order.price_condition != "limit" and order.price != 0:
+        return 7
     return 0
 
 
@@ -447,10 +469,9 @@ def cancel_code(state, command):
 
 
 def pull_code(state, command):
-    if command.account not in state.balances:
-        return 2
-    if command.contract not in state.contracts:
-        return 3
+    code = absence_code(state, command)
+    if code != 0:
+        return code
     # "Cancel and pull need continuous, or no trading with the operator bit (001, table 2)."
     # In auction "cancel and pull work" (document 02, ticket 4), with the operator bit or without it.
     contract_state = state.contracts[command.contract].state
@@ -539,7 +560,8 @@ def state_code(state, command):
     if (dayfile.STATES.index(contract.state), command.flags) not in LISTED_STATE_CHANGES:
         return 17
     # "17 for other exits, then 12 for the state change if the match needs more room"
-    if contract.state == "auction" and len(auction_pairs(contract)) > MOST_TRADES - len(state.trades):
+    # A book is crossed in auction alone: no other change finds anything to match.
+    if len(auction_pairs(contract)) > MOST_TRADES - len(state.trades):
         return 12
     return 0
 
@@ -548,7 +570,7 @@ def state_code(state, command):
 def change_state(state, command):
     contract = state.contracts[command.contract]
     # "left only to continuous, when the match happens"
-    trades = match_auction(state, command.contract) if contract.state == "auction" else []
+    trades = match_auction(state, command.contract)
     contract.state = dayfile.STATES[command.flags]
     return Answer(0, lots_traded=sum(trade.lots for trade in trades), trades=trades)
 
@@ -580,13 +602,11 @@ def opposite_queue(contract, order):
 # "Counterparts are opposite orders: for a limit order those at its price or better; for market all; for best those at
 # the best price standing on arrival."
 def is_counterpart(contract, order, resting):
-    if order.price_condition == "limit" and order.side == "buy":
-        return resting.price <= order.price
-    if order.price_condition == "limit" and order.side == "sell":
-        return resting.price >= order.price
     if order.price_condition == "market":
         return True
-    return resting.price == opposite_queue(contract, order)[0].price
+    if order.price_condition == "best":
+        return resting.price == opposite_queue(contract, order)[0].price
+    return resting.price <= order.price if order.side == "buy" else resting.price >= order.price
 
 
 # "Taken by price, then number, each trades the smaller remainder. The sweep stops at the first order that is no
@@ -811,26 +831,36 @@ def settlement_price(state, number):
 
 # "Profit follows Article 32: closing and holding parts, start-of-day lots against the reference, today's against their
 # opening price, times multiplier."
-# An account's two parts in one contract, lot by lot. Each lot held stands in a line with the price it counts from.
-# "Closes use start-of-day lots first, then today's in trade order (house)": they take from the front of the line.
+# An account's two parts in one contract.
 def profit(state, account, number, price):
-    contract = state.contracts[number]
-    long_lots = deque([contract.reference] * state.holdings_at_start[account, number, "long"])
-    short_lots = deque([contract.reference] * state.holdings_at_start[account, number, "short"])
+    start = {held: state.holdings_at_start[account, number, held] for held in ("long", "short")}
+    legs = [
+        (trade, leg)
+        for trade in state.trades
+        if trade.contract == number
+        for leg in trade.legs()
+        if leg.account == account
+    ]
+    return profit_by_lots(state.contracts[number], start, legs, price)
+
+
+# Lot by lot, from the lots held at the start and the legs in trade order. Each lot held stands in a line with the price
+# that it counts from.
+# "Closes use start-of-day lots first, then today's in trade order (house)": they take from the front of the line.
+def profit_by_lots(contract, start, legs, price):
+    long_lots = deque([contract.reference] * start["long"])
+    short_lots = deque([contract.reference] * start["short"])
     closing = 0
-    for trade in state.trades:
-        for leg in trade.legs():
-            if trade.contract != number or leg.account != account:
-                continue
-            for _ in range(trade.lots):
-                if (leg.side, leg.effect) == ("buy", "open"):
-                    long_lots.append(trade.price)
-                elif (leg.side, leg.effect) == ("sell", "open"):
-                    short_lots.append(trade.price)
-                elif (leg.side, leg.effect) == ("sell", "close"):
-                    closing += trade.price - long_lots.popleft()
-                else:
-                    closing += short_lots.popleft() - trade.price
+    for trade, leg in legs:
+        for _ in range(trade.lots):
+            if (leg.side, leg.effect) == ("buy", "open"):
+                long_lots.append(trade.price)
+            elif (leg.side, leg.effect) == ("sell", "open"):
+                short_lots.append(trade.price)
+            elif (leg.side, leg.effect) == ("sell", "close"):
+                closing += trade.price - long_lots.popleft()
+            else:
+                closing += short_lots.popleft() - trade.price
     holding = sum(price - counted_from for counted_from in long_lots)
     holding += sum(counted_from - price for counted_from in short_lots)
     return closing * contract.multiplier, holding * contract.multiplier

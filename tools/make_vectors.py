@@ -1,0 +1,63 @@
+#!/usr/bin/env python3
+"""make_vectors.py: makes the files of the program `test_vectors`: the vectors in its data folder with their list, and what
+it must write. The cases are chosen by hand (`model/cases_*.py`), what must come out is the model's.
+
+    tools/make_vectors.py                  makes the files
+    tools/make_vectors.py names FILE       the cases of a file by number, to find one that the program says differs
+"""
+
+import importlib
+import sys
+from pathlib import Path
+
+TOP = Path(__file__).resolve().parent.parent
+CRATE = TOP / "crates" / "test_vectors"
+DATA = CRATE / "data"
+
+sys.path.insert(0, str(TOP / "tools" / "model"))
+
+import vectors  # noqa: E402
+
+# A file for each module of cases.
+NAMES = ("well-formed", "command", "bundle", "question", "statement", "side", "mending", "day-file")
+
+# Cases of what the model knows and the engine does not yet.
+LATER = ("auction",)
+
+
+def cases_of(name):
+    return list(importlib.import_module("cases_" + name.replace("-", "_")).cases())
+
+
+def made_files():
+    """The content of every file that is made, by its path."""
+    files, wanted = {}, ""
+    for name in NAMES:
+        cases = cases_of(name)
+        files[DATA / name] = vectors.vector_file(cases)
+        wanted += f"{name}: {len(cases)} vectors, 0 differ\n"
+    files[DATA / "list"] = "".join(name + "\n" for name in NAMES).encode()
+    files[CRATE / "stdout"] = wanted.encode()
+    return files
+
+
+def files_present():
+    return set(DATA.glob("*")) | set(CRATE.glob("stdout"))
+
+
+def main():
+    if sys.argv[1:2] == ["names"]:
+        for number, case in enumerate(cases_of(sys.argv[2]), 1):
+            print(f"{number} {case.call}: {case.name}: {case.expected}")
+        return
+    files = made_files()
+    for path in files_present() - set(files):
+        path.unlink()
+    DATA.mkdir(parents=True, exist_ok=True)
+    for path, content in files.items():
+        path.write_bytes(content)
+    sys.stdout.write(files[CRATE / "stdout"].decode())
+
+
+if __name__ == "__main__":
+    main()
