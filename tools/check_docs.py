@@ -3,12 +3,13 @@
 
 A name is what stands in backquotes: a path, a function (crate::module::function), or a word of the sources; text with spaces is an
 example and is passed over. A function must stand in that crate and module. In docs/RULES.md `File: name` must be defined in a file
-of that name. A must-fail edit is CRATE/EDIT, with or without backquotes. Lines that say what is gone, and superseded decisions,
+of that name; everywhere `name` (crate/specs/File) in just that file. A must-fail edit is CRATE/EDIT, with or without backquotes. Lines that say what is gone, and superseded decisions,
 speak of names that were. docs/PROOFS.md quotes the checker's own messages, so of it only edits are looked up.
 
-With the folder that has the papers (01-*.md and 02-*.md; or its path in PAPERS) the quotations of docs/RULES.md and of the comments
-in crates/*/specs are held to their words, in RULES each sentence to the section or ticket that it stands under, and every sentence
-of the papers is held to have its row there. Two points (..) stand for words left out; the first letter may be large or small.
+With the folder that has the papers (01-*.md and 02-*.md; or its path in PAPERS) the quotations of docs/RULES.md, of the index of
+docs/DECISIONS.md and of the comments in crates/*/specs are held to their words, in RULES each sentence to the section or ticket that
+it stands under, and every sentence of the papers is held to have its row there. Two points (..) stand for words left out; the first
+letter may be large or small.
 
 Prints what stands nowhere, and ends with 1 then."""
 import argparse
@@ -88,9 +89,13 @@ def definitions_of(top):
     defined = {}
     for path in glob.glob(os.path.join(top, "crates", "*", "*s", "*.antt")):
         name = os.path.splitext(os.path.basename(path))[0]
-        heads = re.findall(r"(?m)^ *(?:(?:unfoldable|abbrev) )?(?:pub )?(?:record |data )?([^\s:()]+)(?= |$)", read(path))
-        defined.setdefault(name, set()).update(heads)
+        defined.setdefault(name, set()).update(heads_of(read(path)))
     return defined
+
+
+def heads_of(source):
+    """The names that stand first on a line of a file of definitions or laws."""
+    return set(re.findall(r"(?m)^ *(?:(?:unfoldable|abbrev) )?(?:pub )?(?:record |data )?([^\s:()]+)(?= |$)", source))
 
 
 def now(text):
@@ -138,6 +143,16 @@ def undefined(text, defined):
         if file in defined:
             names = re.sub(r"\([^)]*\)", "", names)
             found += [f"{file}: {name}" for name in re.findall(r"`([^` ]+)`", names) if name not in defined[file]]
+    return found
+
+
+def undefined_in_files(text, top):
+    """The definitions and laws, as `name`, `name` (crate/specs/File), that the file so named does not define."""
+    found = []
+    for names, where in re.findall(r"((?:`[^` ]+`(?:, | and )?)+) \((\w+/(?:specs|proofs)/\w+)\)", without_examples(text)):
+        path = os.path.join(top, "crates", where + ".antt")
+        heads = heads_of(read(path)) if os.path.exists(path) else ()
+        found += [f"{where}: {name}" for name in re.findall(r"`([^` ]+)`", names) if name not in heads]
     return found
 
 
@@ -306,22 +321,33 @@ def check_names():
         found = missing(text, words, edits, crates, not is_proofs)
         found += [] if is_proofs else misplaced(text, functions, crates)
         found += undefined(text, defined) if is_rules else []
+        found += undefined_in_files(text, TOP)
         for name in found:
             yield f"{os.path.relpath(path, TOP)}: {name} stands nowhere"
+
+
+def misquoted_in_index(decisions, papers):
+    """The quotations of the index of docs/DECISIONS.md that are not the papers' words, and how many there are."""
+    indexes = [body for heading, body in sections(decisions) if heading.startswith("Index")]
+    quoted = [quotation for body in indexes for cell in first_cells(body) for quotation in quotations(cell)]
+    return [quotation for quotation in quoted if not papers.have(quotation)], len(quoted)
 
 
 def check_quotations(papers):
     rules = read(RULES)
     wrong, in_rules = misquoted(rules, papers)
     wrong_comments, in_comments = misquoted_in_comments(TOP, papers)
+    wrong_index, in_index = misquoted_in_index(read(os.path.join(TOP, "docs", "DECISIONS.md")), papers)
     lost, count = without_rows(rules, papers)
     for quotation in wrong:
         yield f"docs/RULES.md: not the papers' words: {quotation}"
+    for quotation in wrong_index:
+        yield f"docs/DECISIONS.md: not the papers' words: {quotation}"
     for quotation in wrong_comments:
         yield f"not the papers' words: {quotation}"
     for sentence in lost:
         yield f"docs/RULES.md: no row for: {sentence}"
-    print(f"{in_rules} quotations in docs/RULES.md, {in_comments} in comments of definitions")
+    print(f"quotations: {in_rules} in docs/RULES.md, {in_index} in the index of docs/DECISIONS.md, {in_comments} in comments of definitions")
     print(f"{count - len(lost)} of {count} sentences and clauses of the papers have a row")
 
 

@@ -67,6 +67,13 @@ class Places(unittest.TestCase):
         self.assertEqual(check_docs.undefined("Matching: `sweep`, `charge`; Margin: `sweep`", defined), ["Matching: charge", "Margin: sweep"])
 
 
+    def test_definitions_of_one_file(self):
+        text = "`sweep` and `Taker` (rules/specs/Matching), by `charge` (rules/specs/Margin)"
+        self.assertEqual(check_docs.undefined_in_files(text, str(self.top)), [])
+        wrong = "`sweep`, `charge` (rules/specs/Matching), `charge` (matching/specs/Margin)"
+        self.assertEqual(check_docs.undefined_in_files(wrong, str(self.top)), ["rules/specs/Matching: charge", "matching/specs/Margin: charge"])
+
+
 FIRST = """# What the build includes
 
 Prices: 1 to 1,000,000. A trade has a price (house); its lots are *whole*.
@@ -156,6 +163,10 @@ class Quotations(unittest.TestCase):
 
     def test_tickets_that_have_not_landed(self):
         self.assert_lost("Not landed: this", "This", ["The larger side counts."])
+
+    def test_index_of_decisions(self):
+        decisions = '## Index, by words\n\n| "each queue is sorted", "a house price" | 1 |\n\n## 1. Queues\n\n*Open.* "anything"\n'
+        self.assertEqual(check_docs.misquoted_in_index(decisions, self.papers), (["a house price"], 2))
 
     def test_comments_of_definitions(self):
         source = 'use x.{y}\n-- "Prices: 1 to\n-- 1,000,000." and more\nlow : ℕ\nlow = 1 -- "no"\n  -- "whole"\n'
