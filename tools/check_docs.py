@@ -22,7 +22,7 @@ TOP = os.path.dirname(os.path.dirname(os.path.abspath(__file__)))
 SOURCES = (".rt", ".antt", ".py", ".rs", ".sh", ".edit", ".txt", ".h")
 RULES = os.path.join(TOP, "docs", "RULES.md")
 
-# Condition 3 in the words that its definition quotes. They are the order's own and stand in neither paper.
+# Condition 3 in the words that its definition quotes. They stand in neither paper.
 CONDITION_3 = (
     "each getting the state that the last one left",
     "The trades are those the rules yield for the list.",
