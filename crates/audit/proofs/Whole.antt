@@ -12,7 +12,7 @@ use Rattle.laws.specs.Choice.{all, allOf, all-at, all-ext, allOf-all, allOf-at,
 use Rattle.laws.specs.Tabulate.{tabulate, length-tabulate, getD-tabulate}
 use Rattle.rules.specs.Bounds.{within, termsInRange}
 use Rattle.rules.specs.Exchange.{Exchange, Listing, listingAt, holdingAt, noContract, noListing, noTrade}
-use Rattle.rules.specs.Memory.{Memory, exchangeOf, inUse, listingIn, recordedTrades, countsInRange, hasRoom, wellFormedMemory, used, memory}
+use Rattle.rules.specs.Memory.{Memory, exchangeOf, inUse, listingIn, recordedTrades, countsInRange, hasRoom, wellFormedMemory, used, memory, tradeStride}
 use Rattle.rules.specs.WellFormed.{countersInRange, listingInRange, allNumbers, usedOnce, tradeInRange, replays, holdingInRange, holdingsInRange, balanceInRange, wellFormedContents}
 use Rattle.rules.specs.declared.State.{State}
 use Rattle.rules.specs.declared.Trade.{Trade}
@@ -151,7 +151,7 @@ module _ (s : State) (buys sells trades : List ℕ) (counts : countsInRange s �
       let r = room-ok (memory s buys sells trades) room in
       record { counts = counts; buy-room = r .buys; sell-room = r .sells }
 
-  pub trades-words : 9 * s .tradecount ≤ length trades
+  pub trades-words : tradeStride * s .tradecount ≤ length trades
   trades-words = omega (arith, room-ok (memory s buys sells trades) room .trades, counts-ok s counts .trades)
 
   pub few-settlements : countersTest s buys sells trades ≡ true → s .settlements ≤ 250

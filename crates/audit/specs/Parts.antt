@@ -7,7 +7,7 @@ use Prim.Native.Nat.{ℕ, _*_, _<_, _≤_}
 use lib.ListN.{length, getD, replicate}
 use Rattle.laws.specs.Tabulate.{tabulate}
 use Rattle.rules.specs.Exchange.{Exchange, Listing, noAccount, noContract}
-use Rattle.rules.specs.Memory.{countsInRange, listingIn, memory}
+use Rattle.rules.specs.Memory.{countsInRange, listingIn, memory, queueStride}
 use Rattle.rules.specs.declared.Account.{Account}
 use Rattle.rules.specs.declared.Contract.{Contract}
 use Rattle.rules.specs.declared.State.{State}
@@ -20,8 +20,8 @@ listing state buys sells c = listingIn (memory state buys sells []) c
 -- counts within their ranges, and room for the queues of the contracts in use: what reading a queue asks for
 pub record Ready (s : State) (buys sells : List ℕ) : Type 0 where
   pub counts : countsInRange s ≡ true
-  pub buy-room : 320 * s .contractcount ≤ length buys
-  pub sell-room : 320 * s .contractcount ≤ length sells
+  pub buy-room : queueStride * s .contractcount ≤ length buys
+  pub sell-room : queueStride * s .contractcount ≤ length sells
 
 -- what a recorded trade is tested against: the contracts, the numbers of accounts and contracts, the next order number
 unfoldable pub tested : List Contract → ℕ → ℕ → ℕ → Exchange

@@ -27,7 +27,7 @@ fn contents_are_well_formed(state: State, buys: &[u32], sells: &[u32], trades: &
     if !queues::listings_in_range(state, buys, sells) {
         return false;
     }
-    if !numbers::numbers_used_once(state, buys, sells) {
+    if !numbers::used_once(state, buys, sells, rules::NUMBER_WORD) {
         return false;
     }
     let contracts = state.contractcount;

@@ -4,11 +4,12 @@ use Prim.Native.Nat.{ℕ, _+_, _*_, _<_}
 use lib.IntN.{pos}
 use lib.ListN.{getD, replicate}
 use Rattle.rules.specs.Exchange.{noHolding}
+use Rattle.rules.specs.Memory.{orderStride}
 use Rattle.rules.specs.declared.Account.{Account}
 
 -- the accounts of the first orders of contract 0's queue
 pub record AccountsKnown (area : List ℕ) (count : ℕ) : Type 0 where
-  pub each : (i : ℕ) → i < count → getD area (5 * i + 2) 0 < 32
+  pub each : (i : ℕ) → i < count → getD area (orderStride * i + 2) 0 < 32
 
 -- 32 accounts that hold nothing
 unfoldable pub noHoldings : List Account

@@ -5,7 +5,7 @@ use mathlib.Core.List.{List, [], _∷_}
 use mathlib.Core.Path.{_≡_, refl}
 use Prim.Native.Nat.{ℕ, _+_, _*_, _<_, _≤_}
 use native.Mathlib.Omega.{arith}
-use borrow.Author.Tests.{leb-true, ltb-true, le-leb, lt-ltb}
+use borrow.Author.Tests.{leb-true, ltb-true, le-leb, lt-ltb, eqb-true, eq-eqb}
 use lib.Dec.{leb, ltb, eqb}
 use lib.IntN.{natAbs}
 use lib.ListN.{length}
@@ -30,6 +30,8 @@ pub record OrderOk (accounts next : ℕ) (c : Contract) (o : Order) : Type 0 whe
   pub number-low : 1 ≤ o .number
   pub number-high : o .number < next
   pub close : o .close ≤ 1
+  pub stamp : o .stamp ≡ 0
+  pub quote : o .quote ≡ 0
 
 module _ (accounts next : ℕ) (c : Contract) (o : Order) where
   abbrev orderTests : List Bool
@@ -40,6 +42,8 @@ module _ (accounts next : ℕ) (c : Contract) (o : Order) where
       ∷ leb 1 (o .number)
       ∷ ltb (o .number) next
       ∷ leb (o .close) 1
+      ∷ eqb (o .stamp) 0
+      ∷ eqb (o .quote) 0
       ∷ []
 
   pub order-ok : orderInRange accounts next c o ≡ true → OrderOk accounts next c o
@@ -54,6 +58,8 @@ module _ (accounts next : ℕ) (c : Contract) (o : Order) where
         number-low = omega (arith, leb-true);
         number-high = omega (arith, ltb-true);
         close = omega (arith, leb-true);
+        stamp = eqb-true (o .stamp) 0 (p .1 .1 .1 .1 .1 .1 .1 .0);
+        quote = eqb-true (o .quote) 0 (p .1 .1 .1 .1 .1 .1 .1 .1);
       }
 
   pub order-test : OrderOk accounts next c o → orderInRange accounts next c o ≡ true
@@ -61,7 +67,7 @@ module _ (accounts next : ℕ) (c : Contract) (o : Order) where
   order-test k =
       join (leb 1 (o .lots)) orderTests (
         omega (arith, le-leb),
-        (omega (arith, le-leb), (omega (arith, lt-ltb), (k .price, (omega (arith, le-leb), (omega (arith, lt-ltb), omega (arith, le-leb)))))),
+        (omega (arith, le-leb), (omega (arith, lt-ltb), (k .price, (omega (arith, le-leb), (omega (arith, lt-ltb), (omega (arith, le-leb), (eq-eqb _ _ (k .stamp), eq-eqb _ _ (k .quote)))))))),
       )
 
 -- ---- a contract with its queues; of a side, `sell` is false for the buys and true for the sells

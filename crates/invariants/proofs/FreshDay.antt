@@ -13,7 +13,7 @@ use Rattle.laws.specs.Tabulate.{tabulate, length-tabulate, getD-tabulate}
 use Rattle.rules.specs.Bounds.{maxContracts, maxResting, maxSettlements, maxBalance, maxDayProfit}
 use Rattle.rules.specs.Exchange.{Exchange, Listing, listingAt, accountAt, holdingAt, noListing, noAccount, noHolding, lotsWhere, resting}
 use Rattle.rules.specs.Holdings.{bookTrades, neverBelowZero, startHolding, startAccount, startOfDay}
-use Rattle.rules.specs.WellFormed.{contractInRange, sorted, uncrossed, numbers, allNumbers, usedOnce}
+use Rattle.rules.specs.WellFormed.{contractInRange, sorted, uncrossed, allNumbers, usedOnce, listed, allListed}
 use Rattle.rules.specs.declared.Account.{Account}
 use Rattle.rules.specs.declared.Contract.{Contract}
 use Rattle.rules.specs.declared.Holding.{Holding}
@@ -59,7 +59,7 @@ holding-quiet c a h e l s =
     }
 
 no-numbers : (n : ℕ) (contract : ℕ → Contract) → allNumbers (tabulate n (λ c. quiet (contract c))) ≡ []
-unfolding tabulate allNumbers numbers
+unfolding tabulate allListed listed
 no-numbers zero contract = refl
 no-numbers (suc n) contract = no-numbers n (λ c. contract (suc c))
 

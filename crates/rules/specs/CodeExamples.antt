@@ -37,7 +37,7 @@ contract : ℕ → Contract
 contract phase = record { multiplier = 10; tick = 2; reference = 110; band = 10; limit = 1_000; rate = 1_000; method = 0; phase = phase; last = 110 }
 
 order : ℕ → ℕ → ℕ → Order
-order number price lots = record { price = price; number = number; account = 0; lots = lots; close = 0 }
+order number price lots = record { price = price; number = number; account = 0; lots = lots; close = 0; stamp = 0; quote = 0 }
 
 rich : Account
 rich = record { balance = pos 1_100_000; holdings = noHolding ∷ [] }

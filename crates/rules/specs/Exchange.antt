@@ -47,7 +47,7 @@ noListing = record { contract = noContract; buys = []; sells = [] }
 
 -- an order's and a trade's place that is not in use: all zero
 abbrev pub noOrder : Order
-noOrder = record { price = 0; number = 0; account = 0; lots = 0; close = 0 }
+noOrder = record { price = 0; number = 0; account = 0; lots = 0; close = 0; stamp = 0; quote = 0 }
 
 abbrev pub noTrade : Trade
 noTrade = record { contract = 0; price = 0; lots = 0; buyorder = 0; sellorder = 0; buyer = 0; seller = 0; buyclose = 0; sellclose = 0 }

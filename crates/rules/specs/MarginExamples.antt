@@ -30,7 +30,7 @@ contract multiplier = record { multiplier = multiplier; tick = 1; reference = 10
 
 -- orders of account 1
 order : ℕ → ℕ → ℕ → ℕ → Order
-order number price lots close = record { price = price; number = number; account = 0; lots = lots; close = close }
+order number price lots close = record { price = price; number = number; account = 0; lots = lots; close = close; stamp = 0; quote = 0 }
 
 held : ℕ → ℕ → Holding
 held long short = record { long = long; short = short; startlong = long; startshort = short }

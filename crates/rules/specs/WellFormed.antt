@@ -55,6 +55,9 @@ orderInRange accounts next c o =
     && leb 1 (o .number)
     && ltb (o .number) next
     && leb (o .close) 1
+    -- no order has a time stamp or a quote mark yet (decision 34)
+    && eqb (o .stamp) 0
+    && eqb (o .quote) 0
 
 unfoldable pub listingInRange : ℕ → ℕ → Listing → Bool
 listingInRange accounts next l =
@@ -65,13 +68,23 @@ listingInRange accounts next l =
     && allOf (orderInRange accounts next (l .contract)) (l .buys)
     && allOf (orderInRange accounts next (l .contract)) (l .sells)
 
-unfoldable pub numbers : List Order → List ℕ
-numbers [] = []
-numbers (o ∷ os) = o .number ∷ numbers os
+-- a field of each order of a queue, and of all queues
+unfoldable pub listed : (Order → ℕ) → List Order → List ℕ
+listed field [] = []
+listed field (o ∷ os) = field o ∷ listed field os
 
-unfoldable pub allNumbers : List Listing → List ℕ
-allNumbers [] = []
-allNumbers (l ∷ ls) = numbers (l .buys) ++ (numbers (l .sells) ++ allNumbers ls)
+unfoldable pub allListed : (Order → ℕ) → List Listing → List ℕ
+allListed field [] = []
+allListed field (l ∷ ls) = listed field (l .buys) ++ (listed field (l .sells) ++ allListed field ls)
+
+abbrev pub numberOf : Order → ℕ
+numberOf o = o .number
+
+abbrev pub numbers : List Order → List ℕ
+numbers os = listed numberOf os
+
+abbrev pub allNumbers : List Listing → List ℕ
+allNumbers ls = allListed numberOf ls
 
 unfoldable pub usedOnce : List ℕ → Bool
 usedOnce [] = true
