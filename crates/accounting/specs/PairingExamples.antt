@@ -87,11 +87,12 @@ day =
         sells = [];
       } ∷ [];
       accounts =
-          record { balance = pos 1_000; holdings = record { long = 1; short = 1; startlong = 2; startshort = 1 } ∷ [] }
-          ∷ record { balance = pos 1_000; holdings = record { long = 1; short = 1; startlong = 0; startshort = 1 } ∷ [] }
+          record { balance = pos 1_000; maker = false; holdings = record { long = 1; short = 1; startlong = 2; startshort = 1 } ∷ [] }
+          ∷ record { balance = pos 1_000; maker = false; holdings = record { long = 1; short = 1; startlong = 0; startshort = 1 } ∷ [] }
           ∷ [];
       trades = trade 104 2 1 0 0 0 1 ∷ trade 107 1 3 1 0 0 1 ∷ trade 106 1 5 1 0 0 0 ∷ trade 103 1 7 0 1 1 1 ∷ [];
       next = 9;
+      nextstamp = 1;
       settlements = 1;
     }
 

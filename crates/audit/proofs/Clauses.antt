@@ -36,8 +36,9 @@ pub room-chain : (m : Memory)
 unfolding hasRoom
 room-chain m = record { is = refl }
 
-pub counters-chain : (next settlements : ℕ) → Chain (within 1 1_000_000 next && leb settlements 250) (within 1 1_000_000 next ∷ []) (leb settlements 250)
-counters-chain next settlements = record { is = refl }
+pub counters-chain : (next nextstamp settlements : ℕ)
+    → Chain (within 1 1_000_000 next && within 1 1_000_000 nextstamp && leb settlements 250) (within 1 1_000_000 next ∷ within 1 1_000_000 nextstamp ∷ []) (leb settlements 250)
+counters-chain next nextstamp settlements = record { is = refl }
 
 -- ---- a contract with its queues
 

@@ -56,7 +56,7 @@ module _ (s : State) (buys sells trades : List ℕ) where
   m = memory s buys sells trades
 
   abbrev countersTest : Bool
-  countersTest = within 1 1_000_000 (s .next) && leb (s .settlements) 250
+  countersTest = within 1 1_000_000 (s .next) && within 1 1_000_000 (s .nextstamp) && leb (s .settlements) 250
 
   abbrev listingsTest : Bool
   listingsTest = all (λ c. listingInRange (s .accountcount) (s .next) (listing s buys sells c)) (s .contractcount)
@@ -155,7 +155,7 @@ module _ (s : State) (buys sells trades : List ℕ) (counts : countsInRange s �
   trades-words = omega (arith, room-ok (memory s buys sells trades) room .trades, counts-ok s counts .trades)
 
   pub few-settlements : countersTest s buys sells trades ≡ true → s .settlements ≤ 250
-  few-settlements h = leb-true (s .settlements) 250 (both-true (within 1 1_000_000 (s .next)) (leb (s .settlements) 250) h .1)
+  few-settlements h = leb-true (s .settlements) 250 (both-true (within 1 1_000_000 (s .next) && within 1 1_000_000 (s .nextstamp)) (leb (s .settlements) 250) h .1)
 
   module _ (listings : listingsTest s buys sells trades ≡ true) where
     pub terms-tested : (c : ℕ) → c < s .contractcount → termsInRange (getD (s .contracts) c noContract) ≡ true

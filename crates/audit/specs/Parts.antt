@@ -31,12 +31,13 @@ tested contracts n accounts next =
       accounts = replicate accounts noAccount;
       trades = [];
       next = next;
+      nextstamp = 1;
       settlements = 0;
     }
 
 -- accounts and a day's trades alone, for the replay
 abbrev pub replayed : List Account → List Trade → Exchange
-replayed accounts trades = record { listings = []; accounts = accounts; trades = trades; next = 0; settlements = 0 }
+replayed accounts trades = record { listings = []; accounts = accounts; trades = trades; next = 0; nextstamp = 1; settlements = 0 }
 
 -- a trade of contracts and accounts in use, of no more lots than an order has
 pub record Booked (contracts accounts : ℕ) (t : Trade) : Type 0 where

@@ -67,11 +67,14 @@ pub fn has_room(s: State, buys: &[u32], sells: &[u32], trades: &[u32]) -> bool
     rules::TRADE_STRIDE * rules::MAX_TRADES <= trades.len()
 }
 
-// "the next order number 1 to 1,000,000"; "Settlements: 250 a run."
-pub fn counters_in_range(next: u32, settlements: u32) -> bool
-    ensures { λ r. ⌜ r ≡ (within 1 1000000 next && leb settlements 250) ⌝ }
+// "the next order number 1 to 1,000,000", the next time stamp too; "Settlements: 250 a run."
+pub fn counters_in_range(next: u32, nextstamp: u32, settlements: u32) -> bool
+    ensures { λ r. ⌜ r ≡ (within 1 1000000 next && within 1 1000000 nextstamp && leb settlements 250) ⌝ }
 {
     if !terms::within(1, rules::NUMBERS_END, next) {
+        return false;
+    }
+    if !terms::within(1, rules::NUMBERS_END, nextstamp) {
         return false;
     }
     settlements <= rules::MAX_SETTLEMENTS

@@ -1,4 +1,5 @@
 -- What the examples know of the accounts. Assumes nothing.
+use mathlib.Core.Bool.{false}
 use mathlib.Core.List.{List}
 use Prim.Native.Nat.{ℕ, _+_, _*_, _<_}
 use lib.IntN.{pos}
@@ -13,4 +14,4 @@ pub record AccountsKnown (area : List ℕ) (count : ℕ) : Type 0 where
 
 -- 32 accounts that hold nothing
 unfoldable pub noHoldings : List Account
-noHoldings = replicate 32 (record { balance = pos 0; holdings = replicate 4 noHolding })
+noHoldings = replicate 32 (record { balance = pos 0; maker = false; holdings = replicate 4 noHolding })

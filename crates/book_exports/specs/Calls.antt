@@ -1,4 +1,5 @@
 -- What the benchmark's calls ask for and what they give, in terms of the rules. Assumes nothing.
+use mathlib.Core.Bool.{false}
 use mathlib.Core.List.{List}
 use mathlib.Core.Path.{_≡_}
 use Prim.Native.Nat.{ℕ, zero, suc, _+_, _*_, _<_}
@@ -38,7 +39,7 @@ takerOf s =
 abbrev pub accountsOf : ℕ → List Account
 accountsOf lots =
     replicate 32
-    (record { balance = pos 0; holdings = replicate 4 (record { long = lots; short = lots; startlong = lots; startshort = lots }) })
+    (record { balance = pos 0; maker = false; holdings = replicate 4 (record { long = lots; short = lots; startlong = lots; startshort = lots }) })
 
 -- ---- one order entered again and again
 

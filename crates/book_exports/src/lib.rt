@@ -132,6 +132,7 @@ fn accounts_with(lots: u32) -> [Account; rules::MAX_ACCOUNTS]
     let holdings = [holding; rules::MAX_CONTRACTS];
     let account = Account {
         balance: 0,
+        maker: false,
         holdings: holdings,
     };
     [account; rules::MAX_ACCOUNTS]

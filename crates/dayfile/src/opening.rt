@@ -50,6 +50,7 @@ fn account_with(balance: u64) -> Account
     let holdings = [none; rules::MAX_CONTRACTS];
     Account {
         balance: balance as i64,
+        maker: false,
         holdings: holdings,
     }
 }
@@ -88,6 +89,7 @@ pub fn opening_state(file: &[u8]) -> State
         accountcount: accounts,
         tradecount: 0,
         next: 1,
+        nextstamp: 1,
         settlements: 0,
     }
 }

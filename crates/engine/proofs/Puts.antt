@@ -65,10 +65,10 @@ module _ (m : Memory) (f : Formed m) where
 
   -- ---- the rest of the state new: accounts, trades, counters
 
-  module _ (accounts : List Account) (trades : List Trade) (next settlements : ℕ) where
+  module _ (accounts : List Account) (trades : List Trade) (next nextstamp settlements : ℕ) where
     -- the listings as they are
     abbrev pub sameListings : Exchange
-    sameListings = record { listings = exchangeOf m .listings; accounts = accounts; trades = trades; next = next; settlements = settlements }
+    sameListings = record { listings = exchangeOf m .listings; accounts = accounts; trades = trades; next = next; nextstamp = nextstamp; settlements = settlements }
 
     abbrev pub stateOf : List Contract → List ℕ → List ℕ → State
     stateOf contracts buys sells =
@@ -81,6 +81,7 @@ module _ (m : Memory) (f : Formed m) where
           accountcount = m .state .accountcount;
           tradecount = length trades;
           next = next;
+          nextstamp = nextstamp;
           settlements = settlements;
         }
 
@@ -105,7 +106,7 @@ module _ (m : Memory) (f : Formed m) where
     -- contract c's listing new too
     module _ (c : ℕ) (l : Listing) (h : c < m .state .contractcount) (short-buys : length (l .buys) ≤ maxResting) (short-sells : length (l .sells) ≤ maxResting) where
       abbrev pub oneListing : Exchange
-      oneListing = record { listings = set (exchangeOf m .listings) c l; accounts = accounts; trades = trades; next = next; settlements = settlements }
+      oneListing = record { listings = set (exchangeOf m .listings) c l; accounts = accounts; trades = trades; next = next; nextstamp = nextstamp; settlements = settlements }
 
       here : listingAt oneListing c ≡ l
       unfolding listingAt exchangeOf
@@ -153,11 +154,11 @@ module _ (m : Memory) (f : Formed m) where
   -- ---- one part new, all else as it is
 
   pub put-accounts : (accounts placed : List Account) → putAccounts accounts (m .state .accounts) ≡ placed
-      → put m (record { listings = exchangeOf m .listings; accounts = accounts; trades = exchangeOf m .trades; next = exchangeOf m .next; settlements = exchangeOf m .settlements })
+      → put m (record { listings = exchangeOf m .listings; accounts = accounts; trades = exchangeOf m .trades; next = exchangeOf m .next; nextstamp = exchangeOf m .nextstamp; settlements = exchangeOf m .settlements })
       ≡ record { state = withAccountsIn (m .state) placed; buys = m .buys; sells = m .sells; trades = m .trades }
   unfolding exchangeOf
   put-accounts accounts placed e =
-      put-same-listings accounts (exchangeOf m .trades) (exchangeOf m .next) (exchangeOf m .settlements) ∙ rw (e, trades-count, trades-same)
+      put-same-listings accounts (exchangeOf m .trades) (exchangeOf m .next) (exchangeOf m .nextstamp) (exchangeOf m .settlements) ∙ rw (e, trades-count, trades-same)
 
   put-listing : (c : ℕ) (l : Listing) → c < m .state .contractcount → length (l .buys) ≤ maxResting → length (l .sells) ≤ maxResting
       → put m (withListing (exchangeOf m) c l)
@@ -169,7 +170,7 @@ module _ (m : Memory) (f : Formed m) where
       }
   unfolding exchangeOf
   put-listing c l h short-buys short-sells =
-      put-one-listing (exchangeOf m .accounts) (exchangeOf m .trades) (exchangeOf m .next) (exchangeOf m .settlements) c l h short-buys short-sells
+      put-one-listing (exchangeOf m .accounts) (exchangeOf m .trades) (exchangeOf m .next) (exchangeOf m .nextstamp) (exchangeOf m .settlements) c l h short-buys short-sells
       ∙ rw (accounts-put m f, trades-count, trades-same)
 
   -- writing a queue as it is changes nothing

@@ -70,6 +70,7 @@ module _ (m : Memory) (f : Formed m) (c : ℕ) (l : Listing) (ts : List Trade) (
               accountcount = m .state .accountcount;
               tradecount = m .state .tradecount + length ts;
               next = next;
+              nextstamp = m .state .nextstamp;
               settlements = m .state .settlements;
             };
         buys = putQueue (m .buys) c (getD (m .state .buys) c 0) (l .buys);
@@ -78,5 +79,5 @@ module _ (m : Memory) (f : Formed m) (c : ℕ) (l : Listing) (ts : List Trade) (
       }
   unfolding exchangeOf
   put-traded =
-      put-one-listing m f (bookTrades (x .accounts) ts) (x .trades ++ ts) next (x .settlements) c l here (few-after false) (few-after true)
+      put-one-listing m f (bookTrades (x .accounts) ts) (x .trades ++ ts) next (x .nextstamp) (x .settlements) c l here (few-after false) (few-after true)
       ∙ rw (accounts-booked, length-append, trades-count m f, trades-stored)

@@ -64,5 +64,6 @@ withEntry s c bought sold e =
       accountcount = s .accountcount;
       tradecount = e .made;
       next = s .next + 1;
+      nextstamp = s .nextstamp;
       settlements = s .settlements;
     }

@@ -251,6 +251,7 @@ module _ (m : Listing) (a : ℕ) (h : Holding) where
 pub record WellFormed (x : Exchange) : Type 0 where
   pub next-low : 1 ≤ x .next
   pub next-high : x .next ≤ numbersEnd
+  pub nextstamp : within 1 numbersEnd (x .nextstamp) ≡ true
   pub settlements : x .settlements ≤ maxSettlements
   pub listing : (c : ℕ) → c < length (x .listings) → ListingOk (length (x .accounts)) (x .next) (listingAt x c)
   pub once : usedOnce (allNumbers (x .listings)) ≡ true
@@ -278,12 +279,13 @@ module _ (x : Exchange) where
   unfolding wellFormedContents countersInRange replays holdingsInRange balanceInRange listingAt accountAt
   well-formed h =
       let p = passed (countersInRange x) stateTests h in
-      let q = passed (leb 1 (x .next)) (leb (x .next) numbersEnd ∷ leb (x .settlements) maxSettlements ∷ []) (p .0) in
+      let q = passed (leb 1 (x .next)) (leb (x .next) numbersEnd ∷ within 1 numbersEnd (x .nextstamp) ∷ leb (x .settlements) maxSettlements ∷ []) (p .0) in
       let r = passed (neverBelowZero (startOfDay (x .accounts)) (x .trades)) replayTests (p .1 .1 .1 .1 .0) in
       record {
         next-low = leb-true _ _ (q .0);
         next-high = leb-true _ _ (q .1 .0);
-        settlements = leb-true _ _ (q .1 .1);
+        nextstamp = q .1 .1 .0;
+        settlements = leb-true _ _ (q .1 .1 .1);
         listing = λ c l. listing-ok _ _ _ (allOf-at (listingInRange (length (x .accounts)) (x .next)) (x .listings) c noListing (p .1 .0) l);
         once = p .1 .1 .0;
         trades = p .1 .1 .1 .0;
@@ -300,8 +302,8 @@ module _ (x : Exchange) where
   unfolding wellFormedContents countersInRange replays holdingsInRange balanceInRange listingAt accountAt
   well-formed-test k =
       join (countersInRange x) stateTests (
-        join (leb 1 (x .next)) (leb (x .next) numbersEnd ∷ leb (x .settlements) maxSettlements ∷ [])
-            (le-leb _ _ (k .next-low), (le-leb _ _ (k .next-high), le-leb _ _ (k .settlements))),
+        join (leb 1 (x .next)) (leb (x .next) numbersEnd ∷ within 1 numbersEnd (x .nextstamp) ∷ leb (x .settlements) maxSettlements ∷ [])
+            (le-leb _ _ (k .next-low), (le-leb _ _ (k .next-high), (k .nextstamp, le-leb _ _ (k .settlements)))),
         (
           allOf-true (listingInRange (length (x .accounts)) (x .next)) (x .listings) noListing (λ c l. listing-test _ _ _ (k .listing c l)),
           (

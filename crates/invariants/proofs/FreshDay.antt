@@ -32,6 +32,7 @@ freshDay contracts contract accounts account settlements =
       trades =
           [];
       next = 1;
+      nextstamp = 1;
       settlements = settlements;
     }
 
@@ -117,6 +118,7 @@ module _ (contracts : ℕ) (contract : ℕ → Contract) (accounts : ℕ) (accou
       record {
         next-low = omega arith;
         next-high = omega arith;
+        nextstamp = refl;
         settlements = few;
         listing = λ c l. let h : c < contracts = rw nc at l in rw (listing-at c h) (listing-quiet _ 1 (contract c) (in-range c h));
         once = rw (no-numbers contracts contract) once-none;

@@ -30,6 +30,7 @@ module _ (x : Exchange) (k : WellFormed x) (c : ℕ) (there : c < length (x .lis
       record {
         next-low = k .next-low;
         next-high = k .next-high;
+        nextstamp = k .nextstamp;
         settlements = k .settlements;
         listing =
             λ d l. at-set (λ (j : ℕ) (n : Listing). ListingOk (length (x .accounts)) (x .next) n) (x .listings) c m noListing there ok d

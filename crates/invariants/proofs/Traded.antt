@@ -94,6 +94,7 @@ module _ (x : Exchange) (k : WellFormed x) (c : ℕ) (m : Listing) (ts : List Tr
       record {
         next-low = omega (arith, k .next-low, ok .later);
         next-high = ok .high;
+        nextstamp = k .nextstamp;
         settlements = k .settlements;
         listing = λ d l. listings-after d (omega (arith, traded-listings x c m ts n));
         once = once-changed numberOf (x .listings) c m (ok .there) (k .once) (ok .numbers);

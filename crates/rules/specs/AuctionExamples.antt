@@ -81,7 +81,7 @@ of : Order → ℕ → ℕ → Order
 of o account close = record { price = o .price; number = o .number; account = account; lots = o .lots; close = close; stamp = 0; quote = 0 }
 
 account : ℕ → Account
-account long = record { balance = pos 0; holdings = record { long = long; short = 0; startlong = long; startshort = 0 } ∷ noHolding ∷ [] }
+account long = record { balance = pos 0; maker = false; holdings = record { long = long; short = 0; startlong = long; startshort = 0 } ∷ noHolding ∷ [] }
 
 listing : ℕ → List Order → Listing
 listing phase buys =
@@ -98,6 +98,7 @@ asked phase buys =
       accounts = account 3 ∷ account 0 ∷ [];
       trades = noTrade ∷ [];
       next = 3;
+      nextstamp = 1;
       settlements = 0;
     }
 
@@ -125,6 +126,7 @@ deep =
       accounts = account 0 ∷ account 0 ∷ [];
       trades = noTrade ∷ [];
       next = 4;
+      nextstamp = 1;
       settlements = 0;
     }
 

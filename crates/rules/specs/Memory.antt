@@ -113,7 +113,7 @@ listingIn m c =
 
 -- an account with its holdings in the contracts in use
 abbrev pub inUse : ℕ → Account → Account
-inUse contracts a = record { balance = a .balance; holdings = take contracts (a .holdings) }
+inUse contracts a = record { balance = a .balance; maker = a .maker; holdings = take contracts (a .holdings) }
 
 abbrev pub used : ℕ → ℕ → List Account → List Account
 used contracts n accounts = map (inUse contracts) (take n accounts)
@@ -126,6 +126,7 @@ exchangeOf m =
       accounts = used (m .state .contractcount) (m .state .accountcount) (m .state .accounts);
       trades = recordedTrades (m .trades) (m .state .tradecount);
       next = m .state .next;
+      nextstamp = m .state .nextstamp;
       settlements = m .state .settlements;
     }
 
@@ -150,7 +151,7 @@ putFirst values room = values ++ drop (length values) room
 
 -- an account's values, its holdings in contracts past the count as they were
 abbrev pub putAccount : Account → Account → Account
-putAccount a room = record { balance = a .balance; holdings = putFirst (a .holdings) (room .holdings) }
+putAccount a room = record { balance = a .balance; maker = a .maker; holdings = putFirst (a .holdings) (room .holdings) }
 
 unfoldable pub putAccounts : List Account → List Account → List Account
 putAccounts [] rooms = rooms
@@ -168,6 +169,7 @@ putState s x =
       accountcount = s .accountcount;
       tradecount = length (x .trades);
       next = x .next;
+      nextstamp = x .nextstamp;
       settlements = x .settlements;
     }
 

@@ -17,13 +17,13 @@ use Rattle.rules.specs.declared.Order.{Order}
 use Rattle.rules.specs.declared.Trade.{Trade}
 
 -- ---- "counts, numbers, parameters and prices keep the ranges above, the next order number 1 to 1,000,000; references and
--- last prices are tick multiples"
+-- last prices are tick multiples"; the next time stamp too is "1 to 1,000,000" (02, ticket 8)
 
 unfoldable pub contractInRange : Contract → Bool
 contractInRange c = termsInRange c && leb (c .phase) maxPhase && tickMultiple (c .tick) (c .last)
 
 unfoldable pub countersInRange : Exchange → Bool
-countersInRange x = within 1 numbersEnd (x .next) && leb (x .settlements) maxSettlements
+countersInRange x = within 1 numbersEnd (x .next) && within 1 numbersEnd (x .nextstamp) && leb (x .settlements) maxSettlements
 
 -- ---- "each queue is sorted best price first, then lower order number; the two are uncrossed (best buy below best sell)", but
 -- in auction "the book may be crossed" (02, ticket 4)

@@ -1,6 +1,6 @@
 -- A state that is well formed, and near misses that are not, a clause each. One table, one statement, as in Examples.antt.
 -- Assumes nothing.
-use mathlib.Core.Bool.{true}
+use mathlib.Core.Bool.{true, false}
 use mathlib.Core.List.{List, [], _∷_}
 use mathlib.Core.Path.{_≡_, refl}
 use Prim.Native.Nat.{ℕ, _+_, _*_, _^_}
@@ -34,7 +34,7 @@ trade price lots sellorder =
 
 account : ℤ → ℕ → ℕ → ℕ → ℕ → Account
 account balance long short startlong startshort =
-    record { balance = balance; holdings = record { long = long; short = short; startlong = startlong; startshort = startshort } ∷ [] }
+    record { balance = balance; maker = false; holdings = record { long = long; short = short; startlong = startlong; startshort = startshort } ∷ [] }
 
 -- account 1 starts with 2 long, account 2 with 2 short
 asked : ℕ → ℕ → List Order → List Order → List Trade → ℕ → ℕ → ℤ → Exchange
@@ -44,6 +44,7 @@ asked phase last buys sells trades short next balance =
       accounts = account balance 2 short 2 0 ∷ account (pos 0) 3 2 0 2 ∷ [];
       trades = trades;
       next = next;
+      nextstamp = 1;
       settlements = 1;
     }
 
@@ -120,6 +121,7 @@ counted orders =
       accountcount = 2;
       tradecount = 0;
       next = 1;
+      nextstamp = 1;
       settlements = 0;
     }
 
@@ -136,6 +138,7 @@ replayed lots =
       accounts = account (pos 0) 0 3 2 3 ∷ account (pos 0) lots 0 0 0 ∷ [];
       trades = record { contract = 0; price = 110; lots = lots; buyorder = 1; sellorder = 2; buyer = 1; seller = 0; buyclose = 0; sellclose = 1 } ∷ [];
       next = 3;
+      nextstamp = 1;
       settlements = 0;
     }
 

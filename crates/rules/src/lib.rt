@@ -74,9 +74,11 @@ pub struct Holding {
     pub startshort: u32,
 }
 
+// `maker` marks a market maker: no rule looks at it yet (decision 34).
 pub struct Account {
     pub balance: i64,
     pub holdings: [Holding; MAX_CONTRACTS],
+    pub maker: bool,
 }
 
 // A resting order: its remaining lots, the account's place, 1 for a close and 0 for an open. `stamp` is its time stamp and
@@ -106,7 +108,8 @@ pub struct Trade {
 }
 
 // All of the state that does not lie in lent areas. The areas hold the queues and the day's trades, the counts here say
-// how many of each are in use: orders by contract, contracts, accounts, trades of the day.
+// how many of each are in use: orders by contract, contracts, accounts, trades of the day. `next` is the next order number,
+// `nextstamp` the next time stamp, of which no rule gives any yet (decision 34).
 pub struct State {
     pub contracts: [Contract; MAX_CONTRACTS],
     pub accounts: [Account; MAX_ACCOUNTS],
@@ -116,6 +119,7 @@ pub struct State {
     pub accountcount: usize,
     pub tradecount: usize,
     pub next: u32,
+    pub nextstamp: u32,
     pub settlements: u32,
 }
 

@@ -77,7 +77,7 @@ pub record TotalIs (s : State) (trades prices : List ℕ) (a : ℕ) (r : Profit)
 
 -- an account with a new balance: "holdings become start-of-day"
 abbrev pub carriedAccount : Account → ℕ → ℤ → Account
-carriedAccount a contracts balance = record { balance = balance; holdings = map carriedHolding (take contracts (a .holdings)) }
+carriedAccount a contracts balance = record { balance = balance; maker = a .maker; holdings = map carriedHolding (take contracts (a .holdings)) }
 
 -- "The balance takes both."
 abbrev pub paidAccount : State → List ℕ → List ℕ → ℕ → Account
@@ -135,5 +135,6 @@ nextDay s accounts prices =
       accountcount = s .accountcount;
       tradecount = 0;
       next = 1;
+      nextstamp = 1;
       settlements = s .settlements + 1;
     }

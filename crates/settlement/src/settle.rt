@@ -112,6 +112,7 @@ fn next_day(
         accountcount: state.accountcount,
         tradecount: 0,
         next: 1,
+        nextstamp: 1,
         settlements: state.settlements + 1,
     }
 }

@@ -166,7 +166,7 @@ module _ (s : State) (buys sells trades : List ℕ) (a clients : ℕ) (starts : 
         let t : recordedTrades area count ≡ map (clientTrade a clients postings) (recordedTrades trades count) = trades-are in
         let e : used n 17 (tabulate 17 (clientAccount (clientsWith clients starts))) ≡ used (length (x .listings)) 17 (tabulate 17 (clientAccount b)) =
         ap (λ (k : ℕ). used k 17 (tabulate 17 (clientAccount b))) (sym contracts-are) in
-        λ i. record { listings = x .listings; accounts = e i; trades = t i; next = s .next; settlements = s .settlements }
+        λ i. record { listings = x .listings; accounts = e i; trades = t i; next = s .next; nextstamp = s .nextstamp; settlements = s .settlements }
 
     each-booked : (i : ℕ) → i < count → Booked n 17 (getD (recordedTrades area count) i noTrade)
     unfolding exchangeOf

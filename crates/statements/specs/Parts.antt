@@ -80,6 +80,7 @@ clientState s accounts clients =
       accountcount = clients;
       tradecount = s .tradecount;
       next = s .next;
+      nextstamp = s .nextstamp;
       settlements = s .settlements;
     }
 
@@ -91,6 +92,7 @@ clientsDay s buys sells area starts clients =
       accounts = used (s .contractcount) 17 (tabulate 17 (clientAccount (clientsWith clients starts)));
       trades = recordedTrades area (s .tradecount);
       next = s .next;
+      nextstamp = s .nextstamp;
       settlements = s .settlements;
     }
 

@@ -59,6 +59,7 @@ fn filling() -> State {
     };
     let account = Account {
         balance: -4611686018427387904,
+        maker: false,
         holdings: [holding; 4],
     };
     let contract = Contract {
@@ -81,6 +82,7 @@ fn filling() -> State {
         accountcount: 0,
         tradecount: 0,
         next: 0,
+        nextstamp: 1,
         settlements: 0,
     }
 }
