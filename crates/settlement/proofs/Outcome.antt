@@ -193,6 +193,10 @@ module _ (s : State) (buys sells trades : List ℕ) (g : Settleable s buys sells
     unfolding settled
     first-number = refl
 
+    first-stamp : 1 ≡ settled x .nextstamp
+    unfolding settled
+    first-stamp = refl
+
     one-more : s .settlements + 1 ≡ settled x .settlements
     unfolding settled exchangeOf
     one-more = refl
@@ -225,7 +229,7 @@ module _ (s : State) (buys sells trades : List ℕ) (g : Settleable s buys sells
             accountcount = s .accountcount;
             tradecount = no-trade i;
             next = first-number i;
-            nextstamp = 1;
+            nextstamp = first-stamp i;
             settlements = one-more i;
           }
 
