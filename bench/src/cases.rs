@@ -2,7 +2,7 @@
 
 use crate::plain::Order;
 
-pub const ORDER: usize = 5;
+pub const ORDER: usize = 7;
 pub const QUEUE: usize = 64 * ORDER;
 pub const TRADE: usize = 9;
 pub const ACCOUNTS: usize = 32;
@@ -84,7 +84,7 @@ fn area(r: &mut Random, contract: usize, count: usize, sell: bool, lots: impl Fn
     for (i, price) in prices.into_iter().enumerate() {
         let lots = lots(r);
         let o = r.order(i as u32 + 1, lots);
-        words[QUEUE * contract + ORDER * i..][..ORDER].copy_from_slice(&[price, o.number, o.account, o.lots, o.close]);
+        words[QUEUE * contract + ORDER * i..][..ORDER].copy_from_slice(&Order { price, ..o }.words());
     }
     words
 }

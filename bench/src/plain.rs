@@ -27,6 +27,13 @@ pub struct Order {
     pub close: u32,
 }
 
+impl Order {
+    /// As it lies in its queue: no time stamp and no quote mark yet.
+    pub fn words(&self) -> [u32; ORDER] {
+        [self.price, self.number, self.account, self.lots, self.close, 0, 0]
+    }
+}
+
 #[derive(Clone, Copy)]
 pub enum PriceCondition {
     Limit(u32),
@@ -79,7 +86,7 @@ pub fn insert(area: &mut [u32], contract: usize, count: usize, sell: bool, o: &O
         .unwrap_or(count);
     let at = ORDER * place;
     queue.copy_within(at..ORDER * count, at + ORDER);
-    queue[at..at + ORDER].copy_from_slice(&[o.price, o.number, o.account, o.lots, o.close]);
+    queue[at..at + ORDER].copy_from_slice(&o.words());
 }
 
 /// Takes the order with a number out of a queue, if it is there; the number of orders left.

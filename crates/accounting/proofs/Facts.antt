@@ -35,7 +35,7 @@ unfolding orderInRange
 order-price accounts next c o h =
     allowed-price c (o .price)
     (passed (within 1 maxLots (o .lots))
-    (ltb (o .account) accounts ∷ allowedToday c (o .price) ∷ leb 1 (o .number) ∷ ltb (o .number) next ∷ leb (o .close) 1 ∷ []) h .1 .1 .0)
+    (ltb (o .account) accounts ∷ allowedToday c (o .price) ∷ leb 1 (o .number) ∷ ltb (o .number) next ∷ leb (o .close) 1 ∷ eqb (o .stamp) 0 ∷ eqb (o .quote) 0 ∷ []) h .1 .1 .0)
 
 -- ---- a recorded trade
 

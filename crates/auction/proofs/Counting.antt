@@ -11,7 +11,7 @@ use Rattle.laws.specs.Choice.{both-true}
 use Rattle.rules.specs.Auction.{lessFirst, matchAt, paired, reaches}
 use Rattle.rules.specs.Exchange.{noOrder}
 use Rattle.rules.specs.Matching.{withLots}
-use Rattle.rules.specs.Memory.{orderFrom, queueIn}
+use Rattle.rules.specs.Memory.{orderFrom, queueIn, firstWord}
 use Rattle.rules.specs.declared.Order.{Order}
 use Rattle.rules.proofs.AuctionTurns.{less-filled, less-part, match-at-turn}
 use Rattle.rules.proofs.Codecs.{order-at}
@@ -29,7 +29,7 @@ unfolding lessLots
 none-less [] = refl
 none-less (o ∷ os) = simp sub-zero
 
-module _ (area : List ℕ) (c count i used : ℕ) {o : Order} (h : i < count) (e : o ≡ orderFrom (drop (320 * c + 5 * i) area)) where
+module _ (area : List ℕ) (c count i used : ℕ) {o : Order} (h : i < count) (e : o ≡ orderFrom (drop (firstWord c i) area)) where
   less-now : lessLots used (drop i (queueIn area c count)) ≡ withLots o (o .lots - used) ∷ drop (i + 1) (queueIn area c count)
   unfolding lessLots
   less-now = rw (next-order area c count i o h e)
@@ -89,13 +89,13 @@ module _ {buys : List ℕ} {bought : ℕ} {sells : List ℕ} {sold c price i j b
   counted-sells h = omega (arith, rw (no-more sells c sold j (omega arith), no-sells c price (lessLots bid (drop i bids))) at (k .so-far))
 
   -- the lots of the two orders that are left
-  pub bid-lots : {b : Order} → i < bought → b ≡ orderFrom (drop (320 * c + 5 * i) buys) → bid ≤ b .lots
+  pub bid-lots : {b : Order} → i < bought → b ≡ orderFrom (drop (firstWord c i) buys) → bid ≤ b .lots
   bid-lots h e = omega (arith, k .bid-within, lots-read buys c bought i bid h e)
 
-  pub ask-lots : {s : Order} → j < sold → s ≡ orderFrom (drop (320 * c + 5 * j) sells) → ask ≤ s .lots
+  pub ask-lots : {s : Order} → j < sold → s ≡ orderFrom (drop (firstWord c j) sells) → ask ≤ s .lots
   ask-lots h e = omega (arith, k .ask-within, lots-read sells c sold j ask h e)
 
-  pub counted-unmet : {b s : Order} → i < bought → j < sold → b ≡ orderFrom (drop (320 * c + 5 * i) buys) → s ≡ orderFrom (drop (320 * c + 5 * j) sells)
+  pub counted-unmet : {b s : Order} → i < bought → j < sold → b ≡ orderFrom (drop (firstWord c i) buys) → s ≡ orderFrom (drop (firstWord c j) sells)
       → (reaches false price b && reaches true price s) ≡ false → made ≡ length (matchAt c price bids asks .trades)
   counted-unmet {b} {s} hb hs eb es e =
       omega (arith, rw (less-now buys c bought i bid hb eb, less-now sells c sold j ask hs es, unmet c price (withLots b (b .lots - bid)) (drop (i + 1) bids) (withLots s (s .lots - ask)) (drop (j + 1) asks) e) at (k .so-far))

@@ -10,19 +10,19 @@ use lib.Seq.{drop-at, length-take-le, set-split}
 use Rattle.rules.specs.Auction.{lessFirst}
 use Rattle.rules.specs.Exchange.{noOrder}
 use Rattle.rules.specs.Matching.{withLots}
-use Rattle.rules.specs.Memory.{orderFrom, putQueue, queueIn}
+use Rattle.rules.specs.Memory.{orderFrom, putQueue, queueIn, firstWord}
 use Rattle.rules.specs.declared.Order.{Order}
 use Rattle.rules.proofs.AuctionTurns.{less-filled, less-part}
 use Rattle.rules.proofs.Codecs.{length-queue, order-at, put-queue, putQueue-again, queue-put}
 use Rattle.auction.specs.Matched.{LeftIn}
 
 pub record Side (area₀ : List ℕ) (c n : ℕ) (area : List ℕ) (i : ℕ) : Type 0 where
-  pub room : 320 * c + 5 * n ≤ length area₀
+  pub room : firstWord c n ≤ length area₀
   pub long : length area ≡ length area₀
   pub within : i ≤ n
   pub lies : area ≡ putQueue area₀ c n (queueIn area c n)
 
-pub side-begins : {area : List ℕ} {c n : ℕ} → 320 * c + 5 * n ≤ length area → Side area c n area 0
+pub side-begins : {area : List ℕ} {c n : ℕ} → firstWord c n ≤ length area → Side area c n area 0
 side-begins {area} {c} {n} room = record { room = room; long = omega arith; within = omega arith; lies = sym (put-queue area c n room) }
 
 module _ {area₀ : List ℕ} {c n : ℕ} {area : List ℕ} {i : ℕ} (s : Side area₀ c n area i) where
@@ -42,7 +42,7 @@ module _ {area₀ : List ℕ} {c n : ℕ} {area : List ℕ} {i : ℕ} (s : Side 
         dropped = rw e (over-first q);
       }
 
-  module _ {o : Order} (here : i < n) (read : o ≡ orderFrom (drop (320 * c + 5 * i) area)) where
+  module _ {o : Order} (here : i < n) (read : o ≡ orderFrom (drop (firstWord c i) area)) where
     -- the order is filled: the queue goes on behind it
     pub side-filled : Side area₀ c n area (i + 1)
     side-filled = record { room = s .room; long = s .long; within = omega arith; lies = s .lies }

@@ -10,7 +10,7 @@ use lib.ListN.{length, getD, drop}
 use Rattle.laws.specs.Choice.{pick, pick-same}
 use Rattle.rules.specs.Auction.{apart, bestFrom, bestOf, better, chosenPrice, lotsReaching, prices, reaches, restingPrices, smaller, surplus, volume}
 use Rattle.rules.specs.Exchange.{noOrder}
-use Rattle.rules.specs.Memory.{orderFrom, queueIn}
+use Rattle.rules.specs.Memory.{orderFrom, queueIn, firstWord}
 use Rattle.rules.specs.declared.Order.{Order}
 use Rattle.rules.proofs.AuctionTaken.{reaching-nil, reaching-met, reaching-unmet}
 use Rattle.rules.proofs.Codecs.{length-queue, order-at}
@@ -127,12 +127,12 @@ best-append f first (p ∷ ps) qs = best-append f (pick (f p first) p first) ps 
 -- ---- the price to start from
 
 module _ (buys : List ℕ) (bought : ℕ) (sells : List ℕ) (sold c : ℕ) where
-  pub first-buy : {o : Order} → (bought ≡ 0 → ⊥) → o ≡ orderFrom (drop (320 * c + 5 * 0) buys) → o .price ≡ firstPrice (queueIn buys c bought) (queueIn sells c sold)
+  pub first-buy : {o : Order} → (bought ≡ 0 → ⊥) → o ≡ orderFrom (drop (firstWord c 0) buys) → o .price ≡ firstPrice (queueIn buys c bought) (queueIn sells c sold)
   unfolding firstOf prices
   first-buy {o} some e = rw (next-order buys c bought 0 o (omega arith) e)
 
   module _ (none : bought ≡ 0) where
-    pub first-sell : {o : Order} → (sold ≡ 0 → ⊥) → o ≡ orderFrom (drop (320 * c + 5 * 0) sells) → o .price ≡ firstPrice (queueIn buys c bought) (queueIn sells c sold)
+    pub first-sell : {o : Order} → (sold ≡ 0 → ⊥) → o ≡ orderFrom (drop (firstWord c 0) sells) → o .price ≡ firstPrice (queueIn buys c bought) (queueIn sells c sold)
     unfolding firstOf prices
     first-sell {o} some e = rw (no-more buys c bought 0 (omega arith), next-order sells c sold 0 o (omega arith) e)
 
@@ -148,7 +148,7 @@ pub record Searching (last : ℕ) (buys sells : List Order) (area : List ℕ) (c
   pub so-far : bestFrom (better last buys sells) (chosen .price) (prices (drop i (queueIn area c count))) ≡ answer
 
 module _ {last : ℕ} {buys sells : List Order} {area : List ℕ} {c count answer : ℕ} {chosen : Level} {i : ℕ} (s : Searching last buys sells area c count answer chosen i) where
-  pub search-on : {o : Order} {level next : Level} → i < count → o ≡ orderFrom (drop (320 * c + 5 * i) area) → level ≡ levelAt buys sells (o .price)
+  pub search-on : {o : Order} {level next : Level} → i < count → o ≡ orderFrom (drop (firstWord c i) area) → level ≡ levelAt buys sells (o .price)
       → next ≡ pick (preferred last level chosen) level chosen → Searching last buys sells area c count answer next (i + 1)
   unfolding bestFrom prices
   search-on {o} {level} {next} h e el en =

@@ -16,7 +16,7 @@ use Rattle.rules.specs.Bounds.{maxLots}
 use Rattle.rules.specs.Exchange.{noOrder}
 use Rattle.rules.specs.Holdings.{bookTrade}
 use Rattle.rules.specs.Matching.{withLots}
-use Rattle.rules.specs.Memory.{orderFrom, putQueue, queueIn, tradeWords}
+use Rattle.rules.specs.Memory.{orderFrom, putQueue, queueIn, tradeWords, tradeStride, firstWord}
 use Rattle.rules.specs.declared.Account.{Account}
 use Rattle.rules.specs.declared.Order.{Order}
 use Rattle.rules.specs.declared.Trade.{Trade}
@@ -48,8 +48,8 @@ module _ (c price : ℕ) where
 pub record Meeting (buys : List ℕ) (bought : ℕ) (sells : List ℕ) (sold c price i j : ℕ) (b s : Order) : Type 0 where
   pub buy-here : i < bought
   pub sell-here : j < sold
-  pub buy : b ≡ orderFrom (drop (320 * c + 5 * i) buys)
-  pub sell : s ≡ orderFrom (drop (320 * c + 5 * j) sells)
+  pub buy : b ≡ orderFrom (drop (firstWord c i) buys)
+  pub sell : s ≡ orderFrom (drop (firstWord c j) sells)
   pub met : (reaches false price b && reaches true price s) ≡ true
 
 -- the trade, in the terms of the contract's place
@@ -75,9 +75,9 @@ unfoldable pub finish : ℕ → ℕ → ℕ → List Account → List ℕ → Ma
 finish done made last held area m = record { booked = booked done made last held area (m .trades); buys = m .buys; sells = m .sells }
 
 -- a trade passes from what is to come to what is done
-finish-trade : (done made last : ℕ) (held : List Account) (area : List ℕ) (tr : Trade) (m : Matched) → 9 * made ≤ length area
+finish-trade : (done made last : ℕ) (held : List Account) (area : List ℕ) (tr : Trade) (m : Matched) → tradeStride * made ≤ length area
     → finish done made last held area (afterMatch tr m)
-    ≡ finish (done + tr .lots) (made + 1) (tr .price) (bookTrade held tr) (store tradeWords area (9 * made) (tr ∷ [])) m
+    ≡ finish (done + tr .lots) (made + 1) (tr .price) (bookTrade held tr) (store tradeWords area (tradeStride * made) (tr ∷ [])) m
 unfolding finish
 finish-trade done made last held area tr m room =
     ap (λ (b : Booked). record { booked = b; buys = m .buys; sells = m .sells }) (booked-trade done made last held area tr (m .trades) room)
@@ -150,7 +150,7 @@ module _
     pub stopped-sells : j ≡ sold → Stopped
     stopped-sells e = rw (← ec) (finished (rw (no-more sells c sold j (omega arith)) (no-sells c price (drop i bids))))
 
-    pub stopped-unmet : {b s : Order} → i < bought → j < sold → b ≡ orderFrom (drop (320 * c + 5 * i) buys) → s ≡ orderFrom (drop (320 * c + 5 * j) sells)
+    pub stopped-unmet : {b s : Order} → i < bought → j < sold → b ≡ orderFrom (drop (firstWord c i) buys) → s ≡ orderFrom (drop (firstWord c j) sells)
         → (reaches false price b && reaches true price s) ≡ false → Stopped
     stopped-unmet {b} {s} hb hs eb es e =
         rw (← ec)
@@ -208,13 +208,13 @@ module _
         ∙ ap (λ (n : ℕ). afterMatch tr (matchAt c price (lessFirst n b (drop (i + 1) bids)) (lessFirst n s (drop (j + 1) asks)))) (sym trade-size))
 
     -- the area has room for it
-    pub trade-room : {contract : ℕ} → c ≡ contract → MatchReady (matchAt contract price (queueIn buys₀ contract bought) (queueIn sells₀ contract sold)) contract held₀ buys₀ bought sells₀ sold area₀ before → 9 * made + 9 ≤ length area
+    pub trade-room : {contract : ℕ} → c ≡ contract → MatchReady (matchAt contract price (queueIn buys₀ contract bought) (queueIn sells₀ contract sold)) contract held₀ buys₀ bought sells₀ sold area₀ before → tradeStride * made + tradeStride ≤ length area
     unfolding finish
     trade-room ec ready =
-        let h : 9 * (before + length (all .trades)) ≤ length area₀ = rw ec (ready .room) in
+        let h : tradeStride * (before + length (all .trades)) ≤ length area₀ = rw ec (ready .room) in
         omega (arith, ap (λ x. x .booked .made) (g .answer), still-made done made latest held area (matchAt c price (drop i bids) (drop j asks) .trades), still-made 0 before last held₀ area₀ (all .trades), ap (λ x. length (x .trades)) turn, g .long)
 
-    module _ (room : 9 * made + 9 ≤ length area) {held′ : List Account} (eh : held′ ≡ bookTrade held tr) {area′ : List ℕ} (ea : area′ ≡ store tradeWords area (9 * made) (tr ∷ [])) where
+    module _ (room : tradeStride * made + tradeStride ≤ length area) {held′ : List Account} (eh : held′ ≡ bookTrade held tr) {area′ : List ℕ} (ea : area′ ≡ store tradeWords area (tradeStride * made) (tr ∷ [])) where
       -- it goes on with the two sides as they are then
       on : {buys′ sells′ : List ℕ} {i′ j′ : ℕ} → Side buys₀ c bought buys′ i′ → Side sells₀ c sold sells′ j′ → i + j < i′ + j′
           → drop i′ (queueIn buys′ c bought) ≡ lessFirst (tr .lots) b (drop (i + 1) bids) → drop j′ (queueIn sells′ c sold) ≡ lessFirst (tr .lots) s (drop (j + 1) asks)
@@ -225,7 +225,7 @@ module _
           record {
             buying = buying;
             selling = selling;
-            long = ap length ea ∙ length-store trade-codec area (9 * made) (tr ∷ []) room ∙ g .long;
+            long = ap length ea ∙ length-store trade-codec area (tradeStride * made) (tr ∷ []) room ∙ g .long;
             some = omega (arith, g .some, trade-few);
             parties =
                 record {
@@ -237,7 +237,7 @@ module _
                 };
             answer =
                 rw (lb, ls, eh, ea)
-                (ap (λ (p : ℕ). finish (done + tr .lots) (made + 1) p (bookTrade held tr) (store tradeWords area (9 * made) (tr ∷ [])) still) (sym trade-price)
+                (ap (λ (p : ℕ). finish (done + tr .lots) (made + 1) p (bookTrade held tr) (store tradeWords area (tradeStride * made) (tr ∷ [])) still) (sym trade-price)
                 ∙ sym (finish-trade done made latest held area tr still (omega arith))
                 ∙ ap (finish done made latest held area) (sym turn)
                 ∙ g .answer);

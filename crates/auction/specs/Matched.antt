@@ -8,7 +8,7 @@ use lib.ListN.{length, drop}
 use Rattle.laws.specs.Choice.{allOf, pick}
 use Rattle.rules.specs.Auction.{Matched, matchAt, unmatched}
 use Rattle.rules.specs.Bounds.{maxLots}
-use Rattle.rules.specs.Memory.{queueIn, putQueue}
+use Rattle.rules.specs.Memory.{queueIn, putQueue, tradeStride}
 use Rattle.rules.specs.declared.Account.{Account}
 use Rattle.rules.specs.declared.Order.{Order}
 use Rattle.holdings.specs.Bounds.{HeldWithin}
@@ -35,7 +35,7 @@ pub record MatchReady
     (m : Matched) (c : ℕ) (held : List Account) (buys : List ℕ) (bought : ℕ) (sells : List ℕ) (sold : ℕ) (area : List ℕ) (before : ℕ) : Type 0 where
   pub contract : c < 4
   pub queues : QueuesRoom buys bought sells sold c
-  pub room : 9 * (before + length (m .trades)) ≤ length area
+  pub room : tradeStride * (before + length (m .trades)) ≤ length area
   pub parties : Parties 1_000_000 c held (queueIn buys c bought) (queueIn sells c sold)
 
 -- the orders that stay of a queue of n: those from place i on, behind the filled ones

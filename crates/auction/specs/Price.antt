@@ -6,15 +6,17 @@ use Prim.Native.Nat.{ℕ, _+_, _*_, _≤_}
 use lib.Dec.{ltb}
 use lib.ListN.{length}
 use Rattle.rules.specs.Auction.{apart, bestFrom, better, chosenPrice, larger, prices, restingPrices, smaller, surplus, volume}
+use Rattle.rules.specs.Bounds.{maxResting}
+use Rattle.rules.specs.Memory.{firstWord}
 use Rattle.rules.specs.declared.Order.{Order}
 use Rattle.auction.specs.declared.price.Level.{Level}
 
 -- two queues of at most 64 orders, with room in their areas
 pub record QueuesRoom (buys : List ℕ) (bought : ℕ) (sells : List ℕ) (sold c : ℕ) : Type 0 where
-  pub few-buys : bought ≤ 64
-  pub few-sells : sold ≤ 64
-  pub buys-room : 320 * c + 5 * bought ≤ length buys
-  pub sells-room : 320 * c + 5 * sold ≤ length sells
+  pub few-buys : bought ≤ maxResting
+  pub few-sells : sold ≤ maxResting
+  pub buys-room : firstWord c bought ≤ length buys
+  pub sells-room : firstWord c sold ≤ length sells
 
 abbrev pub levelAt : List Order → List Order → ℕ → Level
 levelAt buys sells price = record { price = price; volume = volume buys sells price; surplus = surplus buys sells price }

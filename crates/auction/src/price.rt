@@ -5,7 +5,8 @@ ghost use Prim.Native.Nat.{_+_, _*_, _≤_};
 ghost use lib.ListN.{length};
 ghost use Rattle.laws.specs.Choice.{pick};
 ghost use Rattle.rules.specs.Auction as rule;
-ghost use Rattle.rules.specs.Memory.{queueIn};
+ghost use Rattle.rules.specs.Bounds.{maxResting};
+ghost use Rattle.rules.specs.Memory.{queueIn, firstWord};
 ghost use Rattle.auction.specs.Price.{preferred, levelAt, QueuesRoom, bestLevel, firstPrice, chosenLevel};
 use book::queue;
 use rules::Order;
@@ -39,7 +40,7 @@ fn lots_of(sell: bool, price: u32, o: Order) -> u64
 
 // The lots of a side's orders that reach a price.
 pub fn lots_reaching(area: &[u32], c: usize, count: usize, sell: bool, price: u32) -> u64
-    requires { ⌜ (count ≤ 64) × (320 * c + 5 * count ≤ length (now area)) ⌝ }
+    requires { ⌜ (count ≤ maxResting) × (firstWord c count ≤ length (now area)) ⌝ }
     ensures { λ r. ⌜ r ≡ rule.lotsReaching sell price (queueIn (now (area .entry)) c count) ⌝ }
 {
     let mut lots: u64 = 0;
@@ -130,7 +131,7 @@ fn best_among<'a>(
     c: usize,
     last: u32,
 ) -> Level
-    requires { ⌜ QueuesRoom (now buys) bought (now sells) sold c × (320 * c + 5 * count ≤ length (now area)) × (best ≡ levelAt (queueIn (now buys) c bought) (queueIn (now sells) c sold) (best .price)) ⌝ }
+    requires { ⌜ QueuesRoom (now buys) bought (now sells) sold c × (firstWord c count ≤ length (now area)) × (best ≡ levelAt (queueIn (now buys) c bought) (queueIn (now sells) c sold) (best .price)) ⌝ }
     ensures { λ r. ⌜ r ≡ bestLevel last (queueIn (now (buys .entry)) c bought) (queueIn (now (sells .entry)) c sold) (best .price) (queueIn (now (area .entry)) c count) ⌝ }
 {
     let mut chosen = best;

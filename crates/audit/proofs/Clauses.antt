@@ -6,9 +6,9 @@ use Prim.Native.Nat.{ℕ, _+_, _*_}
 use lib.Dec.{leb, ltb, eqb}
 use lib.ListN.{length, getD}
 use Rattle.laws.specs.Choice.{all, allOf}
-use Rattle.rules.specs.Bounds.{within, inAuction, maxPhase, termsInRange, tickMultiple, allowedToday}
+use Rattle.rules.specs.Bounds.{within, inAuction, maxPhase, termsInRange, tickMultiple, allowedToday, maxResting, maxTrades}
 use Rattle.rules.specs.Exchange.{Listing, restingOpens, restingCloses}
-use Rattle.rules.specs.Memory.{Memory, countsInRange, hasRoom}
+use Rattle.rules.specs.Memory.{Memory, countsInRange, hasRoom, queueStride, tradeStride}
 use Rattle.rules.specs.WellFormed.{contractInRange, orderInRange, sorted, uncrossed, listingInRange, holdingInRange}
 use Rattle.rules.specs.declared.Contract.{Contract}
 use Rattle.rules.specs.declared.Holding.{Holding}
@@ -20,24 +20,25 @@ use Rattle.audit.proofs.Chains.{Chain}
 -- ---- counts and room
 
 abbrev few : List ℕ → ℕ → Bool
-few counts contracts = all (λ c. leb (getD counts c 0) 64) contracts
+few counts contracts = all (λ c. leb (getD counts c 0) maxResting) contracts
 
 pub counts-chain : (s : State)
     → Chain (countsInRange s)
-    (within 1 4 (s .contractcount) ∷ within 1 32 (s .accountcount) ∷ leb (s .tradecount) 1_024 ∷ few (s .buys) (s .contractcount) ∷ [])
+    (within 1 4 (s .contractcount) ∷ within 1 32 (s .accountcount) ∷ leb (s .tradecount) maxTrades ∷ few (s .buys) (s .contractcount) ∷ [])
     (few (s .sells) (s .contractcount))
 unfolding countsInRange
 counts-chain s = record { is = refl }
 
 pub room-chain : (m : Memory)
     → Chain (hasRoom m)
-    (leb (320 * m .state .contractcount) (length (m .buys)) ∷ leb (320 * m .state .contractcount) (length (m .sells)) ∷ [])
-    (leb 9_216 (length (m .trades)))
+    (leb (queueStride * m .state .contractcount) (length (m .buys)) ∷ leb (queueStride * m .state .contractcount) (length (m .sells)) ∷ [])
+    (leb (tradeStride * maxTrades) (length (m .trades)))
 unfolding hasRoom
 room-chain m = record { is = refl }
 
-pub counters-chain : (next settlements : ℕ) → Chain (within 1 1_000_000 next && leb settlements 250) (within 1 1_000_000 next ∷ []) (leb settlements 250)
-counters-chain next settlements = record { is = refl }
+pub counters-chain : (next nextstamp settlements : ℕ)
+    → Chain (within 1 1_000_000 next && within 1 1_000_000 nextstamp && leb settlements 250) (within 1 1_000_000 next ∷ within 1 1_000_000 nextstamp ∷ []) (leb settlements 250)
+counters-chain next nextstamp settlements = record { is = refl }
 
 -- ---- a contract with its queues
 
@@ -47,8 +48,8 @@ contract-chain c = record { is = refl }
 
 pub order-chain : (accounts next : ℕ) (c : Contract) (o : Order)
     → Chain (orderInRange accounts next c o)
-    (within 1 1_000 (o .lots) ∷ ltb (o .account) accounts ∷ allowedToday c (o .price) ∷ leb 1 (o .number) ∷ ltb (o .number) next ∷ [])
-    (leb (o .close) 1)
+    (within 1 1_000 (o .lots) ∷ ltb (o .account) accounts ∷ allowedToday c (o .price) ∷ leb 1 (o .number) ∷ ltb (o .number) next ∷ leb (o .close) 1 ∷ eqb (o .stamp) 0 ∷ [])
+    (eqb (o .quote) 0)
 unfolding orderInRange
 order-chain accounts next c o = record { is = refl }
 

@@ -1,7 +1,7 @@
 pub mod Chains
 pub mod Clauses
+pub mod FieldLists
 pub mod Limits
-pub mod NumberLists
 pub mod Replaying
 pub mod Rooms
 pub mod SortedQueues

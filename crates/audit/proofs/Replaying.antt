@@ -8,9 +8,10 @@ use native.Mathlib.Omega.{arith}
 use lib.Dec.{eqb}
 use lib.ListN.{length, getD, set, drop, length-set}
 use Rattle.laws.specs.Choice.{pick}
+use Rattle.rules.specs.Bounds.{maxTrades}
 use Rattle.rules.specs.Exchange.{accountAt, holdingAt, noAccount, noHolding, noTrade}
 use Rattle.rules.specs.Holdings.{afterLeg, bookBuyer, bookLeg, bookSeller, bookTrade, bookTrades, legCovered, neverBelowZero, sameHoldings, startOfDay, withHolding, withLong, withShort}
-use Rattle.rules.specs.Memory.{recordedTrades, tradeFrom, used}
+use Rattle.rules.specs.Memory.{recordedTrades, tradeFrom, used, tradeStride}
 use Rattle.rules.specs.WellFormed.{replays}
 use Rattle.rules.specs.declared.Account.{Account}
 use Rattle.rules.specs.declared.Holding.{Holding}
@@ -105,7 +106,7 @@ module _ (list : List Account) (k n : ℕ) (area : List ℕ) (count : ℕ) where
   -- before trade i
   pub record Going (held : List Account) (i : ℕ) : Type 0 where
     pub fit : n ≤ 32
-    pub few : count ≤ 1_024
+    pub few : count ≤ maxTrades
     pub here : i ≤ count
     pub room : length held ≡ 32
     pub bound : HeldTo k n (100_000 + 1_000 * i) (100_000 + 1_000 * i) held
@@ -115,7 +116,7 @@ module _ (list : List Account) (k n : ℕ) (area : List ℕ) (count : ℕ) where
   -- between the two legs of trade i
   pub record Bought (held : List Account) (i : ℕ) (t : Trade) : Type 0 where
     pub fit : n ≤ 32
-    pub few : count ≤ 1_024
+    pub few : count ≤ maxTrades
     pub here : i < count
     pub trade : Booked k n t
     pub room : length held ≡ 32
@@ -138,7 +139,7 @@ module _ (list : List Account) (k n : ℕ) (area : List ℕ) (count : ℕ) where
 
 module _ {list : List Account} {k n : ℕ} {area : List ℕ} {count : ℕ} where
   -- before the first trade
-  pub going-first : {held : List Account} → n ≤ 32 → count ≤ 1_024 → length list ≡ 32 → held ≡ startOfDay list
+  pub going-first : {held : List Account} → n ≤ 32 → count ≤ maxTrades → length list ≡ 32 → held ≡ startOfDay list
       → ((a c : ℕ) → a < n → c < k → (holdingAt list a c .startlong ≤ 100_000) × (holdingAt list a c .startshort ≤ 100_000)) → Going list k n area count held 0
   going-first {held} hn hc m e starts =
       let u : used k n held ≡ startOfDay (used k n list) = ap (used k n) e ∙ used-day k n list in
@@ -153,7 +154,7 @@ module _ {list : List Account} {k n : ℕ} {area : List ℕ} {count : ℕ} where
       }
 
   -- the buyer's leg: `who` and `place` are the buyer's and the contract's place as code reads them
-  module _ {held : List Account} {i : ℕ} (g : Going list k n area count held i) {t : Trade} (h : i < count) (et : t ≡ tradeFrom (drop (9 * i) area)) (b : Booked k n t)
+  module _ {held : List Account} {i : ℕ} (g : Going list k n area count held i) {t : Trade} (h : i < count) (et : t ≡ tradeFrom (drop (tradeStride * i) area)) (b : Booked k n t)
       {who place : ℕ} (ea : who ≡ t .buyer) (ec : place ≡ t .contract) where
     abbrev buyerTest : Bool
     buyerTest = legCovered (getD held who noAccount ∷ []) 0 place false (t .buyclose) (t .lots)
@@ -243,5 +244,5 @@ module _ {list : List Account} {k n : ℕ} {area : List ℕ} {count : ℕ} where
       ∙ never-below list k n area count (g .covered ∙ ap (neverBelowZero (used k n held)) none)
 
 -- a trade read from its place is the one that was tested there
-pub trade-read : {k n : ℕ} {t : Trade} (area : List ℕ) (count i : ℕ) → i < count → t ≡ tradeFrom (drop (9 * i) area) → Booked k n (getD (recordedTrades area count) i noTrade) → Booked k n t
+pub trade-read : {k n : ℕ} {t : Trade} (area : List ℕ) (count i : ℕ) → i < count → t ≡ tradeFrom (drop (tradeStride * i) area) → Booked k n (getD (recordedTrades area count) i noTrade) → Booked k n t
 trade-read {k} {n} {t} area count i h e b = subst (Booked k n) (trade-at area count i h ∙ sym e) b

@@ -7,7 +7,7 @@ use native.Mathlib.Omega.{arith}
 use borrow.Author.Tests.{leb-true, leb-false}
 use lib.Dec.{leb, ltb}
 use lib.ListN.{drop}
-use Rattle.rules.specs.Memory.{orderFrom, queueIn}
+use Rattle.rules.specs.Memory.{orderFrom, queueIn, firstWord}
 use Rattle.rules.specs.WellFormed.{ahead, aheadOfFirst, sorted, uncrossed}
 use Rattle.rules.specs.declared.Order.{Order}
 use Rattle.book.proofs.Queues.{next-order, no-more}
@@ -32,7 +32,7 @@ unfolding sorted
 sorted-none sell = refl
 
 module _ (sell : Bool) (area : List ℕ) (c n i : ℕ) {b : Bool} (so-far : b ≡ sorted sell (drop i (queueIn area c n))) where
-  module _ {o p : Order} (h : i + 1 < n) (eo : o ≡ orderFrom (drop (320 * c + 5 * i) area)) (ep : p ≡ orderFrom (drop (320 * c + 5 * (i + 1)) area)) where
+  module _ {o p : Order} (h : i + 1 < n) (eo : o ≡ orderFrom (drop (firstWord c i) area)) (ep : p ≡ orderFrom (drop (firstWord c (i + 1)) area)) where
     two : drop i (queueIn area c n) ≡ o ∷ p ∷ drop (i + 1 + 1) (queueIn area c n)
     two =
         next-order area c n i o (omega arith) eo
@@ -52,7 +52,7 @@ module _ (sell : Bool) (area : List ℕ) (c n i : ℕ) {b : Bool} (so-far : b �
       go : (t : Bool) → leb n i ≡ t → true ≡ b
       go true e = end (sorted sell) (queueIn area c n) i so-far (no-more area c n i (leb-true n i e)) (sorted-none sell)
       go false e =
-          let o = orderFrom (drop (320 * c + 5 * i) area) in
+          let o = orderFrom (drop (firstWord c i) area) in
           let one : drop i (queueIn area c n) ≡ o ∷ [] = next-order area c n i o (leb-false n i e) refl ∙ ap (λ (os : List Order). o ∷ os) (no-more area c n (i + 1) h) in
           sym (so-far ∙ ap (sorted sell) one ∙ sorted-one sell o)
 
@@ -75,7 +75,7 @@ no-sells buys sells asks c e =
     rw q (uncrossed-none buys)
 
 pub best-apart : (buys : List ℕ) (bids : ℕ) (sells : List ℕ) (asks c : ℕ) (b s : Order) → (bids ≡ 0 → ⊥) → (asks ≡ 0 → ⊥)
-    → b ≡ orderFrom (drop (320 * c + 5 * 0) buys) → s ≡ orderFrom (drop (320 * c + 5 * 0) sells)
+    → b ≡ orderFrom (drop (firstWord c 0) buys) → s ≡ orderFrom (drop (firstWord c 0) sells)
     → ltb (b .price) (s .price) ≡ uncrossed (queueIn buys c bids) (queueIn sells c asks)
 unfolding uncrossed
 best-apart buys bids sells asks c b s nb ns eb es =

@@ -8,7 +8,7 @@ use lib.ListN.{getD, drop, length-replicate, drop-of-length-le}
 use Rattle.laws.specs.Tabulate.{length-tabulate, getD-tabulate}
 use Rattle.rules.specs.Bounds.{within, allowedToday}
 use Rattle.rules.specs.Exchange.{Listing, listingAt, noContract, noListing, noTrade}
-use Rattle.rules.specs.Memory.{tradeFrom, recordedTrades}
+use Rattle.rules.specs.Memory.{tradeFrom, recordedTrades, tradeStride}
 use Rattle.rules.specs.WellFormed.{tradeInRange}
 use Rattle.rules.specs.declared.Contract.{Contract}
 use Rattle.rules.specs.declared.Trade.{Trade}
@@ -20,7 +20,7 @@ use Rattle.audit.proofs.Walks.{next-of}
 -- ---- the trades read in turn
 
 module _ (area : List ℕ) (n i : ℕ) where
-  pub next-trade : {t : Trade} → i < n → t ≡ tradeFrom (drop (9 * i) area) → drop i (recordedTrades area n) ≡ t ∷ drop (i + 1) (recordedTrades area n)
+  pub next-trade : {t : Trade} → i < n → t ≡ tradeFrom (drop (tradeStride * i) area) → drop i (recordedTrades area n) ≡ t ∷ drop (i + 1) (recordedTrades area n)
   next-trade {t} h e =
       next-of (recordedTrades area n) i noTrade (rw (length-trades area n) h)
       ∙ ap (λ (u : Trade). u ∷ drop (i + 1) (recordedTrades area n)) (trade-at area n i h ∙ sym e)

@@ -85,7 +85,7 @@ module _ (k : ℕ) where
   used-start zero l = refl
   used-start (suc n) [] = refl
   used-start (suc n) (a ∷ l) =
-      ap₂ (λ (hs : List Holding) (xs : List Account). record { balance = a .balance; holdings = hs } ∷ xs) (take-map startHolding k (a .holdings)) (used-start n l)
+      ap₂ (λ (hs : List Holding) (xs : List Account). record { balance = a .balance; maker = a .maker; holdings = hs } ∷ xs) (take-map startHolding k (a .holdings)) (used-start n l)
 
 -- a leg on one account is a leg on its place
 read-alone : (l : List Account) (a c : ℕ) → holdingAt (getD l a noAccount ∷ []) 0 c ≡ holdingAt l a c

@@ -12,7 +12,7 @@ use Rattle.laws.specs.Choice.{all, allOf, all-at, all-ext, allOf-all, allOf-at,
 use Rattle.laws.specs.Tabulate.{tabulate, length-tabulate, getD-tabulate}
 use Rattle.rules.specs.Bounds.{within, termsInRange}
 use Rattle.rules.specs.Exchange.{Exchange, Listing, listingAt, holdingAt, noContract, noListing, noTrade}
-use Rattle.rules.specs.Memory.{Memory, exchangeOf, inUse, listingIn, recordedTrades, countsInRange, hasRoom, wellFormedMemory, used, memory}
+use Rattle.rules.specs.Memory.{Memory, exchangeOf, inUse, listingIn, recordedTrades, countsInRange, hasRoom, wellFormedMemory, used, memory, tradeStride}
 use Rattle.rules.specs.WellFormed.{countersInRange, listingInRange, allNumbers, usedOnce, tradeInRange, replays, holdingInRange, holdingsInRange, balanceInRange, wellFormedContents}
 use Rattle.rules.specs.declared.State.{State}
 use Rattle.rules.specs.declared.Trade.{Trade}
@@ -56,7 +56,7 @@ module _ (s : State) (buys sells trades : List ℕ) where
   m = memory s buys sells trades
 
   abbrev countersTest : Bool
-  countersTest = within 1 1_000_000 (s .next) && leb (s .settlements) 250
+  countersTest = within 1 1_000_000 (s .next) && within 1 1_000_000 (s .nextstamp) && leb (s .settlements) 250
 
   abbrev listingsTest : Bool
   listingsTest = all (λ c. listingInRange (s .accountcount) (s .next) (listing s buys sells c)) (s .contractcount)
@@ -151,11 +151,11 @@ module _ (s : State) (buys sells trades : List ℕ) (counts : countsInRange s �
       let r = room-ok (memory s buys sells trades) room in
       record { counts = counts; buy-room = r .buys; sell-room = r .sells }
 
-  pub trades-words : 9 * s .tradecount ≤ length trades
+  pub trades-words : tradeStride * s .tradecount ≤ length trades
   trades-words = omega (arith, room-ok (memory s buys sells trades) room .trades, counts-ok s counts .trades)
 
   pub few-settlements : countersTest s buys sells trades ≡ true → s .settlements ≤ 250
-  few-settlements h = leb-true (s .settlements) 250 (both-true (within 1 1_000_000 (s .next)) (leb (s .settlements) 250) h .1)
+  few-settlements h = leb-true (s .settlements) 250 (both-true (within 1 1_000_000 (s .next) && within 1 1_000_000 (s .nextstamp)) (leb (s .settlements) 250) h .1)
 
   module _ (listings : listingsTest s buys sells trades ≡ true) where
     pub terms-tested : (c : ℕ) → c < s .contractcount → termsInRange (getD (s .contracts) c noContract) ≡ true

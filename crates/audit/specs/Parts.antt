@@ -7,7 +7,7 @@ use Prim.Native.Nat.{ℕ, _*_, _<_, _≤_}
 use lib.ListN.{length, getD, replicate}
 use Rattle.laws.specs.Tabulate.{tabulate}
 use Rattle.rules.specs.Exchange.{Exchange, Listing, noAccount, noContract}
-use Rattle.rules.specs.Memory.{countsInRange, listingIn, memory}
+use Rattle.rules.specs.Memory.{countsInRange, listingIn, memory, queueStride}
 use Rattle.rules.specs.declared.Account.{Account}
 use Rattle.rules.specs.declared.Contract.{Contract}
 use Rattle.rules.specs.declared.State.{State}
@@ -20,8 +20,8 @@ listing state buys sells c = listingIn (memory state buys sells []) c
 -- counts within their ranges, and room for the queues of the contracts in use: what reading a queue asks for
 pub record Ready (s : State) (buys sells : List ℕ) : Type 0 where
   pub counts : countsInRange s ≡ true
-  pub buy-room : 320 * s .contractcount ≤ length buys
-  pub sell-room : 320 * s .contractcount ≤ length sells
+  pub buy-room : queueStride * s .contractcount ≤ length buys
+  pub sell-room : queueStride * s .contractcount ≤ length sells
 
 -- what a recorded trade is tested against: the contracts, the numbers of accounts and contracts, the next order number
 unfoldable pub tested : List Contract → ℕ → ℕ → ℕ → Exchange
@@ -31,12 +31,13 @@ tested contracts n accounts next =
       accounts = replicate accounts noAccount;
       trades = [];
       next = next;
+      nextstamp = 1;
       settlements = 0;
     }
 
 -- accounts and a day's trades alone, for the replay
 abbrev pub replayed : List Account → List Trade → Exchange
-replayed accounts trades = record { listings = []; accounts = accounts; trades = trades; next = 0; settlements = 0 }
+replayed accounts trades = record { listings = []; accounts = accounts; trades = trades; next = 0; nextstamp = 1; settlements = 0 }
 
 -- a trade of contracts and accounts in use, of no more lots than an order has
 pub record Booked (contracts accounts : ℕ) (t : Trade) : Type 0 where

@@ -5,8 +5,9 @@ ghost use Prim.Native.Nat.{_+_, _*_, _≤_, _<_};
 ghost use lib.Dec.{leb};
 ghost use lib.ListN.{length, take};
 ghost use Rattle.laws.specs.Choice.{all, allOf};
+ghost use Rattle.rules.specs.Bounds.{maxResting};
 ghost use Rattle.rules.specs.Exchange.{holdingAt, restingOpens, restingCloses};
-ghost use Rattle.rules.specs.Memory.{queueIn};
+ghost use Rattle.rules.specs.Memory.{queueIn, firstWord};
 ghost use Rattle.rules.specs.WellFormed.{holdingInRange, balanceInRange};
 ghost use Rattle.audit.specs.Parts.{Ready, listing};
 use book::scan;
@@ -22,7 +23,7 @@ fn opens_keep_limit(
     held: u32,
     limit: u32,
 ) -> bool
-    requires { ⌜ (count ≤ 64) × (320 * c + 5 * count ≤ length (now area)) ⌝ }
+    requires { ⌜ (count ≤ maxResting) × (firstWord c count ≤ length (now area)) ⌝ }
     ensures { λ r. ⌜ r ≡ leb (held + restingOpens account (queueIn (now (area .entry)) c count)) limit ⌝ }
 {
     if limit < held {
@@ -34,7 +35,7 @@ fn opens_keep_limit(
 
 // "resting closes are covered by holdings"
 fn closes_are_covered(area: &[u32], c: usize, count: usize, account: u32, held: u32) -> bool
-    requires { ⌜ (count ≤ 64) × (320 * c + 5 * count ≤ length (now area)) ⌝ }
+    requires { ⌜ (count ≤ maxResting) × (firstWord c count ≤ length (now area)) ⌝ }
     ensures { λ r. ⌜ r ≡ leb (restingCloses account (queueIn (now (area .entry)) c count)) held ⌝ }
 {
     let covered = laws::wide32(held);
@@ -105,7 +106,7 @@ fn balance_in_range(settlements: u32, a: Account) -> bool
     requires { ⌜ settlements ≤ 250 ⌝ }
     ensures { λ r. ⌜ r ≡ balanceInRange settlements a ⌝ }
 {
-    let most = 1000000000000000000 + laws::wide32(settlements) * 3000000000000000;
+    let most = rules::MAX_BALANCE + laws::wide32(settlements) * rules::MAX_DAY_PROFIT;
     let limit = most as i64;
     let balance = a.balance;
     if limit < balance {
@@ -117,7 +118,11 @@ fn balance_in_range(settlements: u32, a: Account) -> bool
     true
 }
 
-pub fn balances_in_range(list: [Account; 32], accounts: usize, settlements: u32) -> bool
+pub fn balances_in_range(
+    list: [Account; rules::MAX_ACCOUNTS],
+    accounts: usize,
+    settlements: u32,
+) -> bool
     requires { ⌜ (accounts ≤ 32) × (settlements ≤ 250) ⌝ }
     ensures { λ r. ⌜ r ≡ allOf (balanceInRange settlements) (take accounts list) ⌝ }
 {

@@ -5,19 +5,19 @@ ghost use Prim.Native.Nat.{_≤_};
 ghost use lib.Dec.{leb};
 ghost use lib.ListN.{getD};
 ghost use Rattle.laws.specs.Choice.{all};
-ghost use Rattle.rules.specs.Bounds.{within};
+ghost use Rattle.rules.specs.Bounds.{within, maxResting};
 ghost use Rattle.rules.specs.Memory.{countsInRange, hasRoom, memory};
 use rules::State;
 
 // Of the contracts in use none has more than 64 orders on a side.
-fn few_orders(counts: [usize; 4], contracts: usize) -> bool
+fn few_orders(counts: [usize; rules::MAX_CONTRACTS], contracts: usize) -> bool
     requires { ⌜ contracts ≤ 4 ⌝ }
-    ensures { λ r. ⌜ r ≡ all (λ c. leb (getD counts c 0) 64) contracts ⌝ }
+    ensures { λ r. ⌜ r ≡ all (λ c. leb (getD counts c 0) maxResting) contracts ⌝ }
 {
     let mut c: usize = 0;
     while c < contracts {
         let count = counts[c];
-        if 64 < count {
+        if rules::MAX_RESTING < count {
             return false;
         }
         c += 1;
@@ -32,16 +32,16 @@ pub fn counts_in_range(s: State) -> bool
     if contracts < 1 {
         return false;
     }
-    if 4 < contracts {
+    if rules::MAX_CONTRACTS < contracts {
         return false;
     }
     if s.accountcount < 1 {
         return false;
     }
-    if 32 < s.accountcount {
+    if rules::MAX_ACCOUNTS < s.accountcount {
         return false;
     }
-    if 1024 < s.tradecount {
+    if rules::MAX_TRADES < s.tradecount {
         return false;
     }
     let buys = s.buys;
@@ -57,22 +57,25 @@ pub fn has_room(s: State, buys: &[u32], sells: &[u32], trades: &[u32]) -> bool
     requires { ⌜ countsInRange s ≡ true ⌝ }
     ensures { λ r. ⌜ r ≡ hasRoom (memory s (now (buys .entry)) (now (sells .entry)) (now (trades .entry))) ⌝ }
 {
-    let words = 320 * s.contractcount;
+    let words = rules::QUEUE_STRIDE * s.contractcount;
     if buys.len() < words {
         return false;
     }
     if sells.len() < words {
         return false;
     }
-    9216 <= trades.len()
+    rules::TRADE_STRIDE * rules::MAX_TRADES <= trades.len()
 }
 
-// "the next order number 1 to 1,000,000"; "Settlements: 250 a run."
-pub fn counters_in_range(next: u32, settlements: u32) -> bool
-    ensures { λ r. ⌜ r ≡ (within 1 1000000 next && leb settlements 250) ⌝ }
+// "the next order number 1 to 1,000,000", the next time stamp too; "Settlements: 250 a run."
+pub fn counters_in_range(next: u32, nextstamp: u32, settlements: u32) -> bool
+    ensures { λ r. ⌜ r ≡ (within 1 1000000 next && within 1 1000000 nextstamp && leb settlements 250) ⌝ }
 {
-    if !terms::within(1, 1000000, next) {
+    if !terms::within(1, rules::NUMBERS_END, next) {
         return false;
     }
-    settlements <= 250
+    if !terms::within(1, rules::NUMBERS_END, nextstamp) {
+        return false;
+    }
+    settlements <= rules::MAX_SETTLEMENTS
 }

@@ -20,14 +20,15 @@ fn contents_are_well_formed(state: State, buys: &[u32], sells: &[u32], trades: &
     ensures { λ r. ⌜ r ≡ wellFormedContents (exchangeOf (memory state (now (buys .entry)) (now (sells .entry)) (now (trades .entry)))) ⌝ }
 {
     let next = state.next;
+    let nextstamp = state.nextstamp;
     let settlements = state.settlements;
-    if !counts::counters_in_range(next, settlements) {
+    if !counts::counters_in_range(next, nextstamp, settlements) {
         return false;
     }
     if !queues::listings_in_range(state, buys, sells) {
         return false;
     }
-    if !numbers::numbers_used_once(state, buys, sells) {
+    if !numbers::used_once(state, buys, sells, rules::NUMBER_WORD) {
         return false;
     }
     let contracts = state.contractcount;

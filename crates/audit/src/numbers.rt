@@ -1,5 +1,5 @@
-// "a number .. used once over all queues": the numbers of all resting orders are listed, then each is held against those
-// behind it.
+// "a number .. used once over all queues": a field of all resting orders is listed, then each value is held against those behind
+// it. `word` is the word of an order that holds the field.
 ghost use mathlib.Core.Bool.{true, not};
 ghost use mathlib.Core.List.{_++_};
 ghost use mathlib.Core.Path.{_≡_};
@@ -8,31 +8,34 @@ ghost use lib.Dec.{eqb};
 ghost use lib.ListN.{length, take, drop, getD};
 ghost use Rattle.laws.specs.Choice.{allOf};
 ghost use Rattle.laws.specs.Tabulate.{tabulate};
-ghost use Rattle.rules.specs.Memory.{queueIn};
+ghost use Rattle.rules.specs.Bounds.{maxResting};
+ghost use Rattle.rules.specs.Memory.{queueIn, firstWord, orderStride, wordOf};
 ghost use Rattle.rules.specs.WellFormed as wellformed;
-ghost use Rattle.audit.specs.Listed.{Behind};
+ghost use Rattle.audit.specs.Listed.{Behind, maxListed};
 ghost use Rattle.audit.specs.Parts.{Ready, listing};
 use book::queue;
 use rules::State;
 
-// 512 is all that the queues of four contracts hold.
+// All that the queues of all contracts hold.
+const MAX_LISTED: usize = 2 * rules::MAX_RESTING * rules::MAX_CONTRACTS;
+
 struct Listed {
-    list: [u32; 512],
+    list: [u32; MAX_LISTED],
     count: usize,
 }
 
-// The numbers of a queue's orders behind those listed.
-fn with_queue(before: Listed, area: &[u32], c: usize, count: usize) -> Listed
-    requires { ⌜ (before .count + count ≤ 512) × (320 * c + 5 * count ≤ length (now area)) ⌝ }
-    ensures { λ r. ⌜ Behind before (wellformed.numbers (queueIn (now (area .entry)) c count)) r ⌝ }
+// The field of a queue's orders behind those listed.
+fn with_queue(before: Listed, area: &[u32], c: usize, count: usize, word: usize) -> Listed
+    requires { ⌜ (before .count + count ≤ maxListed) × (firstWord c count ≤ length (now area)) × (word < orderStride) ⌝ }
+    ensures { λ r. ⌜ Behind before (wellformed.listed (wordOf word) (queueIn (now (area .entry)) c count)) r ⌝ }
 {
     let mut list = before.list;
     let first = before.count;
     let mut i: usize = 0;
     while i < count {
-        let o = queue::order_at(area, c, i);
+        let value = queue::word_at(area, c, i, word);
         let at = first + i;
-        list[at] = o.number;
+        list[at] = value;
         i += 1;
     }
     Listed {
@@ -41,35 +44,42 @@ fn with_queue(before: Listed, area: &[u32], c: usize, count: usize) -> Listed
     }
 }
 
-// The numbers of a contract's orders behind those listed.
-fn with_listing(before: Listed, state: State, c: usize, buys: &[u32], sells: &[u32]) -> Listed
-    requires { ⌜ (before .count ≤ 128 * c) × Ready state (now buys) (now sells) × (c < state .contractcount) ⌝ }
-    ensures { λ r. ⌜ Behind before (wellformed.numbers (listing state (now (buys .entry)) (now (sells .entry)) c .buys) ++ wellformed.numbers (listing state (now (buys .entry)) (now (sells .entry)) c .sells)) r ⌝ }
+// The field of a contract's orders behind those listed.
+fn with_listing(
+    before: Listed,
+    state: State,
+    c: usize,
+    buys: &[u32],
+    sells: &[u32],
+    word: usize,
+) -> Listed
+    requires { ⌜ (before .count ≤ 2 * maxResting * c) × Ready state (now buys) (now sells) × (c < state .contractcount) × (word < orderStride) ⌝ }
+    ensures { λ r. ⌜ Behind before (wellformed.listed (wordOf word) (listing state (now (buys .entry)) (now (sells .entry)) c .buys) ++ wellformed.listed (wordOf word) (listing state (now (buys .entry)) (now (sells .entry)) c .sells)) r ⌝ }
 {
     let bids = state.buys[c];
     let asks = state.sells[c];
-    let listed = with_queue(before, buys, c, bids);
-    with_queue(listed, sells, c, asks)
+    let listed = with_queue(before, buys, c, bids, word);
+    with_queue(listed, sells, c, asks, word)
 }
 
-fn all_numbers(state: State, buys: &[u32], sells: &[u32]) -> Listed
-    requires { ⌜ Ready state (now buys) (now sells) ⌝ }
-    ensures { λ r. ⌜ (r .count ≤ 512) × (take (r .count) (r .list) ≡ wellformed.allNumbers (tabulate (state .contractcount) (listing state (now (buys .entry)) (now (sells .entry))))) ⌝ }
+fn all_listed(state: State, buys: &[u32], sells: &[u32], word: usize) -> Listed
+    requires { ⌜ Ready state (now buys) (now sells) × (word < orderStride) ⌝ }
+    ensures { λ r. ⌜ (r .count ≤ maxListed) × (take (r .count) (r .list) ≡ wellformed.allListed (wordOf word) (tabulate (state .contractcount) (listing state (now (buys .entry)) (now (sells .entry))))) ⌝ }
 {
     let contracts = state.contractcount;
     let mut listed = Listed {
-        list: [0; 512],
+        list: [0; MAX_LISTED],
         count: 0,
     };
     let mut c: usize = 0;
     while c < contracts {
-        listed = with_listing(listed, state, c, buys, sells);
+        listed = with_listing(listed, state, c, buys, sells, word);
         c += 1;
     }
     listed
 }
 
-// The number at a place is none of those behind it.
+// The value at a place is none of those behind it.
 fn is_fresh(list: &[u32], count: usize, at: usize) -> bool
     requires { ⌜ (at < count) × (count ≤ length (now list)) ⌝ }
     ensures { λ r. ⌜ r ≡ allOf (λ k. not (eqb (getD (now (list .entry)) at 0) k)) (drop (at + 1) (take count (now (list .entry)))) ⌝ }
@@ -99,11 +109,11 @@ fn is_used_once(list: &[u32], count: usize) -> bool
     true
 }
 
-pub fn numbers_used_once(state: State, buys: &[u32], sells: &[u32]) -> bool
-    requires { ⌜ Ready state (now buys) (now sells) ⌝ }
-    ensures { λ r. ⌜ r ≡ wellformed.usedOnce (wellformed.allNumbers (tabulate (state .contractcount) (listing state (now (buys .entry)) (now (sells .entry))))) ⌝ }
+pub fn used_once(state: State, buys: &[u32], sells: &[u32], word: usize) -> bool
+    requires { ⌜ Ready state (now buys) (now sells) × (word < orderStride) ⌝ }
+    ensures { λ r. ⌜ r ≡ wellformed.usedOnce (wellformed.allListed (wordOf word) (tabulate (state .contractcount) (listing state (now (buys .entry)) (now (sells .entry))))) ⌝ }
 {
-    let listed = all_numbers(state, buys, sells);
+    let listed = all_listed(state, buys, sells, word);
     let list = listed.list;
     is_used_once(&list, listed.count)
 }

@@ -6,7 +6,7 @@ ghost use Prim.Native.Nat.{_+_, _*_, _≤_, _<_};
 ghost use lib.ListN.{length};
 ghost use Rattle.laws.specs.Choice.{all, allOf};
 ghost use Rattle.rules.specs.Bounds.{inAuction, termsInRange};
-ghost use Rattle.rules.specs.Memory.{queueIn};
+ghost use Rattle.rules.specs.Memory.{queueIn, firstWord};
 ghost use Rattle.rules.specs.WellFormed.{contractInRange, ahead, sorted, uncrossed, orderInRange, listingInRange};
 ghost use Rattle.audit.specs.Parts.{Ready, listing};
 use book::queue;
@@ -42,7 +42,7 @@ fn is_ahead(sell: bool, o: Order, p: Order) -> bool
 
 // Each order is ahead of the next.
 fn is_sorted(area: &[u32], c: usize, count: usize, sell: bool) -> bool
-    requires { ⌜ 320 * c + 5 * count ≤ length (now area) ⌝ }
+    requires { ⌜ firstWord c count ≤ length (now area) ⌝ }
     ensures { λ r. ⌜ r ≡ sorted sell (queueIn (now (area .entry)) c count) ⌝ }
 {
     let mut i: usize = 0;
@@ -59,7 +59,7 @@ fn is_sorted(area: &[u32], c: usize, count: usize, sell: bool) -> bool
 
 // "the two are uncrossed (best buy below best sell)"
 fn is_uncrossed(buys: &[u32], bids: usize, sells: &[u32], asks: usize, c: usize) -> bool
-    requires { ⌜ (320 * c + 5 * bids ≤ length (now buys)) × (320 * c + 5 * asks ≤ length (now sells)) ⌝ }
+    requires { ⌜ (firstWord c bids ≤ length (now buys)) × (firstWord c asks ≤ length (now sells)) ⌝ }
     ensures { λ r. ⌜ r ≡ uncrossed (queueIn (now (buys .entry)) c bids) (queueIn (now (sells .entry)) c asks) ⌝ }
 {
     if bids == 0 {
@@ -82,7 +82,7 @@ fn is_apart(
     asks: usize,
     c: usize,
 ) -> bool
-    requires { ⌜ (320 * c + 5 * bids ≤ length (now buys)) × (320 * c + 5 * asks ≤ length (now sells)) ⌝ }
+    requires { ⌜ (firstWord c bids ≤ length (now buys)) × (firstWord c asks ≤ length (now sells)) ⌝ }
     ensures { λ r. ⌜ r ≡ (inAuction contract || uncrossed (queueIn (now (buys .entry)) c bids) (queueIn (now (sells .entry)) c asks)) ⌝ }
 {
     if contract.phase == rules::AUCTION {
@@ -91,12 +91,12 @@ fn is_apart(
     is_uncrossed(buys, bids, sells, asks, c)
 }
 
-// "1 to 1,000 lots, an existing account, a price allowed today, and a number below the next"
+// "1 to 1,000 lots, an existing account, a price allowed today, and a number below the next"; no time stamp and no quote mark.
 fn order_in_range(accounts: usize, next: u32, c: Contract, o: Order) -> bool
     requires { ⌜ termsInRange c ≡ true ⌝ }
     ensures { λ r. ⌜ r ≡ orderInRange accounts next c o ⌝ }
 {
-    if !terms::within(1, 1000, o.lots) {
+    if !terms::within(1, rules::MAX_LOTS, o.lots) {
         return false;
     }
     let account = laws::wide(o.account);
@@ -112,7 +112,13 @@ fn order_in_range(accounts: usize, next: u32, c: Contract, o: Order) -> bool
     if next <= o.number {
         return false;
     }
-    o.close <= 1
+    if 1 < o.close {
+        return false;
+    }
+    if o.stamp != 0 {
+        return false;
+    }
+    o.quote == 0
 }
 
 fn orders_in_range(
@@ -123,7 +129,7 @@ fn orders_in_range(
     next: u32,
     contract: Contract,
 ) -> bool
-    requires { ⌜ (320 * c + 5 * count ≤ length (now area)) × (termsInRange contract ≡ true) ⌝ }
+    requires { ⌜ (firstWord c count ≤ length (now area)) × (termsInRange contract ≡ true) ⌝ }
     ensures { λ r. ⌜ r ≡ allOf (orderInRange accounts next contract) (queueIn (now (area .entry)) c count) ⌝ }
 {
     let mut i: usize = 0;

@@ -7,7 +7,7 @@ ghost use lib.ListN.{length, getD};
 ghost use Rattle.laws.specs.Choice.{allOf};
 ghost use Rattle.rules.specs.Bounds.{termsInRange};
 ghost use Rattle.rules.specs.Exchange.{noContract};
-ghost use Rattle.rules.specs.Memory.{recordedTrades};
+ghost use Rattle.rules.specs.Memory.{recordedTrades, tradeStride};
 ghost use Rattle.rules.specs.WellFormed.{tradeInRange};
 ghost use Rattle.audit.specs.Parts.{tested};
 use book::trades;
@@ -35,7 +35,7 @@ fn order_numbers_in_range(t: Trade, next: u32) -> bool
 
 // "existing contract and accounts, .. a price allowed today, 1 to 1,000 lots, and for each leg open or close"
 fn trade_in_range(
-    list: [Contract; 4],
+    list: [Contract; rules::MAX_CONTRACTS],
     contracts: usize,
     accounts: usize,
     next: u32,
@@ -62,7 +62,7 @@ fn trade_in_range(
     if !terms::allowed_today(list[c], t.price) {
         return false;
     }
-    if !terms::within(1, 1000, t.lots) {
+    if !terms::within(1, rules::MAX_LOTS, t.lots) {
         return false;
     }
     if 1 < t.buyclose {
@@ -72,7 +72,7 @@ fn trade_in_range(
 }
 
 pub fn trades_in_range(
-    list: [Contract; 4],
+    list: [Contract; rules::MAX_CONTRACTS],
     contracts: usize,
     accounts: usize,
     next: u32,
@@ -80,7 +80,7 @@ pub fn trades_in_range(
     count: usize,
 ) -> bool
     requires { ⌜ (contracts ≤ 4) × ((c : ℕ) → c < contracts → termsInRange (getD list c noContract) ≡ true) ⌝ }
-    requires { ⌜ 9 * count ≤ length (now area) ⌝ }
+    requires { ⌜ tradeStride * count ≤ length (now area) ⌝ }
     ensures { λ r. ⌜ r ≡ allOf (tradeInRange (tested list contracts accounts next)) (recordedTrades (now (area .entry)) count) ⌝ }
 {
     let mut i: usize = 0;

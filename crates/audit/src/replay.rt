@@ -4,9 +4,10 @@ ghost use mathlib.Core.List.{[], _∷_};
 ghost use mathlib.Core.Path.{_≡_};
 ghost use Prim.Native.Nat.{ℕ, _*_, _≤_, _<_};
 ghost use lib.ListN.{length, getD, take};
+ghost use Rattle.rules.specs.Bounds.{maxTrades};
 ghost use Rattle.rules.specs.Exchange.{noTrade, holdingAt};
 ghost use Rattle.rules.specs.Holdings as holdings;
-ghost use Rattle.rules.specs.Memory.{recordedTrades, used};
+ghost use Rattle.rules.specs.Memory.{recordedTrades, used, tradeStride};
 ghost use Rattle.rules.specs.WellFormed as wellformed;
 ghost use Rattle.audit.specs.Parts.{replayed, Booked};
 use book::trades;
@@ -35,12 +36,12 @@ fn start_account(a: Account) -> Account
     b
 }
 
-fn start_of_day(accounts: [Account; 32]) -> [Account; 32]
+fn start_of_day(accounts: [Account; rules::MAX_ACCOUNTS]) -> [Account; rules::MAX_ACCOUNTS]
     ensures { λ r. ⌜ r ≡ holdings.startOfDay accounts ⌝ }
 {
     let mut held = accounts;
     let mut i: usize = 0;
-    while i < 32 {
+    while i < rules::MAX_ACCOUNTS {
         held[i] = start_account(held[i]);
         i += 1;
     }
@@ -82,8 +83,8 @@ fn has_same_lots(a: Account, b: Account, contracts: usize) -> bool
 }
 
 fn have_same_holdings(
-    list: [Account; 32],
-    others: [Account; 32],
+    list: [Account; rules::MAX_ACCOUNTS],
+    others: [Account; rules::MAX_ACCOUNTS],
     contracts: usize,
     accounts: usize,
 ) -> bool
@@ -101,13 +102,13 @@ fn have_same_holdings(
 }
 
 pub fn replays(
-    list: [Account; 32],
+    list: [Account; rules::MAX_ACCOUNTS],
     contracts: usize,
     accounts: usize,
     area: &[u32],
     count: usize,
 ) -> bool
-    requires { ⌜ (contracts ≤ 4) × (accounts ≤ 32) × (count ≤ 1024) × (9 * count ≤ length (now area)) ⌝ }
+    requires { ⌜ (contracts ≤ 4) × (accounts ≤ 32) × (count ≤ maxTrades) × (tradeStride * count ≤ length (now area)) ⌝ }
     requires { ⌜ ((i : ℕ) → i < count → Booked contracts accounts (getD (recordedTrades (now area) count) i noTrade)) ⌝ }
     requires { ⌜ ((a c : ℕ) → a < accounts → c < contracts → (holdingAt list a c .startlong ≤ 100000) × (holdingAt list a c .startshort ≤ 100000)) ⌝ }
     ensures { λ r. ⌜ r ≡ wellformed.replays (replayed (used contracts accounts list) (recordedTrades (now (area .entry)) count)) ⌝ }

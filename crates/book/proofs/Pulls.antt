@@ -16,7 +16,7 @@ use Rattle.areas.proofs.Lists.{drop-over}
 use Rattle.areas.proofs.Moves.{lent-zeros}
 use Rattle.areas.proofs.Records.{length-encode, length-store, encode-one, encode-zeros, store-append, store-nil, store-over}
 use Rattle.rules.specs.Exchange.{lotsWhere, noOrder}
-use Rattle.rules.specs.Memory.{orderWords, orderFrom, queueIn, putQueue}
+use Rattle.rules.specs.Memory.{orderWords, orderFrom, queueIn, putQueue, orderStride, queueStride, firstWord}
 use Rattle.rules.specs.Step.{without, isOf}
 use Rattle.rules.specs.declared.Order.{Order}
 use Rattle.rules.proofs.Codecs.{order-codec, length-queue, order-at}
@@ -36,7 +36,7 @@ pub record Pulling (account : ℕ) (start : List ℕ) (c n : ℕ) (area : List �
   pub small : lots ≤ 4294967296 * i
   pub count : kept ≡ length (keptOf account start c n i)
   pub pulled : lots ≡ lotsWhere (isOf account) (take i (queueIn start c n))
-  pub queue : area ≡ store orderWords start (320 * c) (keptOf account start c n i)
+  pub queue : area ≡ store orderWords start (queueStride * c) (keptOf account start c n i)
 
 pub pull-start : (account : ℕ) (area : List ℕ) (c n : ℕ) → Pulling account area c n area 0 0 0
 pull-start account area c n =
@@ -47,29 +47,29 @@ pull-start account area c n =
       small = omega arith;
       count = rw (without-nil (isOf account));
       pulled = sym (lots-nil (isOf account));
-      queue = sym (rw (without-nil (isOf account)) (store-nil order-codec area (320 * c)));
+      queue = sym (rw (without-nil (isOf account)) (store-nil order-codec area (queueStride * c)));
     }
 
-module _ (account : ℕ) (start : List ℕ) (c n : ℕ) (room : 320 * c + 5 * n ≤ length start) (area : List ℕ) (kept lots i : ℕ) (p : Pulling account start c n area kept lots i) where
+module _ (account : ℕ) (start : List ℕ) (c n : ℕ) (room : firstWord c n ≤ length start) (area : List ℕ) (kept lots i : ℕ) (p : Pulling account start c n area kept lots i) where
   -- from order i on nothing is written yet
-  unread : drop (320 * c + 5 * i) area ≡ drop (320 * c + 5 * i) start
+  unread : drop (firstWord c i) area ≡ drop (firstWord c i) start
   unread =
       let stay : List Order = keptOf account start c n i in
-      let written : length (encode orderWords stay) ≡ 5 * kept = length-encode order-codec stay ∙ ap (λ (k : ℕ). 5 * k) (sym (p .count)) in
-      ap (drop (320 * c + 5 * i)) (p .queue ∙ store-over order-codec start (320 * c) stay)
-      ∙ drop-over start (320 * c) (encode orderWords stay) (omega arith) (320 * c + 5 * i) (omega (arith, p .fewer))
+      let written : length (encode orderWords stay) ≡ orderStride * kept = length-encode order-codec stay ∙ ap (λ (k : ℕ). orderStride * k) (sym (p .count)) in
+      ap (drop (firstWord c i)) (p .queue ∙ store-over order-codec start (queueStride * c) stay)
+      ∙ drop-over start (queueStride * c) (encode orderWords stay) (omega arith) (firstWord c i) (omega (arith, p .fewer))
 
   -- orders written behind those kept
-  behind : (s : ℕ) (more : List Order) → s ≡ 320 * c + 5 * kept
-      → over area s (encode orderWords more) ≡ store orderWords start (320 * c) (keptOf account start c n i ++ more)
+  behind : (s : ℕ) (more : List Order) → s ≡ firstWord c kept
+      → over area s (encode orderWords more) ≡ store orderWords start (queueStride * c) (keptOf account start c n i ++ more)
   behind s more es =
       let stay : List Order = keptOf account start c n i in
-      let next : s ≡ 320 * c + 5 * length stay = es ∙ ap (λ (k : ℕ). 320 * c + 5 * k) (p .count) in
+      let next : s ≡ firstWord c (length stay) = es ∙ ap (λ (k : ℕ). firstWord c k) (p .count) in
       sym (store-over order-codec area s more) ∙ ap (λ (a : List ℕ). store orderWords a s more) (p .queue)
-      ∙ ap (λ (k : ℕ). store orderWords (store orderWords start (320 * c) stay) k more) next
-      ∙ sym (store-append order-codec start (320 * c) stay more (omega arith))
+      ∙ ap (λ (k : ℕ). store orderWords (store orderWords start (queueStride * c) stay) k more) next
+      ∙ sym (store-append order-codec start (queueStride * c) stay more (omega arith))
 
-  module _ (o : Order) (h : i < n) (e : o ≡ orderFrom (drop (320 * c + 5 * i) area)) where
+  module _ (o : Order) (h : i < n) (e : o ≡ orderFrom (drop (firstWord c i) area)) where
     -- the first i orders and one more
     one-more : take (i + 1) (queueIn start c n) ≡ take i (queueIn start c n) ++ (o ∷ [])
     one-more =
@@ -92,11 +92,11 @@ module _ (account : ℕ) (start : List ℕ) (c n : ℕ) (room : 320 * c + 5 * n 
           small = omega (arith, p .small);
           count = p .count ∙ ap length (sym stay);
           pulled = sym out;
-          queue = p .queue ∙ ap (store orderWords start (320 * c)) (sym stay);
+          queue = p .queue ∙ ap (store orderWords start (queueStride * c)) (sym stay);
         }
 
     -- another's order stays
-    pub pull-past : (s : ℕ) (part : List ℕ) → (o .account ≡ account → ⊥) → s ≡ 320 * c + 5 * kept → part ≡ orderWords o ++ drop 5 (take (length area - s) (drop s area))
+    pub pull-past : (s : ℕ) (part : List ℕ) → (o .account ≡ account → ⊥) → s ≡ firstWord c kept → part ≡ orderWords o ++ drop orderStride (take (length area - s) (drop s area))
         → Pulling account start c n (putMid s (length area - s) area part) (kept + 1) lots (i + 1)
     pull-past s part other es ep =
         let unmet : isOf account o ≡ false = ne-eqb (o .account) account other in
@@ -108,12 +108,12 @@ module _ (account : ℕ) (start : List ℕ) (c n : ℕ) (room : 320 * c + 5 * n 
         let out : lotsWhere (isOf account) (take (i + 1) (queueIn start c n)) ≡ lots =
         rw one-more (omega (arith, p .pulled, lots-append (isOf account) first (o ∷ []), lots-unmet (isOf account) o [] unmet, lots-nil (isOf account))) in
         let size : length (keptOf account start c n (i + 1)) ≡ kept + 1 = rw (stay, length-append) (omega (arith, p .count)) in
-        let written : putMid s (length area - s) area part ≡ store orderWords start (320 * c) (keptOf account start c n (i + 1)) =
-        put-over area s o part (omega arith) ep ∙ ap (over area s) (sym (encode-one order-codec o)) ∙ behind s (o ∷ []) es ∙ ap (store orderWords start (320 * c)) (sym stay) in
+        let written : putMid s (length area - s) area part ≡ store orderWords start (queueStride * c) (keptOf account start c n (i + 1)) =
+        put-over area s o part (omega arith) ep ∙ ap (over area s) (sym (encode-one order-codec o)) ∙ behind s (o ∷ []) es ∙ ap (store orderWords start (queueStride * c)) (sym stay) in
         record {
           within = omega arith;
           fewer = omega arith;
-          long = ap length written ∙ length-store order-codec start (320 * c) (keptOf account start c n (i + 1)) (omega arith);
+          long = ap length written ∙ length-store order-codec start (queueStride * c) (keptOf account start c n (i + 1)) (omega arith);
           small = omega (arith, p .small);
           count = sym size;
           pulled = sym out;
@@ -121,17 +121,17 @@ module _ (account : ℕ) (start : List ℕ) (c n : ℕ) (room : 320 * c + 5 * n 
         }
 
   -- the places behind those kept are cleared
-  cleared : (s e : ℕ) (part : List ℕ) → s ≡ 320 * c + 5 * kept → e ≡ 320 * c + 5 * n → part ≡ replicate (length (take (e - s) (drop s area))) 0
+  cleared : (s e : ℕ) (part : List ℕ) → s ≡ firstWord c kept → e ≡ firstWord c n → part ≡ replicate (length (take (e - s) (drop s area))) 0
       → putMid s (e - s) area part ≡ putQueue start c n (keptOf account start c n i)
   unfolding putQueue padded
   cleared s e part es ee ep =
       let few : kept ≤ n = omega (arith, p .fewer, p .within) in
-      let free : e - s ≡ 5 * (n - kept) = omega arith in
+      let free : e - s ≡ orderStride * (n - kept) = omega arith in
       let zeros : replicate (e - s) 0 ≡ encode orderWords (replicate (n - kept) noOrder) = rw (free, encode-zeros order-codec (n - kept) noOrder refl) in
       rw (lent-zeros area part s e (omega arith) (omega (arith, p .long)) ep, zeros, behind s (replicate (n - kept) noOrder) es, p .count)
 
   -- all are read
-  pub pull-end : (s e : ℕ) (part : List ℕ) → n ≤ i → s ≡ 320 * c + 5 * kept → e ≡ 320 * c + 5 * n → part ≡ replicate (length (take (e - s) (drop s area))) 0
+  pub pull-end : (s e : ℕ) (part : List ℕ) → n ≤ i → s ≡ firstWord c kept → e ≡ firstWord c n → part ≡ replicate (length (take (e - s) (drop s area))) 0
       → PulledIs account start c n (record { count = kept; lots = lots }) (putMid s (e - s) area part)
   pull-end s e part all es ee ep =
       let read : take i (queueIn start c n) ≡ queueIn start c n = take-all i (queueIn start c n) (rw (length-queue start c n) all) in

@@ -18,7 +18,7 @@ use Rattle.areas.proofs.Moves.{lent-over}
 use Rattle.areas.proofs.Records.{insert-store, set-store}
 use Rattle.rules.specs.Exchange.{noOrder}
 use Rattle.rules.specs.Matching.{restIn, withLots}
-use Rattle.rules.specs.Memory.{orderWords, orderFrom, queueIn, putQueue}
+use Rattle.rules.specs.Memory.{orderWords, orderFrom, queueIn, putQueue, orderStride, queueStride, firstWord}
 use Rattle.rules.specs.Places.{firstWhere, placeIn}
 use Rattle.rules.specs.declared.Order.{Order}
 use Rattle.rules.proofs.Codecs.{order-codec, length-queue, order-at}
@@ -26,28 +26,28 @@ use Rattle.rules.proofs.Queue.{first-nil, first-here, first-on, first-within, r
 
 -- ---- an order written and moved
 
--- five stores write an order in front
-pub put-words : (part : List ℕ) (o : Order) → 5 ≤ length part → sets part 0 (orderWords o) ≡ orderWords o ++ drop 5 part
+-- seven stores write an order in front
+pub put-words : (part : List ℕ) (o : Order) → orderStride ≤ length part → sets part 0 (orderWords o) ≡ orderWords o ++ drop orderStride part
 put-words part o h = sets-eq (orderWords o) part 0 h
 
 -- an order is written over the gap in front of what was moved back
-pub shift-in : (part moved : List ℕ) (o : Order) → 5 ≤ length part → moved ≡ movedBack 5 part
-    → orderWords o ++ drop 5 moved ≡ orderWords o ++ take (length part - 5) part
+pub shift-in : (part moved : List ℕ) (o : Order) → orderStride ≤ length part → moved ≡ movedBack orderStride part
+    → orderWords o ++ drop orderStride moved ≡ orderWords o ++ take (length part - orderStride) part
 unfolding movedBack
-shift-in part moved o h e = rw (e, drop-at (take 5 part) (take (length part - 5) part) 5 (length-take-le 5 part h))
+shift-in part moved o h e = rw (e, drop-at (take orderStride part) (take (length part - orderStride) part) orderStride (length-take-le orderStride part h))
 
 -- an order is written in front of a part that reaches to the end of the area
-pub put-over : (area : List ℕ) (s : ℕ) (o : Order) (part : List ℕ) → s + 5 ≤ length area → part ≡ orderWords o ++ drop 5 (take (length area - s) (drop s area))
+pub put-over : (area : List ℕ) (s : ℕ) (o : Order) (part : List ℕ) → s + orderStride ≤ length area → part ≡ orderWords o ++ drop orderStride (take (length area - s) (drop s area))
     → putMid s (length area - s) area part ≡ over area s (orderWords o)
 unfolding over
 put-over area s o part h e =
-    let p : part ≡ orderWords o ++ drop (s + 5) area = e ∙ rw (take-all (length area - s) (drop s area) (rw length-drop (omega arith)), drop-drop 5 s area) in
+    let p : part ≡ orderWords o ++ drop (s + orderStride) area = e ∙ rw (take-all (length area - s) (drop s area) (rw length-drop (omega arith)), drop-drop orderStride s area) in
     rw (post-is s (length area) area (omega arith), drop-length, append-nil, p)
 
 -- ---- the queue read in turn
 
 module _ (area : List ℕ) (c n i : ℕ) where
-  pub next-order : (o : Order) → i < n → o ≡ orderFrom (drop (320 * c + 5 * i) area) → drop i (queueIn area c n) ≡ o ∷ drop (i + 1) (queueIn area c n)
+  pub next-order : (o : Order) → i < n → o ≡ orderFrom (drop (firstWord c i) area) → drop i (queueIn area c n) ≡ o ∷ drop (i + 1) (queueIn area c n)
   next-order o h e =
       drop-cons (queueIn area c n) i noOrder (rw (length-queue area c n) h) ∙ rw (order-at area c n i h, e, add-one)
 
@@ -64,7 +64,7 @@ module _ (f : List Order → ℕ) (area : List ℕ) (c n i done answer : ℕ) (s
   pub tally-end : n ≤ i → f [] ≡ 0 → done ≡ answer
   tally-end h k = tally-none done _ answer so-far (rw (no-more area c n i h) k)
 
-  module _ (o : Order) (h : i < n) (e : o ≡ orderFrom (drop (320 * c + 5 * i) area)) where
+  module _ (o : Order) (h : i < n) (e : o ≡ orderFrom (drop (firstWord c i) area)) where
     -- neither the order at i nor any behind it counts
     pub tally-stop : ((os : List Order) → f (o ∷ os) ≡ 0) → done ≡ answer
     tally-stop k = tally-none done _ answer so-far (rw (next-order area c n i o h e) (k (drop (i + 1) (queueIn area c n))))
@@ -77,7 +77,7 @@ module _ (f : List Order → ℕ) (area : List ℕ) (c n i done answer : ℕ) (s
 
 -- a search for the first order that satisfies a test counts those before it
 module _ (test : Order → Bool) (area : List ℕ) (c n i answer : ℕ) (so-far : i + firstWhere test (drop i (queueIn area c n)) ≡ answer) where
-  module _ (o : Order) (h : i < n) (e : o ≡ orderFrom (drop (320 * c + 5 * i) area)) where
+  module _ (o : Order) (h : i < n) (e : o ≡ orderFrom (drop (firstWord c i) area)) where
     pub search-on : test o ≡ false → i + 1 + firstWhere test (drop (i + 1) (queueIn area c n)) ≡ answer
     search-on t = tally-on (firstWhere test) area c n i i answer so-far o h e (firstWhere test) 1 (λ os. first-on test o os t ∙ sym (one-add (firstWhere test os)))
 
@@ -90,21 +90,21 @@ module _ (test : Order → Bool) (area : List ℕ) (c n i answer : ℕ) (so-far 
 -- ---- the queue written
 
 -- a queue that leaves none of its places free
-put-full : (area : List ℕ) (c n : ℕ) (q : List Order) → n ≤ length q → putQueue area c n q ≡ store orderWords area (320 * c) q
+put-full : (area : List ℕ) (c n : ℕ) (q : List Order) → n ≤ length q → putQueue area c n q ≡ store orderWords area (queueStride * c) q
 unfolding putQueue padded
 put-full area c n q h =
     let e : n - length q ≡ 0 = omega arith in
     rw (e, append-nil)
 
 -- the fourth word of an order is its lots
-set-fourth : (area : List ℕ) (s lots : ℕ) → s + 5 ≤ length area → set area (s + 3) lots ≡ over area s (orderWords (withLots (orderFrom (drop s area)) lots))
+set-fourth : (area : List ℕ) (s lots : ℕ) → s + orderStride ≤ length area → set area (s + 3) lots ≡ over area s (orderWords (withLots (orderFrom (drop s area)) lots))
 unfolding over
 set-fourth area s lots h =
     let o : Order = orderFrom (drop s area) in
-    let f : orderWords o ≡ take 5 (drop s area) = order-codec .forth (drop s area) (rw length-drop (omega arith)) in
-    let w : drop s area ≡ orderWords o ++ drop (s + 5) area = sym (take-append-drop 5 (drop s area)) ∙ ap (λ (l : List ℕ). l ++ drop 5 (drop s area)) (sym f) ∙ ap (λ (l : List ℕ). orderWords o ++ l) (drop-drop 5 s area) in
+    let f : orderWords o ≡ take orderStride (drop s area) = order-codec .forth (drop s area) (rw length-drop (omega arith)) in
+    let w : drop s area ≡ orderWords o ++ drop (s + orderStride) area = sym (take-append-drop orderStride (drop s area)) ∙ ap (λ (l : List ℕ). l ++ drop orderStride (drop s area)) (sym f) ∙ ap (λ (l : List ℕ). orderWords o ++ l) (drop-drop orderStride s area) in
     let t : take s (set area (s + 3) lots) ≡ take s area = take-set-le s area (s + 3) lots (omega arith) in
-    let d : drop s (set area (s + 3) lots) ≡ orderWords (withLots o lots) ++ drop (s + 5) area = drop-set-add s area 3 lots ∙ ap (λ (l : List ℕ). set l 3 lots) w in
+    let d : drop s (set area (s + 3) lots) ≡ orderWords (withLots o lots) ++ drop (s + orderStride) area = drop-set-add s area 3 lots ∙ ap (λ (l : List ℕ). set l 3 lots) w in
     sym (take-append-drop s (set area (s + 3) lots)) ∙ rw (t, d)
 
 module _ (area : List ℕ) (c n : ℕ) where
@@ -113,51 +113,51 @@ module _ (area : List ℕ) (c n : ℕ) where
   found-within test i found = omega (arith, first-within test (queueIn area c n), length-queue area c n)
 
   -- o put in at place i: from there on the orders and one place more were lent, and came back moved one place back behind o
-  inserted-order : (i : ℕ) (o : Order) (s e : ℕ) (part : List ℕ) → i ≤ n → s ≡ 320 * c + 5 * i → e ≡ 320 * c + 5 * n + 5 → e ≤ length area
-      → part ≡ orderWords o ++ take (length (take (e - s) (drop s area)) - 5) (take (e - s) (drop s area))
+  inserted-order : (i : ℕ) (o : Order) (s e : ℕ) (part : List ℕ) → i ≤ n → s ≡ firstWord c i → e ≡ firstWord c n + orderStride → e ≤ length area
+      → part ≡ orderWords o ++ take (length (take (e - s) (drop s area)) - orderStride) (take (e - s) (drop s area))
       → putMid s (e - s) area part ≡ putQueue area c n (insertAt i o (queueIn area c n))
   unfolding queueIn
   inserted-order i o s e part h hs he room ep =
-      let r : ℕ = 5 * (n - i) in
-      let k : e - s - 5 ≡ r = omega arith in
+      let r : ℕ = orderStride * (n - i) in
+      let k : e - s - orderStride ≡ r = omega arith in
       let hd : e - s ≤ length (drop s area) = rw length-drop (omega arith) in
       let p : part ≡ orderWords o ++ take r (drop s area) = ep ∙ rw (length-take-le (e - s) (drop s area) hd, k, take-take r (e - s) (drop s area) (omega arith)) in
       let lp : length (orderWords o ++ take r (drop s area)) ≡ e - s = rw (length-take-le r (drop s area) (omega arith)) (omega arith) in
       let lq : n ≤ length (insertAt i o (queueIn area c n)) = omega (arith, length-insertAt i o (queueIn area c n), length-queue area c n) in
       rw (p, lent-over area (orderWords o ++ take r (drop s area)) s e (omega arith) lp, hs, put-full area c n (insertAt i o (queueIn area c n)) lq)
-      (insert-store order-codec area (320 * c) n i o h (omega arith))
+      (insert-store order-codec area (queueStride * c) n i o h (omega arith))
 
   -- an order comes to rest
   pub rested-order : (sell : Bool) (i : ℕ) (o : Order) (s e : ℕ) (part : List ℕ) → i ≡ placeIn sell (o .price) (queueIn area c n)
-      → s ≡ 320 * c + 5 * i → e ≡ 320 * c + 5 * n + 5 → e ≤ length area
-      → part ≡ orderWords o ++ take (length (take (e - s) (drop s area)) - 5) (take (e - s) (drop s area))
+      → s ≡ firstWord c i → e ≡ firstWord c n + orderStride → e ≤ length area
+      → part ≡ orderWords o ++ take (length (take (e - s) (drop s area)) - orderStride) (take (e - s) (drop s area))
       → putMid s (e - s) area part ≡ putQueue area c n (restIn sell o (queueIn area c n))
   rested-order sell i o s e part found hs he room ep =
       inserted-order i o s e part (found-within _ i found) hs he room ep ∙ rw (found, ← restIn-insertAt sell o (queueIn area c n))
 
   -- the order at place i taken out: from there on the orders were lent, and came back closed up
-  pub removed-order : (i : ℕ) (s e : ℕ) (part : List ℕ) → i < n → s ≡ 320 * c + 5 * i → e ≡ 320 * c + 5 * n → e ≤ length area
-      → part ≡ closedUp 5 (take (e - s) (drop s area)) → putMid s (e - s) area part ≡ putQueue area c n (removeAt i (queueIn area c n))
+  pub removed-order : (i : ℕ) (s e : ℕ) (part : List ℕ) → i < n → s ≡ firstWord c i → e ≡ firstWord c n → e ≤ length area
+      → part ≡ closedUp orderStride (take (e - s) (drop s area)) → putMid s (e - s) area part ≡ putQueue area c n (removeAt i (queueIn area c n))
   unfolding queueIn putQueue
-  removed-order i s e part h hs he room ep = removed-at order-codec area (320 * c) n noOrder refl i s e part h hs he room ep
+  removed-order i s e part h hs he room ep = removed-at order-codec area (queueStride * c) n noOrder refl i s e part h hs he room ep
 
   -- the first k orders taken out
-  pub dropped-orders : (k : ℕ) (e : ℕ) (part : List ℕ) → k ≤ n → e ≡ 320 * c + 5 * n → e ≤ length area
-      → part ≡ closedUp (5 * k) (take (e - 320 * c) (drop (320 * c) area)) → putMid (320 * c) (e - 320 * c) area part ≡ putQueue area c n (drop k (queueIn area c n))
+  pub dropped-orders : (k : ℕ) (e : ℕ) (part : List ℕ) → k ≤ n → e ≡ firstWord c n → e ≤ length area
+      → part ≡ closedUp (orderStride * k) (take (e - queueStride * c) (drop (queueStride * c) area)) → putMid (queueStride * c) (e - queueStride * c) area part ≡ putQueue area c n (drop k (queueIn area c n))
   unfolding queueIn putQueue
-  dropped-orders k e part h he room ep = removed-first order-codec area (320 * c) n noOrder refl k e (5 * k) part h he refl room ep
+  dropped-orders k e part h he room ep = removed-first order-codec area (queueStride * c) n noOrder refl k e (orderStride * k) part h he refl room ep
 
   -- an order written over the one at place i
-  stored-order : (i : ℕ) (o : Order) → i < n → 320 * c + 5 * n ≤ length area
-      → over area (320 * c + 5 * i) (orderWords o) ≡ store orderWords area (320 * c) (set (queueIn area c n) i o)
+  stored-order : (i : ℕ) (o : Order) → i < n → firstWord c n ≤ length area
+      → over area (firstWord c i) (orderWords o) ≡ store orderWords area (queueStride * c) (set (queueIn area c n) i o)
   unfolding queueIn
-  stored-order i o h room = set-store order-codec area (320 * c) n i o h room
+  stored-order i o h room = set-store order-codec area (queueStride * c) n i o h room
 
   -- the lots of the order at place i written over
-  pub changed-lots : (i lots : ℕ) → i < n → 320 * c + 5 * n ≤ length area
-      → set area (320 * c + 5 * i + 3) lots ≡ putQueue area c n (set (queueIn area c n) i (withLots (getD (queueIn area c n) i noOrder) lots))
+  pub changed-lots : (i lots : ℕ) → i < n → firstWord c n ≤ length area
+      → set area (firstWord c i + 3) lots ≡ putQueue area c n (set (queueIn area c n) i (withLots (getD (queueIn area c n) i noOrder) lots))
   changed-lots i lots h room =
-      let s : ℕ = 320 * c + 5 * i in
+      let s : ℕ = firstWord c i in
       let o : Order = orderFrom (drop s area) in
       let lq : n ≤ length (set (queueIn area c n) i (withLots o lots)) = omega (arith, length-set (queueIn area c n) i (withLots o lots), length-queue area c n) in
       set-fourth area s lots (omega arith)

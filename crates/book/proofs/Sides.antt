@@ -12,8 +12,9 @@ use lib.ListN.{length, take, drop, getD, length-drop}
 use lib.Seq.{length-take-le}
 use Rattle.laws.specs.Choice.{pick, either-false}
 use Rattle.areas.proofs.Records.{records-part}
+use Rattle.rules.specs.Bounds.{maxResting}
 use Rattle.rules.specs.Exchange.{own}
-use Rattle.rules.specs.Memory.{Memory, listingIn, queueIn}
+use Rattle.rules.specs.Memory.{Memory, listingIn, queueIn, orderStride, queueStride, firstWord}
 use Rattle.rules.proofs.Codecs.{order-codec}
 use Rattle.book.specs.Side.{noQueue, queueWords, sideWords}
 
@@ -35,43 +36,43 @@ module _ (buys sells : List ℕ) (sell : Bool) (contract contracts count : ℕ) 
       no-place h = rw (ne-eqb contract 0 some, le-ltb contracts contract listed, lt-ltb 4 contract h)
 
       module _ (placed : contract ≤ 4) where
-        pub too-many : 64 < count → [] ≡ sideWords buys sells sell contract contracts count
+        pub too-many : maxResting < count → [] ≡ sideWords buys sells sell contract contracts count
         unfolding sideWords queueWords noQueue
-        too-many h = rw (ne-eqb contract 0 some, le-ltb contracts contract listed, le-ltb 4 contract placed, lt-ltb 64 count h)
+        too-many h = rw (ne-eqb contract 0 some, le-ltb contracts contract listed, le-ltb 4 contract placed, lt-ltb maxResting count h)
 
-        module _ (few : count ≤ 64) (area : List ℕ) (picked : area ≡ pick sell sells buys) where
-          pub too-short : length area < 320 * (contract - 1) + 5 * count → [] ≡ sideWords buys sells sell contract contracts count
+        module _ (few : count ≤ maxResting) (area : List ℕ) (picked : area ≡ pick sell sells buys) where
+          pub too-short : length area < firstWord (contract - 1) count → [] ≡ sideWords buys sells sell contract contracts count
           unfolding sideWords queueWords noQueue
           too-short h =
-              rw (← picked, ne-eqb contract 0 some, le-ltb contracts contract listed, le-ltb 4 contract placed, le-ltb 64 count few, lt-ltb (length area) (320 * (contract - 1) + 5 * count) h)
+              rw (← picked, ne-eqb contract 0 some, le-ltb contracts contract listed, le-ltb 4 contract placed, le-ltb maxResting count few, lt-ltb (length area) (firstWord (contract - 1) count) h)
 
-          pub whole-queue : 320 * (contract - 1) + 5 * count ≤ length area
-              → take (320 * (contract - 1) + 5 * count - 320 * (contract - 1)) (drop (320 * (contract - 1)) area) ≡ sideWords buys sells sell contract contracts count
+          pub whole-queue : firstWord (contract - 1) count ≤ length area
+              → take (firstWord (contract - 1) count - queueStride * (contract - 1)) (drop (queueStride * (contract - 1)) area) ≡ sideWords buys sells sell contract contracts count
           unfolding sideWords queueWords noQueue
           whole-queue h =
-              rw (← picked, ne-eqb contract 0 some, le-ltb contracts contract listed, le-ltb 4 contract placed, le-ltb 64 count few, le-ltb (length area) (320 * (contract - 1) + 5 * count) h, add-sub-cancel-left)
+              rw (← picked, ne-eqb contract 0 some, le-ltb contracts contract listed, le-ltb 4 contract placed, le-ltb maxResting count few, le-ltb (length area) (firstWord (contract - 1) count) h, add-sub-cancel-left)
 
 -- ---- the part holds the queue and nothing else
 
 -- an area whose queue can be given is long enough for it
-queue-fits : (area : List ℕ) (contract contracts count : ℕ) → noQueue area contract contracts count ≡ false → 320 * (contract - 1) + 5 * count ≤ length area
+queue-fits : (area : List ℕ) (contract contracts count : ℕ) → noQueue area contract contracts count ≡ false → firstWord (contract - 1) count ≤ length area
 unfolding noQueue
 queue-fits area contract contracts count h =
-    let short = ltb (length area) (320 * (contract - 1) + 5 * count) in
-    ltb-false (length area) (320 * (contract - 1) + 5 * count) (either-false (eqb contract 0 || ltb contracts contract || ltb 4 contract || ltb 64 count) short h .1)
+    let short = ltb (length area) (firstWord (contract - 1) count) in
+    ltb-false (length area) (firstWord (contract - 1) count) (either-false (eqb contract 0 || ltb contracts contract || ltb 4 contract || ltb maxResting count) short h .1)
 
 pub side-queue : (buys sells : List ℕ) (sell : Bool) (contract contracts count : ℕ) → noQueue (pick sell sells buys) contract contracts count ≡ false
     → queueIn (sideWords buys sells sell contract contracts count) 0 count ≡ queueIn (pick sell sells buys) (contract - 1) count
 unfolding sideWords queueWords queueIn
 side-queue buys sells sell contract contracts count h =
-    rw h (records-part order-codec (pick sell sells buys) (320 * (contract - 1)) (5 * count) count (omega arith) (queue-fits (pick sell sells buys) contract contracts count h))
+    rw h (records-part order-codec (pick sell sells buys) (queueStride * (contract - 1)) (orderStride * count) count (omega arith) (queue-fits (pick sell sells buys) contract contracts count h))
 
 pub side-length : (buys sells : List ℕ) (sell : Bool) (contract contracts count : ℕ) → noQueue (pick sell sells buys) contract contracts count ≡ false
-    → length (sideWords buys sells sell contract contracts count) ≡ 5 * count
+    → length (sideWords buys sells sell contract contracts count) ≡ orderStride * count
 unfolding sideWords queueWords
 side-length buys sells sell contract contracts count h =
     let fits = queue-fits (pick sell sells buys) contract contracts count h in
-    rw h (length-take-le (5 * count) (drop (320 * (contract - 1)) (pick sell sells buys)) (rw length-drop (omega arith)))
+    rw h (length-take-le (orderStride * count) (drop (queueStride * (contract - 1)) (pick sell sells buys)) (rw length-drop (omega arith)))
 
 -- in a memory, it is the queue of the contract's listing
 pub side-of-listing : (m : Memory) (sell : Bool) (contract count : ℕ) → count ≡ pick sell (getD (m .state .sells) (contract - 1) 0) (getD (m .state .buys) (contract - 1) 0)

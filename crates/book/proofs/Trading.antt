@@ -9,7 +9,7 @@ use Rattle.areas.specs.Records.{store}
 use Rattle.areas.proofs.Records.{store-nil, store-append}
 use Rattle.rules.specs.Holdings.{bookTrade, bookTrades}
 use Rattle.rules.specs.Matching.{tradedLots, lastPrice}
-use Rattle.rules.specs.Memory.{tradeWords}
+use Rattle.rules.specs.Memory.{tradeWords, tradeStride}
 use Rattle.rules.specs.declared.Account.{Account}
 use Rattle.rules.specs.declared.Trade.{Trade}
 use Rattle.rules.proofs.Codecs.{trade-codec}
@@ -32,19 +32,19 @@ booked done made last held area ts =
       made = made + length ts;
       last = lastPrice last ts;
       accounts = bookTrades held ts;
-      area = store tradeWords area (9 * made) ts;
+      area = store tradeWords area (tradeStride * made) ts;
     }
 
 -- a trade passes from what is to come to what is done
-pub booked-trade : (done made last : ℕ) (held : List Account) (area : List ℕ) (tr : Trade) (ts : List Trade) → 9 * made ≤ length area
-    → booked done made last held area (tr ∷ ts) ≡ booked (done + tr .lots) (made + 1) (tr .price) (bookTrade held tr) (store tradeWords area (9 * made) (tr ∷ [])) ts
+pub booked-trade : (done made last : ℕ) (held : List Account) (area : List ℕ) (tr : Trade) (ts : List Trade) → tradeStride * made ≤ length area
+    → booked done made last held area (tr ∷ ts) ≡ booked (done + tr .lots) (made + 1) (tr .price) (bookTrade held tr) (store tradeWords area (tradeStride * made) (tr ∷ [])) ts
 unfolding booked lastPrice bookTrades
 booked-trade done made last held area tr ts room =
     let t : done + tradedLots (tr ∷ ts) ≡ done + tr .lots + tradedLots ts = omega (arith, traded-cons tr ts) in
     let m : made + suc (length ts) ≡ made + 1 + length ts = omega arith in
-    let w : 9 * made + 9 * 1 ≡ 9 * (made + 1) = omega arith in
-    let a : store tradeWords area (9 * made) (tr ∷ ts) ≡ store tradeWords (store tradeWords area (9 * made) (tr ∷ [])) (9 * (made + 1)) ts
-    = store-append trade-codec area (9 * made) (tr ∷ []) ts room ∙ ap (λ (k : ℕ). store tradeWords (store tradeWords area (9 * made) (tr ∷ [])) k ts) w in
+    let w : tradeStride * made + tradeStride * 1 ≡ tradeStride * (made + 1) = omega arith in
+    let a : store tradeWords area (tradeStride * made) (tr ∷ ts) ≡ store tradeWords (store tradeWords area (tradeStride * made) (tr ∷ [])) (tradeStride * (made + 1)) ts
+    = store-append trade-codec area (tradeStride * made) (tr ∷ []) ts room ∙ ap (λ (k : ℕ). store tradeWords (store tradeWords area (tradeStride * made) (tr ∷ [])) k ts) w in
     λ i. record { traded = t i; made = m i; last = lastPrice (tr .price) ts; accounts = bookTrades (bookTrade held tr) ts; area = a i }
 
 -- nothing is to come: all of these trades are made
@@ -57,7 +57,7 @@ all-booked ts {made = made} {area = area} e =
       made = omega (arith, ap (λ b. b .made) e);
       last = ap (λ b. b .last) e;
       accounts = ap (λ b. b .accounts) e;
-      trades = sym (store-nil trade-codec area (9 * made)) ∙ ap (λ b. b .area) e;
+      trades = sym (store-nil trade-codec area (tradeStride * made)) ∙ ap (λ b. b .area) e;
     }
 
 -- how many are to come

@@ -6,7 +6,7 @@ use lib.Dec.{ltb, eqb}
 use lib.ListN.{length, take, drop}
 use Rattle.laws.specs.Choice.{pick}
 use Rattle.rules.specs.Bounds.{maxContracts, maxResting}
-use Rattle.rules.specs.Memory.{queueStride, orderStride}
+use Rattle.rules.specs.Memory.{queueStride, orderStride, firstWord}
 
 -- "Absent contract, count above 64 or area too short for it: an empty part." A contract above the fourth is absent whatever the
 -- count of contracts says: no state has a place for it.
@@ -16,7 +16,7 @@ noQueue area contract contracts count =
     || ltb contracts contract
     || ltb maxContracts contract
     || ltb maxResting count
-    || ltb (length area) (queueStride * (contract - 1) + orderStride * count)
+    || ltb (length area) (firstWord (contract - 1) count)
 
 unfoldable pub queueWords : List ℕ → ℕ → ℕ → ℕ → List ℕ
 queueWords area contract contracts count =

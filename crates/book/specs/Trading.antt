@@ -6,7 +6,7 @@ use lib.ListN.{length}
 use Rattle.areas.specs.Records.{store}
 use Rattle.rules.specs.Holdings.{bookTrades}
 use Rattle.rules.specs.Matching.{tradedLots, lastPrice}
-use Rattle.rules.specs.Memory.{tradeWords}
+use Rattle.rules.specs.Memory.{tradeWords, tradeStride}
 use Rattle.rules.specs.declared.Account.{Account}
 use Rattle.rules.specs.declared.Trade.{Trade}
 
@@ -16,4 +16,4 @@ pub record AllBooked (ts : List Trade) (before last₀ : ℕ) (held₀ : List Ac
   pub made : made₁ ≡ before + length ts
   pub last : last₁ ≡ lastPrice last₀ ts
   pub accounts : held ≡ bookTrades held₀ ts
-  pub trades : area ≡ store tradeWords area₀ (9 * before) ts
+  pub trades : area ≡ store tradeWords area₀ (tradeStride * before) ts

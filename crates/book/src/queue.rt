@@ -1,4 +1,4 @@
-// One queue of a lent area: 64 places of five words for each contract, best price first; `c` is the contract's place. What a
+// One queue of a lent area: 64 places of seven words for each contract, best price first; `c` is the contract's place. What a
 // function does to the whole area is one equation. For our own crates: each asks that the area has room for the orders it names.
 ghost use mathlib.Core.List.{_++_};
 ghost use mathlib.Core.Path.{_≡_};
@@ -8,35 +8,48 @@ ghost use Rattle.areas.specs.Lists.{removeAt};
 ghost use Rattle.areas.specs.Moves.{closedUp};
 ghost use Rattle.rules.specs.Exchange as exchange;
 ghost use Rattle.rules.specs.Matching as matching;
-ghost use Rattle.rules.specs.Memory.{queueIn, putQueue, orderFrom, orderWords};
+ghost use Rattle.rules.specs.Memory.{queueIn, putQueue, orderFrom, orderWords, orderStride, firstWord, wordOf};
 ghost use Rattle.rules.specs.Places.{placeIn};
 use rules::Order;
 
 // The order at a place.
 pub fn order_at(area: &[u32], c: usize, i: usize) -> Order
-    requires { ⌜ 320 * c + 5 * i + 5 ≤ length (now area) ⌝ }
-    ensures { λ r. ⌜ r ≡ orderFrom (drop (320 * c + 5 * i) (now (area .entry))) ⌝ }
+    requires { ⌜ firstWord c i + orderStride ≤ length (now area) ⌝ }
+    ensures { λ r. ⌜ r ≡ orderFrom (drop (firstWord c i) (now (area .entry))) ⌝ }
 {
-    let at = 320 * c + 5 * i;
+    let at = rules::QUEUE_STRIDE * c + rules::ORDER_STRIDE * i;
     Order {
         price: area[at],
         number: area[at + 1],
         account: area[at + 2],
         lots: area[at + 3],
         close: area[at + 4],
+        stamp: area[at + 5],
+        quote: area[at + 6],
     }
 }
 
-// Writes an order over the first five words.
+// One word of the order at a place.
+pub fn word_at(area: &[u32], c: usize, i: usize, word: usize) -> u32
+    requires { ⌜ (firstWord c i + orderStride ≤ length (now area)) × (word < orderStride) ⌝ }
+    ensures { λ r. ⌜ r ≡ wordOf word (orderFrom (drop (firstWord c i) (now (area .entry)))) ⌝ }
+{
+    let at = rules::QUEUE_STRIDE * c + rules::ORDER_STRIDE * i + word;
+    area[at]
+}
+
+// Writes an order over the first seven words.
 pub fn put(part: &mut [u32], o: Order)
-    requires { ⌜ 5 ≤ length (now part) ⌝ }
-    ensures { λ _. ⌜ now (part .exit) ≡ orderWords o ++ drop 5 (now (part .entry)) ⌝ }
+    requires { ⌜ orderStride ≤ length (now part) ⌝ }
+    ensures { λ _. ⌜ now (part .exit) ≡ orderWords o ++ drop orderStride (now (part .entry)) ⌝ }
 {
     part[0] = o.price;
     part[1] = o.number;
     part[2] = o.account;
     part[3] = o.lots;
     part[4] = o.close;
+    part[5] = o.stamp;
+    part[6] = o.quote;
 }
 
 // Whether a price stands strictly behind another on a side.
@@ -51,7 +64,7 @@ pub fn worse(sell: bool, price: u32, other: u32) -> bool
 
 // The place behind every order at this price or better.
 pub fn place(area: &[u32], c: usize, count: usize, sell: bool, price: u32) -> usize
-    requires { ⌜ 320 * c + 5 * count ≤ length (now area) ⌝ }
+    requires { ⌜ firstWord c count ≤ length (now area) ⌝ }
     ensures { λ r. ⌜ r ≡ placeIn sell price (queueIn (now (area .entry)) c count) ⌝ }
 {
     let mut k: usize = 0;
@@ -67,63 +80,63 @@ pub fn place(area: &[u32], c: usize, count: usize, sell: bool, price: u32) -> us
 
 // Moves each order of a part one place back, and writes the new one in front. The last place's words go.
 pub fn shift(part: &mut [u32], o: Order)
-    requires { ⌜ 5 ≤ length (now part) ⌝ }
-    ensures { λ _. ⌜ now (part .exit) ≡ orderWords o ++ take (length (now (part .entry)) - 5) (now (part .entry)) ⌝ }
+    requires { ⌜ orderStride ≤ length (now part) ⌝ }
+    ensures { λ _. ⌜ now (part .exit) ≡ orderWords o ++ take (length (now (part .entry)) - orderStride) (now (part .entry)) ⌝ }
 {
-    areas::move_back(part, 5);
+    areas::move_back(part, rules::ORDER_STRIDE);
     put(part, o);
 }
 
 // "A good-for-day remainder rests, and every later order moves one place back": the queue from the insertion place on is
 // lent as a writable part and shifted by one order.
 pub fn insert(area: &mut [u32], c: usize, count: usize, sell: bool, o: Order)
-    requires { ⌜ 320 * c + 5 * count + 5 ≤ length (now area) ⌝ }
+    requires { ⌜ firstWord c count + orderStride ≤ length (now area) ⌝ }
     ensures { λ _. ⌜ now (area .exit) ≡ putQueue (now (area .entry)) c count (matching.restIn sell o (queueIn (now (area .entry)) c count)) ⌝ }
 {
     let i = place(&area[..], c, count, sell, o.price);
-    let a = 320 * c + 5 * i;
-    let e = 320 * c + 5 * count + 5;
+    let a = rules::QUEUE_STRIDE * c + rules::ORDER_STRIDE * i;
+    let e = rules::QUEUE_STRIDE * c + rules::ORDER_STRIDE * count + rules::ORDER_STRIDE;
     shift(&mut area[a..e], o);
 }
 
 // Takes the first order of a part out: later ones close up, and the freed place is set to zero. A function of its own: by a distance
 // that it knows the compiler moves the words as one block.
 fn close_up(part: &mut [u32])
-    requires { ⌜ 5 ≤ length (now part) ⌝ }
-    ensures { λ _. ⌜ now (part .exit) ≡ closedUp 5 (now (part .entry)) ⌝ }
+    requires { ⌜ orderStride ≤ length (now part) ⌝ }
+    ensures { λ _. ⌜ now (part .exit) ≡ closedUp orderStride (now (part .entry)) ⌝ }
 {
-    areas::close_up(part, 5);
+    areas::close_up(part, rules::ORDER_STRIDE);
 }
 
 // Takes the order at a place out.
 pub fn remove(area: &mut [u32], c: usize, count: usize, i: usize)
-    requires { ⌜ (i < count) × (320 * c + 5 * count ≤ length (now area)) ⌝ }
+    requires { ⌜ (i < count) × (firstWord c count ≤ length (now area)) ⌝ }
     ensures { λ _. ⌜ now (area .exit) ≡ putQueue (now (area .entry)) c count (removeAt i (queueIn (now (area .entry)) c count)) ⌝ }
 {
-    let a = 320 * c + 5 * i;
-    let e = 320 * c + 5 * count;
+    let a = rules::QUEUE_STRIDE * c + rules::ORDER_STRIDE * i;
+    let e = rules::QUEUE_STRIDE * c + rules::ORDER_STRIDE * count;
     close_up(&mut area[a..e]);
 }
 
 // Takes the first k orders out: later ones close up, and the freed places are set to zero. One order is the common case.
 pub fn drop_front(area: &mut [u32], c: usize, count: usize, k: usize)
-    requires { ⌜ (k ≤ count) × (320 * c + 5 * count ≤ length (now area)) ⌝ }
+    requires { ⌜ (k ≤ count) × (firstWord c count ≤ length (now area)) ⌝ }
     ensures { λ _. ⌜ now (area .exit) ≡ putQueue (now (area .entry)) c count (drop k (queueIn (now (area .entry)) c count)) ⌝ }
 {
     if k == 1 {
         remove(area, c, count, 0);
         return;
     }
-    let a = 320 * c;
-    let e = 320 * c + 5 * count;
-    areas::close_up(&mut area[a..e], 5 * k);
+    let a = rules::QUEUE_STRIDE * c;
+    let e = rules::QUEUE_STRIDE * c + rules::ORDER_STRIDE * count;
+    areas::close_up(&mut area[a..e], rules::ORDER_STRIDE * k);
 }
 
 // Changes the remaining lots of the order at a place.
 pub fn set_lots(area: &mut [u32], c: usize, count: usize, i: usize, lots: u32)
-    requires { ⌜ (i < count) × (320 * c + 5 * count ≤ length (now area)) ⌝ }
+    requires { ⌜ (i < count) × (firstWord c count ≤ length (now area)) ⌝ }
     ensures { λ _. ⌜ now (area .exit) ≡ putQueue (now (area .entry)) c count (set (queueIn (now (area .entry)) c count) i (matching.withLots (getD (queueIn (now (area .entry)) c count) i exchange.noOrder) lots)) ⌝ }
 {
-    let at = 320 * c + 5 * i + 3;
+    let at = rules::QUEUE_STRIDE * c + rules::ORDER_STRIDE * i + 3;
     area[at] = lots;
 }

@@ -2,14 +2,15 @@
 ghost use mathlib.Core.Path.{_≡_};
 ghost use Prim.Native.Nat.{_+_, _*_, _≤_};
 ghost use lib.ListN.{length};
-ghost use Rattle.rules.specs.Memory.{queueIn};
+ghost use Rattle.rules.specs.Bounds.{maxResting};
+ghost use Rattle.rules.specs.Memory.{queueIn, firstWord};
 ghost use Rattle.rules.specs.Places.{indexOf};
 ghost use Rattle.book.specs.Removal.{PulledIs};
 use crate::queue;
 
 // The place of the order with a number; the count where there is none.
 pub fn find(area: &[u32], c: usize, count: usize, number: u32) -> usize
-    requires { ⌜ 320 * c + 5 * count ≤ length (now area) ⌝ }
+    requires { ⌜ firstWord c count ≤ length (now area) ⌝ }
     ensures { λ r. ⌜ r ≡ indexOf number (queueIn (now (area .entry)) c count) ⌝ }
 {
     let mut k: usize = 0;
@@ -31,7 +32,7 @@ pub struct Pulled {
 
 // Takes out all orders of an account, perhaps none: the others close up, and the freed places are set to zero.
 pub fn pull(area: &mut [u32], c: usize, count: usize, account: u32) -> Pulled
-    requires { ⌜ (count ≤ 64) × (320 * c + 5 * count ≤ length (now area)) ⌝ }
+    requires { ⌜ (count ≤ maxResting) × (firstWord c count ≤ length (now area)) ⌝ }
     ensures { λ r. ⌜ PulledIs account (now (area .entry)) c count r (now (area .exit)) ⌝ }
 {
     let mut kept: usize = 0;
@@ -43,13 +44,13 @@ pub fn pull(area: &mut [u32], c: usize, count: usize, account: u32) -> Pulled
         if o.account == account {
             lots += laws::wide32(o.lots);
         } else {
-            let at = 320 * c + 5 * kept;
+            let at = rules::QUEUE_STRIDE * c + rules::ORDER_STRIDE * kept;
             queue::put(&mut area[at..], o);
             kept += 1;
         }
     }
-    let a = 320 * c + 5 * kept;
-    let e = 320 * c + 5 * count;
+    let a = rules::QUEUE_STRIDE * c + rules::ORDER_STRIDE * kept;
+    let e = rules::QUEUE_STRIDE * c + rules::ORDER_STRIDE * count;
     areas::clear(&mut area[a..e]);
     Pulled { count: kept, lots }
 }

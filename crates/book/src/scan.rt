@@ -4,16 +4,17 @@ ghost use mathlib.Core.List.{_∷_, []};
 ghost use mathlib.Core.Path.{_≡_};
 ghost use Prim.Native.Nat.{_+_, _*_, _≤_};
 ghost use lib.ListN.{length};
+ghost use Rattle.rules.specs.Bounds.{maxResting};
 ghost use Rattle.rules.specs.EarlyStop as early;
 ghost use Rattle.rules.specs.Exchange as exchange;
-ghost use Rattle.rules.specs.Memory.{queueIn};
+ghost use Rattle.rules.specs.Memory.{queueIn, firstWord};
 use crate::queue;
 use rules::Order;
 use rules::Taker;
 
 // The lots of the counterparts: reading stops at the first order that is none.
 pub fn fillable(area: &[u32], c: usize, count: usize, t: Taker) -> u64
-    requires { ⌜ (count ≤ 64) × (320 * c + 5 * count ≤ length (now area)) ⌝ }
+    requires { ⌜ (count ≤ maxResting) × (firstWord c count ≤ length (now area)) ⌝ }
     ensures { λ r. ⌜ r ≡ early.fillableFront t (queueIn (now (area .entry)) c count) ⌝ }
 {
     let condition = t.condition;
@@ -32,7 +33,7 @@ pub fn fillable(area: &[u32], c: usize, count: usize, t: Taker) -> u64
 
 // How many trades an order of so many lots would make.
 pub fn count_trades(area: &[u32], c: usize, count: usize, t: Taker, lots: u32) -> usize
-    requires { ⌜ 320 * c + 5 * count ≤ length (now area) ⌝ }
+    requires { ⌜ firstWord c count ≤ length (now area) ⌝ }
     ensures { λ r. ⌜ r ≡ early.countTrades t lots (queueIn (now (area .entry)) c count) ⌝ }
 {
     let condition = t.condition;
@@ -68,7 +69,7 @@ pub fn lots_of(o: Order, account: u32, close: u32) -> u64
 
 // An account's resting opens (close 0) or resting closes (close 1) in a queue.
 pub fn resting(area: &[u32], c: usize, count: usize, account: u32, close: u32) -> u64
-    requires { ⌜ (count ≤ 64) × (320 * c + 5 * count ≤ length (now area)) ⌝ }
+    requires { ⌜ (count ≤ maxResting) × (firstWord c count ≤ length (now area)) ⌝ }
     ensures { λ r. ⌜ r ≡ exchange.resting close account (queueIn (now (area .entry)) c count) ⌝ }
 {
     let mut lots: u64 = 0;

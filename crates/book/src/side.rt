@@ -3,7 +3,7 @@
 ghost use mathlib.Core.Path.{_≡_};
 ghost use Rattle.book.specs.Side.{sideWords};
 
-// The words of a side's queue, five for each order. `contract` is the contract's number; `contracts` and `count` are the state's
+// The words of a side's queue, seven for each order. `contract` is the contract's number; `contracts` and `count` are the state's
 // counts of contracts and of that side's orders.
 pub fn side<'a>(
     buys: &'a [u32],
@@ -22,14 +22,14 @@ pub fn side<'a>(
     if contract > contracts {
         return &area[..0];
     }
-    if contract > 4 {
+    if contract > rules::MAX_CONTRACTS {
         return &area[..0];
     }
-    if count > 64 {
+    if count > rules::MAX_RESTING {
         return &area[..0];
     }
-    let a = 320 * (contract - 1);
-    let e = a + 5 * count;
+    let a = rules::QUEUE_STRIDE * (contract - 1);
+    let e = a + rules::ORDER_STRIDE * count;
     if e > area.len() {
         return &area[..0];
     }

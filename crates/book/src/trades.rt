@@ -4,14 +4,14 @@ ghost use mathlib.Core.List.{[], _∷_};
 ghost use Prim.Native.Nat.{_+_, _*_, _≤_};
 ghost use lib.ListN.{length, drop};
 ghost use Rattle.areas.specs.Records.{store};
-ghost use Rattle.rules.specs.Memory.{tradeFrom, tradeWords};
+ghost use Rattle.rules.specs.Memory.{tradeFrom, tradeWords, tradeStride};
 use rules::Trade;
 
 pub fn trade_at(area: &[u32], i: usize) -> Trade
-    requires { ⌜ 9 * i + 9 ≤ length (now area) ⌝ }
-    ensures { λ r. ⌜ r ≡ tradeFrom (drop (9 * i) (now (area .entry))) ⌝ }
+    requires { ⌜ tradeStride * i + tradeStride ≤ length (now area) ⌝ }
+    ensures { λ r. ⌜ r ≡ tradeFrom (drop (tradeStride * i) (now (area .entry))) ⌝ }
 {
-    let at = 9 * i;
+    let at = rules::TRADE_STRIDE * i;
     Trade {
         contract: area[at],
         price: area[at + 1],
@@ -26,10 +26,10 @@ pub fn trade_at(area: &[u32], i: usize) -> Trade
 }
 
 pub fn put_trade(area: &mut [u32], i: usize, t: Trade)
-    requires { ⌜ 9 * i + 9 ≤ length (now area) ⌝ }
-    ensures { λ _. ⌜ now (area .exit) ≡ store tradeWords (now (area .entry)) (9 * i) (t ∷ []) ⌝ }
+    requires { ⌜ tradeStride * i + tradeStride ≤ length (now area) ⌝ }
+    ensures { λ _. ⌜ now (area .exit) ≡ store tradeWords (now (area .entry)) (tradeStride * i) (t ∷ []) ⌝ }
 {
-    let at = 9 * i;
+    let at = rules::TRADE_STRIDE * i;
     area[at] = t.contract;
     area[at + 1] = t.price;
     area[at + 2] = t.lots;

@@ -1,15 +1,16 @@
 -- What the examples test before an order is entered is all that `enter` asks for. Assumes nothing.
-use mathlib.Core.Bool.{true}
+use mathlib.Core.Bool.{true, false}
 use mathlib.Core.List.{List}
 use mathlib.Core.Path.{_≡_, ap, _∙_}
 use Prim.Native.Nat.{ℕ, zero, suc, _+_, _*_, _<_, _≤_}
 use native.Mathlib.Omega.{arith}
 use lib.IntN.{pos}
 use lib.ListN.{length, drop, getD, replicate}
+use Rattle.rules.specs.Bounds.{maxResting}
 use Rattle.rules.specs.EarlyStop.{countTrades}
 use Rattle.rules.specs.Exchange.{noOrder, noHolding, noAccount, accountAt, holdingAt}
 use Rattle.rules.specs.Matching.{restLots, restedLots, enter, sweep}
-use Rattle.rules.specs.Memory.{orderFrom, queueIn}
+use Rattle.rules.specs.Memory.{orderFrom, queueIn, orderStride, queueStride, firstWord}
 use Rattle.rules.specs.declared.Account.{Account}
 use Rattle.rules.specs.declared.Order.{Order}
 use Rattle.rules.specs.declared.PairingMethod.the-variants.{Middle}
@@ -38,7 +39,7 @@ none-held : (b a c : ℕ) → HoldingWithin b (holdingAt noHoldings a c)
 unfolding noHoldings accountAt holdingAt
 none-held b =
     getD-copies (λ (x : Account). (c : ℕ) → HoldingWithin b (getD (x .holdings) c noHolding)) 32
-    (record { balance = pos 0; holdings = replicate 4 noHolding }) noAccount
+    (record { balance = pos 0; maker = false; holdings = replicate 4 noHolding }) noAccount
     (getD-copies (HoldingWithin b) 4 noHolding noHolding nothing nothing) (λ c. nothing)
   where
     nothing : HoldingWithin b noHolding
@@ -46,18 +47,18 @@ none-held b =
 
 module _ (t : Taker) (lots : ℕ) (opposite : List ℕ) (count : ℕ) (contract : t .contract ≡ 0) (method : t .method ≡ Middle) where
   -- the queue of contract 0 begins with the area
-  account-at : (i : ℕ) → i < count → getD (queueIn opposite (t .contract) count) i noOrder .account ≡ getD opposite (5 * i + 2) 0
+  account-at : (i : ℕ) → i < count → getD (queueIn opposite (t .contract) count) i noOrder .account ≡ getD opposite (orderStride * i + 2) 0
   account-at i h =
-      let at : 320 * t .contract + 5 * i ≡ 5 * i = omega arith in
+      let at : firstWord (t .contract) i ≡ orderStride * i = omega arith in
       ap (λ (o : Order). o .account)
       (order-at opposite (t .contract) count i h
       ∙ ap (λ (k : ℕ). orderFrom (drop k opposite)) at
-      ∙ order-words opposite (5 * i))
+      ∙ order-words opposite (orderStride * i))
 
   -- all that `enter` asks for, of an order that makes at most two trades
   pub ready : (price last : ℕ) {held : List Account} (own : List ℕ) (owncount : ℕ) (area : List ℕ) (before : ℕ)
-      → t .account ≤ 31 → lots ≤ 1000 → owncount ≤ 63 → count ≤ 64 → before ≤ 8
-      → length own ≡ 320 → length opposite ≡ 320 → length area ≡ 90
+      → t .account ≤ 31 → lots ≤ 1000 → owncount ≤ 63 → count ≤ maxResting → before ≤ 8
+      → length own ≡ queueStride → length opposite ≡ queueStride → length area ≡ 90
       → AccountsKnown opposite count → countTrades t lots (queueIn opposite 0 count) ≤ 2 → held ≡ noHoldings
       → EntryReady t lots price true last held own owncount opposite count area before
   unfolding enter

@@ -3,6 +3,7 @@
 ghost use mathlib.Core.Bool.{true};
 ghost use mathlib.Core.Path.{_≡_};
 ghost use Prim.Native.Nat.{_≤_};
+ghost use Rattle.rules.specs.Bounds.{maxResting};
 ghost use Rattle.rules.specs.declared.PairingMethod.the-variants.{Middle};
 ghost use Rattle.book_examples.specs.Known.{AccountsKnown, noHoldings};
 use book::queue;
@@ -24,7 +25,7 @@ struct Standing {
     last: u32,
 }
 
-fn no_holdings() -> [Account; 32]
+fn no_holdings() -> [Account; rules::MAX_ACCOUNTS]
     ensures { λ r. ⌜ r ≡ noHoldings ⌝ }
 {
     let none = Holding {
@@ -35,9 +36,10 @@ fn no_holdings() -> [Account; 32]
     };
     let empty = Account {
         balance: 0,
-        holdings: [none; 4],
+        maker: false,
+        holdings: [none; rules::MAX_CONTRACTS],
     };
-    [empty; 32]
+    [empty; rules::MAX_ACCOUNTS]
 }
 
 // A limit order of account 0 in contract 0, paired by the middle price.
@@ -57,13 +59,13 @@ fn limit_order(sell: bool, number: u32, limit: u32) -> Taker
 }
 
 // Whether every order of a queue is of an account that there is room for.
-fn accounts_known(area: &[u32; 320], count: usize) -> bool
-    requires { ⌜ count ≤ 64 ⌝ }
+fn accounts_known(area: &[u32; rules::QUEUE_STRIDE], count: usize) -> bool
+    requires { ⌜ count ≤ maxResting ⌝ }
     ensures { λ r. ⌜ (r ≡ true → AccountsKnown (now (area .entry)) count) ⌝ }
 {
     let mut i: usize = 0;
     while i < count {
-        let at = 5 * i + 2;
+        let at = rules::ORDER_STRIDE * i + 2;
         if area[at] >= 32 {
             return false;
         }
@@ -87,9 +89,9 @@ fn nothing() -> Entry {
 
 // Enters a good-for-day limit order, where all that `enter` asks for holds.
 fn submit(
-    own: &mut [u32; 320],
+    own: &mut [u32; rules::QUEUE_STRIDE],
     owncount: usize,
-    opposite: &mut [u32; 320],
+    opposite: &mut [u32; rules::QUEUE_STRIDE],
     oppositecount: usize,
     area: &mut [u32; 90],
     before: usize,
@@ -154,8 +156,8 @@ fn print_entry(e: Entry, sell: bool, lots: u32, price: u32) {
 }
 
 fn order(
-    buys: &mut [u32; 320],
-    sells: &mut [u32; 320],
+    buys: &mut [u32; rules::QUEUE_STRIDE],
+    sells: &mut [u32; rules::QUEUE_STRIDE],
     area: &mut [u32; 90],
     s: Standing,
     number: u32,
@@ -207,7 +209,7 @@ fn order(
 }
 
 // The lots that a buy at a limit could be filled with.
-fn fillable(area: &[u32; 320], count: usize, limit: u32) -> u64 {
+fn fillable(area: &[u32; rules::QUEUE_STRIDE], count: usize, limit: u32) -> u64 {
     if count > 64 {
         return 0;
     }
@@ -215,7 +217,7 @@ fn fillable(area: &[u32; 320], count: usize, limit: u32) -> u64 {
     scan::fillable(area, 0, count, t)
 }
 
-fn print_queue(area: &[u32; 320], count: usize) {
+fn print_queue(area: &[u32; rules::QUEUE_STRIDE], count: usize) {
     if count > 64 {
         return;
     }
@@ -241,8 +243,8 @@ fn print_trades(area: &[u32; 90], count: usize) {
 
 // The book before the example's orders.
 fn fill(
-    buys: &mut [u32; 320],
-    sells: &mut [u32; 320],
+    buys: &mut [u32; rules::QUEUE_STRIDE],
+    sells: &mut [u32; rules::QUEUE_STRIDE],
     area: &mut [u32; 90],
     empty: Standing,
 ) -> Standing {
@@ -256,8 +258,8 @@ fn fill(
 }
 
 fn main() {
-    let mut buys = [0u32; 320];
-    let mut sells = [0u32; 320];
+    let mut buys = [0u32; rules::QUEUE_STRIDE];
+    let mut sells = [0u32; rules::QUEUE_STRIDE];
     let mut area = [0u32; 90];
     let empty = Standing {
         buys: 0,

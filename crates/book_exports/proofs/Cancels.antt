@@ -8,7 +8,7 @@ use lib.Seq.{take-all}
 use Rattle.areas.proofs.Lists.{length-removeAt}
 use Rattle.areas.specs.Lists.{removeAt}
 use Rattle.rules.proofs.Codecs.{length-queue, put-queue}
-use Rattle.rules.specs.Memory.{queueIn, putQueue}
+use Rattle.rules.specs.Memory.{queueIn, putQueue, firstWord}
 use Rattle.rules.specs.Places.{indexOf}
 
 removeAt-past : {A : Type 0} (i : ℕ) (os : List A) → length os ≤ i → removeAt i os ≡ os
@@ -33,6 +33,6 @@ module _ (area : List ℕ) (c n number i : ℕ) (found : i ≡ indexOf number (q
   pub as-many : n ≤ i → n ≡ length (removeAt (indexOf number (queueIn area c n)) (queueIn area c n))
   as-many h = rw (none-gone h, length-queue)
 
-  pub unchanged : 320 * c + 5 * n ≤ length area → n ≤ i
+  pub unchanged : firstWord c n ≤ length area → n ≤ i
       → area ≡ putQueue area c n (removeAt (indexOf number (queueIn area c n)) (queueIn area c n))
   unchanged room h = sym (ap (putQueue area c n) (none-gone h) ∙ put-queue area c n room)

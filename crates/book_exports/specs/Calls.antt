@@ -1,4 +1,5 @@
 -- What the benchmark's calls ask for and what they give, in terms of the rules. Assumes nothing.
+use mathlib.Core.Bool.{false}
 use mathlib.Core.List.{List}
 use mathlib.Core.Path.{_≡_}
 use Prim.Native.Nat.{ℕ, zero, suc, _+_, _*_, _<_}
@@ -9,7 +10,7 @@ use Rattle.rules.specs.Command.{priceCondition}
 use Rattle.rules.specs.Exchange.{holdingAt}
 use Rattle.rules.specs.Holdings.{bookTrades}
 use Rattle.rules.specs.Matching.{Entered, enter, lastPrice}
-use Rattle.rules.specs.Memory.{queueIn, putQueue, tradeWords}
+use Rattle.rules.specs.Memory.{queueIn, putQueue, tradeWords, tradeStride}
 use Rattle.rules.specs.declared.Account.{Account}
 use Rattle.rules.specs.declared.Order.{Order}
 use Rattle.rules.specs.declared.PairingMethod.the-variants.{Middle}
@@ -19,7 +20,7 @@ use Rattle.book_exports.specs.declared.Sweeps.{Sweeps}
 use Rattle.book_exports.specs.declared.Swept.{Swept}
 
 abbrev pub orderOf : ℕ → ℕ → ℕ → ℕ → ℕ → Order
-orderOf price number account lots close = record { price = price; number = number; account = account; lots = lots; close = close }
+orderOf price number account lots close = record { price = price; number = number; account = account; lots = lots; close = close; stamp = 0; quote = 0 }
 
 abbrev pub takerOf : Sweeps → Taker
 takerOf s =
@@ -38,7 +39,7 @@ takerOf s =
 abbrev pub accountsOf : ℕ → List Account
 accountsOf lots =
     replicate 32
-    (record { balance = pos 0; holdings = replicate 4 (record { long = lots; short = lots; startlong = lots; startshort = lots }) })
+    (record { balance = pos 0; maker = false; holdings = replicate 4 (record { long = lots; short = lots; startlong = lots; startshort = lots }) })
 
 -- ---- one order entered again and again
 
@@ -78,7 +79,7 @@ after s b e =
       own = length (e .own);
       opposites = putQueue (b .opposites) (s .contract) (b .opposite) (e .opposite);
       opposite = length (e .opposite);
-      area = store tradeWords (b .area) (9 * b .made) (e .trades);
+      area = store tradeWords (b .area) (tradeStride * b .made) (e .trades);
       made = b .made + length (e .trades);
       last = lastPrice (b .last) (e .trades);
       accounts = bookTrades (b .accounts) (e .trades);

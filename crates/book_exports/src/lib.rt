@@ -6,7 +6,7 @@ ghost use lib.ListN.{length};
 ghost use Rattle.areas.specs.Lists.{removeAt};
 ghost use Rattle.rules.specs.Command.{priceCondition};
 ghost use Rattle.rules.specs.Matching.{restIn};
-ghost use Rattle.rules.specs.Memory.{queueIn, putQueue};
+ghost use Rattle.rules.specs.Memory.{queueIn, putQueue, orderStride, firstWord};
 ghost use Rattle.rules.specs.Places.{indexOf};
 ghost use Rattle.book_exports.specs.Calls.{orderOf, takerOf, accountsOf, SweepsReady, SweptIs};
 use book::queue;
@@ -31,7 +31,7 @@ pub extern "C" fn zelvorm_insert(
     lots: u32,
     close: u32,
 )
-    requires { ⌜ 320 * c + 5 * count + 5 ≤ length (now area) ⌝ }
+    requires { ⌜ firstWord c count + orderStride ≤ length (now area) ⌝ }
     ensures { λ _. ⌜ now (area .exit) ≡ putQueue (now (area .entry)) c count (restIn sell (orderOf price number account lots close) (queueIn (now (area .entry)) c count)) ⌝ }
 {
     let o = Order {
@@ -40,6 +40,8 @@ pub extern "C" fn zelvorm_insert(
         account,
         lots,
         close,
+        stamp: 0,
+        quote: 0,
     };
     queue::insert(area, c, count, sell, o);
 }
@@ -47,7 +49,7 @@ pub extern "C" fn zelvorm_insert(
 // Takes out the order with a number, if there is one; the number of orders left.
 #[no_mangle]
 pub extern "C" fn zelvorm_cancel(area: &mut [u32], c: usize, count: usize, number: u32) -> usize
-    requires { ⌜ 320 * c + 5 * count ≤ length (now area) ⌝ }
+    requires { ⌜ firstWord c count ≤ length (now area) ⌝ }
     ensures { λ r. ⌜ r ≡ length (removeAt (indexOf number (queueIn (now (area .entry)) c count)) (queueIn (now (area .entry)) c count)) ⌝ }
     ensures { λ _. ⌜ now (area .exit) ≡ putQueue (now (area .entry)) c count (removeAt (indexOf number (queueIn (now (area .entry)) c count)) (queueIn (now (area .entry)) c count)) ⌝ }
 {
@@ -118,7 +120,7 @@ fn taker(s: Sweeps) -> Taker
     }
 }
 
-fn accounts_with(lots: u32) -> [Account; 32]
+fn accounts_with(lots: u32) -> [Account; rules::MAX_ACCOUNTS]
     ensures { λ r. ⌜ r ≡ accountsOf lots ⌝ }
 {
     let holding = Holding {
@@ -127,12 +129,13 @@ fn accounts_with(lots: u32) -> [Account; 32]
         startlong: lots,
         startshort: lots,
     };
-    let holdings = [holding; 4];
+    let holdings = [holding; rules::MAX_CONTRACTS];
     let account = Account {
         balance: 0,
+        maker: false,
         holdings: holdings,
     };
-    [account; 32]
+    [account; rules::MAX_ACCOUNTS]
 }
 
 // Enters the order so many times, over accounts made here and kept by value from one order to the next.

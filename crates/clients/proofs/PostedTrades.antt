@@ -12,7 +12,7 @@ use Rattle.laws.specs.Choice.{pick, allOf, allOf-append, allOf-stop}
 use Rattle.areas.specs.Records.{store}
 use Rattle.areas.proofs.Records.{store-append, store-nil, length-store}
 use Rattle.rules.specs.Exchange.{noTrade}
-use Rattle.rules.specs.Memory.{recordedTrades, tradeFrom, tradeWords}
+use Rattle.rules.specs.Memory.{recordedTrades, tradeFrom, tradeWords, tradeStride}
 use Rattle.rules.specs.declared.Trade.{Trade}
 use Rattle.rules.proofs.Codecs.{trade-codec, length-trades, trades-none, trade-at}
 use Rattle.dayprofit.proofs.Trading.{more-trades}
@@ -83,7 +83,7 @@ module _ (a clients : ℕ) (postings trades : List ℕ) (count : ℕ) (area₀ :
         all = rw (trades-none trades);
       }
 
-  module _ (i legs : ℕ) (area : List ℕ) (l : i < count) (g : Going i legs area) (t : Trade) (e : t ≡ tradeFrom (drop (9 * i) trades)) where
+  module _ (i legs : ℕ) (area : List ℕ) (l : i < count) (g : Going i legs area) (t : Trade) (e : t ≡ tradeFrom (drop (tradeStride * i) trades)) where
     pub not-posted : tradePosted a clients postings t ≡ false → false ≡ allOf (tradePosted a clients postings) (recordedTrades trades count)
     not-posted f =
         sym (allOf-stop (tradePosted a clients postings) (recordedTrades trades count) i noTrade (rw (length-trades trades count) l)
@@ -99,17 +99,17 @@ module _ (a clients : ℕ) (postings trades : List ℕ) (count : ℕ) (area₀ :
       so-many : length (clientTrades a clients postings trades i) ≡ i
       so-many = length-map (recordedTrades trades i) (clientTrade a clients postings) ∙ length-trades trades i
 
-      pub going-more : tradePosted a clients postings t ≡ true → (area′ : List ℕ) (n : ℕ) → 9 * count ≤ length area₀
-          → area′ ≡ store tradeWords area (9 * i) (u ∷ []) → n ≡ legsIn u → n ≤ 2 → Going (i + 1) (legs + n) area′
+      pub going-more : tradePosted a clients postings t ≡ true → (area′ : List ℕ) (n : ℕ) → tradeStride * count ≤ length area₀
+          → area′ ≡ store tradeWords area (tradeStride * i) (u ∷ []) → n ≡ legsIn u → n ≤ 2 → Going (i + 1) (legs + n) area′
       unfolding allOf
       going-more p area′ n room s q k =
-          let z : 0 + 9 * length (clientTrades a clients postings trades i) ≡ 9 * i = omega (arith, so-many) in
+          let z : 0 + tradeStride * length (clientTrades a clients postings trades i) ≡ tradeStride * i = omega (arith, so-many) in
           let c : area′ ≡ store tradeWords area₀ 0 (clientTrades a clients postings trades (i + 1)) =
           s ∙ rw (g .content, one-more) (ap (λ (at : ℕ). store tradeWords (store tradeWords area₀ 0 (clientTrades a clients postings trades i)) at (u ∷ [])) (sym z)
           ∙ sym (store-append trade-codec area₀ 0 (clientTrades a clients postings trades i) (u ∷ []) (omega arith))) in
           record {
             within = omega arith;
-            long = ap length s ∙ length-store trade-codec area (9 * i) (u ∷ []) (omega (arith, g .long)) ∙ g .long;
+            long = ap length s ∙ length-store trade-codec area (tradeStride * i) (u ∷ []) (omega (arith, g .long)) ∙ g .long;
             content = c;
             counted = rw one-more (omega (arith, g .counted, legs-more (clientTrades a clients postings trades i) u));
             few = omega (arith, g .few);

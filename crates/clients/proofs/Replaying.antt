@@ -7,7 +7,7 @@ use native.Mathlib.Omega.{arith}
 use lib.ListN.{getD, drop}
 use Rattle.rules.specs.Exchange.{noAccount}
 use Rattle.rules.specs.Holdings.{bookTrades, legCovered, neverBelowZero, startOfDay}
-use Rattle.rules.specs.Memory.{recordedTrades, tradeFrom, used}
+use Rattle.rules.specs.Memory.{recordedTrades, tradeFrom, used, tradeStride}
 use Rattle.rules.specs.declared.Account.{Account}
 use Rattle.rules.specs.declared.Trade.{Trade}
 use Rattle.audit.specs.Parts.{Booked}
@@ -21,7 +21,7 @@ module _ {list : List Account} {k : ℕ} {area : List ℕ} {count : ℕ} where
       → ReplayIs list k area count (record { accounts = held; covered = false })
   below held e = record { covered = sym e; held = λ t. absurd (false≢true t) }
 
-  pub buyer-below : {held : List Account} {i : ℕ} → Going list k 17 area count held i → {t : Trade} → i < count → t ≡ tradeFrom (drop (9 * i) area) → Booked k 17 t
+  pub buyer-below : {held : List Account} {i : ℕ} → Going list k 17 area count held i → {t : Trade} → i < count → t ≡ tradeFrom (drop (tradeStride * i) area) → Booked k 17 t
       → {who place : ℕ} → who ≡ t .buyer → place ≡ t .contract → legCovered (getD held who noAccount ∷ []) 0 place false (t .buyclose) (t .lots) ≡ false
       → ReplayIs list k area count (record { accounts = held; covered = false })
   unfolding neverBelowZero

@@ -1,5 +1,5 @@
 -- The orders of one account posted to its clients, and the day as the clients see it (document 02, ticket 9). Assumes nothing.
-use mathlib.Core.Bool.{Bool, not, _&&_, _||_}
+use mathlib.Core.Bool.{Bool, false, not, _&&_, _||_}
 use mathlib.Core.List.{List, [], _∷_, _++_, map}
 use Prim.Native.Nat.{ℕ, zero, suc, _+_, _*_, _/_}
 use lib.Dec.{eqb, ltb}
@@ -96,7 +96,7 @@ startHolding starts k c =
 
 -- what stands at place k: a client, or, past the clients, no lots
 unfoldable pub clientAccount : Clients → ℕ → Account
-clientAccount b k = record { balance = pos 0; holdings = tabulate 4 (startHolding (pick (ltb k (b .count)) (b .starts) []) k) }
+clientAccount b k = record { balance = pos 0; maker = false; holdings = tabulate 4 (startHolding (pick (ltb k (b .count)) (b .starts) []) k) }
 
 -- Contracts, quotes and trade prices are the day's, so the settlement price due is too. A client's closing and holding profit are then
 -- document 01's `closingProfit` and `holdingProfit`, Article 32, of this exchange, and its holdings are the replay's.
@@ -107,6 +107,7 @@ clientExchange x a b =
       accounts = used (length (x .listings)) (suc maxClients) (tabulate (suc maxClients) (clientAccount b));
       trades = map (clientTrade a (b .count) (b .postings)) (x .trades);
       next = x .next;
+      nextstamp = x .nextstamp;
       settlements = x .settlements;
     }
 

@@ -6,9 +6,10 @@ use Prim.Native.Nat.{ℕ, _*_, _<_, _≤_}
 use lib.ListN.{length, getD}
 use Rattle.laws.specs.Choice.{allOf}
 use Rattle.areas.specs.Records.{store}
+use Rattle.rules.specs.Bounds.{maxTrades}
 use Rattle.rules.specs.Exchange.{holdingAt, noTrade}
 use Rattle.rules.specs.Holdings.{bookTrades, neverBelowZero, startOfDay}
-use Rattle.rules.specs.Memory.{recordedTrades, tradeWords, used}
+use Rattle.rules.specs.Memory.{recordedTrades, tradeWords, used, tradeStride}
 use Rattle.rules.specs.declared.Account.{Account}
 use Rattle.rules.specs.declared.Trade.{Trade}
 use Rattle.audit.specs.Parts.{Booked}
@@ -33,8 +34,8 @@ pub record PostingIs (a clients : ℕ) (postings trades : List ℕ) (count : ℕ
 -- accounts as they stood at the start of the day, and trades among the first 17 of them: 16 clients and the others
 pub record Replayable (accounts : List Account) (contracts : ℕ) (area : List ℕ) (count : ℕ) : Type 0 where
   pub few : contracts ≤ 4
-  pub trades : count ≤ 1_024
-  pub room : 9 * count ≤ length area
+  pub trades : count ≤ maxTrades
+  pub room : tradeStride * count ≤ length area
   pub each : (i : ℕ) → i < count → Booked contracts 17 (getD (recordedTrades area count) i noTrade)
   pub starts : (k c : ℕ) → k < 17 → c < contracts → (holdingAt accounts k c .startlong ≤ 100_000) × (holdingAt accounts k c .startshort ≤ 100_000)
   pub start : accounts ≡ startOfDay accounts

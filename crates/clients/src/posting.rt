@@ -8,6 +8,8 @@ ghost use lib.ListN.{length};
 ghost use Rattle.laws.specs.Choice.{pick};
 ghost use Rattle.clients.specs.Parts.{PostingIs};
 ghost use Rattle.clients.specs.Clients.{clientPlace, clientTrade, isClient, legsIn};
+ghost use Rattle.rules.specs.Bounds.{maxTrades};
+ghost use Rattle.rules.specs.Memory.{tradeStride};
 use book::trades;
 use rules::Trade;
 
@@ -132,7 +134,7 @@ pub fn post_trades(
     clients: u32,
     area: &mut [u32],
 ) -> Posting
-    requires { ⌜ (clients ≤ 16) × (count ≤ 1024) × (9 * count ≤ length (now trades)) × (9 * count ≤ length (now area)) ⌝ }
+    requires { ⌜ (clients ≤ 16) × (count ≤ maxTrades) × (tradeStride * count ≤ length (now trades)) × (tradeStride * count ≤ length (now area)) ⌝ }
     ensures { λ r. ⌜ PostingIs a clients (now (postings .entry)) (now (trades .entry)) count (now (area .entry)) r (now (area .exit)) ⌝ }
 {
     let mut legs: usize = 0;

@@ -10,7 +10,7 @@ use rules::Account;
 
 // What the clients hold afterwards, and whether each close found its lots.
 pub struct Held {
-    pub accounts: [Account; 32],
+    pub accounts: [Account; rules::MAX_ACCOUNTS],
     pub covered: bool,
 }
 
@@ -29,7 +29,12 @@ fn is_covered(a: Account, c: usize, sell: bool, close: u32, lots: u32) -> bool
     lots <= h.short
 }
 
-pub fn replay(accounts: [Account; 32], contracts: usize, area: &[u32], count: usize) -> Held
+pub fn replay(
+    accounts: [Account; rules::MAX_ACCOUNTS],
+    contracts: usize,
+    area: &[u32],
+    count: usize,
+) -> Held
     requires { ⌜ Replayable accounts contracts (now area) count ⌝ }
     ensures { λ r. ⌜ ReplayIs accounts contracts (now (area .entry)) count r ⌝ }
 {

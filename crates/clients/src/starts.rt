@@ -36,7 +36,12 @@ fn sum(starts: &[u32], first: usize, clients: usize) -> u64
 }
 
 // "The clients' start-of-day holdings must add up to the account's."
-pub fn add_up(starts: &[u32], clients: usize, holdings: [Holding; 4], contracts: usize) -> bool
+pub fn add_up(
+    starts: &[u32],
+    clients: usize,
+    holdings: [Holding; rules::MAX_CONTRACTS],
+    contracts: usize,
+) -> bool
     requires { ⌜ (clients ≤ 16) × (contracts ≤ 4) ⌝ }
     ensures { λ r. ⌜ r ≡ all (λ c. eqb (total clients (λ k. startLong (now (starts .entry)) k c)) (getD holdings c noHolding .startlong) && eqb (total clients (λ k. startShort (now (starts .entry)) k c)) (getD holdings c noHolding .startshort)) contracts ⌝ }
 {
@@ -89,18 +94,19 @@ fn client_account(starts: &[u32], clients: usize, k: usize) -> Account
     let fourth = start_holding(starts, clients, k, 3);
     Account {
         balance: 0,
+        maker: false,
         holdings: [first, second, third, fourth],
     }
 }
 
 // The clients as accounts.
-pub fn client_accounts(starts: &[u32], clients: usize) -> [Account; 32]
+pub fn client_accounts(starts: &[u32], clients: usize) -> [Account; rules::MAX_ACCOUNTS]
     ensures { λ r. ⌜ r ≡ tabulate 32 (clientAccount (clientsWith clients (now (starts .entry)))) ⌝ }
 {
     let none = client_account(starts, 0, 0);
-    let mut accounts: [Account; 32] = [none; 32];
+    let mut accounts: [Account; rules::MAX_ACCOUNTS] = [none; rules::MAX_ACCOUNTS];
     let mut k: usize = 0;
-    while k < 32 {
+    while k < rules::MAX_ACCOUNTS {
         accounts[k] = client_account(starts, clients, k);
         k += 1;
     }

@@ -1,6 +1,6 @@
 -- The state that a day file's run opens with, as it lies in memory, and the part of `sound` that speaks of counts and length
 -- alone. Assumes nothing.
-use mathlib.Core.Bool.{Bool, _&&_}
+use mathlib.Core.Bool.{Bool, false, _&&_}
 use mathlib.Core.List.{List}
 use Prim.Native.Nat.{ℕ}
 use lib.Dec.{leb, eqb}
@@ -25,7 +25,7 @@ shaped file =
 
 -- an account with room for its holdings in every contract, and none of them
 abbrev pub accountWith : ℕ → Account
-accountWith balance = record { balance = pos balance; holdings = replicate maxContracts noHolding }
+accountWith balance = record { balance = pos balance; maker = false; holdings = replicate maxContracts noHolding }
 
 abbrev pub openingContract : List ℕ → ℕ → Contract
 openingContract file c = contractFrom file (contractPlace c)
@@ -52,5 +52,6 @@ openingState file =
       accountcount = accountsIn file;
       tradecount = 0;
       next = 1;
+      nextstamp = 1;
       settlements = 0;
     }

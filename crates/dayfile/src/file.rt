@@ -50,7 +50,7 @@ fn is_shaped(file: &[u8]) -> bool
     if contracts < 1 {
         return false;
     }
-    if 4 < contracts {
+    if rules::MAX_CONTRACTS < contracts {
         return false;
     }
     if file.len() < 8 + 20 * contracts {
@@ -60,14 +60,14 @@ fn is_shaped(file: &[u8]) -> bool
     if accounts < 1 {
         return false;
     }
-    if 32 < accounts {
+    if rules::MAX_ACCOUNTS < accounts {
         return false;
     }
     if file.len() < 12 + 20 * contracts + 8 * accounts {
         return false;
     }
     let commands = command_count(file, contracts, accounts);
-    if 2000 < commands {
+    if rules::MAX_COMMANDS < commands {
         return false;
     }
     file.len() == 12 + 20 * contracts + 8 * accounts + 24 * commands
@@ -102,7 +102,7 @@ pub fn accounts_sound(file: &[u8], start: usize, accounts: usize) -> bool
     let mut a = 0;
     while a < accounts {
         let balance = u64_at(file, start + 8 * a);
-        if 1000000000000000000 < balance {
+        if rules::MAX_BALANCE < balance {
             return false;
         }
         a += 1;

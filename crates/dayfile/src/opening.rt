@@ -13,7 +13,7 @@ use rules::Contract;
 use rules::Holding;
 use rules::State;
 
-fn opening_contracts(file: &[u8], contracts: usize) -> [Contract; 4]
+fn opening_contracts(file: &[u8], contracts: usize) -> [Contract; rules::MAX_CONTRACTS]
     requires { ⌜ (sound (now file) ≡ true) × (contracts ≡ contractsIn (now file)) ⌝ }
     ensures { λ r. ⌜ r ≡ openingContracts (now (file .entry)) ⌝ }
 {
@@ -28,7 +28,7 @@ fn opening_contracts(file: &[u8], contracts: usize) -> [Contract; 4]
         phase: 0,
         last: 0,
     };
-    let mut places = [none; 4];
+    let mut places = [none; rules::MAX_CONTRACTS];
     let mut c = 0;
     while c < contracts {
         places[c] = contract_at(file, 4 + 20 * c);
@@ -47,20 +47,21 @@ fn account_with(balance: u64) -> Account
         startlong: 0,
         startshort: 0,
     };
-    let holdings = [none; 4];
+    let holdings = [none; rules::MAX_CONTRACTS];
     Account {
         balance: balance as i64,
+        maker: false,
         holdings: holdings,
     }
 }
 
 // The accounts begin at `start`.
-fn opening_accounts(file: &[u8], start: usize, accounts: usize) -> [Account; 32]
+fn opening_accounts(file: &[u8], start: usize, accounts: usize) -> [Account; rules::MAX_ACCOUNTS]
     requires { ⌜ (sound (now file) ≡ true) × (start ≡ accountPlace (now file) 0) × (accounts ≡ accountsIn (now file)) ⌝ }
     ensures { λ r. ⌜ r ≡ openingAccounts (now (file .entry)) ⌝ }
 {
     let none = account_with(0);
-    let mut places = [none; 32];
+    let mut places = [none; rules::MAX_ACCOUNTS];
     let mut a = 0;
     while a < accounts {
         let balance = u64_at(file, start + 8 * a);
@@ -82,12 +83,13 @@ pub fn opening_state(file: &[u8]) -> State
     State {
         contracts: terms,
         accounts: holders,
-        buys: [0; 4],
-        sells: [0; 4],
+        buys: [0; rules::MAX_CONTRACTS],
+        sells: [0; rules::MAX_CONTRACTS],
         contractcount: contracts,
         accountcount: accounts,
         tradecount: 0,
         next: 1,
+        nextstamp: 1,
         settlements: 0,
     }
 }

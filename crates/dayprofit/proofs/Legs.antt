@@ -14,7 +14,7 @@ use mir.Syntax.{w32, w64}
 use mir.Val.{Fits}
 use Rattle.laws.specs.Choice.{pick, pick-same}
 use Rattle.laws.specs.Sums.{sumOf, sumOf-append}
-use Rattle.rules.specs.Memory.{recordedTrades, tradeFrom}
+use Rattle.rules.specs.Memory.{recordedTrades, tradeFrom, tradeStride}
 use Rattle.rules.specs.Settlement.{Leg, leg, Batch, only, legs, buyLeg, sellLeg, firstLots, otherLots}
 use Rattle.rules.specs.declared.Trade.{Trade}
 use Rattle.rules.proofs.Codecs.{trades-none}
@@ -155,7 +155,7 @@ leg-skipped false n m e h = e
 
 -- ---- one trade more
 
-more-legs : (a c : ℕ) (area : List ℕ) (i : ℕ) (t : Trade) → t ≡ tradeFrom (drop (9 * i) area)
+more-legs : (a c : ℕ) (area : List ℕ) (i : ℕ) (t : Trade) → t ≡ tradeFrom (drop (tradeStride * i) area)
     → legs a c (recordedTrades area (i + 1)) ≡ legs a c (recordedTrades area i) ++ legs a c (t ∷ [])
 more-legs a c area i t e = ap (legs a c) (more-trades area i t e) ∙ legs-append a c (recordedTrades area i) (t ∷ [])
 
@@ -188,7 +188,7 @@ closing-none area count a c short =
     record { within = omega arith; lots = rw (no-legs a c area); value = rw (no-legs a c area); few = omega arith; small = omega arith }
 
 module _ (area : List ℕ) (count a c : ℕ) (short : Bool) (g : SizedTrades area count) (n v i : ℕ) (lt : i < count) (w : Closing area count a c short n v i)
-    (t : Trade) (at : t ≡ tradeFrom (drop (9 * i) area)) (k : ℕ) (e : k ≡ sumOf (lotsIf (not short) true) (legs a c (t ∷ []))) where
+    (t : Trade) (at : t ≡ tradeFrom (drop (tradeStride * i) area)) (k : ℕ) (e : k ≡ sumOf (lotsIf (not short) true) (legs a c (t ∷ []))) where
   pub closing-more : Closing area count a c short (n + k) (v + t .price * k) (i + 1)
   unfolding closedLots closedValue
   closing-more =
@@ -289,7 +289,7 @@ opened-append short [] ms = refl
 opened-append short (l ∷ ls) ms = rw (opened-append short ls ms) (sym (append-assoc (batchIf short false l) (openedToday short ls) (openedToday short ms)))
 
 module _ (area : List ℕ) (count a c : ℕ) (short : Bool) (closed : ℕ) (g : SizedTrades area count) (skip u n v i : ℕ) (lt : i < count)
-    (w : Opening area count a c short closed skip u n v i) (t : Trade) (at : t ≡ tradeFrom (drop (9 * i) area))
+    (w : Opening area count a c short closed skip u n v i) (t : Trade) (at : t ≡ tradeFrom (drop (tradeStride * i) area))
     (k : ℕ) (e : k ≡ sumOf (lotsIf short false) (legs a c (t ∷ []))) (m : ℕ) (f : m ≡ min skip k) where
   before : List Batch
   before = openedToday short (legs a c (recordedTrades area i))
@@ -356,7 +356,7 @@ module _ (area : List ℕ) (count a c : ℕ) (short : Bool) (closed : ℕ) (g : 
 
 -- a trade without such a leg changes nothing
 pub opening-skip : (area : List ℕ) (count a c : ℕ) (short : Bool) (closed : ℕ) → SizedTrades area count → (skip u n v i : ℕ) → i < count
-    → Opening area count a c short closed skip u n v i → (t : Trade) → t ≡ tradeFrom (drop (9 * i) area)
+    → Opening area count a c short closed skip u n v i → (t : Trade) → t ≡ tradeFrom (drop (tradeStride * i) area)
     → (k : ℕ) → k ≡ sumOf (lotsIf short false) (legs a c (t ∷ [])) → k ≡ 0
     → Opening area count a c short closed skip u n v (i + 1)
 opening-skip area count a c short closed g skip u n v i lt w t at k e z =

@@ -11,7 +11,7 @@ use mir.Val.{Fits}
 use Rattle.areas.specs.Records.{records, decode}
 use Rattle.laws.specs.Sums.{sumOf}
 use Rattle.rules.specs.Matching.{middle, tradedLots}
-use Rattle.rules.specs.Memory.{queueIn, orderFrom}
+use Rattle.rules.specs.Memory.{queueIn, orderFrom, queueStride}
 use Rattle.rules.specs.Settlement.{weightedPrice, quotedPrice, priceFrom}
 use Rattle.rules.specs.declared.Order.{Order}
 use Rattle.rules.specs.declared.Trade.{Trade}
@@ -35,7 +35,7 @@ module _ (reference : ℕ) (buys sells : List ℕ) (c : ℕ) where
   no-offer (suc n) sellcount e = rw e
 
   pub both-quoted : (buycount sellcount : ℕ) (b s : Order) (r : ℕ) → (buycount ≡ 0 → ⊥) → (sellcount ≡ 0 → ⊥)
-      → b ≡ orderFrom (drop (320 * c + 0) buys) → s ≡ orderFrom (drop (320 * c + 0) sells) → r ≡ middle (b .price) (s .price) reference → Quoted buycount sellcount r
+      → b ≡ orderFrom (drop (queueStride * c + 0) buys) → s ≡ orderFrom (drop (queueStride * c + 0) sells) → r ≡ middle (b .price) (s .price) reference → Quoted buycount sellcount r
   unfolding quotedPrice queueIn records decode
   both-quoted zero k b s r bids offers e f g = absurd (bids refl)
   both-quoted (suc n) zero b s r bids offers e f g = absurd (offers refl)

@@ -16,8 +16,9 @@ use Rattle.laws.specs.Choice.{pick}
 use Rattle.laws.specs.Sums.{sumOf, sumOf-append}
 use Rattle.areas.specs.Records.{records, decode}
 use Rattle.areas.proofs.Records.{records-add}
+use Rattle.rules.specs.Bounds.{maxTrades}
 use Rattle.rules.specs.Matching.{tradedLots}
-use Rattle.rules.specs.Memory.{recordedTrades, tradeFrom}
+use Rattle.rules.specs.Memory.{recordedTrades, tradeFrom, tradeStride}
 use Rattle.rules.specs.Settlement.{tradesIn, tradedValue}
 use Rattle.rules.specs.declared.Trade.{Trade}
 use Rattle.rules.proofs.Codecs.{trade-codec, length-trades, trades-none}
@@ -26,17 +27,17 @@ use Rattle.dayprofit.specs.declared.price.Turnover.{Turnover}
 
 -- ---- one more trade
 
-pub more-trades : (area : List ℕ) (i : ℕ) (t : Trade) → t ≡ tradeFrom (drop (9 * i) area) → recordedTrades area (i + 1) ≡ recordedTrades area i ++ (t ∷ [])
+pub more-trades : (area : List ℕ) (i : ℕ) (t : Trade) → t ≡ tradeFrom (drop (tradeStride * i) area) → recordedTrades area (i + 1) ≡ recordedTrades area i ++ (t ∷ [])
 unfolding recordedTrades records decode
 more-trades area i t e =
-    let k : 0 + 9 * i ≡ 9 * i = omega arith in
+    let k : 0 + tradeStride * i ≡ tradeStride * i = omega arith in
     rw (e, ← k) (records-add trade-codec area 0 i 1)
 
-split-trades : (area : List ℕ) (i n : ℕ) → i ≤ n → recordedTrades area n ≡ recordedTrades area i ++ records 9 tradeFrom area (0 + 9 * i) (n - i)
+split-trades : (area : List ℕ) (i n : ℕ) → i ≤ n → recordedTrades area n ≡ recordedTrades area i ++ records tradeStride tradeFrom area (0 + tradeStride * i) (n - i)
 unfolding recordedTrades
 split-trades area i n h =
     let e : i + (n - i) ≡ n = omega arith in
-    ap (λ (k : ℕ). records 9 tradeFrom area 0 k) (sym e) ∙ records-add trade-codec area 0 i (n - i)
+    ap (λ (k : ℕ). records tradeStride tradeFrom area 0 k) (sym e) ∙ records-add trade-codec area 0 i (n - i)
 
 -- ---- trades in their ranges
 
@@ -50,7 +51,7 @@ module _ (area : List ℕ) (count : ℕ) (s : SizedTrades area count) where
   sized-first : (i : ℕ) → i ≤ count → AllSized (recordedTrades area i)
   sized-first i h = sized-append (recordedTrades area i) _ (rw (split-trades area i count h) at (s .sized)) .0
 
-  pub sized-at : (i : ℕ) (t : Trade) → i < count → t ≡ tradeFrom (drop (9 * i) area) → Sized t
+  pub sized-at : (i : ℕ) (t : Trade) → i < count → t ≡ tradeFrom (drop (tradeStride * i) area) → Sized t
   unfolding AllSized
   sized-at i t h e =
       sized-append (recordedTrades area i) (t ∷ []) (rw (more-trades area i t e) at (sized-first (i + 1) (omega arith))) .1 .0
@@ -131,11 +132,11 @@ module _ (area : List ℕ) (count c : ℕ) (s : SizedTrades area count) where
   turnover-small value lots i w =
       let ts : List Trade = tradesIn c (recordedTrades area i) in
       let z : AllSized ts = trades-in-sized c (recordedTrades area i) (sized-first area count s i (w .within)) in
-      let n : length ts ≤ 1_024 = omega (arith, trades-in-few c (recordedTrades area i), length-trades area i, w .within, s .few) in
+      let n : length ts ≤ maxTrades = omega (arith, trades-in-few c (recordedTrades area i), length-trades area i, w .within, s .few) in
       let l : tradedLots ts ≤ 1_024_000 = omega (arith, lots-small ts z) in
       (omega (arith, value-small ts z, w .value), omega (arith, w .lots))
 
-  pub trading-more : (value lots i : ℕ) (t : Trade) (p : Turnover) → i < count → Trading area count c value lots i → t ≡ tradeFrom (drop (9 * i) area)
+  pub trading-more : (value lots i : ℕ) (t : Trade) (p : Turnover) → i < count → Trading area count c value lots i → t ≡ tradeFrom (drop (tradeStride * i) area)
       → TurnoverIs (tradesIn c (t ∷ [])) p → Trading area count c (value + p .value) (lots + p .lots) (i + 1)
   unfolding tradedValue tradedLots
   trading-more value lots i t p h w e q =
@@ -147,7 +148,7 @@ module _ (area : List ℕ) (count c : ℕ) (s : SizedTrades area count) where
         lots = rw (f, sumOf-append, w .lots, q .lots);
       }
 
-  module _ (value lots i : ℕ) (t : Trade) (p : Turnover) (h : i < count) (w : Trading area count c value lots i) (e : t ≡ tradeFrom (drop (9 * i) area))
+  module _ (value lots i : ℕ) (t : Trade) (p : Turnover) (h : i < count) (w : Trading area count c value lots i) (e : t ≡ tradeFrom (drop (tradeStride * i) area))
       (q : TurnoverIs (tradesIn c (t ∷ [])) p) where
     pub value-fits : Fits w64 (value + p .value)
     value-fits = fits-below {n = 1_024_000_000_000} tt (turnover-small _ _ _ (trading-more value lots i t p h w e q) .0)

@@ -6,7 +6,7 @@ use Prim.Native.Nat.{ℕ, _+_, _*_, _<_, _≤_}
 use lib.ListN.{length}
 use Rattle.rules.specs.Bounds.{maxPrice, maxLots, maxTrades}
 use Rattle.rules.specs.Matching.{tradedLots}
-use Rattle.rules.specs.Memory.{recordedTrades}
+use Rattle.rules.specs.Memory.{recordedTrades, tradeStride, firstWord}
 use Rattle.rules.specs.Settlement.{tradedValue}
 use Rattle.rules.specs.declared.Contract.{Contract}
 use Rattle.rules.specs.declared.Trade.{Trade}
@@ -24,7 +24,7 @@ AllSized (t ∷ ts) = Sized t × AllSized ts
 -- the trades recorded in an area
 pub record SizedTrades (area : List ℕ) (count : ℕ) : Type 0 where
   pub few : count ≤ maxTrades
-  pub room : 9 * count ≤ length area
+  pub room : tradeStride * count ≤ length area
   pub sized : AllSized (recordedTrades area count)
 
 pub record TurnoverIs (ts : List Trade) (r : Turnover) : Type 0 where
@@ -33,8 +33,8 @@ pub record TurnoverIs (ts : List Trade) (r : Turnover) : Type 0 where
 
 -- room for the first order of each queue that has one
 pub record Quotes (buys : List ℕ) (buycount : ℕ) (sells : List ℕ) (sellcount c : ℕ) : Type 0 where
-  pub buyroom : 320 * c + 5 * buycount ≤ length buys
-  pub sellroom : 320 * c + 5 * sellcount ≤ length sells
+  pub buyroom : firstWord c buycount ≤ length buys
+  pub sellroom : firstWord c sellcount ≤ length sells
 
 -- all that the settlement price of contract c is worked out from
 pub record Priceable (contract : Contract) (buys : List ℕ) (buycount : ℕ) (sells : List ℕ) (sellcount : ℕ) (area : List ℕ) (count c : ℕ) : Type 0 where

@@ -23,7 +23,7 @@ pub first-room : {A : Type 0} (k : ℕ) (l room : List A) → drop k l ≡ drop 
 first-room k l room e h = rw (length-take-le k l h, ← e) (take-append-drop k l)
 
 pub account-room : (k : ℕ) (a room : Account) → drop k (a .holdings) ≡ drop k (room .holdings) → k ≤ length (a .holdings) → putAccount (inUse k a) room ≡ a
-account-room k a room e h = ap (λ (hs : List Holding). record { balance = a .balance; holdings = hs }) (first-room k (a .holdings) (room .holdings) e h)
+account-room k a room e h = ap (λ (hs : List Holding). record { balance = a .balance; maker = a .maker; holdings = hs }) (first-room k (a .holdings) (room .holdings) e h)
 
 -- ---- all accounts: `accounts` has the room of `rooms`, beyond n accounts and in each beyond k contracts
 

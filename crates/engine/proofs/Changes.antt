@@ -12,7 +12,7 @@ use lib.ListN.{length, getD}
 use Rattle.laws.specs.Choice.{pick}
 use Rattle.rules.specs.Answers.{changeListed, firstOf, phaseRefusals}
 use Rattle.rules.specs.Auction.{matchOf, unmatched}
-use Rattle.rules.specs.Bounds.{inAuction}
+use Rattle.rules.specs.Bounds.{inAuction, maxTrades}
 use Rattle.rules.specs.Command.{phaseKnown}
 use Rattle.rules.specs.Exchange.{Listing, listingAt, noContract, Exchange}
 use Rattle.rules.specs.Kinds.{codeOf, done, kindOf}
@@ -121,7 +121,7 @@ module _ {s : State} {buys sells trades : List ℕ} (w : WellFormedState s buys 
       ≡ pick (not (phaseKnown phase)) 1
       (pick (isAbsent contract (s .contractcount)) 3
       (pick (not (changeListed (listingAt (exchangeOf m) (contract - 1) .contract .phase) phase)) 17
-      (pick (ltb 1_024 (s .tradecount + length (matchOf (exchangeOf m) (contract - 1) .trades))) 12 0)))
+      (pick (ltb maxTrades (s .tradecount + length (matchOf (exchangeOf m) (contract - 1) .trades))) 12 0)))
   unfolding codeOf kindOf phaseRefusals firstOf
   phase-code = rw (no-contract m f contract, trades-count m f)
 
@@ -157,7 +157,7 @@ module _ {s : State} {buys sells trades : List ℕ} (w : WellFormedState s buys 
 
       -- the day has room for no trades
       accepted-code : codeOf (exchangeOf m) (Phase contract phase) ≡ 0
-      accepted-code = rw (phase-code, known, present, terms-are, listed, no-match (exchangeOf m) (contract - 1) other, le-ltb 1_024 (s .tradecount + 0) (omega (arith, f .trades-high)))
+      accepted-code = rw (phase-code, known, present, terms-are, listed, no-match (exchangeOf m) (contract - 1) other, le-ltb maxTrades (s .tradecount + 0) (omega (arith, f .trades-high)))
 
       phase-lies : written m (kindOf (exchangeOf m) (Phase contract phase) .effect .stages) ≡ memory (withPhaseAt s (k - 1) phase) buys sells trades
       unfolding kindOf phaseChanged

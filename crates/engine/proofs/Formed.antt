@@ -13,7 +13,7 @@ use Rattle.laws.specs.Choice.{all, all-at, both-true}
 use Rattle.laws.specs.Chains.{passed}
 use Rattle.rules.specs.Bounds.{within, maxContracts, maxAccounts, maxResting, maxTrades}
 use Rattle.rules.specs.Exchange.{absent, accountAt, holdingAt, listingAt}
-use Rattle.rules.specs.Memory.{Memory, Declared, exchangeOf, inUse, listingIn, putAccounts, countsInRange, hasRoom, wellFormedMemory, memory, WellFormedState}
+use Rattle.rules.specs.Memory.{Memory, Declared, exchangeOf, inUse, listingIn, putAccounts, countsInRange, hasRoom, wellFormedMemory, memory, WellFormedState, queueStride, tradeStride}
 use Rattle.rules.specs.WellFormed.{wellFormedContents}
 use Rattle.rules.specs.declared.Account.{Account}
 use Rattle.rules.specs.declared.State.{State}
@@ -28,18 +28,18 @@ pub record Formed (m : Memory) : Type 0 where
   pub contracts-high : m .state .contractcount ≤ 4
   pub accounts-low : 1 ≤ m .state .accountcount
   pub accounts-high : m .state .accountcount ≤ 32
-  pub trades-high : m .state .tradecount ≤ 1_024
-  pub buys-high : (c : ℕ) → c < m .state .contractcount → getD (m .state .buys) c 0 ≤ 64
-  pub sells-high : (c : ℕ) → c < m .state .contractcount → getD (m .state .sells) c 0 ≤ 64
-  pub buys-room : 320 * m .state .contractcount ≤ length (m .buys)
-  pub sells-room : 320 * m .state .contractcount ≤ length (m .sells)
-  pub trades-room : 9 * 1_024 ≤ length (m .trades)
+  pub trades-high : m .state .tradecount ≤ maxTrades
+  pub buys-high : (c : ℕ) → c < m .state .contractcount → getD (m .state .buys) c 0 ≤ maxResting
+  pub sells-high : (c : ℕ) → c < m .state .contractcount → getD (m .state .sells) c 0 ≤ maxResting
+  pub buys-room : queueStride * m .state .contractcount ≤ length (m .buys)
+  pub sells-room : queueStride * m .state .contractcount ≤ length (m .sells)
+  pub trades-room : tradeStride * maxTrades ≤ length (m .trades)
   pub contents : WellFormed (exchangeOf m)
   pub declared : Declared (m .state)
 
 module _ {s : State} {buys sells trades : List ℕ} (w : WellFormedState s buys sells trades) where
   -- all-at for the counts of one side
-  few : (counts : List ℕ) (n : ℕ) → all (λ c. leb (getD counts c 0) maxResting) n ≡ true → (c : ℕ) → c < n → getD counts c 0 ≤ 64
+  few : (counts : List ℕ) (n : ℕ) → all (λ c. leb (getD counts c 0) maxResting) n ≡ true → (c : ℕ) → c < n → getD counts c 0 ≤ maxResting
   few counts n h c i = leb-true _ _ (all-at (λ c. leb (getD counts c 0) maxResting) c n h i)
 
   pub formed : Formed (memory s buys sells trades)
@@ -53,7 +53,7 @@ module _ {s : State} {buys sells trades : List ℕ} (w : WellFormedState s buys 
       (parts .0) in
       let contracts = both-true (leb 1 n) (leb n maxContracts) (counts .0) in
       let accounts = both-true (leb 1 (s .accountcount)) (leb (s .accountcount) maxAccounts) (counts .1 .0) in
-      let rooms = passed (leb (320 * n) (length buys)) (leb (320 * n) (length sells) ∷ leb (9 * maxTrades) (length trades) ∷ []) (parts .1 .0) in
+      let rooms = passed (leb (queueStride * n) (length buys)) (leb (queueStride * n) (length sells) ∷ leb (tradeStride * maxTrades) (length trades) ∷ []) (parts .1 .0) in
       record {
         contracts-low = leb-true _ _ (contracts .0);
         contracts-high = leb-true _ _ (contracts .1);

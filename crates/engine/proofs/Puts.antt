@@ -8,8 +8,9 @@ use lib.ListN.{length, getD, set, take, length-set}
 use lib.Seq.{getD-set-same, getD-set-other, set-getD, take-set-lt, drop-set-lt}
 use Rattle.laws.specs.Lists.{map-set}
 use Rattle.laws.specs.Tabulate.{tabulate, length-tabulate, getD-tabulate, map-tabulate, tabulate-ext, tabulate-take}
+use Rattle.rules.specs.Bounds.{maxResting}
 use Rattle.rules.specs.Exchange.{Exchange, Listing, listingAt, noContract, noListing}
-use Rattle.rules.specs.Memory.{Memory, exchangeOf, listingIn, put, putAccounts, putFirst, putQueue, putQueues, putState, putTrades, queueIn}
+use Rattle.rules.specs.Memory.{Memory, exchangeOf, listingIn, put, putAccounts, putFirst, putQueue, putQueues, putState, putTrades, queueIn, queueStride}
 use Rattle.rules.specs.Step.{withContract, withListing}
 use Rattle.rules.proofs.Codecs.{length-queue, put-queue, length-trades, put-trades, putQueues-same, putQueues-one}
 use Rattle.rules.specs.declared.Account.{Account}
@@ -64,10 +65,10 @@ module _ (m : Memory) (f : Formed m) where
 
   -- ---- the rest of the state new: accounts, trades, counters
 
-  module _ (accounts : List Account) (trades : List Trade) (next settlements : ℕ) where
+  module _ (accounts : List Account) (trades : List Trade) (next nextstamp settlements : ℕ) where
     -- the listings as they are
     abbrev pub sameListings : Exchange
-    sameListings = record { listings = exchangeOf m .listings; accounts = accounts; trades = trades; next = next; settlements = settlements }
+    sameListings = record { listings = exchangeOf m .listings; accounts = accounts; trades = trades; next = next; nextstamp = nextstamp; settlements = settlements }
 
     abbrev pub stateOf : List Contract → List ℕ → List ℕ → State
     stateOf contracts buys sells =
@@ -80,11 +81,12 @@ module _ (m : Memory) (f : Formed m) where
           accountcount = m .state .accountcount;
           tradecount = length trades;
           next = next;
+          nextstamp = nextstamp;
           settlements = settlements;
         }
 
-    queue-kept : (queue : Listing → List Order) (area counts : List ℕ) → ((c : ℕ) → c < m .state .contractcount → getD counts c 0 ≤ 64)
-        → 320 * m .state .contractcount ≤ length area → ((c : ℕ) → queue (listingIn m c) ≡ queueIn area c (getD counts c 0))
+    queue-kept : (queue : Listing → List Order) (area counts : List ℕ) → ((c : ℕ) → c < m .state .contractcount → getD counts c 0 ≤ maxResting)
+        → queueStride * m .state .contractcount ≤ length area → ((c : ℕ) → queue (listingIn m c) ≡ queueIn area c (getD counts c 0))
         → putQueues area counts (λ c. queue (listingAt sameListings c)) (m .state .contractcount) ≡ area
     unfolding listingAt
     queue-kept queue area counts few room read =
@@ -102,9 +104,9 @@ module _ (m : Memory) (f : Formed m) where
         )
 
     -- contract c's listing new too
-    module _ (c : ℕ) (l : Listing) (h : c < m .state .contractcount) (short-buys : length (l .buys) ≤ 64) (short-sells : length (l .sells) ≤ 64) where
+    module _ (c : ℕ) (l : Listing) (h : c < m .state .contractcount) (short-buys : length (l .buys) ≤ maxResting) (short-sells : length (l .sells) ≤ maxResting) where
       abbrev pub oneListing : Exchange
-      oneListing = record { listings = set (exchangeOf m .listings) c l; accounts = accounts; trades = trades; next = next; settlements = settlements }
+      oneListing = record { listings = set (exchangeOf m .listings) c l; accounts = accounts; trades = trades; next = next; nextstamp = nextstamp; settlements = settlements }
 
       here : listingAt oneListing c ≡ l
       unfolding listingAt exchangeOf
@@ -114,8 +116,8 @@ module _ (m : Memory) (f : Formed m) where
       unfolding listingAt exchangeOf
       elsewhere d i apart = getD-set-other (tabulate (m .state .contractcount) (listingIn m)) c d l noListing (λ e. apart (sym e)) ∙ getD-tabulate (m .state .contractcount) d (listingIn m) noListing i
 
-      queue-new : (queue : Listing → List Order) (area counts : List ℕ) → ((d : ℕ) → d < m .state .contractcount → getD counts d 0 ≤ 64)
-          → 320 * m .state .contractcount ≤ length area → length (queue l) ≤ 64 → ((d : ℕ) → queue (listingIn m d) ≡ queueIn area d (getD counts d 0))
+      queue-new : (queue : Listing → List Order) (area counts : List ℕ) → ((d : ℕ) → d < m .state .contractcount → getD counts d 0 ≤ maxResting)
+          → queueStride * m .state .contractcount ≤ length area → length (queue l) ≤ maxResting → ((d : ℕ) → queue (listingIn m d) ≡ queueIn area d (getD counts d 0))
           → putQueues area counts (λ d. queue (listingAt oneListing d)) (m .state .contractcount) ≡ putQueue area c (getD counts c 0) (queue l)
       queue-new queue area counts few room short read =
           putQueues-one area counts (λ d. queue (listingAt oneListing d)) (m .state .contractcount) c h (λ d i apart. ap queue (elsewhere d i apart) ∙ read d) few (rw here short) room
@@ -152,13 +154,13 @@ module _ (m : Memory) (f : Formed m) where
   -- ---- one part new, all else as it is
 
   pub put-accounts : (accounts placed : List Account) → putAccounts accounts (m .state .accounts) ≡ placed
-      → put m (record { listings = exchangeOf m .listings; accounts = accounts; trades = exchangeOf m .trades; next = exchangeOf m .next; settlements = exchangeOf m .settlements })
+      → put m (record { listings = exchangeOf m .listings; accounts = accounts; trades = exchangeOf m .trades; next = exchangeOf m .next; nextstamp = exchangeOf m .nextstamp; settlements = exchangeOf m .settlements })
       ≡ record { state = withAccountsIn (m .state) placed; buys = m .buys; sells = m .sells; trades = m .trades }
   unfolding exchangeOf
   put-accounts accounts placed e =
-      put-same-listings accounts (exchangeOf m .trades) (exchangeOf m .next) (exchangeOf m .settlements) ∙ rw (e, trades-count, trades-same)
+      put-same-listings accounts (exchangeOf m .trades) (exchangeOf m .next) (exchangeOf m .nextstamp) (exchangeOf m .settlements) ∙ rw (e, trades-count, trades-same)
 
-  put-listing : (c : ℕ) (l : Listing) → c < m .state .contractcount → length (l .buys) ≤ 64 → length (l .sells) ≤ 64
+  put-listing : (c : ℕ) (l : Listing) → c < m .state .contractcount → length (l .buys) ≤ maxResting → length (l .sells) ≤ maxResting
       → put m (withListing (exchangeOf m) c l)
       ≡ record {
         state = withCountsIn (withContractsIn (m .state) (set (m .state .contracts) c (l .contract))) (set (m .state .buys) c (length (l .buys))) (set (m .state .sells) c (length (l .sells)));
@@ -168,11 +170,11 @@ module _ (m : Memory) (f : Formed m) where
       }
   unfolding exchangeOf
   put-listing c l h short-buys short-sells =
-      put-one-listing (exchangeOf m .accounts) (exchangeOf m .trades) (exchangeOf m .next) (exchangeOf m .settlements) c l h short-buys short-sells
+      put-one-listing (exchangeOf m .accounts) (exchangeOf m .trades) (exchangeOf m .next) (exchangeOf m .nextstamp) (exchangeOf m .settlements) c l h short-buys short-sells
       ∙ rw (accounts-put m f, trades-count, trades-same)
 
   -- writing a queue as it is changes nothing
-  queue-same : (area counts : List ℕ) → ((d : ℕ) → d < m .state .contractcount → getD counts d 0 ≤ 64) → 320 * m .state .contractcount ≤ length area
+  queue-same : (area counts : List ℕ) → ((d : ℕ) → d < m .state .contractcount → getD counts d 0 ≤ maxResting) → queueStride * m .state .contractcount ≤ length area
       → (c : ℕ) → c < m .state .contractcount → putQueue area c (getD counts c 0) (queueIn area c (getD counts c 0)) ≡ area
   queue-same area counts few room c h = put-queue area c (getD counts c 0) (omega (arith, few c h))
 
@@ -191,7 +193,7 @@ module _ (m : Memory) (f : Formed m) where
         (put-listing c (withContract (listingIn m c) contract) h (rw lb (f .buys-high c h)) (rw ls (f .sells-high c h))
         ∙ rw (lb, ls, set-getD (m .state .buys) c 0, set-getD (m .state .sells) c 0, queue-same (m .buys) (m .state .buys) (f .buys-high) (f .buys-room) c h, queue-same (m .sells) (m .state .sells) (f .sells-high) (f .sells-room) c h))
 
-    pub put-queues : (buys sells : List Order) → length buys ≤ 64 → length sells ≤ 64
+    pub put-queues : (buys sells : List Order) → length buys ≤ maxResting → length sells ≤ maxResting
         → put m (withListing (exchangeOf m) c (record { contract = getD (m .state .contracts) c noContract; buys = buys; sells = sells }))
         ≡ record {
           state = withCountsIn (m .state) (set (m .state .buys) c (length buys)) (set (m .state .sells) c (length sells));

@@ -16,12 +16,12 @@ use Rattle.areas.specs.Lists.{removeAt}
 use Rattle.areas.proofs.Lists.{length-removeAt}
 use Rattle.rules.specs.Kinds.{codeOf, done, kindOf}
 use Rattle.rules.specs.Answers.{_when_, cancelRefusals, firstOf, noSuchOrder, numbered, ofAnother, pullRefusals, removalRefused, restingOrder}
-use Rattle.rules.specs.Bounds.{maxLots, inAuction}
+use Rattle.rules.specs.Bounds.{maxLots, inAuction, maxResting}
 use Rattle.rules.specs.Exchange.{Listing, listingAt, lotsWhere, noContract, noListing, noOrder}
-use Rattle.rules.specs.Memory.{Memory, exchangeOf, listingIn, orderFrom, put, putQueue, queueIn, stepIn, memory, WellFormedState}
+use Rattle.rules.specs.Memory.{Memory, exchangeOf, listingIn, orderFrom, put, putQueue, queueIn, stepIn, memory, WellFormedState, firstWord}
 use Rattle.rules.specs.Places.{firstWhere, indexOf}
 use Rattle.rules.specs.Step.{Effect, answerOf, cancelled, hasNumber, isOf, listingWithout, pulled, removed, withListing, without}
-use Rattle.rules.specs.WellFormed.{allNumbers, numbers, orderInRange, usedOnce}
+use Rattle.rules.specs.WellFormed.{allNumbers, numbers, orderInRange, usedOnce, allListed}
 use Rattle.rules.specs.declared.Command.{Command}
 use Rattle.rules.specs.declared.Command.the-variants.{Cancel, Pull}
 use Rattle.rules.specs.declared.Contract.{Contract}
@@ -85,14 +85,14 @@ module _ (account number : ℕ) (area : List ℕ) (c n : ℕ) where
     found-in : indexOf number queue < length queue
     found-in = omega (arith, found, is, length-queue area c n)
 
-    order-found : numbered number queue ≡ orderFrom (drop (320 * c + 5 * i) area) ∷ []
+    order-found : numbered number queue ≡ orderFrom (drop (firstWord c i) area) ∷ []
     order-found = numbered-found number queue found-in ∙ ap (λ (o : Order). o ∷ []) (rw (← is) (order-at area c n i found))
 
-    pub cancel-another : (orderFrom (drop (320 * c + 5 * i) area) .account ≡ account → ⊥) → CancelledIs account number area c n (record { code = 15; count = n; lots = 0 }) area
+    pub cancel-another : (orderFrom (drop (firstWord c i) area) .account ≡ account → ⊥) → CancelledIs account number area c n (record { code = 15; count = n; lots = 0 }) area
     unfolding cancelCode firstOf noSuchOrder ofAnother
     cancel-another h =
         record {
-          code = rw (order-found, ne-eqb (orderFrom (drop (320 * c + 5 * i) area) .account) account h);
+          code = rw (order-found, ne-eqb (orderFrom (drop (firstWord c i) area) .account) account h);
           done = λ e. absurd (omega arith);
           kept = λ e. refl;
         }
@@ -101,15 +101,15 @@ module _ (account number : ℕ) (area : List ℕ) (c n : ℕ) where
       taken : without (hasNumber number) queue ≡ removeAt i queue
       taken = without-number number queue once found-in ∙ rw is
 
-      lots-taken : orderFrom (drop (320 * c + 5 * i) area) .lots ≡ lotsWhere (hasNumber number) queue
+      lots-taken : orderFrom (drop (firstWord c i) area) .lots ≡ lotsWhere (hasNumber number) queue
       lots-taken = rw (lots-number number queue once found-in, ← is, order-at area c n i found)
 
-      pub cancel-done : {area′ : List ℕ} → orderFrom (drop (320 * c + 5 * i) area) .account ≡ account → area′ ≡ putQueue area c n (removeAt i queue)
-          → CancelledIs account number area c n (record { code = 0; count = n - 1; lots = orderFrom (drop (320 * c + 5 * i) area) .lots }) area′
+      pub cancel-done : {area′ : List ℕ} → orderFrom (drop (firstWord c i) area) .account ≡ account → area′ ≡ putQueue area c n (removeAt i queue)
+          → CancelledIs account number area c n (record { code = 0; count = n - 1; lots = orderFrom (drop (firstWord c i) area) .lots }) area′
       unfolding cancelCode firstOf noSuchOrder ofAnother
       cancel-done h e =
           record {
-            code = rw (order-found, eq-eqb (orderFrom (drop (320 * c + 5 * i) area) .account) account h);
+            code = rw (order-found, eq-eqb (orderFrom (drop (firstWord c i) area) .account) account h);
             done = λ z.
                 record {
                   queue = rw taken e;
@@ -120,7 +120,7 @@ module _ (account number : ℕ) (area : List ℕ) (c n : ℕ) where
           }
 
 -- no order is taken out
-pub removed-none : (test : Order → Bool) (area : List ℕ) (c n : ℕ) → 320 * c + 5 * n ≤ length area → firstWhere test (queueIn area c n) ≡ length (queueIn area c n)
+pub removed-none : (test : Order → Bool) (area : List ℕ) (c n : ℕ) → firstWord c n ≤ length area → firstWhere test (queueIn area c n) ≡ length (queueIn area c n)
     → RemovedIs test area c n n 0 area
 removed-none test area c n room h =
     record {
@@ -157,7 +157,7 @@ numbered-first n os ps h = numbered-append-found n os ps h ∙ sym (numbered-fou
 
 listing-once : (ls : List Listing) (c : ℕ) → c < length ls → usedOnce (allNumbers ls) ≡ true
     → usedOnce (numbers (getD ls c noListing .buys) ++ numbers (getD ls c noListing .sells)) ≡ true
-unfolding allNumbers
+unfolding allListed
 listing-once [] c h u = absurd (not-suc-le-zero h)
 listing-once (l ∷ ls) zero h u = once-append (numbers (l .buys) ++ numbers (l .sells)) (allNumbers ls) (rw append-assoc u) .0
 listing-once (l ∷ ls) (suc c) h u =
@@ -254,11 +254,11 @@ module _ {s : State} {buys sells trades : List ℕ} (w : WellFormedState s buys 
       abbrev orders : Bool → List Order
       orders sell = queueIn (area sell) (k - 1) (count sell)
 
-      pub side-few : (sell : Bool) → count sell ≤ 64
+      pub side-few : (sell : Bool) → count sell ≤ maxResting
       side-few false = f .buys-high (k - 1) here
       side-few true = f .sells-high (k - 1) here
 
-      pub side-room : (sell : Bool) → 320 * (k - 1) + 5 * count sell ≤ length (area sell)
+      pub side-room : (sell : Bool) → firstWord (k - 1) (count sell) ≤ length (area sell)
       side-room false = omega (arith, f .buys-room, side-few false, here)
       side-room true = omega (arith, f .sells-room, side-few true, here)
 
@@ -281,7 +281,7 @@ module _ {s : State} {buys sells trades : List ℕ} (w : WellFormedState s buys 
 
       module _ {bought sold bid offer : ℕ} {buys′ sells′ : List ℕ} (test : Order → Bool)
           (b : RemovedIs test buys (k - 1) (count false) bought bid buys′) (o : RemovedIs test sells (k - 1) (count true) sold offer sells′) where
-        short : (sell : Bool) → length (without test (orders sell)) ≤ 64
+        short : (sell : Bool) → length (without test (orders sell)) ≤ maxResting
         short sell = omega (arith, length-without test (orders sell), length-queue (area sell) (k - 1) (count sell), side-few sell)
 
         lies : put m (withListing (exchangeOf m) (contract - 1) (listingWithout test (listingAt (exchangeOf m) (contract - 1))))

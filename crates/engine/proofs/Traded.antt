@@ -9,9 +9,10 @@ use lib.ListN.{length, getD, set, length-append, length-set}
 use lib.Seq.{getD-set-same}
 use Rattle.laws.specs.Choice.{allOf, allOf-append, both-true}
 use Rattle.areas.specs.Records.{store}
+use Rattle.rules.specs.Bounds.{maxResting}
 use Rattle.rules.specs.Exchange.{Exchange, Listing, listingAt, noListing, own}
 use Rattle.rules.specs.Holdings.{bookTrades}
-use Rattle.rules.specs.Memory.{Memory, exchangeOf, put, putAccounts, putQueue, putTrades, tradeWords}
+use Rattle.rules.specs.Memory.{Memory, exchangeOf, put, putAccounts, putQueue, putTrades, tradeWords, tradeStride}
 use Rattle.rules.specs.Step.{withTrades}
 use Rattle.rules.specs.WellFormed.{tradeInRange}
 use Rattle.rules.specs.declared.Trade.{Trade}
@@ -40,7 +41,7 @@ module _ (m : Memory) (f : Formed m) (c : ℕ) (l : Listing) (ts : List Trade) (
   contracts-after = length-set (x .listings) c l ∙ contracts-count m f
 
   -- at most 64 orders on either side
-  pub few-after : (side : Bool) → length (own side l) ≤ 64
+  pub few-after : (side : Bool) → length (own side l) ≤ maxResting
   unfolding listingAt
   few-after side =
       rw (getD-set-same (x .listings) c l noListing (rw (contracts-count m f) here)) at (counted .queues c side (rw contracts-after here))
@@ -52,7 +53,7 @@ module _ (m : Memory) (f : Formed m) (c : ℕ) (l : Listing) (ts : List Trade) (
       (trades-used (withTrades x c l ts next) (m .state .contractcount) (m .state .accountcount) contracts-after (length-bookTrades (x .accounts) ts ∙ accounts-count m f) ts
       (both-true (allOf (tradeInRange (withTrades x c l ts next)) (x .trades)) (allOf (tradeInRange (withTrades x c l ts next)) ts) (rw allOf-append at (kept .trades)) .1))
 
-  trades-stored : putTrades (m .trades) (m .state .tradecount) (x .trades ++ ts) ≡ store tradeWords (m .trades) (9 * m .state .tradecount) ts
+  trades-stored : putTrades (m .trades) (m .state .tradecount) (x .trades ++ ts) ≡ store tradeWords (m .trades) (tradeStride * m .state .tradecount) ts
   unfolding exchangeOf
   trades-stored = sym (store-trades (m .trades) (m .state .tradecount) ts (omega (arith, f .trades-room, f .trades-high)))
 
@@ -69,13 +70,14 @@ module _ (m : Memory) (f : Formed m) (c : ℕ) (l : Listing) (ts : List Trade) (
               accountcount = m .state .accountcount;
               tradecount = m .state .tradecount + length ts;
               next = next;
+              nextstamp = m .state .nextstamp;
               settlements = m .state .settlements;
             };
         buys = putQueue (m .buys) c (getD (m .state .buys) c 0) (l .buys);
         sells = putQueue (m .sells) c (getD (m .state .sells) c 0) (l .sells);
-        trades = store tradeWords (m .trades) (9 * m .state .tradecount) ts;
+        trades = store tradeWords (m .trades) (tradeStride * m .state .tradecount) ts;
       }
   unfolding exchangeOf
   put-traded =
-      put-one-listing m f (bookTrades (x .accounts) ts) (x .trades ++ ts) next (x .settlements) c l here (few-after false) (few-after true)
+      put-one-listing m f (bookTrades (x .accounts) ts) (x .trades ++ ts) next (x .nextstamp) (x .settlements) c l here (few-after false) (few-after true)
       ∙ rw (accounts-booked, length-append, trades-count m f, trades-stored)

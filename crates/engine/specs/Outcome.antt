@@ -50,6 +50,7 @@ withContractsIn s contracts =
       accountcount = s .accountcount;
       tradecount = s .tradecount;
       next = s .next;
+      nextstamp = s .nextstamp;
       settlements = s .settlements;
     }
 
@@ -64,6 +65,7 @@ withAccountsIn s accounts =
       accountcount = s .accountcount;
       tradecount = s .tradecount;
       next = s .next;
+      nextstamp = s .nextstamp;
       settlements = s .settlements;
     }
 
@@ -79,6 +81,7 @@ withCountsIn s buys sells =
       accountcount = s .accountcount;
       tradecount = s .tradecount;
       next = s .next;
+      nextstamp = s .nextstamp;
       settlements = s .settlements;
     }
 

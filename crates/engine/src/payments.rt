@@ -18,7 +18,7 @@ fn amount_refused(amount: u64) -> bool
     if amount < 1 {
         return true;
     }
-    1000000000000000 < amount
+    rules::MAX_AMOUNT < amount
 }
 
 // "deposit lifts the balance above 10^18"
@@ -26,7 +26,7 @@ fn lifts_too_high(balance: i64, amount: u64) -> bool
     requires { ⌜ Within (2 * 10 ^ 18) balance × (amount ≤ 10 ^ 15) ⌝ }
     ensures { λ r. ⌜ r ≡ ltZ (pos (10 ^ 18)) (balance +ℤ pos amount) ⌝ }
 {
-    1000000000000000000 < balance + amount as i64
+    (rules::MAX_BALANCE as i64) < balance + amount as i64
 }
 
 // The state with another balance at one account's place.

@@ -4,7 +4,7 @@ ghost use mathlib.Core.Path.{_≡_};
 ghost use Prim.Native.Nat.{_+_, _*_, _<_, _≤_};
 ghost use lib.ListN.{length, set};
 ghost use Rattle.rules.specs.Answers.{removalRefused};
-ghost use Rattle.rules.specs.Memory.{queueIn, stepIn, memory, WellFormedState};
+ghost use Rattle.rules.specs.Memory.{queueIn, stepIn, memory, WellFormedState, firstWord};
 ghost use Rattle.rules.specs.WellFormed.{numbers, usedOnce};
 ghost use Rattle.rules.specs.declared.Command.the-variants.{Cancel, Pull};
 ghost use Rattle.engine.specs.Outcome.{OutcomeIs, withCountsIn};
@@ -75,7 +75,7 @@ struct Cancelled {
 
 // Takes the account's order with a number out of one queue, whose numbers are used once.
 fn cancel_in(area: &mut [u32], c: usize, count: usize, account: u32, number: u32) -> Cancelled
-    requires { ⌜ (320 * c + 5 * count ≤ length (now area)) × (usedOnce (numbers (queueIn (now area) c count)) ≡ true) ⌝ }
+    requires { ⌜ (firstWord c count ≤ length (now area)) × (usedOnce (numbers (queueIn (now area) c count)) ≡ true) ⌝ }
     ensures { λ r. ⌜ CancelledIs account number (now (area .entry)) c count r (now (area .exit)) ⌝ }
 {
     let i = book::removal::find(&area[..], c, count, number);

@@ -18,10 +18,10 @@ use rules::State;
 // What a settlement reports: each contract's settlement price; each account's closing and holding profit, and its charged
 // margin after the settlement. All zero where there was none.
 pub struct Report {
-    pub prices: [u32; 4],
-    pub closing: [i64; 32],
-    pub holding: [i64; 32],
-    pub charged: [u64; 32],
+    pub prices: [u32; rules::MAX_CONTRACTS],
+    pub closing: [i64; rules::MAX_ACCOUNTS],
+    pub holding: [i64; rules::MAX_ACCOUNTS],
+    pub charged: [u64; rules::MAX_ACCOUNTS],
 }
 
 // An answer, the state after it and the report.
@@ -41,16 +41,16 @@ pub fn plain(o: Outcome) -> Response
         answer,
         state,
         report: Report {
-            prices: [0; 4],
-            closing: [0; 32],
-            holding: [0; 32],
-            charged: [0; 32],
+            prices: [0; rules::MAX_CONTRACTS],
+            closing: [0; rules::MAX_ACCOUNTS],
+            holding: [0; rules::MAX_ACCOUNTS],
+            charged: [0; rules::MAX_ACCOUNTS],
         },
     }
 }
 
 // Whether the first n contracts are closed.
-fn all_closed(contracts: [Contract; 4], n: usize) -> bool
+fn all_closed(contracts: [Contract; rules::MAX_CONTRACTS], n: usize) -> bool
     requires { ⌜ n ≤ 4 ⌝ }
     ensures { λ r. ⌜ r ≡ all (λ c. eqb (getD contracts c noContract .phase) 3) n ⌝ }
 {
@@ -74,7 +74,7 @@ fn code<'a>(state: State, buys: &'a [u32], sells: &'a [u32], trades: &'a [u32]) 
     if !all_closed(contracts, state.contractcount) {
         return 18;
     }
-    if state.settlements >= 250 {
+    if state.settlements >= rules::MAX_SETTLEMENTS {
         return 19;
     }
     0

@@ -12,7 +12,7 @@ use Rattle.rules.specs.Answers.{isGoodForDay}
 use Rattle.rules.specs.Bounds.{inAuction}
 use Rattle.rules.specs.Exchange.{noContract, placeOf}
 use Rattle.rules.specs.Matching.{Entered, enter, restLots, restWhole}
-use Rattle.rules.specs.Memory.{putQueue, queueIn}
+use Rattle.rules.specs.Memory.{putQueue, queueIn, firstWord}
 use Rattle.rules.specs.Step.{limitOf}
 use Rattle.rules.specs.declared.NewOrder.{NewOrder}
 use Rattle.rules.specs.declared.Order.{Order}
@@ -51,7 +51,7 @@ module _ {s : State} {owns : List ℕ} {own : ℕ} {opposites : List ℕ} {oppos
     unfolding restWhole
     own-is = ap (λ (x : Entered). x .own) whole ∙ sym (rw (taker-is, ep))
 
-    pub rests-whole : 320 * (k - 1) + 5 * length (restLots t price (o .lots) (queueIn owns (k - 1) own)) ≤ length owns
+    pub rests-whole : firstWord (k - 1) (length (restLots t price (o .lots) (queueIn owns (k - 1) own))) ≤ length owns
     rests-whole = rw is (omega (arith, a .rests, ap length own-is))
 
     pub rested-whole : {owns′ : List ℕ} {resting : ℕ} → resting ≡ length (restLots t price (o .lots) (queueIn owns (k - 1) own))

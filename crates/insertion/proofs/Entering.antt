@@ -4,6 +4,7 @@ use mathlib.Core.List.{List}
 use mathlib.Core.Path.{_≡_, refl, sym, ap, _∙_}
 use Prim.Native.Nat.{ℕ, _+_, _-_, _*_, _<_, _≤_}
 use native.Mathlib.Omega.{arith}
+use Rattle.rules.specs.Bounds.{maxResting}
 use lib.ListN.{length, getD}
 use Rattle.laws.specs.Choice.{ap-pick, pick}
 use Rattle.rules.specs.Answers.{insertRefusals, listingOf, takerOf, tradesNeeded}
@@ -11,7 +12,7 @@ use Rattle.rules.specs.Bounds.{inAuction}
 use Rattle.rules.specs.Exchange.{Exchange, Listing, opposite, own, placeOf, withQueues}
 use Rattle.rules.specs.Kinds.{codeOf, done, kindOf}
 use Rattle.rules.specs.Matching.{Entered, sweep}
-use Rattle.rules.specs.Memory.{Memory, WellFormedState, exchangeOf, memory, put, putQueue, queueIn, stepIn, written}
+use Rattle.rules.specs.Memory.{Memory, WellFormedState, exchangeOf, memory, put, putQueue, queueIn, stepIn, written, tradeStride}
 use Rattle.rules.specs.Step.{answerOf, enteredOf, exchangeAfter, inserted, listingAfter, withTrades}
 use Rattle.rules.specs.declared.Command.the-variants.{Insert}
 use Rattle.rules.specs.declared.Contract.{Contract}
@@ -133,7 +134,7 @@ module _ {s : State} {buys sells trades : List ℕ} (w : WellFormedState s buys 
   unfolding codeOf kindOf inserted exchangeAfter
   after-formed = rw (← entered-is) (insert-keeps x o accepted (f .contents))
 
-  own-few : length (entered .own) ≤ 64
+  own-few : length (entered .own) ≤ maxResting
   unfolding listingAfter
   own-few = rw own-with at (few-after m f c listing (entered .trades) (x .next + 1) (here .contract) after-formed after-counted (o .sell))
 

@@ -9,7 +9,7 @@ use Rattle.rules.specs.Answers.{isGoodForDay}
 use Rattle.rules.specs.Bounds.{inAuction}
 use Rattle.rules.specs.Exchange.{noContract, placeOf}
 use Rattle.rules.specs.Matching.{Entered, enter, restWhole}
-use Rattle.rules.specs.Memory.{queueIn}
+use Rattle.rules.specs.Memory.{queueIn, firstWord}
 use Rattle.rules.specs.Step.{limitOf, withLast}
 use Rattle.rules.specs.declared.Contract.{Contract}
 use Rattle.rules.specs.declared.NewOrder.{NewOrder}
@@ -43,7 +43,7 @@ pub record Arriving (s : State) (owns : List ℕ) (own : ℕ) (opposites : List 
   pub contract-low : 1 ≤ o .contract
   pub contract-high : placeOf (o .contract) < 4
   pub queue : QueueRoom opposites (placeOf (o .contract)) opposite
-  pub rests : 320 * placeOf (o .contract) + 5 * length (enteredFor s (queueIn owns (placeOf (o .contract)) own) (queueIn opposites (placeOf (o .contract)) opposite) o .own) ≤ length owns
+  pub rests : firstWord (placeOf (o .contract)) (length (enteredFor s (queueIn owns (placeOf (o .contract)) own) (queueIn opposites (placeOf (o .contract)) opposite) o .own)) ≤ length owns
   pub sweeps : inAuction (termsIn s o) ≡ false
       → SweepReady (takerFor (s .next) (termsIn s o) (queueIn opposites (placeOf (o .contract)) opposite) o) (o .lots) (lastIn s o) (s .accounts) opposites opposite area (s .tradecount)
 
@@ -64,5 +64,6 @@ withEntry s c bought sold e =
       accountcount = s .accountcount;
       tradecount = e .made;
       next = s .next + 1;
+      nextstamp = s .nextstamp;
       settlements = s .settlements;
     }

@@ -88,6 +88,7 @@ fn with_entry(state: State, c: usize, bought: usize, sold: usize, e: Entry) -> S
         accountcount: state.accountcount,
         tradecount: e.made,
         next: state.next + 1,
+        nextstamp: state.nextstamp,
         settlements: state.settlements,
     }
 }

@@ -34,6 +34,8 @@ orders-carried accounts next next′ c d later allows queue =
       number-low = k .number-low;
       number-high = omega arith;
       close = k .close;
+      stamp = k .stamp;
+      quote = k .quote;
     }))
 
 -- recorded trades

@@ -5,7 +5,7 @@ use mathlib.Core.List.{List, [], _∷_}
 use mathlib.Core.Path.{_≡_, refl}
 use Prim.Native.Nat.{ℕ, _+_, _*_, _<_, _≤_}
 use native.Mathlib.Omega.{arith}
-use borrow.Author.Tests.{leb-true, ltb-true, le-leb, lt-ltb}
+use borrow.Author.Tests.{leb-true, ltb-true, le-leb, lt-ltb, eqb-true, eq-eqb}
 use lib.Dec.{leb, ltb, eqb}
 use lib.IntN.{natAbs}
 use lib.ListN.{length}
@@ -30,6 +30,8 @@ pub record OrderOk (accounts next : ℕ) (c : Contract) (o : Order) : Type 0 whe
   pub number-low : 1 ≤ o .number
   pub number-high : o .number < next
   pub close : o .close ≤ 1
+  pub stamp : o .stamp ≡ 0
+  pub quote : o .quote ≡ 0
 
 module _ (accounts next : ℕ) (c : Contract) (o : Order) where
   abbrev orderTests : List Bool
@@ -40,6 +42,8 @@ module _ (accounts next : ℕ) (c : Contract) (o : Order) where
       ∷ leb 1 (o .number)
       ∷ ltb (o .number) next
       ∷ leb (o .close) 1
+      ∷ eqb (o .stamp) 0
+      ∷ eqb (o .quote) 0
       ∷ []
 
   pub order-ok : orderInRange accounts next c o ≡ true → OrderOk accounts next c o
@@ -54,6 +58,8 @@ module _ (accounts next : ℕ) (c : Contract) (o : Order) where
         number-low = omega (arith, leb-true);
         number-high = omega (arith, ltb-true);
         close = omega (arith, leb-true);
+        stamp = eqb-true (o .stamp) 0 (p .1 .1 .1 .1 .1 .1 .1 .0);
+        quote = eqb-true (o .quote) 0 (p .1 .1 .1 .1 .1 .1 .1 .1);
       }
 
   pub order-test : OrderOk accounts next c o → orderInRange accounts next c o ≡ true
@@ -61,7 +67,7 @@ module _ (accounts next : ℕ) (c : Contract) (o : Order) where
   order-test k =
       join (leb 1 (o .lots)) orderTests (
         omega (arith, le-leb),
-        (omega (arith, le-leb), (omega (arith, lt-ltb), (k .price, (omega (arith, le-leb), (omega (arith, lt-ltb), omega (arith, le-leb)))))),
+        (omega (arith, le-leb), (omega (arith, lt-ltb), (k .price, (omega (arith, le-leb), (omega (arith, lt-ltb), (omega (arith, le-leb), (eq-eqb _ _ (k .stamp), eq-eqb _ _ (k .quote)))))))),
       )
 
 -- ---- a contract with its queues; of a side, `sell` is false for the buys and true for the sells
@@ -245,6 +251,7 @@ module _ (m : Listing) (a : ℕ) (h : Holding) where
 pub record WellFormed (x : Exchange) : Type 0 where
   pub next-low : 1 ≤ x .next
   pub next-high : x .next ≤ numbersEnd
+  pub nextstamp : within 1 numbersEnd (x .nextstamp) ≡ true
   pub settlements : x .settlements ≤ maxSettlements
   pub listing : (c : ℕ) → c < length (x .listings) → ListingOk (length (x .accounts)) (x .next) (listingAt x c)
   pub once : usedOnce (allNumbers (x .listings)) ≡ true
@@ -272,12 +279,13 @@ module _ (x : Exchange) where
   unfolding wellFormedContents countersInRange replays holdingsInRange balanceInRange listingAt accountAt
   well-formed h =
       let p = passed (countersInRange x) stateTests h in
-      let q = passed (leb 1 (x .next)) (leb (x .next) numbersEnd ∷ leb (x .settlements) maxSettlements ∷ []) (p .0) in
+      let q = passed (leb 1 (x .next)) (leb (x .next) numbersEnd ∷ within 1 numbersEnd (x .nextstamp) ∷ leb (x .settlements) maxSettlements ∷ []) (p .0) in
       let r = passed (neverBelowZero (startOfDay (x .accounts)) (x .trades)) replayTests (p .1 .1 .1 .1 .0) in
       record {
         next-low = leb-true _ _ (q .0);
         next-high = leb-true _ _ (q .1 .0);
-        settlements = leb-true _ _ (q .1 .1);
+        nextstamp = q .1 .1 .0;
+        settlements = leb-true _ _ (q .1 .1 .1);
         listing = λ c l. listing-ok _ _ _ (allOf-at (listingInRange (length (x .accounts)) (x .next)) (x .listings) c noListing (p .1 .0) l);
         once = p .1 .1 .0;
         trades = p .1 .1 .1 .0;
@@ -294,8 +302,8 @@ module _ (x : Exchange) where
   unfolding wellFormedContents countersInRange replays holdingsInRange balanceInRange listingAt accountAt
   well-formed-test k =
       join (countersInRange x) stateTests (
-        join (leb 1 (x .next)) (leb (x .next) numbersEnd ∷ leb (x .settlements) maxSettlements ∷ [])
-            (le-leb _ _ (k .next-low), (le-leb _ _ (k .next-high), le-leb _ _ (k .settlements))),
+        join (leb 1 (x .next)) (leb (x .next) numbersEnd ∷ within 1 numbersEnd (x .nextstamp) ∷ leb (x .settlements) maxSettlements ∷ [])
+            (le-leb _ _ (k .next-low), (le-leb _ _ (k .next-high), (k .nextstamp, le-leb _ _ (k .settlements)))),
         (
           allOf-true (listingInRange (length (x .accounts)) (x .next)) (x .listings) noListing (λ c l. listing-test _ _ _ (k .listing c l)),
           (

@@ -13,7 +13,7 @@ use Rattle.laws.specs.Tabulate.{tabulate, length-tabulate, getD-tabulate}
 use Rattle.rules.specs.Bounds.{maxContracts, maxResting, maxSettlements, maxBalance, maxDayProfit}
 use Rattle.rules.specs.Exchange.{Exchange, Listing, listingAt, accountAt, holdingAt, noListing, noAccount, noHolding, lotsWhere, resting}
 use Rattle.rules.specs.Holdings.{bookTrades, neverBelowZero, startHolding, startAccount, startOfDay}
-use Rattle.rules.specs.WellFormed.{contractInRange, sorted, uncrossed, numbers, allNumbers, usedOnce}
+use Rattle.rules.specs.WellFormed.{contractInRange, sorted, uncrossed, allNumbers, usedOnce, listed, allListed}
 use Rattle.rules.specs.declared.Account.{Account}
 use Rattle.rules.specs.declared.Contract.{Contract}
 use Rattle.rules.specs.declared.Holding.{Holding}
@@ -32,6 +32,7 @@ freshDay contracts contract accounts account settlements =
       trades =
           [];
       next = 1;
+      nextstamp = 1;
       settlements = settlements;
     }
 
@@ -59,7 +60,7 @@ holding-quiet c a h e l s =
     }
 
 no-numbers : (n : ℕ) (contract : ℕ → Contract) → allNumbers (tabulate n (λ c. quiet (contract c))) ≡ []
-unfolding tabulate allNumbers numbers
+unfolding tabulate allListed listed
 no-numbers zero contract = refl
 no-numbers (suc n) contract = no-numbers n (λ c. contract (suc c))
 
@@ -117,6 +118,7 @@ module _ (contracts : ℕ) (contract : ℕ → Contract) (accounts : ℕ) (accou
       record {
         next-low = omega arith;
         next-high = omega arith;
+        nextstamp = refl;
         settlements = few;
         listing = λ c l. let h : c < contracts = rw nc at l in rw (listing-at c h) (listing-quiet _ 1 (contract c) (in-range c h));
         once = rw (no-numbers contracts contract) once-none;

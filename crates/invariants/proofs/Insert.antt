@@ -16,7 +16,7 @@ use Rattle.rules.specs.Holdings.{bookTrades}
 use Rattle.rules.specs.Kinds.{lastOf}
 use Rattle.rules.specs.Matching.{Swept, tradedLots, remainder, restLots, restWhole, restedLots, enter}
 use Rattle.rules.specs.Step.{withTrades, limitOf, enteredOf, listingAfter, exchangeAfter, inserted}
-use Rattle.rules.specs.WellFormed.{allNumbers, orderInRange, tradeInRange}
+use Rattle.rules.specs.WellFormed.{allNumbers, orderInRange, tradeInRange, numberOf}
 use Rattle.rules.specs.declared.Account.{Account}
 use Rattle.rules.specs.declared.Contract.{Contract}
 use Rattle.rules.specs.declared.Holding.{Holding}
@@ -33,7 +33,7 @@ use Rattle.invariants.proofs.InsertAccepted.{Passes, passes}
 use Rattle.invariants.proofs.InsertListing.{allows-last, mark-low, contractOf, swept, rested, own-is, sides, last-on-tick, tick-low, contractAfter, rested-left, listing-after}
 use Rattle.invariants.proofs.InsertQueues.{rested-sum, rested-length, rested-length-one, rested-fewer}
 use Rattle.invariants.proofs.Legs.{resting-cons, KeptAt}
-use Rattle.invariants.proofs.Numbers.{occurs, uses, usesIn, once-count, next-unused}
+use Rattle.invariants.proofs.Numbers.{occurs, uses, usesIn, once-count, next-number-unused}
 use Rattle.invariants.proofs.SweptHoldings.{SweptKept, swept-kept, untouched-kept, fewer-by}
 use Rattle.invariants.proofs.SweptTrades.{ofContract, swept-in-range, swept-contract}
 use Rattle.invariants.proofs.Traded.{TradesOk, traded-listings, traded-accounts, traded-allows, traded-counted, traded-keeps}
@@ -153,25 +153,25 @@ module _ (x : Exchange) (k : WellFormed x) (o : NewOrder) (p : Passes x o) where
       (rested-left x k o p)) (λ close b. omega arith) (swept-holdings .kept) a l))
 
   -- the numbers: one more, the next, if a remainder rests
-  uses-by : (n : ℕ) (sell : Bool) (us vs : List Order) → uses n (pick sell vs us) + uses n (pick sell us vs) ≡ uses n us + uses n vs
+  uses-by : (n : ℕ) (sell : Bool) (us vs : List Order) → uses numberOf n (pick sell vs us) + uses numberOf n (pick sell us vs) ≡ uses numberOf n us + uses numberOf n vs
   uses-by n true us vs = omega arith
   uses-by n false us vs = refl
 
-  own-uses : (n : ℕ) (sell : Bool) (m : Listing) → uses n (own sell m) + uses n (opposite sell m) ≡ uses n (m .buys) + uses n (m .sells)
+  own-uses : (n : ℕ) (sell : Bool) (m : Listing) → uses numberOf n (own sell m) + uses numberOf n (opposite sell m) ≡ uses numberOf n (m .buys) + uses numberOf n (m .sells)
   own-uses n true m = omega arith
   own-uses n false m = refl
 
-  mine-uses : (n : ℕ) → uses n (restLots (takerOf x o) (limitOf (o .condition)) (rested x k o p) mine) ≤ pick (eqb n (x .next)) 1 0 + uses n mine
+  mine-uses : (n : ℕ) → uses numberOf n (restLots (takerOf x o) (limitOf (o .condition)) (rested x k o p) mine) ≤ pick (eqb n (x .next)) 1 0 + uses numberOf n mine
   unfolding uses takerOf remainder
   mine-uses n = rested-sum (takerOf x o) (limitOf (o .condition)) (λ r. pick (eqb n (r .number)) 1 0) (rested x k o p) mine
 
-  others-uses : (n : ℕ) → uses n (lots-swept .rest) ≤ uses n others
+  others-uses : (n : ℕ) → uses numberOf n (lots-swept .rest) ≤ uses numberOf n others
   unfolding uses restWhole enter
   others-uses n =
-      entered-either x o (λ e. uses n (e .opposite) ≤ uses n others) (λ e. omega arith)
+      entered-either x o (λ e. uses numberOf n (e .opposite) ≤ uses numberOf n others) (λ e. omega arith)
       (λ e. rest-sum (λ r. pick (eqb n (r .number)) 1 0) (λ r m low high. omega arith) (takerOf x o) (o .lots) (contractOf x k o p .last) others)
 
-  uses-after : (n : ℕ) → usesIn n after ≤ usesIn n (listingOf x o) + pick (eqb n (x .next)) 1 0
+  uses-after : (n : ℕ) → usesIn numberOf n after ≤ usesIn numberOf n (listingOf x o) + pick (eqb n (x .next)) 1 0
   unfolding usesIn listingAfter
   uses-after n =
       rw (own-is x k o p)
@@ -191,7 +191,7 @@ module _ (x : Exchange) (k : WellFormed x) (o : NewOrder) (p : Passes x o) where
       go : (b : Bool) → eqb n (x .next) ≡ b → occurs n (allNumbers (x .listings)) + pick (eqb n (x .next)) 1 0 ≤ 1
       go true e =
           let z : occurs n (allNumbers (x .listings)) ≡ 0 =
-          rw (eqb-true n (x .next) e) (next-unused (length (x .accounts)) (x .next) (x .listings) (k .listing)) in
+          rw (eqb-true n (x .next) e) (next-number-unused (length (x .accounts)) (x .next) (x .listings) (k .listing)) in
           rw e (omega arith)
       go false e = rw e (omega (arith, once-count (allNumbers (x .listings)) (k .once) n))
 

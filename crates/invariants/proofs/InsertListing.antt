@@ -156,6 +156,8 @@ module _ (x : Exchange) (k : WellFormed x) (o : NewOrder) (p : Passes x o) where
         number-low = k .next-low;
         number-high = omega arith;
         close = mark-low (o .close);
+        stamp = refl;
+        quote = refl;
       })
 
   carried : (queue : List Order) → allOf (orderInRange (length (x .accounts)) (x .next) contractOf) queue ≡ true →

@@ -128,6 +128,8 @@ order-fewer accounts next c o lots low high h =
       number-low = k .number-low;
       number-high = k .number-high;
       close = k .close;
+      stamp = k .stamp;
+      quote = k .quote;
     })
 
 pub rest-orders : (accounts next : ℕ) (c : Contract) (t : Taker) (left last : ℕ) (os : List Order) →

@@ -14,7 +14,7 @@ use Rattle.rules.specs.Auction.{matchAt, tradeAt}
 use Rattle.rules.specs.Bounds.{allowedToday}
 use Rattle.rules.specs.Exchange.{Exchange, listingAt}
 use Rattle.rules.specs.Matching.{withLots}
-use Rattle.rules.specs.WellFormed.{orderInRange, tradeInRange}
+use Rattle.rules.specs.WellFormed.{orderInRange, tradeInRange, numberOf}
 use Rattle.rules.specs.declared.Contract.{Contract}
 use Rattle.rules.specs.declared.Order.{Order}
 use Rattle.rules.proofs.AuctionTaken.{KeptWithFewer}
@@ -26,13 +26,13 @@ use Rattle.invariants.proofs.Numbers.{uses}
 -- ---- the number of an order of a queue is used there
 
 abbrev usedIn : List Order → Order → Bool
-usedIn queue o = leb 1 (uses (o .number) queue)
+usedIn queue o = leb 1 (uses numberOf (o .number) queue)
 
-used-first : (o : Order) (os : List Order) → 1 ≤ uses (o .number) (o ∷ os)
+used-first : (o : Order) (os : List Order) → 1 ≤ uses numberOf (o .number) (o ∷ os)
 unfolding uses sumOf
 used-first o os = rw (eq-eqb (o .number) (o .number) refl) (omega arith)
 
-used-more : (n : ℕ) (o : Order) (os : List Order) → uses n os ≤ uses n (o ∷ os)
+used-more : (n : ℕ) (o : Order) (os : List Order) → uses numberOf n os ≤ uses numberOf n (o ∷ os)
 unfolding uses sumOf
 used-more n o os = omega arith
 
@@ -40,15 +40,15 @@ each-used : (queue : List Order) → allOf (usedIn queue) queue ≡ true
 unfolding allOf
 each-used [] = refl
 each-used (o ∷ os) =
-    true-both (usedIn (o ∷ os) o) (allOf (usedIn (o ∷ os)) os) (le-leb 1 (uses (o .number) (o ∷ os)) (used-first o os))
+    true-both (usedIn (o ∷ os) o) (allOf (usedIn (o ∷ os)) os) (le-leb 1 (uses numberOf (o .number) (o ∷ os)) (used-first o os))
     (allOf-imp (usedIn os) (usedIn (o ∷ os)) os
-    (λ p h. le-leb 1 (uses (p .number) (o ∷ os)) (omega (arith, used-more (p .number) o os, leb-true 1 (uses (p .number) os) h))) (each-used os))
+    (λ p h. le-leb 1 (uses numberOf (p .number) (o ∷ os)) (omega (arith, used-more (p .number) o os, leb-true 1 (uses numberOf (p .number) os) h))) (each-used os))
 
 -- ---- in range
 
 module _ (y : Exchange) (contract : Contract) (next c price : ℕ) (buys sells : List Order)
     (there : c < length (y .listings)) (later : next ≤ y .next) (allowed : allowedToday (listingAt y c .contract) price ≡ true)
-    (once : (n : ℕ) → uses n buys + uses n sells ≤ 1) where
+    (once : (n : ℕ) → uses numberOf n buys + uses numberOf n sells ≤ 1) where
   abbrev inRange : Order → Bool
   inRange = orderInRange (length (y .accounts)) next contract
 
@@ -65,8 +65,8 @@ module _ (y : Exchange) (contract : Contract) (next c price : ℕ) (buys sells :
   two-numbers b s h k =
       ap not (ne-eqb (b .number) (s .number)
       (λ e. let z : _≡_ {A = ℕ} (b .number) (s .number) = e in
-      let u : 1 ≤ uses (s .number) buys = rw z at (leb-true 1 (uses (b .number) buys) h) in
-      omega (arith, once (s .number), leb-true 1 (uses (s .number) sells) k)))
+      let u : 1 ≤ uses numberOf (s .number) buys = rw z at (leb-true 1 (uses numberOf (b .number) buys) h) in
+      omega (arith, once (s .number), leb-true 1 (uses numberOf (s .number) sells) k)))
 
   one-trade : (lots : ℕ) (b s : Order) → lots ≤ b .lots → lots ≤ s .lots → (0 < b .lots → 0 < s .lots → 0 < lots) → test buys b ≡ true → test sells s ≡ true →
       tradeInRange y (tradeAt c price lots b s) ≡ true

@@ -55,7 +55,7 @@ accounts-read n zero (a ∷ as′) [] e w = absurd (omega arith)
 accounts-read n zero (a ∷ as′) (r ∷ rooms) e w = absurd (omega arith)
 accounts-read n (suc k) (a ∷ as′) [] e w = absurd (omega arith)
 accounts-read n (suc k) (a ∷ as′) (r ∷ rooms) e w =
-    ap₂ (λ (hs : List Holding) (bs : List Account). record { balance = a .balance; holdings = hs } ∷ bs)
+    ap₂ (λ (hs : List Holding) (bs : List Account). record { balance = a .balance; maker = a .maker; holdings = hs } ∷ bs)
     (front-read n (a .holdings) (r .holdings) (w 0 (omega arith)))
     (accounts-read n k as′ rooms (omega arith) (λ b l. w (suc b) (omega arith)))
 
@@ -129,7 +129,7 @@ module _ (m : Memory) (counts : CountsOk (m .state)) (room : RoomOk m) (x : Exch
   pub exchange-put : exchangeOf (put m x) ≡ x
   unfolding exchangeOf put putState
   exchange-put =
-      λ i. record { listings = listings-read i; accounts = accounts-put i; trades = trades-read i; next = x .next; settlements = x .settlements }
+      λ i. record { listings = listings-read i; accounts = accounts-put i; trades = trades-read i; next = x .next; nextstamp = x .nextstamp; settlements = x .settlements }
 
   -- the areas keep their lengths
   pub length-buys : length (put m x .buys) ≡ length (m .buys)
@@ -181,7 +181,7 @@ unfolding putAccounts
 accounts-same n zero rooms = refl
 accounts-same n (suc k) [] = refl
 accounts-same n (suc k) (r ∷ rooms) =
-    ap₂ (λ (hs : List Holding) (bs : List Account). record { balance = r .balance; holdings = hs } ∷ bs) (taken-same n (r .holdings))
+    ap₂ (λ (hs : List Holding) (bs : List Account). record { balance = r .balance; maker = r .maker; holdings = hs } ∷ bs) (taken-same n (r .holdings))
     (accounts-same n k rooms)
 
 module _ (m : Memory) (counts : CountsOk (m .state)) (room : RoomOk m) (arrays : Declared (m .state)) where
@@ -217,6 +217,7 @@ module _ (m : Memory) (counts : CountsOk (m .state)) (room : RoomOk m) (arrays :
         accountcount = m .state .accountcount;
         tradecount = t i;
         next = m .state .next;
+        nextstamp = m .state .nextstamp;
         settlements = m .state .settlements;
       }
 

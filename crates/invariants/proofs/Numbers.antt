@@ -1,30 +1,29 @@
--- "Used once over all queues", by counting: a number is used once if it occurs at most once, and a change of one contract's
--- queues changes the counts there alone. Assumes nothing.
+-- "Used once over all queues", by counting, for any field of an order: a value is used once if it occurs at most once, and a change
+-- of one contract's queues changes the counts there alone. Assumes nothing.
 use mathlib.Core.Bool.{Bool, true, false, not}
 use mathlib.Core.List.{List, [], _∷_, _++_}
 use mathlib.Core.Path.{_≡_, refl, _∙_}
 use Prim.Native.Nat.{ℕ, _+_, _<_, _≤_}
 use native.Mathlib.Omega.{arith}
-use borrow.Author.Tests.{eqb-true, eq-eqb, ne-eqb, not-true}
-use lib.Dec.{eqb}
+use borrow.Author.Tests.{eqb-true, eq-eqb, ne-eqb, lt-ltb, ltb-true, not-true}
+use lib.Dec.{eqb, ltb}
 use lib.ListN.{length, getD, set}
-use Rattle.laws.specs.Choice.{pick, allOf, both-true, true-both}
+use Rattle.laws.specs.Choice.{pick, allOf, allOf-imp, both-true, true-both}
 use Rattle.laws.specs.Sums.{sumOf, sumOf-append, sumOf-set, sumOf-bound}
-use Rattle.rules.specs.Exchange.{Listing, noListing}
-use Rattle.rules.specs.WellFormed.{orderInRange, numbers, allNumbers, usedOnce}
-use Rattle.rules.specs.declared.Contract.{Contract}
+use Rattle.rules.specs.Exchange.{Listing, noListing, own}
+use Rattle.rules.specs.WellFormed.{orderInRange, listed, allListed, numberOf, allNumbers, usedOnce}
 use Rattle.rules.specs.declared.Order.{Order}
 use Rattle.invariants.proofs.Clauses.{order-ok, ListingOk}
 
--- how often a number occurs in a list, in a queue, in a contract's two queues
+-- how often a number occurs in a list, and as a field's value in a queue and in a contract's two queues
 unfoldable pub occurs : ℕ → List ℕ → ℕ
 occurs n l = sumOf (λ k. pick (eqb n k) 1 0) l
 
-unfoldable pub uses : ℕ → List Order → ℕ
-uses n queue = sumOf (λ o. pick (eqb n (o .number)) 1 0) queue
+unfoldable pub uses : (Order → ℕ) → ℕ → List Order → ℕ
+uses field n queue = sumOf (λ o. pick (eqb n (field o)) 1 0) queue
 
-unfoldable pub usesIn : ℕ → Listing → ℕ
-usesIn n m = uses n (m .buys) + uses n (m .sells)
+unfoldable pub usesIn : (Order → ℕ) → ℕ → Listing → ℕ
+usesIn field n m = uses field n (m .buys) + uses field n (m .sells)
 
 -- ---- used once is occurring at most once
 
@@ -67,48 +66,55 @@ count-once (k ∷ ks) h =
 
 -- ---- the counts of a queue, and of all of them
 
-numbers-uses : (n : ℕ) (queue : List Order) → occurs n (numbers queue) ≡ uses n queue
-unfolding occurs sumOf numbers uses
-numbers-uses n [] = refl
-numbers-uses n (o ∷ os) = rw (numbers-uses n os)
-
 occurs-append : (n : ℕ) (xs ys : List ℕ) → occurs n (xs ++ ys) ≡ occurs n xs + occurs n ys
 unfolding occurs
 occurs-append n xs ys = sumOf-append (λ k. pick (eqb n k) 1 0) xs ys
 
-pub all-uses : (n : ℕ) (ms : List Listing) → occurs n (allNumbers ms) ≡ sumOf (usesIn n) ms
-unfolding sumOf allNumbers usesIn
-all-uses n [] = unfold occurs in refl
-all-uses n (m ∷ ms) =
-    occurs-append n (numbers (m .buys)) _
-    ∙ rw (occurs-append n (numbers (m .sells)) (allNumbers ms), numbers-uses n (m .buys), numbers-uses n (m .sells), all-uses n ms) (omega arith)
+module _ (field : Order → ℕ) where
+  listed-uses : (n : ℕ) (queue : List Order) → occurs n (listed field queue) ≡ uses field n queue
+  unfolding occurs sumOf listed uses
+  listed-uses n [] = refl
+  listed-uses n (o ∷ os) = rw (listed-uses n os)
 
--- one contract's queues replaced: each number may come back only as often as is left
-pub once-changed :
-    (ms : List Listing) (c : ℕ) (m : Listing) → c < length ms → usedOnce (allNumbers ms) ≡ true →
-    ((n : ℕ) → occurs n (allNumbers ms) + usesIn n m ≤ 1 + usesIn n (getD ms c noListing)) → usedOnce (allNumbers (set ms c m)) ≡ true
-once-changed ms c m there once few =
-    count-once (allNumbers (set ms c m))
-    (λ n. rw (all-uses n (set ms c m)) (omega (arith, few n, all-uses n ms, sumOf-set (usesIn n) ms c m noListing there)))
+  pub all-uses : (n : ℕ) (ms : List Listing) → occurs n (allListed field ms) ≡ sumOf (usesIn field n) ms
+  unfolding sumOf allListed usesIn
+  all-uses n [] = unfold occurs in refl
+  all-uses n (m ∷ ms) =
+      occurs-append n (listed field (m .buys)) _
+      ∙ rw (occurs-append n (listed field (m .sells)) (allListed field ms), listed-uses n (m .buys), listed-uses n (m .sells), all-uses n ms) (omega arith)
 
--- a number that every order stays below occurs nowhere
-uses-none : (accounts next : ℕ) (c : Contract) (queue : List Order) → allOf (orderInRange accounts next c) queue ≡ true → uses next queue ≡ 0
-unfolding uses sumOf allOf
-uses-none accounts next c [] h = refl
-uses-none accounts next c (o ∷ os) h =
-    let p = both-true (orderInRange accounts next c o) (allOf (orderInRange accounts next c) os) h in
-    let l = order-ok accounts next c o (p .0) .number-high in
-    rw (ne-eqb next (o .number) (λ e. let z : _≡_ {A = ℕ} next (o .number) = e in omega arith)) (omega (arith, uses-none accounts next c os (p .1)))
+  -- one contract's queues replaced: each value may come back only as often as is left
+  pub once-changed :
+      (ms : List Listing) (c : ℕ) (m : Listing) → c < length ms → usedOnce (allListed field ms) ≡ true →
+      ((n : ℕ) → occurs n (allListed field ms) + usesIn field n m ≤ 1 + usesIn field n (getD ms c noListing)) → usedOnce (allListed field (set ms c m)) ≡ true
+  once-changed ms c m there once few =
+      count-once (allListed field (set ms c m))
+      (λ n. rw (all-uses n (set ms c m)) (omega (arith, few n, all-uses n ms, sumOf-set (usesIn field n) ms c m noListing there)))
 
-pub next-unused : (accounts next : ℕ) (ms : List Listing) → ((c : ℕ) → c < length ms → ListingOk accounts next (getD ms c noListing)) →
+  -- a value that every order stays below occurs nowhere
+  uses-none : (next : ℕ) (queue : List Order) → allOf (λ o. ltb (field o) next) queue ≡ true → uses field next queue ≡ 0
+  unfolding uses sumOf allOf
+  uses-none next [] h = refl
+  uses-none next (o ∷ os) h =
+      let p = both-true (ltb (field o) next) (allOf (λ r. ltb (field r) next) os) h in
+      let l = ltb-true (field o) next (p .0) in
+      rw (ne-eqb next (field o) (λ e. let z : _≡_ {A = ℕ} next (field o) = e in omega arith)) (omega (arith, uses-none next os (p .1)))
+
+  pub next-unused : (next : ℕ) (ms : List Listing)
+      → ((c : ℕ) → c < length ms → (sell : Bool) → allOf (λ o. ltb (field o) next) (own sell (getD ms c noListing)) ≡ true)
+      → occurs next (allListed field ms) ≡ 0
+  unfolding usesIn
+  next-unused next ms below =
+      let none : (c : ℕ) → c < length ms → usesIn field next (getD ms c noListing) ≤ 0 =
+      λ c l. omega (arith, uses-none next (getD ms c noListing .buys) (below c l false), uses-none next (getD ms c noListing .sells) (below c l true)) in
+      omega (arith, all-uses next ms, sumOf-bound (usesIn field next) 0 ms noListing none)
+
+-- the next order number is no resting order's
+pub next-number-unused : (accounts next : ℕ) (ms : List Listing) → ((c : ℕ) → c < length ms → ListingOk accounts next (getD ms c noListing)) →
     occurs next (allNumbers ms) ≡ 0
-unfolding usesIn
-next-unused accounts next ms ok =
-    let none : (c : ℕ) → c < length ms → usesIn next (getD ms c noListing) ≤ 0 =
-    λ c l. omega (
-      arith,
-      uses-none accounts next _ (getD ms c noListing .buys) (ok c l .orders false),
-      uses-none accounts next _
-          (getD ms c noListing .sells) (ok c l .orders true),
-    ) in
-    omega (arith, all-uses next ms, sumOf-bound (usesIn next) 0 ms noListing none)
+next-number-unused accounts next ms ok =
+    next-unused numberOf next ms
+    (λ c l sell.
+    let m = getD ms c noListing in
+    allOf-imp (orderInRange accounts next (m .contract)) (λ o. ltb (o .number) next) (own sell m)
+    (λ o h. lt-ltb (o .number) next (order-ok accounts next (m .contract) o h .number-high)) (ok c l .orders sell))

@@ -10,16 +10,17 @@ use Rattle.rules.specs.Bounds.{maxResting}
 use Rattle.rules.specs.Exchange.{Exchange, Listing, listingAt, holdingAt, noListing, own}
 use Rattle.rules.specs.Step.{withListing}
 use Rattle.rules.specs.declared.Holding.{Holding}
+use Rattle.rules.specs.declared.Order.{Order}
 use Rattle.invariants.proofs.Carry.{Allows, trades-carried}
 use Rattle.invariants.proofs.Clauses.{ListingOk, HoldingOk, WellFormed, Counted}
 use Rattle.invariants.proofs.Numbers.{usesIn, once-count, once-changed}
-use Rattle.rules.specs.WellFormed.{allNumbers}
+use Rattle.rules.specs.WellFormed.{allNumbers, numberOf}
 
 module _ (x : Exchange) (k : WellFormed x) (c : ℕ) (there : c < length (x .listings)) (m : Listing)
     (ok : ListingOk (length (x .accounts)) (x .next) m)
     (allows : Allows (listingAt x c .contract) (m .contract))
     (holds : (a : ℕ) (h : Holding) → HoldingOk (listingAt x c) a h → HoldingOk m a h)
-    (fewer : (n : ℕ) → usesIn n m ≤ usesIn n (listingAt x c)) where
+    (fewer : (field : Order → ℕ) (n : ℕ) → usesIn field n m ≤ usesIn field n (listingAt x c)) where
   same-count : length (set (x .listings) c m) ≡ length (x .listings)
   same-count = length-set (x .listings) c m
 
@@ -29,11 +30,12 @@ module _ (x : Exchange) (k : WellFormed x) (c : ℕ) (there : c < length (x .lis
       record {
         next-low = k .next-low;
         next-high = k .next-high;
+        nextstamp = k .nextstamp;
         settlements = k .settlements;
         listing =
             λ d l. at-set (λ (j : ℕ) (n : Listing). ListingOk (length (x .accounts)) (x .next) n) (x .listings) c m noListing there ok d
             (λ n. k .listing d (rw same-count at l));
-        once = once-changed (x .listings) c m there (k .once) (λ n. omega (arith, fewer n, once-count (allNumbers (x .listings)) (k .once) n));
+        once = once-changed numberOf (x .listings) c m there (k .once) (λ n. omega (arith, fewer numberOf n, once-count (allNumbers (x .listings)) (k .once) n));
         trades = trades-carried x (withListing x c m) (sym same-count) refl (le-refl (x .next))
             (λ d. at-set (λ (j : ℕ) (n : Listing). Allows (listingAt x j .contract) (n .contract)) (x .listings) c m noListing there allows d
             (λ n p h. h))

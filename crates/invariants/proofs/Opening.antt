@@ -1,5 +1,5 @@
 -- The state in which a sound day file opens is well formed, so that no command of the file can meet code 21. Assumes nothing.
-use mathlib.Core.Bool.{Bool, true}
+use mathlib.Core.Bool.{Bool, true, false}
 use mathlib.Core.List.{List, [], _∷_, map}
 use mathlib.Core.Path.{_≡_, refl, ap}
 use Prim.Native.Nat.{ℕ, zero, suc, _+_, _<_, _≤_}
@@ -57,7 +57,7 @@ module _ (file : List ℕ) (h : sound file ≡ true) where
 
   start : (a : ℕ) → startAccount (openingAccount file a) ≡ openingAccount file a
   unfolding openingAccount
-  start a = ap (λ (hs : List Holding). record { balance = pos (balanceFrom file a); holdings = hs }) (none-start (contractsIn file))
+  start a = ap (λ (hs : List Holding). record { balance = pos (balanceFrom file a); maker = false; holdings = hs }) (none-start (contractsIn file))
 
   nothing-held : (a c : ℕ) → getD (openingAccount file a .holdings) c noHolding ≡ noHolding
   unfolding openingAccount

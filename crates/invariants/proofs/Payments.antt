@@ -61,6 +61,7 @@ module _ (x : Exchange) (k : WellFormed x) (a : ℕ) (there : a < length (x .acc
       record {
         next-low = k .next-low;
         next-high = k .next-high;
+        nextstamp = k .nextstamp;
         settlements = k .settlements;
         listing = λ c l. rw same-count (k .listing c l);
         once = k .once;

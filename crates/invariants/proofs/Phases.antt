@@ -21,7 +21,7 @@ use Rattle.rules.specs.Exchange.{Exchange, Listing, listingAt, holdingAt, noLis
 use Rattle.rules.specs.Holdings.{bookTrades}
 use Rattle.rules.specs.Kinds.{lastOf}
 use Rattle.rules.specs.Step.{withLast, withPhase, withTrades, listingMatched, exchangeMatched, phaseChanged}
-use Rattle.rules.specs.WellFormed.{allNumbers, contractInRange, orderInRange, sorted, tradeInRange, uncrossed}
+use Rattle.rules.specs.WellFormed.{allNumbers, contractInRange, orderInRange, sorted, tradeInRange, uncrossed, numberOf}
 use Rattle.rules.specs.declared.Contract.{Contract}
 use Rattle.rules.specs.declared.Holding.{Holding}
 use Rattle.rules.specs.declared.Order.{Order}
@@ -75,7 +75,7 @@ module _ (x : Exchange) (k : WellFormed x) (c : ℕ) (there : c < length (x .lis
     pub apart : uncrossed (m .buys) (m .sells) ≡ true
     pub orders : (sell : Bool) → allOf inRange (left sell m) ≡ true
     pub prices : allOf (λ t. allowedToday (before .contract) (t .price)) (m .trades) ≡ true
-    pub numbers : (n : ℕ) → uses n (m .buys) + uses n (m .sells) ≤ usesIn n before
+    pub numbers : (n : ℕ) → uses numberOf n (m .buys) + uses numberOf n (m .sells) ≤ usesIn numberOf n before
     pub ranges : (y : Exchange) → c < length (y .listings) → length (y .accounts) ≡ length (x .accounts) → x .next ≤ y .next →
         Allows (before .contract) (listingAt y c .contract) → allOf (tradeInRange y) (m .trades) ≡ true
     pub here : allOf (ofContract c) (m .trades) ≡ true
@@ -127,12 +127,12 @@ module _ (x : Exchange) (k : WellFormed x) (c : ℕ) (there : c < length (x .lis
       each : (sell : Bool) → allOf (λ o. allowedToday (before .contract) (o .price)) (own sell before) ≡ true
       each sell = allOf-imp inRange (λ o. allowedToday (before .contract) (o .price)) (own sell before) (λ o h. order-ok _ _ _ o h .price) (ok .orders sell)
 
-  once-here : (n : ℕ) → uses n (before .buys) + uses n (before .sells) ≤ 1
+  once-here : (n : ℕ) → uses numberOf n (before .buys) + uses numberOf n (before .sells) ≤ 1
   unfolding usesIn listingAt
   once-here n =
-      omega (arith, once-count (allNumbers (x .listings)) (k .once) n, all-uses n (x .listings), sumOf-at (usesIn n) (x .listings) c noListing there)
+      omega (arith, once-count (allNumbers (x .listings)) (k .once) n, all-uses numberOf n (x .listings), sumOf-at (usesIn numberOf n) (x .listings) c noListing there)
 
-  fewer-uses : (sell : Bool) (n : ℕ) → uses n (left sell matched) ≤ uses n (own sell before)
+  fewer-uses : (sell : Bool) (n : ℕ) → uses numberOf n (left sell matched) ≤ uses numberOf n (own sell before)
   unfolding uses
   fewer-uses sell n = taken sell .1 .atmost (λ o. pick (eqb n (o .number)) 1 0) (λ o m low high. le-refl _)
 
@@ -213,7 +213,7 @@ module _ (x : Exchange) (k : WellFormed x) (c : ℕ) (there : c < length (x .lis
     unfolding listingMatched
     allows-here = allows-changed (before .contract) _ phase
 
-    uses-after : (n : ℕ) → usesIn n after ≤ usesIn n before
+    uses-after : (n : ℕ) → usesIn numberOf n after ≤ usesIn numberOf n before
     unfolding listingMatched usesIn
     uses-after n = match-ok .numbers n
 

@@ -96,9 +96,9 @@ module _ (test : Order → Bool) where
         closes = λ sell. rw (own-without m sell) (omega (arith, without-resting 1 a (own sell m), k .closes sell));
       }
 
-  fewer : (m : Listing) (n : ℕ) → usesIn n (listingWithout test m) ≤ usesIn n m
+  fewer : (m : Listing) (field : Order → ℕ) (n : ℕ) → usesIn field n (listingWithout test m) ≤ usesIn field n m
   unfolding usesIn uses
-  fewer m n = omega (arith, without-sum (λ o. pick (eqb n (o .number)) 1 0) (m .buys), without-sum (λ o. pick (eqb n (o .number)) 1 0) (m .sells))
+  fewer m field n = omega (arith, without-sum (λ o. pick (eqb n (field o)) 1 0) (m .buys), without-sum (λ o. pick (eqb n (field o)) 1 0) (m .sells))
 
   module _ (x : Exchange) (c : ℕ) (there : c < length (x .listings)) (number : ℕ) where
     removed-keeps : WellFormed x → WellFormed (lastOf x (removed x c test number .stages))

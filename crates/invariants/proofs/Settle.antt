@@ -142,7 +142,7 @@ module _ (x : Exchange) (k : WellFormed x) (n : Counted x) where
   start : (a : ℕ) → startAccount (settledAccount x a) ≡ settledAccount x a
   unfolding settledAccount
   start a =
-      ap (λ (hs : List Holding). record { balance = settledAccount x a .balance; holdings = hs })
+      ap (λ (hs : List Holding). record { balance = settledAccount x a .balance; maker = settledAccount x a .maker; holdings = hs })
       (carried-start (accountAt (x .accounts) a .holdings))
 
   held-at : (a c : ℕ) → getD (settledAccount x a .holdings) c noHolding ≡ carriedHolding (holdingAt (x .accounts) a c)

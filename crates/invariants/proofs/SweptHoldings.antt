@@ -48,7 +48,7 @@ module _ (accounts limit price : ℕ) (account contract close number best : ℕ)
   unfolding remainder tradeWith bookTrade
   turn-by false left last o os there its-mark kept =
       let k = min left (o .lots) in
-      let b : Order = record { price = price; number = number; account = account; lots = left; close = close } in
+      let b : Order = record { price = price; number = number; account = account; lots = left; close = close; stamp = 0; quote = 0 } in
       record {
         buy = buyer-covered accounts limit contract l b o own os k (omega arith) (omega arith) mark its-mark here there kept;
         sell = seller-covered accounts limit contract l b o own os k (omega arith) (omega arith) mark its-mark here there kept;
@@ -56,7 +56,7 @@ module _ (accounts limit price : ℕ) (account contract close number best : ℕ)
       }
   turn-by true left last o os there its-mark kept =
       let k = min left (o .lots) in
-      let s : Order = record { price = price; number = number; account = account; lots = left; close = close } in
+      let s : Order = record { price = price; number = number; account = account; lots = left; close = close; stamp = 0; quote = 0 } in
       record {
         buy = buyer-covered accounts limit contract l o s os own k (omega arith) (omega arith) its-mark mark there here kept;
         sell = seller-covered accounts limit contract l o s os own k (omega arith) (omega arith) its-mark mark there here kept;

@@ -12,7 +12,7 @@ use Rattle.rules.specs.Bounds.{maxResting, maxTrades, numbersEnd}
 use Rattle.rules.specs.Exchange.{Exchange, Listing, listingAt, holdingAt, noListing, own}
 use Rattle.rules.specs.Holdings.{bookTrades, neverBelowZero}
 use Rattle.rules.specs.Step.{withTrades}
-use Rattle.rules.specs.WellFormed.{allNumbers, tradeInRange}
+use Rattle.rules.specs.WellFormed.{allNumbers, tradeInRange, numberOf}
 use Rattle.rules.specs.declared.Trade.{Trade}
 use Rattle.rules.proofs.Holdings.{length-bookTrades, booked-balance, replay-more, never-more}
 use Rattle.invariants.proofs.Carry.{Allows, orders-carried, trades-carried}
@@ -27,7 +27,7 @@ pub record TradesOk (x : Exchange) (c : ℕ) (m : Listing) (ts : List Trade) (n 
   pub high : n ≤ numbersEnd
   pub listing : ListingOk (length (x .accounts)) n m
   pub allows : Allows (listingAt x c .contract) (m .contract)
-  pub numbers : (number : ℕ) → occurs number (allNumbers (x .listings)) + usesIn number m ≤ 1 + usesIn number (listingAt x c)
+  pub numbers : (number : ℕ) → occurs number (allNumbers (x .listings)) + usesIn numberOf number m ≤ 1 + usesIn numberOf number (listingAt x c)
   pub ranges : allOf (tradeInRange (withTrades x c m ts n)) ts ≡ true
   pub here : allOf (ofContract c) ts ≡ true
   pub never : neverBelowZero (x .accounts) ts ≡ true
@@ -94,9 +94,10 @@ module _ (x : Exchange) (k : WellFormed x) (c : ℕ) (m : Listing) (ts : List Tr
       record {
         next-low = omega (arith, k .next-low, ok .later);
         next-high = ok .high;
+        nextstamp = k .nextstamp;
         settlements = k .settlements;
         listing = λ d l. listings-after d (omega (arith, traded-listings x c m ts n));
-        once = once-changed (x .listings) c m (ok .there) (k .once) (ok .numbers);
+        once = once-changed numberOf (x .listings) c m (ok .there) (k .once) (ok .numbers);
         trades =
             rw (allOf-append (tradeInRange afterwards) (x .trades) ts)
             (true-both (allOf (tradeInRange afterwards) (x .trades)) (allOf (tradeInRange afterwards) ts) old-trades (ok .ranges));

@@ -3,9 +3,10 @@ use mathlib.Core.List.{List}
 use mathlib.Core.Path.{_≡_}
 use Prim.Native.Nat.{ℕ, _+_, _*_, _<_, _≤_}
 use lib.ListN.{length, getD}
+use Rattle.rules.specs.Bounds.{maxResting}
 use Rattle.rules.specs.Exchange.{Listing, noAccount, noContract, noHolding, restingOpens}
 use Rattle.rules.specs.Margin as margin
-use Rattle.rules.specs.Memory.{exchangeOf, memory, queueIn}
+use Rattle.rules.specs.Memory.{exchangeOf, memory, queueIn, firstWord}
 use Rattle.rules.specs.declared.Contract.{Contract}
 use Rattle.rules.specs.declared.Holding.{Holding}
 use Rattle.rules.specs.declared.State.{State}
@@ -24,10 +25,10 @@ pub record ChargeTerms (c : Contract) : Type 0 where
 -- those of an open it may have more
 pub record ChargeableIn (contract : Contract) (buys : List ℕ) (buycount : ℕ) (sells : List ℕ) (sellcount c a : ℕ) (h : Holding) : Type 0 where
   pub terms : ChargeTerms contract
-  pub bids : buycount ≤ 64
-  pub offers : sellcount ≤ 64
-  pub buyroom : 320 * c + 5 * buycount ≤ length buys
-  pub sellroom : 320 * c + 5 * sellcount ≤ length sells
+  pub bids : buycount ≤ maxResting
+  pub offers : sellcount ≤ maxResting
+  pub buyroom : firstWord c buycount ≤ length buys
+  pub sellroom : firstWord c sellcount ≤ length sells
   pub long : h .long + restingOpens a (queueIn buys c buycount) ≤ 200_000
   pub short : h .short + restingOpens a (queueIn sells c sellcount) ≤ 200_000
 

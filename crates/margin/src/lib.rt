@@ -53,13 +53,13 @@ fn charged_in<'a>(
 // queue: the account's holdings, the terms and number of contracts, and how many orders each queue has. The day's trades play no part.
 // For an open the holdings have its lots already.
 pub fn charged<'a>(
-    holdings: [Holding; 4],
-    terms: [Contract; 4],
+    holdings: [Holding; rules::MAX_CONTRACTS],
+    terms: [Contract; rules::MAX_CONTRACTS],
     contracts: usize,
     buys: &'a [u32],
-    bids: [usize; 4],
+    bids: [usize; rules::MAX_CONTRACTS],
     sells: &'a [u32],
-    offers: [usize; 4],
+    offers: [usize; rules::MAX_CONTRACTS],
     a: usize,
 ) -> u64
     requires { ⌜ Chargeable holdings terms contracts (now buys) bids (now sells) offers a ⌝ }

@@ -9,7 +9,7 @@ use lib.ListN.{length, take, drop, length-append}
 use lib.Seq.{drop-at, length-take-le}
 use Rattle.laws.specs.Choice.{pick}
 use Rattle.rules.specs.Matching.{sweep, restIn, remainder, restLots, restedLots, enter}
-use Rattle.rules.specs.Memory.{queueIn, putQueue}
+use Rattle.rules.specs.Memory.{queueIn, putQueue, orderStride, firstWord}
 use Rattle.rules.specs.declared.Account.{Account}
 use Rattle.rules.specs.declared.Order.{Order}
 use Rattle.rules.specs.declared.Taker.{Taker}
@@ -27,13 +27,13 @@ unfolding restLots
 rests-not t price lots queue e = rw e
 
 rests-in : (t : Taker) (price lots : ℕ) (queue : List Order) → (lots ≡ 0 → ⊥)
-    → restLots t price lots queue ≡ restIn (t .sell) (record { price = price; number = t .number; account = t .account; lots = lots; close = t .close }) queue
+    → restLots t price lots queue ≡ restIn (t .sell) (record { price = price; number = t .number; account = t .account; lots = lots; close = t .close; stamp = 0; quote = 0 }) queue
 unfolding restLots remainder
 rests-in t price zero queue some = absurd (some refl)
 rests-in t price (suc n) queue some = refl
 
 module _ (t : Taker) (price lots : ℕ) (owns : List ℕ) (c count : ℕ) where
-  pub none-rests : lots ≡ 0 → 320 * c + 5 * length (restLots t price lots (queueIn owns c count)) ≤ length owns
+  pub none-rests : lots ≡ 0 → firstWord c (length (restLots t price lots (queueIn owns c count))) ≤ length owns
       → (count ≡ length (restLots t price lots (queueIn owns c count))) × (owns ≡ putQueue owns c count (restLots t price lots (queueIn owns c count)))
   none-rests e room =
       let q : restLots t price lots (queueIn owns c count) ≡ queueIn owns c count = rests-not t price lots (queueIn owns c count) e in
@@ -44,18 +44,18 @@ module _ (t : Taker) (price lots : ℕ) (owns : List ℕ) (c count : ℕ) where
     length-rests : length (restLots t price lots (queueIn owns c count)) ≡ count + 1
     length-rests = rw (rests-in t price lots (queueIn owns c count) some, length-restIn, length-queue owns c count) (omega arith)
 
-    pub rest-room : 320 * c + 5 * length (restLots t price lots (queueIn owns c count)) ≤ length owns → 320 * c + 5 * count + 5 ≤ length owns
+    pub rest-room : firstWord c (length (restLots t price lots (queueIn owns c count))) ≤ length owns → firstWord c count + orderStride ≤ length owns
     rest-room room = omega (arith, length-rests)
 
     pub some-rests : {owns′ : List ℕ}
-        → owns′ ≡ putQueue owns c count (restIn (t .sell) (record { price = price; number = t .number; account = t .account; lots = lots; close = t .close }) (queueIn owns c count))
+        → owns′ ≡ putQueue owns c count (restIn (t .sell) (record { price = price; number = t .number; account = t .account; lots = lots; close = t .close; stamp = 0; quote = 0 }) (queueIn owns c count))
         → (count + 1 ≡ length (restLots t price lots (queueIn owns c count))) × (owns′ ≡ putQueue owns c count (restLots t price lots (queueIn owns c count)))
     some-rests e = (sym length-rests, e ∙ ap (putQueue owns c count) (sym (rests-in t price lots (queueIn owns c count) some)))
 
 -- ---- the opposite queue
 
 -- with its first k orders taken out
-pub front-dropped : (queues queues′ : List ℕ) (c count k : ℕ) (rest : List Order) → 320 * c + 5 * count ≤ length queues → k + length rest ≡ count
+pub front-dropped : (queues queues′ : List ℕ) (c count k : ℕ) (rest : List Order) → firstWord c count ≤ length queues → k + length rest ≡ count
     → queues′ ≡ putQueue queues c count (take k (queueIn queues c count) ++ rest)
     → putQueue queues′ c count (drop k (queueIn queues′ c count)) ≡ putQueue queues c count rest
 front-dropped queues queues′ c count k rest room l e =
@@ -85,7 +85,7 @@ module _ {t : Taker} {lots price : ℕ} {day : Bool} {last : ℕ} {held : List A
     unfolding enter
     own-is = rw (rested-is, ec)
 
-    pub rests-ready : 320 * c + 5 * length (restLots t price rested (queueIn owns c own)) ≤ length owns
+    pub rests-ready : firstWord c (length (restLots t price rested (queueIn owns c own))) ≤ length owns
     rests-ready = omega (arith, ready .rests, ap length own-is)
 
     pub entered : {owns′ opposites′ : List ℕ} {resting : ℕ}

@@ -15,7 +15,7 @@ use Rattle.rules.specs.EarlyStop.{countTrades}
 use Rattle.rules.specs.Exchange.{noOrder}
 use Rattle.rules.specs.Holdings.{bookTrade}
 use Rattle.rules.specs.Matching.{counterpart, tradePrice, tradeWith, withLots, Swept, untouched, sweep}
-use Rattle.rules.specs.Memory.{tradeWords, orderFrom, queueIn, putQueue}
+use Rattle.rules.specs.Memory.{tradeWords, orderFrom, queueIn, putQueue, tradeStride, firstWord}
 use Rattle.rules.specs.declared.Account.{Account}
 use Rattle.rules.specs.declared.Order.{Order}
 use Rattle.rules.specs.declared.Taker.{Taker}
@@ -41,9 +41,9 @@ unfoldable pub finish : ℕ → ℕ → ℕ → List Account → List ℕ → Sw
 finish done made last held area s = record { booked = booked done made last held area (s .trades); rest = s .rest }
 
 -- a trade passes from what is to come to what is done
-finish-trade : (done made last : ℕ) (held : List Account) (area : List ℕ) (tr : Trade) (s : Swept) → 9 * made ≤ length area
+finish-trade : (done made last : ℕ) (held : List Account) (area : List ℕ) (tr : Trade) (s : Swept) → tradeStride * made ≤ length area
     → finish done made last held area (record { trades = tr ∷ s .trades; rest = s .rest })
-    ≡ finish (done + tr .lots) (made + 1) (tr .price) (bookTrade held tr) (store tradeWords area (9 * made) (tr ∷ [])) s
+    ≡ finish (done + tr .lots) (made + 1) (tr .price) (bookTrade held tr) (store tradeWords area (tradeStride * made) (tr ∷ [])) s
 unfolding finish
 finish-trade done made last held area tr s room =
     ap (λ (b : Booked). record { booked = b; rest = s .rest }) (booked-trade done made last held area tr (s .trades) room)
@@ -82,14 +82,14 @@ pub record Going
       ≡ finish 0 before last held₀ area₀ (sweep t lots last (queueIn queues (t .contract) count))
 
 -- the order that code reads at a place
-pub order-read : {queues queues′ : List ℕ} {c d : ℕ} (at : ℕ) {o : Order} → o ≡ orderFrom (drop (320 * c + 5 * at) queues′) → c ≡ d → queues′ ≡ queues → o ≡ orderFrom (drop (320 * d + 5 * at) queues)
+pub order-read : {queues queues′ : List ℕ} {c d : ℕ} (at : ℕ) {o : Order} → o ≡ orderFrom (drop (firstWord c at) queues′) → c ≡ d → queues′ ≡ queues → o ≡ orderFrom (drop (firstWord d at) queues)
 order-read {queues} {queues′} {c} {d} at e ec eq =
-    e ∙ ap (λ (k : ℕ). orderFrom (drop (320 * k + 5 * at) queues′)) ec ∙ ap (λ (q : List ℕ). orderFrom (drop (320 * d + 5 * at) q)) eq
+    e ∙ ap (λ (k : ℕ). orderFrom (drop (firstWord k at) queues′)) ec ∙ ap (λ (q : List ℕ). orderFrom (drop (firstWord d at) q)) eq
 
 -- a turn that trades: the order met, and the trade
 pub record Meeting (t : Taker) (queues : List ℕ) (count at left price : ℕ) (o : Order) (tr : Trade) : Type 0 where
   pub here : at < count
-  pub order : o ≡ orderFrom (drop (320 * t .contract + 5 * at) queues)
+  pub order : o ≡ orderFrom (drop (firstWord (t .contract) at) queues)
   pub some : 0 < left
   pub met : counterpart t o ≡ true
   pub trade : tr ≡ tradeWith t o left price
@@ -135,7 +135,7 @@ module _ {t : Taker} {left price : ℕ} {queues : List ℕ} {count at : ℕ} whe
   pub lots-used : left ≡ 0 → Stops t left price queues count at
   lots-used e = record { rest = rw e (sweep-used t price _) }
 
-  pub no-counterpart : {o : Order} → at < count → o ≡ orderFrom (drop (320 * t .contract + 5 * at) queues) → counterpart t o ≡ false → Stops t left price queues count at
+  pub no-counterpart : {o : Order} → at < count → o ≡ orderFrom (drop (firstWord (t .contract) at) queues) → counterpart t o ≡ false → Stops t left price queues count at
   no-counterpart {o} h e u = record { rest = rw (next-order queues (t .contract) count at o h e) (sweep-unmet t left price o _ u) }
 
 -- ---- the ways on and out
@@ -143,7 +143,7 @@ module _ {t : Taker} {left price : ℕ} {queues : List ℕ} {count at : ℕ} whe
 module _
     {t : Taker} {lots last : ℕ} {held₀ : List Account} {queues : List ℕ} {count : ℕ} {area₀ : List ℕ} {before : ℕ} {queues′ area : List ℕ}
     {held : List Account} {price made at done : ℕ} (g : Going t lots last held₀ queues count area₀ before queues′ area held price made at done)
-    (room : 320 * t .contract + 5 * count ≤ length queues) where
+    (room : firstWord (t .contract) count ≤ length queues) where
   -- the loop is left before a trade
   pub stopped : Stops t (lots - done) price queues count at
       → FilledIs (sweep t lots last (queueIn queues (t .contract) count)) queues (t .contract) count area₀ before last held₀
@@ -160,7 +160,7 @@ module _
     next = next-order queues (t .contract) count at o (m .here) (m .order)
 
     -- the area has room for the trade
-    pub trade-room : 9 * (before + length (sweep t lots last (queueIn queues (t .contract) count) .trades)) ≤ length area₀ → 9 * made + 9 ≤ length area
+    pub trade-room : tradeStride * (before + length (sweep t lots last (queueIn queues (t .contract) count) .trades)) ≤ length area₀ → tradeStride * made + tradeStride ≤ length area
     unfolding finish
     trade-room h =
         let q : List Order = queueIn queues (t .contract) count in
@@ -168,9 +168,9 @@ module _
         = trades-counted t (lots - done) price (drop at q) ∙ rw next (count-met t (lots - done) o (drop (at + 1) q) (m .some) (m .met)) in
         omega (arith, ap (λ x. x .booked .made) (g .answer), still-made done made price held area (sweep t (lots - done) price (drop at q) .trades), still-made 0 before last held₀ area₀ (sweep t lots last q .trades), g .long)
 
-    module _ (fits : 9 * made + 9 ≤ length area) {held′ : List Account} (eh : held′ ≡ bookTrade held tr) {area′ : List ℕ} (ea : area′ ≡ store tradeWords area (9 * made) (tr ∷ [])) where
+    module _ (fits : tradeStride * made + tradeStride ≤ length area) {held′ : List Account} (eh : held′ ≡ bookTrade held tr) {area′ : List ℕ} (ea : area′ ≡ store tradeWords area (tradeStride * made) (tr ∷ [])) where
       long-still : length area′ ≡ length area₀
-      long-still = ap length ea ∙ length-store trade-codec area (9 * made) (tr ∷ []) fits ∙ g .long
+      long-still = ap length ea ∙ length-store trade-codec area (tradeStride * made) (tr ∷ []) fits ∙ g .long
 
       -- the trade is done, and this sweep is to come
       traded-on : (s : Swept) → sweep t (lots - done) price (o ∷ drop (at + 1) (queueIn queues (t .contract) count)) ≡ record { trades = tradeWith t o (lots - done) price ∷ s .trades; rest = s .rest }

@@ -7,7 +7,7 @@ use lib.ListN.{length}
 use Rattle.areas.specs.Records.{store}
 use Rattle.rules.specs.Holdings.{bookTrades}
 use Rattle.rules.specs.Matching.{Entered, enter, tradedLots, lastPrice}
-use Rattle.rules.specs.Memory.{queueIn, putQueue, tradeWords}
+use Rattle.rules.specs.Memory.{queueIn, putQueue, tradeWords, tradeStride, firstWord}
 use Rattle.rules.specs.declared.Account.{Account}
 use Rattle.rules.specs.declared.Taker.{Taker}
 use Rattle.matching.specs.Sweep.{SweepReady}
@@ -18,7 +18,7 @@ pub record EntryReady
     (t : Taker) (lots price : ℕ) (day : Bool) (last : ℕ) (held : List Account) (owns : List ℕ) (own : ℕ) (opposites : List ℕ)
     (opposite : ℕ) (area : List ℕ) (before : ℕ) : Type 0 where
   pub sweeps : SweepReady t lots last held opposites opposite area before
-  pub rests : 320 * t .contract + 5 * length (enter t lots price day last (queueIn owns (t .contract) own) (queueIn opposites (t .contract) opposite) .own) ≤ length owns
+  pub rests : firstWord (t .contract) (length (enter t lots price day last (queueIn owns (t .contract) own) (queueIn opposites (t .contract) opposite) .own)) ≤ length owns
 
 -- the answer, and all three areas
 pub record EntryIs
@@ -33,4 +33,4 @@ pub record EntryIs
   pub accounts : r .accounts ≡ bookTrades held (e .trades)
   pub own-queue : owns′ ≡ putQueue owns c own (e .own)
   pub opposite-queue : opposites′ ≡ putQueue opposites c opposite (e .opposite)
-  pub trades : area′ ≡ store tradeWords area (9 * before) (e .trades)
+  pub trades : area′ ≡ store tradeWords area (tradeStride * before) (e .trades)

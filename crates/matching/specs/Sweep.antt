@@ -7,7 +7,7 @@ use Rattle.areas.specs.Records.{store}
 use Rattle.rules.specs.Exchange.{noOrder}
 use Rattle.rules.specs.Holdings.{bookTrades}
 use Rattle.rules.specs.Matching.{Swept, sweep, tradedLots, lastPrice}
-use Rattle.rules.specs.Memory.{queueIn, putQueue, tradeWords}
+use Rattle.rules.specs.Memory.{queueIn, putQueue, tradeWords, tradeStride, firstWord}
 use Rattle.rules.specs.declared.Account.{Account}
 use Rattle.rules.specs.declared.Taker.{Taker}
 use Rattle.holdings.specs.Bounds.{HeldWithin}
@@ -30,8 +30,8 @@ pub record SweepReady
   pub contract : t .contract < 4
   pub method : HasTick (t .method)
   pub size : lots ≤ 1_000
-  pub queue : 320 * t .contract + 5 * count ≤ length queues
-  pub room : 9 * (before + length (sweep t lots last (queueIn queues (t .contract) count) .trades)) ≤ length area
+  pub queue : firstWord (t .contract) count ≤ length queues
+  pub room : tradeStride * (before + length (sweep t lots last (queueIn queues (t .contract) count) .trades)) ≤ length area
   pub parties : Parties 1_000_000 t held queues count
 
 -- the answer, and both areas: the trades at the next free places, the rest of the queue behind its filled orders
@@ -43,5 +43,5 @@ pub record FilledIs
   pub made : r .made ≡ before + length (s .trades)
   pub last : r .last ≡ lastPrice last₀ (s .trades)
   pub accounts : r .accounts ≡ bookTrades held (s .trades)
-  pub trades : area′ ≡ store tradeWords area (9 * before) (s .trades)
+  pub trades : area′ ≡ store tradeWords area (tradeStride * before) (s .trades)
   pub queue : queues′ ≡ putQueue queues c count (take (r .filled) (queueIn queues c count) ++ s .rest)

@@ -5,7 +5,7 @@ ghost use Prim.Native.Nat.{_+_, _-_, _*_, _≤_};
 ghost use lib.ListN.{length};
 ghost use Rattle.laws.specs.Choice.{pick};
 ghost use Rattle.rules.specs.Matching as matching;
-ghost use Rattle.rules.specs.Memory.{queueIn, putQueue};
+ghost use Rattle.rules.specs.Memory.{queueIn, putQueue, firstWord};
 ghost use Rattle.matching.specs.Entry.{EntryReady, EntryIs};
 use crate::sweep;
 use book::queue;
@@ -16,7 +16,7 @@ use rules::Taker;
 // The accounts, first as in `Filled`; lots traded and rested; orders in the own and in the opposite queue, trades of the day; the
 // last price.
 pub struct Entry {
-    pub accounts: [Account; 32],
+    pub accounts: [Account; rules::MAX_ACCOUNTS],
     pub traded: u32,
     pub rested: u32,
     pub own: usize,
@@ -35,7 +35,7 @@ fn remaining(day: bool, lots: u32, traded: u32) -> u32
 
 // The remainder takes its place in the own queue; the number of orders there.
 pub fn rest(own: &mut [u32], c: usize, count: usize, t: Taker, price: u32, lots: u32) -> usize
-    requires { ⌜ 320 * c + 5 * length (matching.restLots t price lots (queueIn (now own) c count)) ≤ length (now own) ⌝ }
+    requires { ⌜ firstWord c (length (matching.restLots t price lots (queueIn (now own) c count))) ≤ length (now own) ⌝ }
     ensures { λ r. ⌜ r ≡ length (matching.restLots t price lots (queueIn (now (own .entry)) c count)) ⌝ }
     ensures { λ _. ⌜ now (own .exit) ≡ putQueue (now (own .entry)) c count (matching.restLots t price lots (queueIn (now (own .entry)) c count)) ⌝ }
 {
@@ -48,6 +48,8 @@ pub fn rest(own: &mut [u32], c: usize, count: usize, t: Taker, price: u32, lots:
         account: t.account,
         lots,
         close: t.close,
+        stamp: 0,
+        quote: 0,
     };
     queue::insert(own, c, count, t.sell, o);
     count + 1
@@ -65,7 +67,7 @@ pub fn enter(
     price: u32,
     day: bool,
     last: u32,
-    accounts: [Account; 32],
+    accounts: [Account; rules::MAX_ACCOUNTS],
 ) -> Entry
     requires { ⌜ EntryReady t lots price day last accounts (now own) owncount (now opposite) oppositecount (now area) before ⌝ }
     ensures { λ r. ⌜ EntryIs (matching.enter t lots price day last (queueIn (now (own .entry)) (t .contract) owncount) (queueIn (now (opposite .entry)) (t .contract) oppositecount)) (t .contract) (now (own .entry)) owncount (now (opposite .entry)) oppositecount (now (area .entry)) before last accounts r (now (own .exit)) (now (opposite .exit)) (now (area .exit)) ⌝ }

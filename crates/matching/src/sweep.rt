@@ -11,7 +11,7 @@ use rules::Taker;
 // The accounts; lots traded, the last price, resting orders filled, trades of the day. The array stands first, so that nothing
 // pads it and fewer copies of it are made.
 pub struct Filled {
-    pub accounts: [Account; 32],
+    pub accounts: [Account; rules::MAX_ACCOUNTS],
     pub traded: u32,
     pub last: u32,
     pub filled: usize,
@@ -27,7 +27,7 @@ pub fn sweep(
     t: Taker,
     lots: u32,
     last: u32,
-    accounts: [Account; 32],
+    accounts: [Account; rules::MAX_ACCOUNTS],
 ) -> Filled
     requires { ⌜ SweepReady t lots last accounts (now opposite) count (now area) before ⌝ }
     ensures { λ r. ⌜ FilledIs (matching.sweep t lots last (queueIn (now (opposite .entry)) (t .contract) count)) (now (opposite .entry)) (t .contract) count (now (area .entry)) before last accounts r (now (opposite .exit)) (now (area .exit)) ⌝ }

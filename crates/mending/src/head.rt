@@ -18,7 +18,7 @@ fn head_whole(file: &[u8]) -> bool
     if contracts < 1 {
         return false;
     }
-    if 4 < contracts {
+    if rules::MAX_CONTRACTS < contracts {
         return false;
     }
     if file.len() < 8 + 20 * contracts {
@@ -28,7 +28,7 @@ fn head_whole(file: &[u8]) -> bool
     if accounts < 1 {
         return false;
     }
-    if 32 < accounts {
+    if rules::MAX_ACCOUNTS < accounts {
         return false;
     }
     12 + 20 * contracts + 8 * accounts <= file.len()

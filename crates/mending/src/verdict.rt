@@ -21,7 +21,7 @@ pub fn reason(file: &[u8], first: usize, k: usize, n: usize) -> u8
     if is_malformed(command) {
         return 1;
     }
-    if 2000 <= n {
+    if rules::MAX_COMMANDS <= n {
         return 3;
     }
     0

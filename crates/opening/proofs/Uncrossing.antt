@@ -11,7 +11,7 @@ use lib.ListN.{length, getD}
 use Rattle.laws.specs.Choice.{allOf, allOf-imp, both-true, pick, true-both}
 use Rattle.rules.specs.Answers.{changeListed}
 use Rattle.rules.specs.Auction.{Matched, auctionMatch, matchOf}
-use Rattle.rules.specs.Bounds.{inAuction, maxLots}
+use Rattle.rules.specs.Bounds.{inAuction, maxLots, maxTrades}
 use Rattle.rules.specs.Exchange.{Exchange, Listing, accountAt, holdingAt, listingAt, noContract, own, placeOf}
 use Rattle.rules.specs.Kinds.{codeOf, done, kindOf}
 use Rattle.rules.specs.Memory.{Memory, WellFormedState, exchangeOf, listingIn, memory, queueIn, stepIn, written}
@@ -134,7 +134,7 @@ module _ {s : State} {buys sells trades : List ℕ} (w : WellFormedState s buys 
   unfolding listingIn
   listed = rw (listing-is, eqb-true (terms .phase) 4 (parts .1)) (from-auction 1)
 
-  code-is : codeOf x (Phase contract 1) ≡ pick (ltb 1_024 (s .tradecount + length (matched .trades))) 12 0
+  code-is : codeOf x (Phase contract 1) ≡ pick (ltb maxTrades (s .tradecount + length (matched .trades))) 12 0
   code-is = phase-code w contract 1 ∙ rw (parts .0, listed, match-is)
 
   -- ---- the match at the level that the code has found
@@ -154,10 +154,10 @@ module _ {s : State} {buys sells trades : List ℕ} (w : WellFormedState s buys 
           omega (arith, needed-is, auction-count c (terms .last) bids asks, length-queue buys c (getD (s .buys) c 0), length-queue sells c (getD (s .sells) c 0), room .few-buys, room .few-sells, f .trades-high)
 
       -- 12
-      pub left-full : {r : Outcome} → 1_024 < s .tradecount + needed → r ≡ refusedWith s 12 → OutcomeIs (stepIn m (Phase contract 1)) r buys sells trades
+      pub left-full : {r : Outcome} → maxTrades < s .tradecount + needed → r ≡ refusedWith s 12 → OutcomeIs (stepIn m (Phase contract 1)) r buys sells trades
       left-full h = refusal s buys sells trades (Phase contract 1) 12 (omega arith) (code-is ∙ rw (← needed-is, lt-ltb _ _ h))
 
-      module _ (h : s .tradecount + needed ≤ 1_024) where
+      module _ (h : s .tradecount + needed ≤ maxTrades) where
         accepted : codeOf x (Phase contract 1) ≡ 0
         accepted = code-is ∙ rw (← needed-is, le-ltb _ _ h)
 

@@ -19,5 +19,6 @@ withMatch s c m =
       accountcount = s .accountcount;
       tradecount = m .made;
       next = s .next;
+      nextstamp = s .nextstamp;
       settlements = s .settlements;
     }

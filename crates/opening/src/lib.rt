@@ -43,6 +43,7 @@ fn with_match(state: State, c: usize, m: Match) -> State
         accountcount: state.accountcount,
         tradecount: m.made,
         next: state.next,
+        nextstamp: state.nextstamp,
         settlements: state.settlements,
     }
 }

@@ -12,7 +12,7 @@ use lib.ListN.{drop}
 use Rattle.laws.specs.Choice.{pick-true}
 use Rattle.rules.specs.EarlyStop.{fillableFront}
 use Rattle.rules.specs.Matching.{counterpart}
-use Rattle.rules.specs.Memory.{orderFrom, queueIn}
+use Rattle.rules.specs.Memory.{orderFrom, queueIn, firstWord}
 use Rattle.rules.specs.declared.Order.{Order}
 use Rattle.rules.specs.declared.Taker.{Taker}
 use Rattle.rules.proofs.Fillable.{front-end, front-met, front-unmet}
@@ -67,7 +67,7 @@ pub gather-start : (t : Taker) (lots : ℕ) (queue : List Order) → Gathering t
 gather-start t lots queue = record { uncovered = omega arith; gathered = omega arith; read = zero-add _ }
 
 module _ (t : Taker) (lots : ℕ) (area : List ℕ) (c count : ℕ) {left i : ℕ} (g : Gathering t lots (queueIn area c count) left i) where
-  module _ (some : 0 < left) (o : Order) (h : i < count) (e : o ≡ orderFrom (drop (320 * c + 5 * i) area)) where
+  module _ (some : 0 < left) (o : Order) (h : i < count) (e : o ≡ orderFrom (drop (firstWord c i) area)) where
     -- a counterpart
     pub gather-on : {size : ℕ} → size ≡ min left (o .lots) → counterpart t o ≡ true → Gathering t lots (queueIn area c count) (left - size) (i + 1)
     gather-on {size} es met =

@@ -3,7 +3,7 @@
 use mathlib.Core.Bool.{Bool, true, false, _&&_}
 use mathlib.Core.List.{List, [], _∷_}
 use mathlib.Core.Path.{_≡_, refl}
-use Prim.Native.Nat.{ℕ}
+use Prim.Native.Nat.{ℕ, _*_}
 use lib.Dec.{eqb}
 use lib.IntN.{pos}
 use lib.ListN.{replicate}
@@ -12,13 +12,13 @@ use Rattle.laws.specs.Sums.{sumOf}
 use Rattle.laws.specs.Tabulate.{tabulate}
 use Rattle.areas.specs.Records.{decode, records}
 use Rattle.rules.specs.Answers.{fillableLots, firstOf, listingOf, priceRefusedBy, takerOf}
-use Rattle.rules.specs.Bounds.{allowedToday, auction, closed, continuous, dayHigh, dayLow, noTrading, onTick, preOpen, termsInRange, tickMultiple}
+use Rattle.rules.specs.Bounds.{allowedToday, auction, closed, continuous, dayHigh, dayLow, noTrading, onTick, preOpen, termsInRange, tickMultiple, maxTrades}
 use Rattle.rules.specs.Exchange.{Exchange, absent, accountAt, bestPrice, holdingAt, listingAt, lotsWhere, noHolding, resting}
 use Rattle.rules.specs.Command.{bits, commandOf, insertFlags, insertOf, newOrder, priceCondition, pullOf, timeCondition, zeros}
 use Rattle.rules.specs.Holdings.{afterLeg, bookLeg, bookTrade, bookTrades, legCovered, neverBelowZero, sameHoldings, sameLots, startOfDay}
 use Rattle.rules.specs.Matching.{fillable, meets}
-use Rattle.rules.specs.Memory.{Memory, countsInRange, exchangeOf, hasRoom, listingIn, queueIn, recordedTrades, wellFormedMemory}
-use Rattle.rules.specs.WellFormed.{ahead, aheadOfFirst, allNumbers, balanceInRange, contractInRange, countersInRange, holdingInRange, holdingsInRange, listingInRange, numbers, orderInRange, replays, sorted, tradeInRange, uncrossed, usedOnce, wellFormedContents}
+use Rattle.rules.specs.Memory.{Memory, countsInRange, exchangeOf, hasRoom, listingIn, queueIn, recordedTrades, wellFormedMemory, queueStride, tradeStride}
+use Rattle.rules.specs.WellFormed.{ahead, aheadOfFirst, balanceInRange, contractInRange, countersInRange, holdingInRange, holdingsInRange, listingInRange, numbers, orderInRange, replays, sorted, tradeInRange, uncrossed, usedOnce, wellFormedContents, listed, allListed}
 use Rattle.rules.specs.declared.NewOrder.{NewOrder}
 use Rattle.rules.specs.declared.Order.{Order}
 use Rattle.rules.specs.declared.PriceCondition.{PriceCondition}
@@ -30,7 +30,7 @@ use Rattle.query.specs.Gettable.{askRefusals, gettableNow, lotsNow, orde
 use Rattle.query.specs.declared.Reading.{Reading}
 
 order : ℕ → ℕ → ℕ → Order
-order number price lots = record { price = price; number = number; account = 0; lots = lots; close = 0 }
+order number price lots = record { price = price; number = number; account = 0; lots = lots; close = 0; stamp = 0; quote = 0 }
 
 -- one contract in a phase, its low 100 and high 120, two accounts; 3 are bid for at 109
 book : ℕ → List Order → Exchange
@@ -41,9 +41,10 @@ book phase sells =
         buys = order 4 109 3 ∷ [];
         sells = sells;
       } ∷ [];
-      accounts = record { balance = pos 0; holdings = noHolding ∷ [] } ∷ record { balance = pos 0; holdings = noHolding ∷ [] } ∷ [];
+      accounts = record { balance = pos 0; maker = false; holdings = noHolding ∷ [] } ∷ record { balance = pos 0; maker = false; holdings = noHolding ∷ [] } ∷ [];
       trades = [];
       next = 5;
+      nextstamp = 1;
       settlements = 0;
     }
 
@@ -81,18 +82,19 @@ memoryOf contracts =
     record {
       state = record {
         contracts = record { multiplier = 10; tick = 1; reference = 110; band = 10; limit = 1_000; rate = 1_000; method = 0; phase = preOpen; last = 110 } ∷ [];
-        accounts = record { balance = pos 0; holdings = noHolding ∷ [] } ∷ [];
+        accounts = record { balance = pos 0; maker = false; holdings = noHolding ∷ [] } ∷ [];
         buys = 0 ∷ [];
         sells = 0 ∷ [];
         contractcount = contracts;
         accountcount = 1;
         tradecount = 0;
         next = 1;
+        nextstamp = 1;
         settlements = 0;
       };
-      buys = replicate 320 0;
-      sells = replicate 320 0;
-      trades = replicate 9_216 0;
+      buys = replicate queueStride 0;
+      sells = replicate queueStride 0;
+      trades = replicate (tradeStride * maxTrades) 0;
     }
 
 -- 24 bytes of a kind, an account, flags and lots, for contract 1 and no price
@@ -174,5 +176,5 @@ table =
     ∷ []
 
 pub gettable-examples : allRight table ≡ true
-unfolding allRight table order book sells asking buyAt sellAt market best from now′ memoryOf bytes absent accountAt afterLeg ahead aheadOfFirst all allNumbers allOf allowedToday askRefusals balanceInRange bestPrice bits bookLeg bookTrade bookTrades commandOf contractInRange countersInRange countsInRange dayHigh dayLow decode exchangeOf fillable fillableLots firstOf gettableNow hasRoom holdingAt holdingInRange holdingsInRange insertFlags insertOf legCovered listingAt listingIn listingInRange listingOf lotsNow lotsWhere meets neverBelowZero newOrder numbers onTick orderInRange orderReading orderRefusals ordersRead priceCondition priceRefusedBy pullOf queueIn readNow readingWith recordedTrades records replays resting sameHoldings sameLots sorted startOfDay sumOf tabulate takerOf termsInRange tickMultiple timeCondition tradeInRange uncrossed usedOnce wellFormedContents wellFormedMemory zeros
+unfolding allRight table order book sells asking buyAt sellAt market best from now′ memoryOf bytes absent accountAt afterLeg ahead aheadOfFirst all allListed allOf allowedToday askRefusals balanceInRange bestPrice bits bookLeg bookTrade bookTrades commandOf contractInRange countersInRange countsInRange dayHigh dayLow decode exchangeOf fillable fillableLots firstOf gettableNow hasRoom holdingAt holdingInRange holdingsInRange insertFlags insertOf legCovered listingAt listingIn listingInRange listingOf lotsNow lotsWhere meets neverBelowZero newOrder listed onTick orderInRange orderReading orderRefusals ordersRead priceCondition priceRefusedBy pullOf queueIn readNow readingWith recordedTrades records replays resting sameHoldings sameLots sorted startOfDay sumOf tabulate takerOf termsInRange tickMultiple timeCondition tradeInRange uncrossed usedOnce wellFormedContents wellFormedMemory zeros
 gettable-examples = refl

@@ -44,6 +44,7 @@ withLeg s a c sell lots =
       accountcount = s .accountcount;
       tradecount = s .tradecount;
       next = s .next;
+      nextstamp = s .nextstamp;
       settlements = s .settlements;
     }
 

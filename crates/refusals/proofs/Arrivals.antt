@@ -9,10 +9,11 @@ use borrow.Author.Tests.{le-ltb}
 use lib.Dec.{ltb}
 use lib.ListN.{length, getD, drop}
 use Rattle.laws.specs.Choice.{pick}
+use Rattle.rules.specs.Bounds.{maxResting, maxTrades}
 use Rattle.rules.specs.EarlyStop.{countTrades, fillableFront}
 use Rattle.rules.specs.Exchange.{bestPrice, noOrder}
 use Rattle.rules.specs.Matching.{counterpart, fillable}
-use Rattle.rules.specs.Memory.{orderFrom, queueIn}
+use Rattle.rules.specs.Memory.{orderFrom, queueIn, firstWord}
 use Rattle.rules.specs.declared.Order.{Order}
 use Rattle.rules.specs.declared.Taker.{Taker}
 use Rattle.rules.proofs.Codecs.{length-queue, order-at}
@@ -35,7 +36,7 @@ module _ (area : List ℕ) (c count : ℕ) where
   pub best-none : count ≡ 0 → bestPrice (queueIn area c count) ≡ 0
   best-none e = best-empty (queueIn area c count) (length-queue area c count ∙ e)
 
-  pub best-first : {o : Order} → (count ≡ 0 → ⊥) → o ≡ orderFrom (drop (320 * c + 5 * 0) area) → o .price ≡ bestPrice (queueIn area c count)
+  pub best-first : {o : Order} → (count ≡ 0 → ⊥) → o ≡ orderFrom (drop (firstWord c 0) area) → o .price ≡ bestPrice (queueIn area c count)
   best-first some e = ap (λ (p : Order). p .price) (e ∙ sym (order-at area c count 0 (omega arith))) ∙ sym (best-at (queueIn area c count))
 
 -- ---- the trades: at most one with each order
@@ -50,15 +51,15 @@ count-within t left (o ∷ os) = go (ltb 0 left && counterpart t o) (count-withi
     go false h = omega arith
 
 module _ (t : Taker) (lots : ℕ) {area : List ℕ} {c count : ℕ} (room : QueueRoom area c count) where
-  pub few-trades : countTrades t lots (queueIn area c count) ≤ 64
+  pub few-trades : countTrades t lots (queueIn area c count) ≤ maxResting
   few-trades = omega (arith, count-within t lots (queueIn area c count), length-queue area c count, room .few)
 
-  pub trades-fit : (recorded : ℕ) → recorded ≤ 960 → tradesRefused false recorded t (queueIn area c count) lots ≡ false
-  trades-fit recorded h = le-ltb 1_024 (recorded + countTrades t lots (queueIn area c count)) (omega (arith, few-trades))
+  pub trades-fit : (recorded : ℕ) → recorded ≤ maxTrades - maxResting → tradesRefused false recorded t (queueIn area c count) lots ≡ false
+  trades-fit recorded h = le-ltb maxTrades (recorded + countTrades t lots (queueIn area c count)) (omega (arith, few-trades))
 
 -- in auction there are none
-pub trades-none : (recorded : ℕ) → recorded ≤ 1_024 → ltb 1_024 (recorded + 0) ≡ false
-trades-none recorded h = le-ltb 1_024 (recorded + 0) (omega arith)
+pub trades-none : (recorded : ℕ) → recorded ≤ maxTrades → ltb maxTrades (recorded + 0) ≡ false
+trades-none recorded h = le-ltb maxTrades (recorded + 0) (omega arith)
 
 -- ---- the lots that can be filled
 

@@ -10,9 +10,9 @@ use lib.ListN.{length, getD}
 use Rattle.laws.specs.Choice.{both-true, pick}
 use Rattle.rules.specs.Kinds.{codeOf, kindOf}
 use Rattle.rules.specs.Answers.{Refusal, firstOf, fillableLots, holdingRefused, insertRefusals, listingOf, mark, moneyRefused, overHolding, overLimit, takerOf, tradesNeeded}
-use Rattle.rules.specs.Bounds.{inAuction, maxLots, termsInRange, within}
+use Rattle.rules.specs.Bounds.{inAuction, maxLots, termsInRange, within, maxResting, maxTrades}
 use Rattle.rules.specs.Exchange.{Exchange, accountAt, holdingAt, noAccount, noContract, noHolding, opposite, own, placeOf, resting}
-use Rattle.rules.specs.Memory.{Memory, exchangeOf, queueIn, memory, WellFormedState}
+use Rattle.rules.specs.Memory.{Memory, exchangeOf, queueIn, memory, WellFormedState, firstWord}
 use Rattle.rules.specs.declared.Account.{Account}
 use Rattle.rules.specs.declared.Command.the-variants.{Insert}
 use Rattle.rules.specs.declared.NewOrder.{NewOrder}
@@ -106,7 +106,7 @@ module _ {s : State} {buys sells trades : List ℕ} (w : WellFormedState s buys 
 
     -- 8
     module _ {own₁ : List ℕ} {count : ℕ} (ea : own₁ ≡ sideArea (o .sell) buys sells) (ec : count ≡ sideCount (o .sell) s (k - 1)) where
-      pub own-room : (count ≤ 64) × (320 * (k - 1) + 5 * count ≤ length own₁)
+      pub own-room : (count ≤ maxResting) × (firstWord (k - 1) count ≤ length own₁)
       own-room =
           let r = side-room m f c (p .contract) (o .sell) in
           rw (ec, ea, is) (r .few, r .room)
@@ -178,7 +178,7 @@ module _ {s : State} {buys sells trades : List ℕ} (w : WellFormedState s buys 
               pub facing : Facing t area (k - 1) count
               facing = rw (er, ec, ea, is) (opposite-facing m f c (p .contract) (s .next) _ o)
 
-              pub recorded-few : s .tradecount ≤ 1_024
+              pub recorded-few : s .tradecount ≤ maxTrades
               recorded-few = f .trades-high
 
               book-is : firstOf (bookRefusals (inAuction (getD (s .contracts) (k - 1) noContract)) (s .next) (s .tradecount) own₁ t (queueIn area (k - 1) count) o) ≡ firstOf bookPart

@@ -8,9 +8,9 @@ use native.Mathlib.Omega.{arith}
 use lib.ListN.{length, getD}
 use Rattle.laws.specs.Choice.{allOf, allOf-at}
 use Rattle.rules.specs.Answers.{mark}
-use Rattle.rules.specs.Bounds.{termsInRange}
+use Rattle.rules.specs.Bounds.{termsInRange, maxResting}
 use Rattle.rules.specs.Exchange.{Exchange, Listing, holdingAt, listingAt, noContract, noOrder, opposite, own, resting}
-use Rattle.rules.specs.Memory.{Memory, exchangeOf, listingIn, queueIn}
+use Rattle.rules.specs.Memory.{Memory, exchangeOf, listingIn, queueIn, firstWord}
 use Rattle.rules.specs.WellFormed.{orderInRange, sorted}
 use Rattle.rules.specs.declared.Contract.{Contract}
 use Rattle.rules.specs.declared.NewOrder.{NewOrder}
@@ -45,7 +45,7 @@ module _ (m : Memory) (f : Formed m) (c : ℕ) (h : c < m .state .contractcount)
   side-room false = record { few = f .buys-high c h; room = omega (arith, f .buys-high c h, f .buys-room) }
 
   -- room for 64 orders
-  pub side-long : (side : Bool) → 320 * c + 5 * 64 ≤ length (sideArea side (m .buys) (m .sells))
+  pub side-long : (side : Bool) → firstWord c maxResting ≤ length (sideArea side (m .buys) (m .sells))
   side-long true = omega (arith, f .sells-room)
   side-long false = omega (arith, f .buys-room)
 

@@ -12,7 +12,7 @@ use Rattle.rules.specs.Bounds.{inAuction, within, maxLots, maxResting, maxTrade
 use Rattle.rules.specs.EarlyStop.{countTrades}
 use Rattle.rules.specs.Exchange.{Exchange, bestPrice, noAccount, placeOf}
 use Rattle.rules.specs.Matching.{fillable, methodOf}
-use Rattle.rules.specs.Memory.{queueIn}
+use Rattle.rules.specs.Memory.{queueIn, firstWord}
 use Rattle.rules.specs.WellFormed.{sorted}
 use Rattle.rules.specs.declared.Account.{Account}
 use Rattle.rules.specs.declared.Contract.{Contract}
@@ -82,8 +82,8 @@ sideCount sell s c = getD (pick sell (s .sells) (s .buys)) c 0
 
 -- a queue of at most 64 orders, with room in its area
 pub record QueueRoom (area : List ℕ) (c count : ℕ) : Type 0 where
-  pub few : count ≤ 64
-  pub room : 320 * c + 5 * count ≤ length area
+  pub few : count ≤ maxResting
+  pub room : firstWord c count ≤ length area
 
 -- an arriving order and the opposite queue, best price first
 pub record Facing (t : Taker) (area : List ℕ) (c count : ℕ) : Type 0 where

@@ -6,7 +6,7 @@ ghost use Prim.Native.Nat.{_-_, _≤_};
 ghost use lib.Dec.{ltb};
 ghost use lib.ListN.{getD};
 ghost use Rattle.rules.specs.Answers as answer;
-ghost use Rattle.rules.specs.Bounds.{inAuction, termsInRange};
+ghost use Rattle.rules.specs.Bounds.{inAuction, termsInRange, maxTrades};
 ghost use Rattle.rules.specs.Exchange.{noAccount};
 ghost use Rattle.rules.specs.Matching as matching;
 ghost use Rattle.rules.specs.Kinds.{codeOf};
@@ -87,7 +87,7 @@ pub fn fields_code(terms: Contract, conditions: bool, o: NewOrder) -> u32
     ensures { λ r. ⌜ r ≡ answer.firstOf (fieldsRefusals conditions terms o) ⌝ }
 {
     let condition = o.condition;
-    if !terms::within(1, 1000, o.lots) {
+    if !terms::within(1, rules::MAX_LOTS, o.lots) {
         return 5;
     }
     if conditions {
@@ -229,16 +229,16 @@ fn trades_refused(
     t: Taker,
     lots: u32,
 ) -> bool
-    requires { ⌜ QueueRoom (now area) c count × (recorded ≤ 1024) ⌝ }
+    requires { ⌜ QueueRoom (now area) c count × (recorded ≤ maxTrades) ⌝ }
     ensures { λ r. ⌜ r ≡ tradesRefused auction recorded t (queueIn (now (area .entry)) c count) lots ⌝ }
 {
     if auction {
         return false;
     }
-    if recorded <= 960 {
+    if recorded <= rules::MAX_TRADES - rules::MAX_RESTING {
         return false;
     }
-    1024 < recorded + book::scan::count_trades(area, c, count, t, lots)
+    rules::MAX_TRADES < recorded + book::scan::count_trades(area, c, count, t, lots)
 }
 
 // 13: "good for day, own side has 64, fillable lots below lots", in auction "whenever the own side has 64". `own` is the number of
@@ -259,7 +259,7 @@ fn full_refused(
     if !orders::is_day(time) {
         return false;
     }
-    if own < 64 {
+    if own < rules::MAX_RESTING {
         return false;
     }
     if auction {
@@ -279,13 +279,13 @@ fn book_code(
     t: Taker,
     o: NewOrder,
 ) -> u32
-    requires { ⌜ Facing t (now area) c count × (state .tradecount ≤ 1024) ⌝ }
+    requires { ⌜ Facing t (now area) c count × (state .tradecount ≤ maxTrades) ⌝ }
     ensures { λ r. ⌜ r ≡ answer.firstOf (bookRefusals (inAuction terms) (state .next) (state .tradecount) own t (queueIn (now (area .entry)) c count) o) ⌝ }
 {
     let time = o.time;
     let lots = o.lots;
     let auction = terms.phase == AUCTION;
-    if 1000000 <= state.next {
+    if rules::NUMBERS_END <= state.next {
         return 10;
     }
     if kill_refused(area, c, count, t, lots, time) {

@@ -84,6 +84,7 @@ module _ (x : Exchange) (c : ℕ) where
         accounts = x .accounts;
         trades = ts;
         next = x .next;
+        nextstamp = x .nextstamp;
         settlements = x .settlements;
       }) (append-nil (x .trades))
 

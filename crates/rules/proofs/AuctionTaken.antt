@@ -11,7 +11,7 @@ use lib.ListN.{length}
 use Rattle.laws.specs.Choice.{allOf, both-true, true-both}
 use Rattle.laws.specs.Sums.{sumOf, sumOf-cons}
 use Rattle.rules.specs.Matching.{withLots}
-use Rattle.rules.specs.WellFormed.{sorted, numbers}
+use Rattle.rules.specs.WellFormed.{sorted, numbers, listed}
 use Rattle.rules.specs.declared.Order.{Order}
 use Rattle.rules.proofs.Queue.{lots-nil, lots-met, lots-unmet}
 use Rattle.rules.proofs.Rest.{sorted-lots}
@@ -113,7 +113,7 @@ less-sum n o os f k = cases (ltb n (o .lots)) refl
     cases false e = rw (less-filled n o os (ltb-false n (o .lots) e)) (omega (arith, sumOf-cons f o os))
 
 less-numbers : (n : ℕ) (o : Order) (os : List Order) → (gone : List ℕ) × (numbers (o ∷ os) ≡ gone ++ numbers (lessFirst n o os))
-unfolding numbers
+unfolding listed
 less-numbers n o os = cases (ltb n (o .lots)) refl
   where
     cases : (short : Bool) → ltb n (o .lots) ≡ short → (gone : List ℕ) × (numbers (o ∷ os) ≡ gone ++ numbers (lessFirst n o os))

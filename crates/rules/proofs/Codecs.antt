@@ -9,27 +9,28 @@ use native.Mathlib.Nat.{add-zero, zero-add, mul-le-mul-left, eq-or-lt-of-le, le-
 use native.Mathlib.Omega.{arith}
 use borrow.Author.Tests.{leb-true, leb-false, ltb-true, ltb-false, eqb-true, eqb-false}
 use lib.Dec.{leb, ltb, eqb}
-use lib.ListN.{length, getD, take, drop, replicate, length-append, length-take, length-replicate, take-append-drop, replicate-append-replicate}
-use lib.Seq.{getD-drop}
+use lib.ListN.{length, getD, take, drop, replicate, length-append, length-take, length-drop, length-replicate, take-append-drop, replicate-append-replicate}
+use lib.Seq.{getD-drop, getD-take}
 use Rattle.laws.specs.Tabulate.{tabulate, tabulate-take}
 use Rattle.areas.specs.Lists.{over, padded}
 use Rattle.areas.specs.Records.{Codec, decode, encode, records, store}
 use Rattle.areas.proofs.Lists.{take-over, drop-over, drop-padded, padded-full}
 use Rattle.areas.proofs.Records.{length-encode, length-records, getD-records, take-records, length-store, store-front, store-append, store-records, records-store-front, records-store-before, records-store-after, store-comm}
+use Rattle.rules.specs.Bounds.{maxResting, maxTrades}
 use Rattle.rules.specs.Exchange.{noOrder, noTrade}
-use Rattle.rules.specs.Memory.{orderWords, orderFrom, tradeWords, tradeFrom, queueIn, recordedTrades, putQueue, putQueues, putTrades}
+use Rattle.rules.specs.Memory.{orderWords, orderFrom, tradeWords, tradeFrom, queueIn, recordedTrades, putQueue, putQueues, putTrades, orderStride, queueStride, tradeStride, firstWord, wordOf}
 use Rattle.rules.specs.declared.Order.{Order}
 use Rattle.rules.specs.declared.Trade.{Trade}
 
 -- ---- the codecs
 
-pub order-codec : Codec Order 5 orderWords orderFrom
+pub order-codec : Codec Order orderStride orderWords orderFrom
 unfolding tabulate
-order-codec = record { wide = λ o. refl; back = λ o ys. refl; forth = λ xs h. tabulate-take 5 xs 0 h }
+order-codec = record { wide = λ o. refl; back = λ o ys. refl; forth = λ xs h. tabulate-take orderStride xs 0 h }
 
-pub trade-codec : Codec Trade 9 tradeWords tradeFrom
+pub trade-codec : Codec Trade tradeStride tradeWords tradeFrom
 unfolding tabulate
-trade-codec = record { wide = λ t. refl; back = λ t ys. refl; forth = λ xs h. tabulate-take 9 xs 0 h }
+trade-codec = record { wide = λ t. refl; back = λ t ys. refl; forth = λ xs h. tabulate-take tradeStride xs 0 h }
 
 -- ---- records written over n places: the places that they do not fill get z
 
@@ -121,21 +122,34 @@ module _ {A : Type 0} {W : ℕ} {words : A → List ℕ} {first : List ℕ → A
 -- one order's words
 pub order-words : (area : List ℕ) (k : ℕ)
     → orderFrom (drop k area)
-    ≡ record { price = getD area k 0; number = getD area (k + 1) 0; account = getD area (k + 2) 0; lots = getD area (k + 3) 0; close = getD area (k + 4) 0 }
+    ≡ record {
+      price = getD area k 0;
+      number = getD area (k + 1) 0;
+      account = getD area (k + 2) 0;
+      lots = getD area (k + 3) 0;
+      close = getD area (k + 4) 0;
+      stamp = getD area (k + 5) 0;
+      quote = getD area (k + 6) 0;
+    }
 order-words area k = simp (getD-drop, add-zero)
+
+pub order-word : (area : List ℕ) (at word : ℕ) → word < orderStride → at + orderStride ≤ length area → getD area (at + word) 0 ≡ wordOf word (orderFrom (drop at area))
+order-word area at word h room =
+    let f : orderWords (orderFrom (drop at area)) ≡ take orderStride (drop at area) = order-codec .forth (drop at area) (rw length-drop (omega arith)) in
+    sym (ap (λ (ws : List ℕ). getD ws word 0) f ∙ getD-take orderStride (drop at area) word 0 h ∙ getD-drop at area word 0)
 
 module _ (area : List ℕ) (c n : ℕ) where
   pub length-queue : length (queueIn area c n) ≡ n
   unfolding queueIn
-  length-queue = length-records order-codec area (320 * c) n
+  length-queue = length-records order-codec area (queueStride * c) n
 
-  pub order-at : (i : ℕ) → i < n → getD (queueIn area c n) i noOrder ≡ orderFrom (drop (320 * c + 5 * i) area)
+  pub order-at : (i : ℕ) → i < n → getD (queueIn area c n) i noOrder ≡ orderFrom (drop (firstWord c i) area)
   unfolding queueIn
-  order-at i h = getD-records order-codec area (320 * c) n i noOrder h
+  order-at i h = getD-records order-codec area (queueStride * c) n i noOrder h
 
   pub take-queue : (i : ℕ) → i ≤ n → take i (queueIn area c n) ≡ queueIn area c i
   unfolding queueIn
-  take-queue i h = take-records order-codec area (320 * c) n i h
+  take-queue i h = take-records order-codec area (queueStride * c) n i h
 
 before-or-after : (c d : ℕ) → (c ≡ d → ⊥) → (c < d) ⊎ (d < c)
 before-or-after c d apart = go (ltb c d) refl
@@ -146,52 +160,52 @@ before-or-after c d apart = go (ltb c d) refl
 
 -- ---- a queue written: `room` for 64 orders, and no more than 64 before and after
 
-pub putQueue-store : (area : List ℕ) (c n : ℕ) (q : List Order) → putQueue area c n q ≡ store orderWords area (320 * c) (padded n noOrder q)
+pub putQueue-store : (area : List ℕ) (c n : ℕ) (q : List Order) → putQueue area c n q ≡ store orderWords area (queueStride * c) (padded n noOrder q)
 unfolding putQueue
 putQueue-store area c n q = refl
 
 -- writing what is there changes nothing
-pub put-queue : (area : List ℕ) (c n : ℕ) → 320 * c + 5 * n ≤ length area → putQueue area c n (queueIn area c n) ≡ area
+pub put-queue : (area : List ℕ) (c n : ℕ) → firstWord c n ≤ length area → putQueue area c n (queueIn area c n) ≡ area
 unfolding putQueue queueIn
-put-queue area c n room = put-records order-codec noOrder area (320 * c) n room
+put-queue area c n room = put-records order-codec noOrder area (queueStride * c) n room
 
 module _ (area : List ℕ) (c n : ℕ) (q : List Order) where
-  pub queue-put : 320 * c ≤ length area → queueIn (putQueue area c n q) c (length q) ≡ q
+  pub queue-put : queueStride * c ≤ length area → queueIn (putQueue area c n q) c (length q) ≡ q
   unfolding putQueue queueIn
-  queue-put room = records-put order-codec noOrder area (320 * c) n q room
+  queue-put room = records-put order-codec noOrder area (queueStride * c) n q room
 
-  pub length-putQueue : n ≤ 64 → length q ≤ 64 → 320 * c + 320 ≤ length area → length (putQueue area c n q) ≡ length area
+  pub length-putQueue : n ≤ maxResting → length q ≤ maxResting → queueStride * c + queueStride ≤ length area → length (putQueue area c n q) ≡ length area
   unfolding putQueue
-  length-putQueue few short room = length-put order-codec noOrder area (320 * c) n q (omega arith)
+  length-putQueue few short room = length-put order-codec noOrder area (queueStride * c) n q (omega arith)
 
   -- the second of two writes stays; the places that the first cleared stay clear
-  pub putQueue-putQueue : (m : ℕ) (r : List Order) → length q ≤ m → 320 * c ≤ length area
+  pub putQueue-putQueue : (m : ℕ) (r : List Order) → length q ≤ m → queueStride * c ≤ length area
       → putQueue (putQueue area c n q) c m r ≡ putQueue area c (max n m) r
   unfolding putQueue
-  putQueue-putQueue m r h room = put-put order-codec noOrder area (320 * c) n m q r h room
+  putQueue-putQueue m r h room = put-put order-codec noOrder area (queueStride * c) n m q r h room
 
-  pub putQueue-again : (r : List Order) → length q ≤ n → 320 * c ≤ length area → putQueue (putQueue area c n q) c n r ≡ putQueue area c n r
+  pub putQueue-again : (r : List Order) → length q ≤ n → queueStride * c ≤ length area → putQueue (putQueue area c n q) c n r ≡ putQueue area c n r
   putQueue-again r h room =
       let e : max n n ≡ n = omega arith in
       putQueue-putQueue n r h room ∙ ap (λ (k : ℕ). putQueue area c k r) e
 
   -- another contract's queue
-  module _ (few : n ≤ 64) (short : length q ≤ 64) (d : ℕ) (apart : c ≡ d → ⊥) where
-    pub queue-put-other : (m : ℕ) → m ≤ 64 → 320 * c ≤ length area → queueIn (putQueue area c n q) d m ≡ queueIn area d m
+  module _ (few : n ≤ maxResting) (short : length q ≤ maxResting) (d : ℕ) (apart : c ≡ d → ⊥) where
+    pub queue-put-other : (m : ℕ) → m ≤ maxResting → queueStride * c ≤ length area → queueIn (putQueue area c n q) d m ≡ queueIn area d m
     unfolding putQueue queueIn
     queue-put-other m h room =
         ⊎-elim
-        (λ (k : c < d). records-store-after order-codec order-codec area (320 * c) (padded n noOrder q) (320 * d) m (rw length-filled (omega arith)) room)
-        (λ (k : d < c). records-store-before order-codec order-codec area (320 * c) (padded n noOrder q) (320 * d) m (omega arith) room)
+        (λ (k : c < d). records-store-after order-codec order-codec area (queueStride * c) (padded n noOrder q) (queueStride * d) m (rw length-filled (omega arith)) room)
+        (λ (k : d < c). records-store-before order-codec order-codec area (queueStride * c) (padded n noOrder q) (queueStride * d) m (omega arith) room)
         (before-or-after c d apart)
 
-    pub putQueue-comm : (m : ℕ) (r : List Order) → m ≤ 64 → length r ≤ 64 → 320 * c + 320 ≤ length area → 320 * d + 320 ≤ length area
+    pub putQueue-comm : (m : ℕ) (r : List Order) → m ≤ maxResting → length r ≤ maxResting → queueStride * c + queueStride ≤ length area → queueStride * d + queueStride ≤ length area
         → putQueue (putQueue area c n q) d m r ≡ putQueue (putQueue area d m r) c n q
     unfolding putQueue
     putQueue-comm m r few′ short′ room room′ =
         ⊎-elim
-        (λ (k : c < d). store-comm order-codec order-codec area (320 * c) (padded n noOrder q) (320 * d) (padded m noOrder r) (rw length-filled (omega arith)) (rw length-filled (omega arith)))
-        (λ (k : d < c). sym (store-comm order-codec order-codec area (320 * d) (padded m noOrder r) (320 * c) (padded n noOrder q) (rw length-filled (omega arith)) (rw length-filled (omega arith))))
+        (λ (k : c < d). store-comm order-codec order-codec area (queueStride * c) (padded n noOrder q) (queueStride * d) (padded m noOrder r) (rw length-filled (omega arith)) (rw length-filled (omega arith)))
+        (λ (k : d < c). sym (store-comm order-codec order-codec area (queueStride * d) (padded m noOrder r) (queueStride * c) (padded n noOrder q) (rw length-filled (omega arith)) (rw length-filled (omega arith))))
         (before-or-after c d apart)
 
 -- ---- the queues of all contracts
@@ -200,8 +214,8 @@ apart-below : (b c : ℕ) → suc b ≤ c → b ≡ c → ⊥
 apart-below b c h e = omega arith
 
 module _ (area counts : List ℕ) (queues : ℕ → List Order) where
-  pub putQueues-same : (n : ℕ) → ((c : ℕ) → c < n → queues c ≡ queueIn area c (getD counts c 0)) → ((c : ℕ) → c < n → getD counts c 0 ≤ 64)
-      → 320 * n ≤ length area
+  pub putQueues-same : (n : ℕ) → ((c : ℕ) → c < n → queues c ≡ queueIn area c (getD counts c 0)) → ((c : ℕ) → c < n → getD counts c 0 ≤ maxResting)
+      → queueStride * n ≤ length area
       → putQueues area counts queues n ≡ area
   unfolding putQueues
   putQueues-same zero same few room = refl
@@ -211,8 +225,8 @@ module _ (area counts : List ℕ) (queues : ℕ → List Order) where
 
   -- one contract's queue alone has changed
   pub putQueues-one : (n d : ℕ) → d < n → ((c : ℕ) → c < n → (d ≡ c → ⊥) → queues c ≡ queueIn area c (getD counts c 0))
-      → ((c : ℕ) → c < n → getD counts c 0 ≤ 64)
-      → length (queues d) ≤ 64 → 320 * n ≤ length area → putQueues area counts queues n ≡ putQueue area d (getD counts d 0) (queues d)
+      → ((c : ℕ) → c < n → getD counts c 0 ≤ maxResting)
+      → length (queues d) ≤ maxResting → queueStride * n ≤ length area → putQueues area counts queues n ≡ putQueue area d (getD counts d 0) (queues d)
   unfolding putQueues
   putQueues-one zero d h same few short room = absurd (omega arith)
   putQueues-one (suc c) d h same few short room = go (eqb d c) refl (λ l. putQueues-one c d l (λ b k. same b (omega arith)) (λ b k. few b (omega arith)) short (omega arith))
@@ -234,7 +248,7 @@ module _ (area counts : List ℕ) (queues : ℕ → List Order) where
           rw (ih l, same c (omega arith) apart, ← other) (put-queue (putQueue area d (getD counts d 0) (queues d)) c (getD counts c 0) (omega (arith, few c (omega arith))))
 
   -- each within 64 orders, before and after
-  module _ (contracts : ℕ) (few : (c : ℕ) → c < contracts → getD counts c 0 ≤ 64) (short : (c : ℕ) → c < contracts → length (queues c) ≤ 64) (room : 320 * contracts ≤ length area) where
+  module _ (contracts : ℕ) (few : (c : ℕ) → c < contracts → getD counts c 0 ≤ maxResting) (short : (c : ℕ) → c < contracts → length (queues c) ≤ maxResting) (room : queueStride * contracts ≤ length area) where
     pub length-putQueues : (n : ℕ) → n ≤ contracts → length (putQueues area counts queues n) ≡ length area
     unfolding putQueues
     length-putQueues zero k = refl
@@ -243,7 +257,7 @@ module _ (area counts : List ℕ) (queues : ℕ → List Order) where
         length-putQueue (putQueues area counts queues c) c (getD counts c 0) (queues c) (few c k) (short c k) (omega arith) ∙ ih
 
     -- a contract that they are not of
-    pub queue-putQueues-past : (n c m : ℕ) → n ≤ contracts → n ≤ c → m ≤ 64 → queueIn (putQueues area counts queues n) c m ≡ queueIn area c m
+    pub queue-putQueues-past : (n c m : ℕ) → n ≤ contracts → n ≤ c → m ≤ maxResting → queueIn (putQueues area counts queues n) c m ≡ queueIn area c m
     unfolding putQueues
     queue-putQueues-past zero c m k past h = refl
     queue-putQueues-past (suc b) c m k past h =
@@ -255,7 +269,7 @@ module _ (area counts : List ℕ) (queues : ℕ → List Order) where
     queue-putQueues zero c k h = absurd (omega arith)
     queue-putQueues (suc b) c k h = go (eqb b c) refl (λ l. queue-putQueues b c (omega arith) l)
       where
-        fits : 320 * b ≤ length (putQueues area counts queues b)
+        fits : queueStride * b ≤ length (putQueues area counts queues b)
         fits = rw (length-putQueues b (omega arith)) (omega arith)
 
         go : (t : Bool) → eqb b c ≡ t → (c < b → queueIn (putQueues area counts queues b) c (length (queues c)) ≡ queues c)
@@ -293,7 +307,7 @@ module _ (area : List ℕ) (n : ℕ) where
   unfolding recordedTrades
   length-trades = length-records trade-codec area 0 n
 
-  pub trade-at : (i : ℕ) → i < n → getD (recordedTrades area n) i noTrade ≡ tradeFrom (drop (9 * i) area)
+  pub trade-at : (i : ℕ) → i < n → getD (recordedTrades area n) i noTrade ≡ tradeFrom (drop (tradeStride * i) area)
   unfolding recordedTrades
   trade-at i h = getD-records trade-codec area 0 n i noTrade h ∙ rw zero-add
 
@@ -305,21 +319,21 @@ module _ (area : List ℕ) (n : ℕ) where
   unfolding putTrades
   putTrades-store ts = refl
 
-  pub put-trades : 9 * n ≤ length area → putTrades area n (recordedTrades area n) ≡ area
+  pub put-trades : tradeStride * n ≤ length area → putTrades area n (recordedTrades area n) ≡ area
   unfolding putTrades recordedTrades
   put-trades room = put-records trade-codec noTrade area 0 n (rw zero-add room)
 
   -- trades written behind those there are
-  pub store-trades : (ts : List Trade) → 9 * n ≤ length area → store tradeWords area (9 * n) ts ≡ putTrades area n (recordedTrades area n ++ ts)
+  pub store-trades : (ts : List Trade) → tradeStride * n ≤ length area → store tradeWords area (tradeStride * n) ts ≡ putTrades area n (recordedTrades area n ++ ts)
   unfolding putTrades recordedTrades
-  store-trades ts room = ap (λ (k : ℕ). store tradeWords area k ts) (sym (zero-add (9 * n))) ∙ store-more trade-codec noTrade area 0 n ts (rw zero-add room)
+  store-trades ts room = ap (λ (k : ℕ). store tradeWords area k ts) (sym (zero-add (tradeStride * n))) ∙ store-more trade-codec noTrade area 0 n ts (rw zero-add room)
 
   module _ (ts : List Trade) where
     pub trades-put : recordedTrades (putTrades area n ts) (length ts) ≡ ts
     unfolding putTrades recordedTrades
     trades-put = records-put trade-codec noTrade area 0 n ts (omega arith)
 
-    pub length-putTrades : n ≤ 1024 → length ts ≤ 1024 → 9 * 1024 ≤ length area → length (putTrades area n ts) ≡ length area
+    pub length-putTrades : n ≤ maxTrades → length ts ≤ maxTrades → tradeStride * maxTrades ≤ length area → length (putTrades area n ts) ≡ length area
     unfolding putTrades
     length-putTrades few short room = length-put trade-codec noTrade area 0 n ts (omega arith)
 

@@ -46,7 +46,7 @@ after-leg-start h sell close lots = go sell (eqb close 0)
 account-start : (x : Account) (c : ℕ) (sell : Bool) (close lots : ℕ)
     → startAccount (withHolding x c (afterLeg (getD (x .holdings) c noHolding) sell close lots)) ≡ startAccount x
 account-start x c sell close lots =
-    ap (λ (hs : List Holding). record { balance = x .balance; holdings = hs })
+    ap (λ (hs : List Holding). record { balance = x .balance; maker = x .maker; holdings = hs })
     (map-set-same startHolding (x .holdings) c (afterLeg (getD (x .holdings) c noHolding) sell close lots) noHolding (after-leg-start (getD (x .holdings) c noHolding) sell close lots))
 
 module _ (l : List Account) (a c : ℕ) (sell : Bool) (close lots : ℕ) where
@@ -284,7 +284,7 @@ start-holdings-again (h ∷ hs) = ap (λ (ks : List Holding). startHolding h ∷
 pub start-again : (l : List Account) → startOfDay (startOfDay l) ≡ startOfDay l
 unfolding startOfDay
 start-again [] = refl
-start-again (a ∷ l) = ap₂ (λ (hs : List Holding) (k : List Account). record { balance = a .balance; holdings = hs } ∷ k) (start-holdings-again (a .holdings)) (start-again l)
+start-again (a ∷ l) = ap₂ (λ (hs : List Holding) (k : List Account). record { balance = a .balance; maker = a .maker; holdings = hs } ∷ k) (start-holdings-again (a .holdings)) (start-again l)
 
 lots-refl : (hs : List Holding) → sameLots hs hs ≡ true
 unfolding sameLots
@@ -319,7 +319,7 @@ same-equal (a ∷ l) (b ∷ k) e s =
     let r = both-true (sameLots (a .holdings) (b .holdings)) (sameHoldings l k) e in
     let p : startAccount a ≡ startAccount b = ap (λ (l : List Account). getD l 0 noAccount) s in
     ap₂ (λ (x : Account) (l : List Account). x ∷ l)
-    (λ i. record { balance = p i .balance; holdings = lots-equal (a .holdings) (b .holdings) (r .0) (ap (λ (x : Account). x .holdings) p) i })
+    (λ i. record { balance = p i .balance; maker = p i .maker; holdings = lots-equal (a .holdings) (b .holdings) (r .0) (ap (λ (x : Account). x .holdings) p) i })
     (same-equal l k (r .1) (ap (λ (l : List Account). drop 1 l) s))
 
 -- "replaying the day's trades .. gives the holdings now": it gives the accounts as they are

@@ -44,7 +44,7 @@ module _ (k n : ℕ) where
       let hs = accountAt l a .holdings in
       let v = afterLeg (holdingAt l a c) sell close lots in
       let e : withHolding (inUse k (accountAt l a)) c v ≡ inUse k (withHolding (accountAt l a) c v) =
-      ap (λ (r : List Holding). record { balance = accountAt l a .balance; holdings = r }) (sym (take-set-lt k hs c v hc)) in
+      ap (λ (r : List Holding). record { balance = accountAt l a .balance; maker = accountAt l a .maker; holdings = r }) (sym (take-set-lt k hs c v hc)) in
       rw (used-holding l a c h hc, used-at l a h, e) (sym (used-set l a (withHolding (accountAt l a) c v) h))
 
 -- ---- the lists of a memory

@@ -20,7 +20,7 @@ use Rattle.rules.specs.Exchange.{worse, lotsWhere, noOrder}
 use Rattle.rules.specs.Matching.{restIn}
 use Rattle.rules.specs.Places.{firstWhere, placeIn, indexOf, withoutFirst}
 use Rattle.rules.specs.Step.{without, hasNumber}
-use Rattle.rules.specs.WellFormed.{numbers, usedOnce}
+use Rattle.rules.specs.WellFormed.{numbers, usedOnce, listed}
 use Rattle.rules.specs.declared.Order.{Order}
 
 module _ (test : Order → Bool) where
@@ -193,20 +193,20 @@ other : (m n : ℕ) → eqb m n ≡ false → eqb n m ≡ false
 other m n e = ne-eqb n m (λ k. eqb-false m n e (sym k))
 
 pub index-notIn : (n : ℕ) (os : List Order) → notIn n (numbers os) ≡ true → indexOf n os ≡ length os
-unfolding allOf numbers
+unfolding allOf listed
 index-notIn n [] h = first-nil (hasNumber n)
 index-notIn n (o ∷ os) h =
     let b = both-true (not (eqb n (o .number))) (notIn n (numbers os)) h in
     first-on (hasNumber n) o os (other n (o .number) (not-true (eqb n (o .number)) (b .0))) ∙ ap suc (index-notIn n os (b .1))
 
 pub notIn-index : (n : ℕ) (os : List Order) → indexOf n os ≡ length os → notIn n (numbers os) ≡ true
-unfolding allOf numbers
+unfolding allOf listed
 notIn-index n =
     first-ind (hasNumber n) (λ os i. i ≡ length os → notIn n (numbers os) ≡ true) (λ h. refl) (λ o os e h. absurd (omega arith))
     (λ o os i e ih h. true-both (not (eqb n (o .number))) (notIn n (numbers os)) (ap not (other (o .number) n e)) (ih (omega arith)))
 
 once-tail : (o : Order) (os : List Order) → usedOnce (numbers (o ∷ os)) ≡ true → usedOnce (numbers os) ≡ true
-unfolding numbers usedOnce
+unfolding listed usedOnce
 once-tail o os u = both-true (notIn (o .number) (numbers os)) (usedOnce (numbers os)) u .1
 
 pub notIn-append : (n : ℕ) (xs ys : List ℕ) → notIn n (xs ++ ys) ≡ true → (notIn n xs ≡ true) × (notIn n ys ≡ true)
@@ -223,7 +223,7 @@ once-append (x ∷ xs) ys u =
     (true-both (notIn x xs) (usedOnce xs) (h .0) (ih .0), ih .1)
 
 pub index-apart : (n : ℕ) (os : List Order) (ks : List ℕ) → usedOnce (numbers os ++ ks) ≡ true → indexOf n os < length os → notIn n ks ≡ true
-unfolding numbers usedOnce
+unfolding listed usedOnce
 index-apart n os ks =
     first-ind (hasNumber n) (λ os i. usedOnce (numbers os ++ ks) ≡ true → i < length os → notIn n ks ≡ true) (λ u h. absurd (omega arith))
     (λ o os e u h. rw (eqb-true (o .number) n e) at (notIn-append (o .number) (numbers os) ks (both-true (notIn (o .number) (numbers os ++ ks)) (usedOnce (numbers os ++ ks)) u .0) .1))
@@ -253,7 +253,7 @@ module _ (n : ℕ) where
 
   -- "a number .. used once": the one order that has it
   only : (o : Order) (os : List Order) → hasNumber n o ≡ true → usedOnce (numbers (o ∷ os)) ≡ true → indexOf n os ≡ length os
-  unfolding numbers usedOnce
+  unfolding listed usedOnce
   only o os e u = index-notIn n os (rw (eqb-true (o .number) n e) at (both-true (notIn (o .number) (numbers os)) (usedOnce (numbers os)) u .0))
 
   pub without-number : (os : List Order) → usedOnce (numbers os) ≡ true → indexOf n os < length os

@@ -14,7 +14,7 @@ use Rattle.laws.specs.Sums.{sumOf, sumOf-cons}
 use Rattle.rules.specs.Bounds.{within}
 use Rattle.rules.specs.Exchange.{worse}
 use Rattle.rules.specs.Matching.{meets, counterpart, tradeWith, withLots, sweep, tradedLots, restIn, remainder, restLots, restedLots, enter}
-use Rattle.rules.specs.WellFormed.{ahead, aheadOfFirst, sorted, uncrossed, numbers}
+use Rattle.rules.specs.WellFormed.{ahead, aheadOfFirst, sorted, uncrossed, numbers, listed}
 use Rattle.rules.specs.declared.Order.{Order}
 use Rattle.rules.specs.declared.PriceCondition.the-variants.{Limit}
 use Rattle.rules.specs.declared.Taker.{Taker}
@@ -87,7 +87,7 @@ length-rest t =
 
 -- the numbers left are the last of those there were
 pub rest-numbers : (t : Taker) (left last : ℕ) (os : List Order) → (gone : List ℕ) × (numbers os ≡ gone ++ numbers (sweep t left last os .rest))
-unfolding numbers
+unfolding listed
 rest-numbers t =
     sweep-ind t (λ left last os s. (gone : List ℕ) × (numbers os ≡ gone ++ numbers (s .rest)))
     (λ left last os w. ([], refl))

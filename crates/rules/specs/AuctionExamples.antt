@@ -27,7 +27,7 @@ use Rattle.rules.specs.declared.TimeCondition.the-variants.{GoodForDay}
 use Rattle.rules.specs.declared.Trade.{Trade}
 
 order : ℕ → ℕ → ℕ → Order
-order number price lots = record { price = price; number = number; account = 0; lots = lots; close = 0 }
+order number price lots = record { price = price; number = number; account = 0; lots = lots; close = 0; stamp = 0; quote = 0 }
 
 -- 001: buys 4 at 102, 6 at 101, 5 at 100; sells 3 (or 4) at 101, 7 at 102, 6 at 103
 buys001 : List Order
@@ -78,10 +78,10 @@ sellOf m i = getD (m .trades) i noTrade .sellorder
 -- the reference 104; a trade was made before in another contract
 
 of : Order → ℕ → ℕ → Order
-of o account close = record { price = o .price; number = o .number; account = account; lots = o .lots; close = close }
+of o account close = record { price = o .price; number = o .number; account = account; lots = o .lots; close = close; stamp = 0; quote = 0 }
 
 account : ℕ → Account
-account long = record { balance = pos 0; holdings = record { long = long; short = 0; startlong = long; startshort = 0 } ∷ noHolding ∷ [] }
+account long = record { balance = pos 0; maker = false; holdings = record { long = long; short = 0; startlong = long; startshort = 0 } ∷ noHolding ∷ [] }
 
 listing : ℕ → List Order → Listing
 listing phase buys =
@@ -98,6 +98,7 @@ asked phase buys =
       accounts = account 3 ∷ account 0 ∷ [];
       trades = noTrade ∷ [];
       next = 3;
+      nextstamp = 1;
       settlements = 0;
     }
 
@@ -125,6 +126,7 @@ deep =
       accounts = account 0 ∷ account 0 ∷ [];
       trades = noTrade ∷ [];
       next = 4;
+      nextstamp = 1;
       settlements = 0;
     }
 

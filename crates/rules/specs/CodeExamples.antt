@@ -37,13 +37,13 @@ contract : ℕ → Contract
 contract phase = record { multiplier = 10; tick = 2; reference = 110; band = 10; limit = 1_000; rate = 1_000; method = 0; phase = phase; last = 110 }
 
 order : ℕ → ℕ → ℕ → Order
-order number price lots = record { price = price; number = number; account = 0; lots = lots; close = 0 }
+order number price lots = record { price = price; number = number; account = 0; lots = lots; close = 0; stamp = 0; quote = 0 }
 
 rich : Account
-rich = record { balance = pos 1_100_000; holdings = noHolding ∷ [] }
+rich = record { balance = pos 1_100_000; maker = false; holdings = noHolding ∷ [] }
 
 poor : Account
-poor = record { balance = pos 109_780; holdings = record { long = 0; short = 995; startlong = 0; startshort = 995 } ∷ [] }
+poor = record { balance = pos 109_780; maker = false; holdings = record { long = 0; short = 995; startlong = 0; startshort = 995 } ∷ [] }
 
 -- a contract in a phase, so many buys resting at 100, so many trades made, a next number, so many settlements
 asked : ℕ → ℕ → ℕ → ℕ → ℕ → Exchange
@@ -57,6 +57,7 @@ asked phase buys trades next settlements =
       accounts = rich ∷ poor ∷ [];
       trades = replicate trades noTrade;
       next = next;
+      nextstamp = 1;
       settlements = settlements;
     }
 
@@ -71,6 +72,7 @@ crossed trades =
       accounts = rich ∷ poor ∷ [];
       trades = replicate trades noTrade;
       next = 100;
+      nextstamp = 1;
       settlements = 0;
     }
 

@@ -1,6 +1,6 @@
 -- Condition 3's own figures worked out by hand, on document 01's day and from a state loaded with holdings. One table, one statement,
 -- as in Examples.antt. Assumes nothing.
-use mathlib.Core.Bool.{true}
+use mathlib.Core.Bool.{true, false}
 use mathlib.Core.List.{List, [], _∷_}
 use mathlib.Core.Path.{_≡_, refl}
 use Prim.Native.Nat.{ℕ}
@@ -23,7 +23,7 @@ use Rattle.rules.specs.declared.Trade.{Trade}
 
 -- two accounts with 10,000 each in one contract, multiplier 10, reference 100; the first long and the second short so many lots
 account : ℕ → ℕ → Account
-account long short = record { balance = pos 10_000; holdings = record { long = long; short = short; startlong = long; startshort = short } ∷ [] }
+account long short = record { balance = pos 10_000; maker = false; holdings = record { long = long; short = short; startlong = long; startshort = short } ∷ [] }
 
 start : ℕ → Memory
 start lots =
@@ -37,6 +37,7 @@ start lots =
       accountcount = 2;
       tradecount = 0;
       next = 1;
+      nextstamp = 1;
       settlements = 0;
     }) [] [] []
 
@@ -50,7 +51,7 @@ day = trade 102 3 1 0 ∷ trade 103 2 0 1 ∷ []
 
 found : Memory → Exchange
 found m =
-    record { listings = exchangeOf m .listings; accounts = exchangeOf m .accounts; trades = day; next = 5; settlements = 0 }
+    record { listings = exchangeOf m .listings; accounts = exchangeOf m .accounts; trades = day; next = 5; nextstamp = 1; settlements = 0 }
 
 -- an account's worth after the day, where its net holding starts from what the memory holds
 worthOf : ℕ → (ℕ → ℤ) → ℕ → ℤ

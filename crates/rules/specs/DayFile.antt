@@ -1,5 +1,5 @@
 -- "The day file": when it is sound, the state its run opens with, and its commands. Assumes nothing.
-use mathlib.Core.Bool.{Bool, _&&_}
+use mathlib.Core.Bool.{Bool, false, _&&_}
 use mathlib.Core.List.{List, []}
 use Prim.Native.Nat.{ℕ, _+_, _*_, _^_}
 use lib.Dec.{leb, eqb}
@@ -122,7 +122,7 @@ unfoldable pub openingListing : List ℕ → ℕ → Listing
 openingListing file c = record { contract = contractFrom file (contractPlace c); buys = []; sells = [] }
 
 unfoldable pub openingAccount : List ℕ → ℕ → Account
-openingAccount file a = record { balance = pos (balanceFrom file a); holdings = replicate (contractsIn file) noHolding }
+openingAccount file a = record { balance = pos (balanceFrom file a); maker = false; holdings = replicate (contractsIn file) noHolding }
 
 unfoldable pub opening : List ℕ → Exchange
 opening file =
@@ -131,5 +131,6 @@ opening file =
       accounts = tabulate (accountsIn file) (openingAccount file);
       trades = [];
       next = 1;
+      nextstamp = 1;
       settlements = 0;
     }

@@ -31,7 +31,7 @@ down (negsuc n) = suc n
 
 -- an order and a trade of which only price and lots matter, a limit buy of which only the price does
 order : ℕ → ℕ → Order
-order price lots = record { price = price; number = 1; account = 0; lots = lots; close = 0 }
+order price lots = record { price = price; number = 1; account = 0; lots = lots; close = 0; stamp = 0; quote = 0 }
 
 trade : ℕ → ℕ → Trade
 trade lots price =

@@ -1,6 +1,6 @@
 -- "The state": what the rules work on. Every list here has just the places in use, so room beyond a count can affect no
 -- answer; Memory.antt says where these lists lie. Assumes nothing.
-use mathlib.Core.Bool.{Bool, _&&_, _||_}
+use mathlib.Core.Bool.{Bool, false, _&&_, _||_}
 use mathlib.Core.List.{List, [], _∷_}
 use Prim.Native.Nat.{ℕ, _-_}
 use lib.Dec.{ltb, eqb}
@@ -29,6 +29,7 @@ pub record Exchange : Type 0 where
   pub accounts : List Account
   pub trades : List Trade
   pub next : ℕ
+  pub nextstamp : ℕ
   pub settlements : ℕ
 
 -- ---- a place of a list, and what stands past its end
@@ -40,14 +41,14 @@ abbrev pub noHolding : Holding
 noHolding = record { long = 0; short = 0; startlong = 0; startshort = 0 }
 
 abbrev pub noAccount : Account
-noAccount = record { balance = pos 0; holdings = [] }
+noAccount = record { balance = pos 0; maker = false; holdings = [] }
 
 abbrev pub noListing : Listing
 noListing = record { contract = noContract; buys = []; sells = [] }
 
 -- an order's and a trade's place that is not in use: all zero
 abbrev pub noOrder : Order
-noOrder = record { price = 0; number = 0; account = 0; lots = 0; close = 0 }
+noOrder = record { price = 0; number = 0; account = 0; lots = 0; close = 0; stamp = 0; quote = 0 }
 
 abbrev pub noTrade : Trade
 noTrade = record { contract = 0; price = 0; lots = 0; buyorder = 0; sellorder = 0; buyer = 0; seller = 0; buyclose = 0; sellclose = 0 }

@@ -26,7 +26,7 @@ afterLeg h sell close lots =
 
 -- an account's holdings with one place changed
 abbrev pub withHolding : Account → ℕ → Holding → Account
-withHolding a c h = record { balance = a .balance; holdings = set (a .holdings) c h }
+withHolding a c h = record { balance = a .balance; maker = a .maker; holdings = set (a .holdings) c h }
 
 unfoldable pub bookLeg : List Account → ℕ → ℕ → Bool → ℕ → ℕ → List Account
 bookLeg accounts a c sell close lots =
@@ -66,7 +66,7 @@ abbrev pub startHolding : Holding → Holding
 startHolding h = record { long = h .startlong; short = h .startshort; startlong = h .startlong; startshort = h .startshort }
 
 abbrev pub startAccount : Account → Account
-startAccount a = record { balance = a .balance; holdings = map startHolding (a .holdings) }
+startAccount a = record { balance = a .balance; maker = a .maker; holdings = map startHolding (a .holdings) }
 
 unfoldable pub startOfDay : List Account → List Account
 startOfDay accounts = map startAccount accounts

@@ -29,7 +29,7 @@ charged x a = chargedTo x a (length (x .listings))
 -- the state in which an account already holds the lots of an open: a buy's are long, a sell's short
 abbrev pub withOpen : Exchange → ℕ → ℕ → Bool → ℕ → Exchange
 withOpen x a c sell lots =
-    record { listings = x .listings; accounts = bookLeg (x .accounts) a c sell 0 lots; trades = x .trades; next = x .next; settlements = x .settlements }
+    record { listings = x .listings; accounts = bookLeg (x .accounts) a c sell 0 lots; trades = x .trades; next = x .next; nextstamp = x .nextstamp; settlements = x .settlements }
 
 -- "all charged margin, its lots included": what is charged with an open of the account in contract c
 abbrev pub chargedWith : Exchange → ℕ → ℕ → Bool → ℕ → ℕ

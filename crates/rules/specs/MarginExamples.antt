@@ -30,13 +30,13 @@ contract multiplier = record { multiplier = multiplier; tick = 1; reference = 10
 
 -- orders of account 1
 order : ℕ → ℕ → ℕ → ℕ → Order
-order number price lots close = record { price = price; number = number; account = 0; lots = lots; close = close }
+order number price lots close = record { price = price; number = number; account = 0; lots = lots; close = close; stamp = 0; quote = 0 }
 
 held : ℕ → ℕ → Holding
 held long short = record { long = long; short = short; startlong = long; startshort = short }
 
 account : ℤ → Holding → Holding → Account
-account balance first second = record { balance = balance; holdings = first ∷ second ∷ [] }
+account balance first second = record { balance = balance; maker = false; holdings = first ∷ second ∷ [] }
 
 -- two contracts, a lot charged 100 in the first and 50 in the second. Account 1 bids for 5 and offers 3 to open, and offers its 40
 -- long lots to close, in the first; it offers 9 to open in the second
@@ -56,6 +56,7 @@ x =
           ∷ [];
       trades = [];
       next = 5;
+      nextstamp = 1;
       settlements = 0;
     }
 

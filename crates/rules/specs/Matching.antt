@@ -71,7 +71,8 @@ tradeWith t o left last =
     }
 
 abbrev pub withLots : Order → ℕ → Order
-withLots o lots = record { price = o .price; number = o .number; account = o .account; lots = lots; close = o .close }
+withLots o lots =
+    record { price = o .price; number = o .number; account = o .account; lots = lots; close = o .close; stamp = o .stamp; quote = o .quote }
 
 -- "filled orders leave": what stays in the queue of an order with this remainder
 unfoldable pub stays : Order → ℕ → List Order
@@ -126,7 +127,8 @@ pub record Entered : Type 0 where
 
 -- the order that rests, at its limit
 unfoldable pub remainder : Taker → ℕ → ℕ → Order
-remainder t price lots = record { price = price; number = t .number; account = t .account; lots = lots; close = t .close }
+remainder t price lots =
+    record { price = price; number = t .number; account = t .account; lots = lots; close = t .close; stamp = 0; quote = 0 }
 
 unfoldable pub restLots : Taker → ℕ → ℕ → List Order → List Order
 restLots t price zero queue = queue

@@ -16,7 +16,7 @@ use Rattle.rules.specs.declared.PriceCondition.the-variants.{Limit, Mark
 use Rattle.rules.specs.declared.Taker.{Taker}
 
 order : ℕ → ℕ → ℕ → Order
-order number price lots = record { price = price; number = number; account = 1; lots = lots; close = 0 }
+order number price lots = record { price = price; number = number; account = 1; lots = lots; close = 0; stamp = 0; quote = 0 }
 
 -- sells 7 at 110, 5 at 111, 4 at 112
 sells : List Order

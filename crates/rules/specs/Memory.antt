@@ -3,7 +3,7 @@
 use mathlib.Core.Bool.{Bool, true, _&&_}
 use mathlib.Core.List.{List, [], _∷_, _++_, map}
 use mathlib.Core.Path.{_≡_}
-use Prim.Native.Nat.{ℕ, zero, suc, _*_, _<_}
+use Prim.Native.Nat.{ℕ, zero, suc, _*_, _<_, _+_}
 use lib.Dec.{leb}
 use lib.ListN.{length, getD, take, drop}
 use Rattle.laws.specs.Choice.{pick, all}
@@ -23,18 +23,35 @@ use Rattle.rules.specs.declared.Trade.{Trade}
 
 -- ---- the areas
 
--- a queue area holds five words for each order, 64 places for each contract
+-- a queue area holds seven words for each order, 64 places for each contract
 abbrev pub orderStride : ℕ
-orderStride = 5
+orderStride = 7
 
 abbrev pub queueStride : ℕ
-queueStride = 320
+queueStride = maxResting * orderStride
+
+-- the first word of the order at place i of contract c's queue
+abbrev pub firstWord : ℕ → ℕ → ℕ
+firstWord c i = queueStride * c + orderStride * i
 
 abbrev pub orderWords : Order → List ℕ
-orderWords o = o .price ∷ o .number ∷ o .account ∷ o .lots ∷ o .close ∷ []
+orderWords o = o .price ∷ o .number ∷ o .account ∷ o .lots ∷ o .close ∷ o .stamp ∷ o .quote ∷ []
 
 abbrev pub orderFrom : List ℕ → Order
-orderFrom ws = record { price = getD ws 0 0; number = getD ws 1 0; account = getD ws 2 0; lots = getD ws 3 0; close = getD ws 4 0 }
+orderFrom ws =
+    record {
+      price = getD ws 0 0;
+      number = getD ws 1 0;
+      account = getD ws 2 0;
+      lots = getD ws 3 0;
+      close = getD ws 4 0;
+      stamp = getD ws 5 0;
+      quote = getD ws 6 0;
+    }
+
+-- one word of an order: a field, named by its place among the words
+abbrev pub wordOf : ℕ → Order → ℕ
+wordOf word o = getD (orderWords o) word 0
 
 -- the trade area holds nine words for each trade of the day
 abbrev pub tradeStride : ℕ
@@ -96,7 +113,7 @@ listingIn m c =
 
 -- an account with its holdings in the contracts in use
 abbrev pub inUse : ℕ → Account → Account
-inUse contracts a = record { balance = a .balance; holdings = take contracts (a .holdings) }
+inUse contracts a = record { balance = a .balance; maker = a .maker; holdings = take contracts (a .holdings) }
 
 abbrev pub used : ℕ → ℕ → List Account → List Account
 used contracts n accounts = map (inUse contracts) (take n accounts)
@@ -109,6 +126,7 @@ exchangeOf m =
       accounts = used (m .state .contractcount) (m .state .accountcount) (m .state .accounts);
       trades = recordedTrades (m .trades) (m .state .tradecount);
       next = m .state .next;
+      nextstamp = m .state .nextstamp;
       settlements = m .state .settlements;
     }
 
@@ -133,7 +151,7 @@ putFirst values room = values ++ drop (length values) room
 
 -- an account's values, its holdings in contracts past the count as they were
 abbrev pub putAccount : Account → Account → Account
-putAccount a room = record { balance = a .balance; holdings = putFirst (a .holdings) (room .holdings) }
+putAccount a room = record { balance = a .balance; maker = a .maker; holdings = putFirst (a .holdings) (room .holdings) }
 
 unfoldable pub putAccounts : List Account → List Account → List Account
 putAccounts [] rooms = rooms
@@ -151,6 +169,7 @@ putState s x =
       accountcount = s .accountcount;
       tradecount = length (x .trades);
       next = x .next;
+      nextstamp = x .nextstamp;
       settlements = x .settlements;
     }
 

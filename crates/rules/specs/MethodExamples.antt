@@ -27,7 +27,7 @@ priced : ℕ → ℕ → ℕ → ℕ → ℕ → ℕ
 priced method tick limit price last = pairedPrice (methodOf (contract method tick)) limit price last
 
 order : ℕ → ℕ → ℕ → Order
-order number price lots = record { price = price; number = number; account = 1; lots = lots; close = 0 }
+order number price lots = record { price = price; number = number; account = 1; lots = lots; close = 0; stamp = 0; quote = 0 }
 
 taker : ℕ → Bool → PriceCondition → Taker
 taker method sell condition =

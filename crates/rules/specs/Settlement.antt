@@ -151,6 +151,7 @@ unfoldable pub settledAccount : Exchange → ℕ → Account
 settledAccount x a =
     record {
       balance = accountAt (x .accounts) a .balance +ℤ (closingProfit x a +ℤ holdingProfit x a);
+      maker = accountAt (x .accounts) a .maker;
       holdings = map carriedHolding (accountAt (x .accounts) a .holdings);
     }
 
@@ -181,5 +182,6 @@ settled x =
       accounts = tabulate (length (x .accounts)) (settledAccount x);
       trades = [];
       next = 1;
+      nextstamp = 1;
       settlements = x .settlements + 1;
     }

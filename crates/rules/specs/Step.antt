@@ -40,10 +40,10 @@ accepted number traded lots x = record { number = number; traded = traded; lots 
 
 abbrev pub withListing : Exchange → ℕ → Listing → Exchange
 withListing x c l =
-    record { listings = set (x .listings) c l; accounts = x .accounts; trades = x .trades; next = x .next; settlements = x .settlements }
+    record { listings = set (x .listings) c l; accounts = x .accounts; trades = x .trades; next = x .next; nextstamp = x .nextstamp; settlements = x .settlements }
 
 abbrev pub withBalance : Account → ℤ → Account
-withBalance a balance = record { balance = balance; holdings = a .holdings }
+withBalance a balance = record { balance = balance; maker = a .maker; holdings = a .holdings }
 
 abbrev pub withContract : Listing → Contract → Listing
 withContract l c = record { contract = c; buys = l .buys; sells = l .sells }
@@ -64,6 +64,7 @@ withTrades x c l trades next =
       accounts = bookTrades (x .accounts) trades;
       trades = x .trades ++ trades;
       next = next;
+      nextstamp = x .nextstamp;
       settlements = x .settlements;
     }
 
@@ -76,6 +77,7 @@ paid x a balance =
       accounts = set (x .accounts) a (withBalance (accountAt (x .accounts) a) balance);
       trades = x .trades;
       next = x .next;
+      nextstamp = x .nextstamp;
       settlements = x .settlements;
     }
 

@@ -1,6 +1,6 @@
 -- A state that is well formed, and near misses that are not, a clause each. One table, one statement, as in Examples.antt.
 -- Assumes nothing.
-use mathlib.Core.Bool.{true}
+use mathlib.Core.Bool.{true, false}
 use mathlib.Core.List.{List, [], _∷_}
 use mathlib.Core.Path.{_≡_, refl}
 use Prim.Native.Nat.{ℕ, _+_, _*_, _^_}
@@ -14,7 +14,7 @@ use Rattle.rules.specs.Exchange.{Exchange, accountAt, holdingAt, listing
 use Rattle.rules.specs.Holdings.{afterLeg, bookLeg, bookTrade, bookTrades, legCovered, neverBelowZero, sameHoldings, sameLots, startOfDay}
 use Rattle.rules.specs.Answers.{mark}
 use Rattle.rules.specs.Memory.{Memory, countsInRange, hasRoom}
-use Rattle.rules.specs.WellFormed.{ahead, aheadOfFirst, allNumbers, balanceInRange, contractInRange, countersInRange, holdingInRange, holdingsInRange, listingInRange, numbers, orderInRange, replays, sorted, tradeInRange, uncrossed, usedOnce, wellFormedContents}
+use Rattle.rules.specs.WellFormed.{ahead, aheadOfFirst, balanceInRange, contractInRange, countersInRange, holdingInRange, holdingsInRange, listingInRange, orderInRange, replays, sorted, tradeInRange, uncrossed, usedOnce, wellFormedContents, listed, allListed}
 use Rattle.rules.specs.declared.Account.{Account}
 use Rattle.rules.specs.declared.Contract.{Contract}
 use Rattle.rules.specs.declared.Order.{Order}
@@ -25,7 +25,7 @@ contract : ℕ → ℕ → Contract
 contract phase last = record { multiplier = 10; tick = 2; reference = 110; band = 10; limit = 10; rate = 1_000; method = 0; phase = phase; last = last }
 
 order : ℕ → ℕ → ℕ → ℕ → Order
-order number price lots close = record { price = price; number = number; account = 0; lots = lots; close = close }
+order number price lots close = record { price = price; number = number; account = 0; lots = lots; close = close; stamp = 0; quote = 0 }
 
 -- account 2 buys 3 of account 1, both to open
 trade : ℕ → ℕ → ℕ → Trade
@@ -34,7 +34,7 @@ trade price lots sellorder =
 
 account : ℤ → ℕ → ℕ → ℕ → ℕ → Account
 account balance long short startlong startshort =
-    record { balance = balance; holdings = record { long = long; short = short; startlong = startlong; startshort = startshort } ∷ [] }
+    record { balance = balance; maker = false; holdings = record { long = long; short = short; startlong = startlong; startshort = startshort } ∷ [] }
 
 -- account 1 starts with 2 long, account 2 with 2 short
 asked : ℕ → ℕ → List Order → List Order → List Trade → ℕ → ℕ → ℤ → Exchange
@@ -44,6 +44,7 @@ asked phase last buys sells trades short next balance =
       accounts = account balance 2 short 2 0 ∷ account (pos 0) 3 2 0 2 ∷ [];
       trades = trades;
       next = next;
+      nextstamp = 1;
       settlements = 1;
     }
 
@@ -103,7 +104,7 @@ table =
     ∷ []
 
 pub well-formed-examples : allRight table ≡ true
-unfolding allRight table contract order trade account asked buys sells trades test testIn all allOf sumOf accountAt afterLeg ahead aheadOfFirst allNumbers allowedToday balanceInRange bookLeg bookTrade bookTrades contractInRange countersInRange dayHigh dayLow holdingAt holdingInRange holdingsInRange legCovered listingAt listingInRange lotsWhere neverBelowZero numbers onTick orderInRange replays resting sameHoldings sameLots sorted startOfDay termsInRange tickMultiple tradeInRange uncrossed usedOnce wellFormedContents
+unfolding allRight table contract order trade account asked buys sells trades test testIn all allOf sumOf accountAt afterLeg ahead aheadOfFirst allListed allowedToday balanceInRange bookLeg bookTrade bookTrades contractInRange countersInRange dayHigh dayLow holdingAt holdingInRange holdingsInRange legCovered listingAt listingInRange lotsWhere neverBelowZero listed onTick orderInRange replays resting sameHoldings sameLots sorted startOfDay termsInRange tickMultiple tradeInRange uncrossed usedOnce wellFormedContents
 well-formed-examples = refl
 
 -- ---- counts and room, on a state as it lies, and the replay of closes
@@ -120,6 +121,7 @@ counted orders =
       accountcount = 2;
       tradecount = 0;
       next = 1;
+      nextstamp = 1;
       settlements = 0;
     }
 
@@ -136,22 +138,31 @@ replayed lots =
       accounts = account (pos 0) 0 3 2 3 ∷ account (pos 0) lots 0 0 0 ∷ [];
       trades = record { contract = 0; price = 110; lots = lots; buyorder = 1; sellorder = 2; buyer = 1; seller = 0; buyclose = 0; sellclose = 1 } ∷ [];
       next = 3;
+      nextstamp = 1;
       settlements = 0;
     }
+
+-- an order that is in range but for a time stamp and a quote mark
+marked : ℕ → ℕ → Order
+marked stamp quote = record { price = 110; number = 1; account = 0; lots = 1; close = 0; stamp = stamp; quote = quote }
 
 pub laid : List Row
 laid =
     (mark (countsInRange (counted 64)) gives 1)
     ∷ (mark (countsInRange (counted 65)) gives 0)
-    -- 64 orders of five words, 1,024 trades of nine, and a word less
-    ∷ (mark (hasRoom (lying 320 9_216)) gives 1)
-    ∷ (mark (hasRoom (lying 319 9_216)) gives 0)
-    ∷ (mark (hasRoom (lying 320 9_215)) gives 0)
+    -- 64 orders of seven words, 1,024 trades of nine, and a word less
+    ∷ (mark (hasRoom (lying 448 9_216)) gives 1)
+    ∷ (mark (hasRoom (lying 447 9_216)) gives 0)
+    ∷ (mark (hasRoom (lying 448 9_215)) gives 0)
     -- a close of what is held, and of one lot more: the short lots do not cover it
     ∷ (mark (replays (replayed 2)) gives 1)
     ∷ (mark (replays (replayed 3)) gives 0)
+    -- no order has a time stamp or a quote mark yet
+    ∷ (mark (orderInRange 2 8 (contract continuous 110) (marked 0 0)) gives 1)
+    ∷ (mark (orderInRange 2 8 (contract continuous 110) (marked 1 0)) gives 0)
+    ∷ (mark (orderInRange 2 8 (contract continuous 110) (marked 0 1)) gives 0)
     ∷ []
 
 pub laid-examples : allRight laid ≡ true
-unfolding allRight laid contract account counted lying replayed all sumOf accountAt afterLeg bookLeg bookTrade bookTrades countsInRange hasRoom holdingAt legCovered neverBelowZero replays sameHoldings sameLots startOfDay
+unfolding allRight laid contract account counted lying replayed marked all sumOf accountAt afterLeg allowedToday bookLeg bookTrade bookTrades countsInRange dayHigh dayLow hasRoom holdingAt legCovered neverBelowZero onTick orderInRange replays sameHoldings sameLots startOfDay
 laid-examples = refl

@@ -3,6 +3,43 @@
 // A place counts from 0, a number from 1: the account with number 1 stands at place 0. Commands and printed lines speak
 // of numbers, the records below of places, except where they say "number".
 
+// "Numbers that bound everything", by the names that they have in specs/ (Bounds, Memory, DayFile).
+pub const MAX_CONTRACTS: usize = 4;
+
+pub const MAX_ACCOUNTS: usize = 32;
+
+pub const MAX_RESTING: usize = 64;
+
+pub const MAX_TRADES: usize = 1024;
+
+pub const MAX_SETTLEMENTS: u32 = 250;
+
+pub const NUMBERS_END: u32 = 1000000;
+
+pub const MAX_LOTS: u32 = 1000;
+
+pub const MAX_PRICE: u32 = 1000000;
+
+pub const MAX_BALANCE: u64 = 1000000000000000000;
+
+pub const MAX_AMOUNT: u64 = 1000000000000000;
+
+pub const MAX_DAY_PROFIT: u64 = 3000000000000000;
+
+pub const MAX_METHOD: u16 = 2;
+
+pub const MAX_COMMANDS: usize = 2000;
+
+// How many words an order and a trade take in the lent areas, and all the places of one queue.
+pub const ORDER_STRIDE: usize = 7;
+
+pub const QUEUE_STRIDE: usize = MAX_RESTING * ORDER_STRIDE;
+
+pub const TRADE_STRIDE: usize = 9;
+
+// The word of an order that holds its number.
+pub const NUMBER_WORD: usize = 1;
+
 // A contract's terms for the day, with the number of its pairing method, its phase (the paper's contract state) and its last
 // price. Rate and method are as wide as in the day file: four contracts then take 128 bytes, which a compiler still copies in
 // place.
@@ -37,18 +74,23 @@ pub struct Holding {
     pub startshort: u32,
 }
 
+// `maker` marks a market maker: no rule looks at it yet (decision 34).
 pub struct Account {
     pub balance: i64,
-    pub holdings: [Holding; 4],
+    pub holdings: [Holding; MAX_CONTRACTS],
+    pub maker: bool,
 }
 
-// A resting order: its remaining lots, the account's place, 1 for a close and 0 for an open.
+// A resting order: its remaining lots, the account's place, 1 for a close and 0 for an open. `stamp` is its time stamp and
+// `quote` its quote mark; no rule gives an order either yet, so both are 0 (decision 34).
 pub struct Order {
     pub price: u32,
     pub number: u32,
     pub account: u32,
     pub lots: u32,
     pub close: u32,
+    pub stamp: u32,
+    pub quote: u32,
 }
 
 // A trade: the contract's place, the two orders' numbers, the two accounts' places, and for each leg 1 for a close and 0
@@ -66,16 +108,18 @@ pub struct Trade {
 }
 
 // All of the state that does not lie in lent areas. The areas hold the queues and the day's trades, the counts here say
-// how many of each are in use: orders by contract, contracts, accounts, trades of the day.
+// how many of each are in use: orders by contract, contracts, accounts, trades of the day. `next` is the next order number,
+// `nextstamp` the next time stamp, of which no rule gives any yet (decision 34).
 pub struct State {
-    pub contracts: [Contract; 4],
-    pub accounts: [Account; 32],
-    pub buys: [usize; 4],
-    pub sells: [usize; 4],
+    pub contracts: [Contract; MAX_CONTRACTS],
+    pub accounts: [Account; MAX_ACCOUNTS],
+    pub buys: [usize; MAX_CONTRACTS],
+    pub sells: [usize; MAX_CONTRACTS],
     pub contractcount: usize,
     pub accountcount: usize,
     pub tradecount: usize,
     pub next: u32,
+    pub nextstamp: u32,
     pub settlements: u32,
 }
 

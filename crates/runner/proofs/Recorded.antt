@@ -11,7 +11,7 @@ use lib.Seq.{drop-append-le}
 use Rattle.areas.specs.Records.{decode, records}
 use Rattle.areas.proofs.Records.{records-add}
 use Rattle.rules.specs.Lines.{tradeLine, tradeLines}
-use Rattle.rules.specs.Memory.{recordedTrades, tradeFrom}
+use Rattle.rules.specs.Memory.{recordedTrades, tradeFrom, tradeStride}
 use Rattle.rules.specs.declared.Trade.{Trade}
 use Rattle.rules.proofs.Codecs.{trade-codec, length-trades}
 use Rattle.lines.specs.Written.{Written}
@@ -19,9 +19,9 @@ use Rattle.lines.proofs.Text.{no-byte, looser, then}
 use Rattle.lines.proofs.Turns.{trade-turn}
 
 module _ (area : List ℕ) where
-  recorded-more : (i : ℕ) → recordedTrades area (i + 1) ≡ recordedTrades area i ++ (tradeFrom (drop (9 * i) area) ∷ [])
+  recorded-more : (i : ℕ) → recordedTrades area (i + 1) ≡ recordedTrades area i ++ (tradeFrom (drop (tradeStride * i) area) ∷ [])
   unfolding recordedTrades records decode
-  recorded-more i = let e : 0 + 9 * i ≡ 9 * i = omega arith in rw e at (records-add trade-codec area 0 i 1)
+  recorded-more i = let e : 0 + tradeStride * i ≡ tradeStride * i = omega arith in rw e at (records-add trade-codec area 0 i 1)
 
   module _ (first : ℕ) where
     none-past : (count : ℕ) → count ≤ first → drop first (recordedTrades area count) ≡ []
@@ -29,19 +29,19 @@ module _ (area : List ℕ) where
 
     -- the trades from `first` on, once i of them are passed
     recorded-turn : (i : ℕ) → first ≤ i → tradeLines (first + 1) (drop first (recordedTrades area (i + 1)))
-        ≡ tradeLines (first + 1) (drop first (recordedTrades area i)) ++ tradeLine (i + 1) (tradeFrom (drop (9 * i) area))
+        ≡ tradeLines (first + 1) (drop first (recordedTrades area i)) ++ tradeLine (i + 1) (tradeFrom (drop (tradeStride * i) area))
     recorded-turn i h =
         let ts = recordedTrades area i in
         let l : length ts ≡ i = length-trades area i in
         let n : first + 1 + length (drop first ts) ≡ i + 1 = rw (length-drop first ts) (omega arith) in
-        rw (recorded-more i, drop-append-le first ts (tradeFrom (drop (9 * i) area) ∷ []) (omega arith), trade-turn (first + 1) (drop first ts) (tradeFrom (drop (9 * i) area)), n)
+        rw (recorded-more i, drop-append-le first ts (tradeFrom (drop (tradeStride * i) area) ∷ []) (omega arith), trade-turn (first + 1) (drop first ts) (tradeFrom (drop (tradeStride * i) area)), n)
 
     module _ {before : List ℕ} {at : ℕ} where
       pub trades-none : at ≤ length before → Written 0 before at (tradeLines (first + 1) (drop first (recordedTrades area first))) before at
       unfolding tradeLines
       trades-none room = rw (none-past first (omega arith)) (no-byte before at room)
 
-      pub trades-more : (i most more : ℕ) (t : Trade) {middle after : List ℕ} {next end : ℕ} → first ≤ i → most + 128 ≤ more → t ≡ tradeFrom (drop (9 * i) area)
+      pub trades-more : (i most more : ℕ) (t : Trade) {middle after : List ℕ} {next end : ℕ} → first ≤ i → most + 128 ≤ more → t ≡ tradeFrom (drop (tradeStride * i) area)
           → Written most before at (tradeLines (first + 1) (drop first (recordedTrades area i))) middle next → Written 128 middle next (tradeLine (i + 1) t) after end
           → Written more before at (tradeLines (first + 1) (drop first (recordedTrades area (i + 1)))) after end
       trades-more i most more t h m e w v = rw (recorded-turn i h, ← e) (looser (then w v) more m)

@@ -2,12 +2,13 @@
 use mathlib.Core.Bool.{true}
 use mathlib.Core.List.{List}
 use mathlib.Core.Path.{_≡_}
-use Prim.Native.Nat.{ℕ, _≤_}
+use Prim.Native.Nat.{ℕ, _≤_, _*_}
 use lib.ListN.{length}
+use Rattle.rules.specs.Bounds.{maxContracts, maxTrades}
 use Rattle.rules.specs.Condition3.{Condition3, opened, run}
 use Rattle.rules.specs.DayFile.{sound, commandsIn, opening, commandsOf}
 use Rattle.rules.specs.Lines.{runLines}
-use Rattle.rules.specs.Memory.{Memory, memory}
+use Rattle.rules.specs.Memory.{Memory, memory, queueStride, tradeStride}
 use Rattle.dayfile.specs.Opening.{openingState}
 use Rattle.runner.specs.Parts.{part}
 use Rattle.runner.specs.declared.day.Day.{Day}
@@ -15,9 +16,9 @@ use Rattle.runner.specs.declared.day.Day.{Day}
 -- a sound file, room for the queues of four contracts and for a day's trades; what stands in that room is of no account
 pub record Ready (file buys sells trades : List ℕ) : Type 0 where
   pub whole : sound file ≡ true
-  pub buys-room : 1_280 ≤ length buys
-  pub sells-room : 1_280 ≤ length sells
-  pub trades-room : 9_216 ≤ length trades
+  pub buys-room : queueStride * maxContracts ≤ length buys
+  pub sells-room : queueStride * maxContracts ≤ length sells
+  pub trades-room : tradeStride * maxTrades ≤ length trades
 
 abbrev pub openingOf : List ℕ → List ℕ → List ℕ → List ℕ → Memory
 openingOf file buys sells trades = memory (openingState file) buys sells trades

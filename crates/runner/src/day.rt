@@ -89,9 +89,9 @@ pub fn print_file(fd: i32, file: &[u8]) -> bool {
     if !file::sound(file) {
         return print_broken(fd, file);
     }
-    let mut buys = [0u32; 1280];
-    let mut sells = [0u32; 1280];
-    let mut trades = [0u32; 9216];
+    let mut buys = [0u32; rules::QUEUE_STRIDE * rules::MAX_CONTRACTS];
+    let mut sells = [0u32; rules::QUEUE_STRIDE * rules::MAX_CONTRACTS];
+    let mut trades = [0u32; rules::TRADE_STRIDE * rules::MAX_TRADES];
     let day = print_day(fd, file, &mut buys, &mut sells, &mut trades);
     day.whole
 }

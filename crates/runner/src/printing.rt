@@ -2,8 +2,9 @@
 // can print.
 ghost use Prim.Native.Nat.{_+_, _*_, _-_, _≤_};
 ghost use lib.ListN.{length, drop};
+ghost use Rattle.rules.specs.Bounds.{maxTrades};
 ghost use Rattle.rules.specs.Lines.{tradeLines};
-ghost use Rattle.rules.specs.Memory.{recordedTrades};
+ghost use Rattle.rules.specs.Memory.{recordedTrades, tradeStride};
 ghost use Rattle.lines.specs.Written.{Written};
 ghost use Rattle.runner.specs.Rows.{rows, priceRow, accountRow};
 use exchange::settling::Report;
@@ -14,7 +15,7 @@ use rules::Account;
 
 // T lines of the day's trades from place `first` on, `count` of them being recorded: none where there are no more than `first`.
 pub fn put_trades(out: &mut [u8], at: usize, area: &[u32], first: usize, count: usize) -> usize
-    requires { ⌜ (count ≤ 1024) × (9 * count ≤ length (now area)) × (at + 128 * (count - first) ≤ length (now out)) ⌝ }
+    requires { ⌜ (count ≤ maxTrades) × (tradeStride * count ≤ length (now area)) × (at + 128 * (count - first) ≤ length (now out)) ⌝ }
     ensures { λ r. ⌜ Written (128 * (count - first)) (now (out .entry)) at (tradeLines (first + 1) (drop first (recordedTrades (now (area .entry)) count))) (now (out .exit)) r ⌝ }
 {
     let mut next = at;
@@ -28,7 +29,7 @@ pub fn put_trades(out: &mut [u8], at: usize, area: &[u32], first: usize, count: 
 }
 
 // P lines of the first n contracts.
-pub fn put_prices(out: &mut [u8], at: usize, prices: [u32; 4], n: usize) -> usize
+pub fn put_prices(out: &mut [u8], at: usize, prices: [u32; rules::MAX_CONTRACTS], n: usize) -> usize
     requires { ⌜ (n ≤ 4) × (at + 44 * n ≤ length (now out)) ⌝ }
     ensures { λ r. ⌜ Written (44 * n) (now (out .entry)) at (rows (priceRow prices) n) (now (out .exit)) r ⌝ }
 {
@@ -46,7 +47,7 @@ pub fn put_accounts(
     out: &mut [u8],
     at: usize,
     report: Report,
-    accounts: [Account; 32],
+    accounts: [Account; rules::MAX_ACCOUNTS],
     n: usize,
 ) -> usize
     requires { ⌜ (n ≤ 32) × (at + 110 * n ≤ length (now out)) ⌝ }

@@ -28,16 +28,17 @@ carriedAt hs i = carriedHolding (getD hs i noHolding)
 
 pub record Carrying (account : Account) (contracts c : ℕ) (next : Account) : Type 0 where
   pub balance : next .balance ≡ account .balance
+  pub maker : next .maker ≡ account .maker
   pub holdings : Writing (λ i. carriedHolding (getD (account .holdings) i noHolding)) (account .holdings) contracts c (next .holdings)
 
 pub carrying-none : (account : Account) (contracts : ℕ) → Carrying account contracts 0 account
-carrying-none account contracts = record { balance = refl; holdings = writing-none _ _ _ }
+carrying-none account contracts = record { balance = refl; maker = refl; holdings = writing-none _ _ _ }
 
 module _ (account : Account) (contracts : ℕ) (room : contracts ≤ length (account .holdings)) (c : ℕ) (next : Account) (w : Carrying account contracts c next) where
   pub carrying-more : c < contracts → (h : Holding) → h ≡ carriedHolding (getD (account .holdings) c noHolding)
-      → Carrying account contracts (c + 1) (record { balance = next .balance; holdings = set (next .holdings) c h })
+      → Carrying account contracts (c + 1) (record { balance = next .balance; maker = next .maker; holdings = set (next .holdings) c h })
   carrying-more l h e =
-      record { balance = w .balance; holdings = writing-more (carriedAt (account .holdings)) (account .holdings) contracts room c h (next .holdings) l e (w .holdings) }
+      record { balance = w .balance; maker = w .maker; holdings = writing-more (carriedAt (account .holdings)) (account .holdings) contracts room c h (next .holdings) l e (w .holdings) }
 
   pub carrying-done : contracts ≤ c → next ≡ putAccount (carriedAccount account contracts (account .balance)) account
   carrying-done l =
@@ -45,19 +46,21 @@ module _ (account : Account) (contracts : ℕ) (room : contracts ≤ length (acc
       writing-done (carriedAt (account .holdings)) (account .holdings) contracts c (next .holdings) l (w .holdings)
       ∙ sym (written-mapped carriedHolding (account .holdings) contracts noHolding room) in
       let b = w .balance in
-      λ i. record { balance = b i; holdings = e i }
+      let k = w .maker in
+      λ i. record { balance = b i; maker = k i; holdings = e i }
 
 -- another balance, as the code reads it from its bits
 pub carried-paid : (account next : Account) (contracts : ℕ) (b x y : ℤ) → Within (2 * 10 ^ 18) (account .balance) → Within 16_000_000_000_000_000 x
     → Within 16_000_000_000_000_000 y → SFits w64 b → b ≡ toZ w64 (ofZ w64 (account .balance)) +ℤ (toZ w64 (ofZ w64 x) +ℤ toZ w64 (ofZ w64 y))
     → next ≡ putAccount (carriedAccount account contracts (account .balance)) account
-    → record { balance = toZ w64 (ofZ w64 b); holdings = next .holdings } ≡ putAccount (carriedAccount account contracts (account .balance +ℤ (x +ℤ y))) account
+    → record { balance = toZ w64 (ofZ w64 b); maker = next .maker; holdings = next .holdings } ≡ putAccount (carriedAccount account contracts (account .balance +ℤ (x +ℤ y))) account
 carried-paid account next contracts b x y h hx hy f e n =
     let u : toZ w64 (ofZ w64 x) ≡ x = back 16_000_000_000_000_000 (omega arith) hx in
     let v : toZ w64 (ofZ w64 y) ≡ y = back 16_000_000_000_000_000 (omega arith) hy in
     let p : toZ w64 (ofZ w64 b) ≡ account .balance +ℤ (x +ℤ y) = toZ-ofZ {w = w64} f ∙ e ∙ rw (back (2 * 10 ^ 18) (omega arith) h, u, v) in
     let q : next .holdings ≡ putFirst (map carriedHolding (take contracts (account .holdings))) (account .holdings) = ap (λ (v : Account). v .holdings) n in
-    λ i. record { balance = p i; holdings = q i }
+    let k : next .maker ≡ account .maker = ap (λ (v : Account). v .maker) n in
+    λ i. record { balance = p i; maker = k i; holdings = q i }
 
 -- ---- the balance
 

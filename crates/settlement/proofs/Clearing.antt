@@ -8,16 +8,16 @@ use borrow.Rule.Slice.PartMut.{putMid}
 use lib.ListN.{length, getD, take, drop, replicate}
 use Rattle.areas.proofs.Changes.{emptied}
 use Rattle.rules.specs.Exchange.{noOrder, noTrade}
-use Rattle.rules.specs.Memory.{putQueue, putQueues, putTrades}
+use Rattle.rules.specs.Memory.{putQueue, putQueues, putTrades, queueStride, tradeStride, firstWord}
 use Rattle.rules.specs.declared.Order.{Order}
 use Rattle.rules.proofs.Codecs.{order-codec, trade-codec, length-putQueue}
 use Rattle.settlement.specs.Settling.{Clearable}
 
 -- a queue cleared
-one-queue : (area : List ℕ) (c n : ℕ) (part : List ℕ) → 320 * c + 5 * n ≤ length area → part ≡ replicate (length (take (320 * c + 5 * n - 320 * c) (drop (320 * c) area))) 0
-    → putMid (320 * c) (320 * c + 5 * n - 320 * c) area part ≡ putQueue area c n []
+one-queue : (area : List ℕ) (c n : ℕ) (part : List ℕ) → firstWord c n ≤ length area → part ≡ replicate (length (take (firstWord c n - queueStride * c) (drop (queueStride * c) area))) 0
+    → putMid (queueStride * c) (firstWord c n - queueStride * c) area part ≡ putQueue area c n []
 unfolding putQueue
-one-queue area c n part room e = emptied order-codec area (320 * c) n noOrder refl (320 * c + 5 * n) part refl room e
+one-queue area c n part room e = emptied order-codec area (queueStride * c) n noOrder refl (firstWord c n) part refl room e
 
 next-queue : (area counts : List ℕ) (queues : ℕ → List Order) (c : ℕ) → putQueue (putQueues area counts queues c) c (getD counts c 0) (queues c) ≡ putQueues area counts queues (c + 1)
 unfolding putQueues
@@ -37,14 +37,14 @@ clearing-none area counts contracts = record { within = omega arith; cleared = r
 module _ (area₀ counts : List ℕ) (contracts : ℕ) (g : Clearable area₀ counts contracts) (c : ℕ) (area : List ℕ) (h : c < contracts)
     (w : Clearing area₀ counts contracts c area) where
   -- the part of the area that the queue takes up
-  pub queue-room : 320 * c + 5 * getD counts c 0 ≤ length area
+  pub queue-room : firstWord c (getD counts c 0) ≤ length area
   queue-room = omega (arith, g .counts c h, g .room, w .long)
 
   pub clearing-more : (part : List ℕ)
-      → part ≡ replicate (length (take (320 * c + 5 * getD counts c 0 - 320 * c) (drop (320 * c) area))) 0
-      → Clearing area₀ counts contracts (c + 1) (putMid (320 * c) (320 * c + 5 * getD counts c 0 - 320 * c) area part)
+      → part ≡ replicate (length (take (firstWord c (getD counts c 0) - queueStride * c) (drop (queueStride * c) area))) 0
+      → Clearing area₀ counts contracts (c + 1) (putMid (queueStride * c) (firstWord c (getD counts c 0) - queueStride * c) area part)
   clearing-more part e =
-      let p : putMid (320 * c) (320 * c + 5 * getD counts c 0 - 320 * c) area part ≡ putQueue area c (getD counts c 0) [] = one-queue area c (getD counts c 0) part queue-room e in
+      let p : putMid (queueStride * c) (firstWord c (getD counts c 0) - queueStride * c) area part ≡ putQueue area c (getD counts c 0) [] = one-queue area c (getD counts c 0) part queue-room e in
       record {
         within = omega arith;
         cleared = p ∙ ap (λ (a : List ℕ). putQueue a c (getD counts c 0) []) (w .cleared) ∙ next-queue area₀ counts (λ c. []) c;
@@ -58,10 +58,10 @@ clearing-done area₀ counts contracts c area h w =
 
 -- ---- the trades, at the front of their area
 
-pub trades-cleared : (area : List ℕ) (n : ℕ) (part : List ℕ) → 9 * n ≤ length area → part ≡ replicate (length (take (9 * n) area)) 0
-    → part ++ drop (9 * n) area ≡ putTrades area n []
+pub trades-cleared : (area : List ℕ) (n : ℕ) (part : List ℕ) → tradeStride * n ≤ length area → part ≡ replicate (length (take (tradeStride * n) area)) 0
+    → part ++ drop (tradeStride * n) area ≡ putTrades area n []
 unfolding putTrades
 trades-cleared area n part room e =
-    let f : 9 * n - 0 ≡ 9 * n = omega arith in
+    let f : tradeStride * n - 0 ≡ tradeStride * n = omega arith in
     ap (λ (k : ℕ). part ++ drop k area) (sym f)
-    ∙ emptied trade-codec area 0 n noTrade refl (9 * n) part (omega arith) room (e ∙ ap (λ (k : ℕ). replicate (length (take k area)) 0) (sym f))
+    ∙ emptied trade-codec area 0 n noTrade refl (tradeStride * n) part (omega arith) room (e ∙ ap (λ (k : ℕ). replicate (length (take k area)) 0) (sym f))

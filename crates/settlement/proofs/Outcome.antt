@@ -42,10 +42,10 @@ use Rattle.settlement.proofs.Places.{written-accounts}
 pub next-day-is : (s : State) (accounts : List Account) (prices : List ℕ) (cs : List Contract) (bids offers : List ℕ)
     → cs ≡ putFirst (tabulate (s .contractcount) (λ c. settledContract (contractIn s c) (getD prices c 0))) (s .contracts)
     → bids ≡ putFirst (tabulate (s .contractcount) (λ c. 0)) (s .buys) → offers ≡ putFirst (tabulate (s .contractcount) (λ c. 0)) (s .sells)
-    → record { contracts = cs; accounts = accounts; buys = bids; sells = offers; contractcount = s .contractcount; accountcount = s .accountcount; tradecount = 0; next = 1; settlements = s .settlements + 1 }
+    → record { contracts = cs; accounts = accounts; buys = bids; sells = offers; contractcount = s .contractcount; accountcount = s .accountcount; tradecount = 0; next = 1; nextstamp = 1; settlements = s .settlements + 1 }
     ≡ nextDay s accounts prices
 next-day-is s accounts prices cs bids offers e f g =
-    λ i. record { contracts = e i; accounts = accounts; buys = f i; sells = g i; contractcount = s .contractcount; accountcount = s .accountcount; tradecount = 0; next = 1; settlements = s .settlements + 1 }
+    λ i. record { contracts = e i; accounts = accounts; buys = f i; sells = g i; contractcount = s .contractcount; accountcount = s .accountcount; tradecount = 0; next = 1; nextstamp = 1; settlements = s .settlements + 1 }
 
 -- ---- an account's day, by what stands at its places
 
@@ -193,6 +193,10 @@ module _ (s : State) (buys sells trades : List ℕ) (g : Settleable s buys sells
     unfolding settled
     first-number = refl
 
+    first-stamp : 1 ≡ settled x .nextstamp
+    unfolding settled
+    first-stamp = refl
+
     one-more : s .settlements + 1 ≡ settled x .settlements
     unfolding settled exchangeOf
     one-more = refl
@@ -225,6 +229,7 @@ module _ (s : State) (buys sells trades : List ℕ) (g : Settleable s buys sells
             accountcount = s .accountcount;
             tradecount = no-trade i;
             next = first-number i;
+            nextstamp = first-stamp i;
             settlements = one-more i;
           }
 

@@ -9,10 +9,10 @@ use Rattle.laws.specs.Sums.{sumTo}
 use Rattle.laws.specs.Tabulate.{tabulate}
 use Rattle.areas.specs.Lists.{padded}
 use Rattle.rules.specs.Kinds.{codeOf}
-use Rattle.rules.specs.Bounds.{maxContracts, maxAccounts}
+use Rattle.rules.specs.Bounds.{maxContracts, maxAccounts, maxResting, maxTrades}
 use Rattle.rules.specs.Exchange.{noAccount, noContract, noHolding}
 use Rattle.rules.specs.Margin as margin
-use Rattle.rules.specs.Memory.{Declared, Memory, exchangeOf, put, putAccounts, putFirst, putQueues, putTrades, recordedTrades, memory, WellFormedState}
+use Rattle.rules.specs.Memory.{Declared, Memory, exchangeOf, put, putAccounts, putFirst, putQueues, putTrades, recordedTrades, memory, WellFormedState, queueStride, tradeStride}
 use Rattle.rules.specs.Settlement.{Day, holdingGain, settlementPrice, closingProfit, holdingProfit, carriedHolding, settledContract, settled}
 use Rattle.rules.specs.declared.Account.{Account}
 use Rattle.rules.specs.declared.Command.the-variants.{Settle}
@@ -77,7 +77,7 @@ pub record TotalIs (s : State) (trades prices : List ℕ) (a : ℕ) (r : Profit)
 
 -- an account with a new balance: "holdings become start-of-day"
 abbrev pub carriedAccount : Account → ℕ → ℤ → Account
-carriedAccount a contracts balance = record { balance = balance; holdings = map carriedHolding (take contracts (a .holdings)) }
+carriedAccount a contracts balance = record { balance = balance; maker = a .maker; holdings = map carriedHolding (take contracts (a .holdings)) }
 
 -- "The balance takes both."
 abbrev pub paidAccount : State → List ℕ → List ℕ → ℕ → Account
@@ -100,14 +100,14 @@ pub record BooksIs (s : State) (trades prices : List ℕ) (r : Books) : Type 0 w
 -- the queues of the contracts in use, in room for them
 pub record Clearable (area cs : List ℕ) (n : ℕ) : Type 0 where
   pub few : n ≤ 4
-  pub counts : (c : ℕ) → c < n → getD cs c 0 ≤ 64
-  pub room : 320 * n ≤ length area
+  pub counts : (c : ℕ) → c < n → getD cs c 0 ≤ maxResting
+  pub room : queueStride * n ≤ length area
 
 pub record AllClearable (s : State) (bids offers day : List ℕ) : Type 0 where
   pub buys : Clearable bids (s .buys) (s .contractcount)
   pub sells : Clearable offers (s .sells) (s .contractcount)
-  pub few : s .tradecount ≤ 1_024
-  pub trades : 9 * s .tradecount ≤ length day
+  pub few : s .tradecount ≤ maxTrades
+  pub trades : tradeStride * s .tradecount ≤ length day
 
 -- no order and no trade left
 pub record ClearedAre (s : State) (bids offers day bids′ offers′ day′ : List ℕ) : Type 0 where
@@ -135,5 +135,6 @@ nextDay s accounts prices =
       accountcount = s .accountcount;
       tradecount = 0;
       next = 1;
+      nextstamp = 1;
       settlements = s .settlements + 1;
     }

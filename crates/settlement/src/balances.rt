@@ -15,9 +15,9 @@ use rules::State;
 
 // The accounts after a settlement, and each one's closing and holding profit.
 pub struct Books {
-    pub accounts: [Account; 32],
-    pub closing: [i64; 32],
-    pub holding: [i64; 32],
+    pub accounts: [Account; rules::MAX_ACCOUNTS],
+    pub closing: [i64; rules::MAX_ACCOUNTS],
+    pub holding: [i64; rules::MAX_ACCOUNTS],
 }
 
 fn multiplied(profit: i64, multiplier: u32) -> i64
@@ -28,7 +28,7 @@ fn multiplied(profit: i64, multiplier: u32) -> i64
 }
 
 // An account's profit: "times multiplier", over all contracts.
-fn total(state: State, trades: &[u32], prices: [u32; 4], a: usize) -> Profit
+fn total(state: State, trades: &[u32], prices: [u32; rules::MAX_CONTRACTS], a: usize) -> Profit
     requires { ⌜ Payable state (now trades) prices a ⌝ }
     ensures { λ r. ⌜ TotalIs state (now (trades .entry)) prices a r ⌝ }
 {
@@ -99,15 +99,15 @@ fn paid(account: Account, contracts: usize, closing: i64, holding: i64) -> Accou
 }
 
 // Every account in use.
-pub fn all_paid(state: State, trades: &[u32], prices: [u32; 4]) -> Books
+pub fn all_paid(state: State, trades: &[u32], prices: [u32; rules::MAX_CONTRACTS]) -> Books
     requires { ⌜ AllPayable state (now trades) prices ⌝ }
     ensures { λ r. ⌜ BooksIs state (now (trades .entry)) prices r ⌝ }
 {
     let contracts = state.contractcount;
     let count = state.accountcount;
     let mut accounts = state.accounts;
-    let mut closing: [i64; 32] = [0; 32];
-    let mut holding: [i64; 32] = [0; 32];
+    let mut closing: [i64; rules::MAX_ACCOUNTS] = [0; rules::MAX_ACCOUNTS];
+    let mut holding: [i64; rules::MAX_ACCOUNTS] = [0; rules::MAX_ACCOUNTS];
     let mut a: usize = 0;
     while a < count {
         let account = state.accounts[a];

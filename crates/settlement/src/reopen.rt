@@ -22,7 +22,11 @@ fn reopened(contract: Contract, price: u32) -> Contract
     next
 }
 
-pub fn all_reopened(contracts: [Contract; 4], count: usize, prices: [u32; 4]) -> [Contract; 4]
+pub fn all_reopened(
+    contracts: [Contract; rules::MAX_CONTRACTS],
+    count: usize,
+    prices: [u32; rules::MAX_CONTRACTS],
+) -> [Contract; rules::MAX_CONTRACTS]
     requires { ⌜ count ≤ 4 ⌝ }
     ensures { λ r. ⌜ r ≡ putFirst (tabulate count (λ c. settlement.settledContract (getD contracts c noContract) (getD prices c 0))) contracts ⌝ }
 {
@@ -38,7 +42,10 @@ pub fn all_reopened(contracts: [Contract; 4], count: usize, prices: [u32; 4]) ->
 }
 
 // "resting orders go": their counts ..
-pub fn no_orders(counts: [usize; 4], contracts: usize) -> [usize; 4]
+pub fn no_orders(
+    counts: [usize; rules::MAX_CONTRACTS],
+    contracts: usize,
+) -> [usize; rules::MAX_CONTRACTS]
     requires { ⌜ contracts ≤ 4 ⌝ }
     ensures { λ r. ⌜ r ≡ putFirst (tabulate contracts (λ c. 0)) counts ⌝ }
 {
@@ -52,15 +59,15 @@ pub fn no_orders(counts: [usize; 4], contracts: usize) -> [usize; 4]
 }
 
 // .. and their places in the area.
-fn clear_queues(area: &mut [u32], counts: [usize; 4], contracts: usize)
+fn clear_queues(area: &mut [u32], counts: [usize; rules::MAX_CONTRACTS], contracts: usize)
     requires { ⌜ Clearable (now area) counts contracts ⌝ }
     ensures { λ _. ⌜ now (area .exit) ≡ putQueues (now (area .entry)) counts (λ c. []) contracts ⌝ }
 {
     let mut c: usize = 0;
     while c < contracts {
         let count = counts[c];
-        let a = 320 * c;
-        let e = a + 5 * count;
+        let a = rules::QUEUE_STRIDE * c;
+        let e = a + rules::ORDER_STRIDE * count;
         areas::clear(&mut area[a..e]);
         c += 1;
     }
@@ -74,7 +81,7 @@ pub fn clear_areas(state: State, buys: &mut [u32], sells: &mut [u32], trades: &m
     let contracts = state.contractcount;
     let bids = state.buys;
     let offers = state.sells;
-    let e = 9 * state.tradecount;
+    let e = rules::TRADE_STRIDE * state.tradecount;
     clear_queues(buys, bids, contracts);
     clear_queues(sells, offers, contracts);
     areas::clear(&mut trades[..e]);

@@ -17,20 +17,25 @@ use rules::State;
 // The state after a settlement; the prices, each account's closing and holding profit, and its charged margin afterwards.
 pub struct Settled {
     pub state: State,
-    pub prices: [u32; 4],
-    pub closing: [i64; 32],
-    pub holding: [i64; 32],
-    pub charged: [u64; 32],
+    pub prices: [u32; rules::MAX_CONTRACTS],
+    pub closing: [i64; rules::MAX_ACCOUNTS],
+    pub holding: [i64; rules::MAX_ACCOUNTS],
+    pub charged: [u64; rules::MAX_ACCOUNTS],
 }
 
 // The settlement price of each contract in use.
-fn prices<'a>(state: State, buys: &'a [u32], sells: &'a [u32], trades: &'a [u32]) -> [u32; 4]
+fn prices<'a>(
+    state: State,
+    buys: &'a [u32],
+    sells: &'a [u32],
+    trades: &'a [u32],
+) -> [u32; rules::MAX_CONTRACTS]
     requires { ⌜ Settleable state (now buys) (now sells) (now trades) ⌝ }
     ensures { λ r. ⌜ r ≡ padded maxContracts 0 (tabulate (state .contractcount) (settlement.settlementPrice (exchangeOf (memory state (now (buys .entry)) (now (sells .entry)) (now (trades .entry)))))) ⌝ }
 {
     let contracts = state.contractcount;
     let count = state.tradecount;
-    let mut prices: [u32; 4] = [0; 4];
+    let mut prices: [u32; rules::MAX_CONTRACTS] = [0; rules::MAX_CONTRACTS];
     let mut c: usize = 0;
     while c < contracts {
         let contract = state.contracts[c];
@@ -52,7 +57,7 @@ fn prices<'a>(state: State, buys: &'a [u32], sells: &'a [u32], trades: &'a [u32]
 }
 
 // Each account's charged margin.
-fn charges<'a>(state: State, buys: &'a [u32], sells: &'a [u32]) -> [u64; 32]
+fn charges<'a>(state: State, buys: &'a [u32], sells: &'a [u32]) -> [u64; rules::MAX_ACCOUNTS]
     requires { ⌜ AllChargeable state (now buys) (now sells) ⌝ }
     ensures { λ r. ⌜ ChargesAre state (now (buys .entry)) (now (sells .entry)) r ⌝ }
 {
@@ -61,7 +66,7 @@ fn charges<'a>(state: State, buys: &'a [u32], sells: &'a [u32]) -> [u64; 32]
     let terms = state.contracts;
     let bids = state.buys;
     let offers = state.sells;
-    let mut charged: [u64; 32] = [0; 32];
+    let mut charged: [u64; rules::MAX_ACCOUNTS] = [0; rules::MAX_ACCOUNTS];
     let mut a: usize = 0;
     while a < accounts {
         let holder = holders[a];
@@ -83,7 +88,11 @@ fn charges<'a>(state: State, buys: &'a [u32], sells: &'a [u32]) -> [u64; 32]
 
 // "resting orders go, holdings become start-of-day, trades and order numbers start afresh, the settlement price becomes the
 // reference, contracts return to pre-open": the state of the next day.
-fn next_day(state: State, accounts: [Account; 32], prices: [u32; 4]) -> State
+fn next_day(
+    state: State,
+    accounts: [Account; rules::MAX_ACCOUNTS],
+    prices: [u32; rules::MAX_CONTRACTS],
+) -> State
     requires { ⌜ (state .contractcount ≤ 4) × (state .settlements < 250) ⌝ }
     ensures { λ r. ⌜ r ≡ nextDay state accounts prices ⌝ }
 {
@@ -103,6 +112,7 @@ fn next_day(state: State, accounts: [Account; 32], prices: [u32; 4]) -> State
         accountcount: state.accountcount,
         tradecount: 0,
         next: 1,
+        nextstamp: 1,
         settlements: state.settlements + 1,
     }
 }

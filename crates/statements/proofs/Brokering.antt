@@ -13,8 +13,9 @@ use Rattle.laws.specs.Lists.{getD-map-lt}
 use Rattle.laws.specs.Tabulate.{tabulate, getD-tabulate}
 use Rattle.areas.specs.Records.{store}
 use Rattle.areas.proofs.Records.{length-store, records-store}
+use Rattle.rules.specs.Bounds.{maxTrades}
 use Rattle.rules.specs.Exchange.{Exchange, accountAt, holdingAt, noAccount, noHolding, noTrade}
-use Rattle.rules.specs.Memory.{Memory, exchangeOf, listingIn, recordedTrades, tradeWords, used, wellFormedMemory, memory}
+use Rattle.rules.specs.Memory.{Memory, exchangeOf, listingIn, recordedTrades, tradeWords, used, wellFormedMemory, memory, tradeStride}
 use Rattle.rules.specs.WellFormed.{tradeInRange}
 use Rattle.rules.specs.declared.State.{State}
 use Rattle.rules.specs.declared.Trade.{Trade}
@@ -116,10 +117,10 @@ module _ (s : State) (buys sells trades : List ℕ) (a clients : ℕ) (starts : 
   pub few-contracts : n ≤ 4
   few-contracts = contracts-four m room formed
 
-  pub few-trades : count ≤ 1_024
+  pub few-trades : count ≤ maxTrades
   few-trades = memory-ok m formed .counts .trades
 
-  pub trade-room : 9 * count ≤ length trades
+  pub trade-room : tradeStride * count ≤ length trades
   trade-room = omega (arith, few-trades, memory-ok m formed .room .trades)
 
   contracts-are : length (x .listings) ≡ n
@@ -146,7 +147,7 @@ module _ (s : State) (buys sells trades : List ℕ) (a clients : ℕ) (starts : 
 
   -- ---- the area of the clients' trades
 
-  module _ (area₀ area : List ℕ) (long : length area₀ ≡ 9_216) (content : area ≡ store tradeWords area₀ 0 (clientTrades a clients postings trades count)) where
+  module _ (area₀ area : List ℕ) (long : length area₀ ≡ tradeStride * maxTrades) (content : area ≡ store tradeWords area₀ 0 (clientTrades a clients postings trades count)) where
     so-many : length (clientTrades a clients postings trades count) ≡ count
     so-many = length-map (recordedTrades trades count) (clientTrade a clients postings) ∙ length-trades trades count
 
@@ -154,7 +155,7 @@ module _ (s : State) (buys sells trades : List ℕ) (a clients : ℕ) (starts : 
     unfolding recordedTrades
     trades-are = ap (λ (l : List ℕ). recordedTrades l count) content ∙ records-store trade-codec area₀ 0 count (clientTrades a clients postings trades count) (omega arith) so-many
 
-    area-room : 9 * count ≤ length area
+    area-room : tradeStride * count ≤ length area
     area-room =
         omega (arith, few-trades, so-many, ap length content, length-store trade-codec area₀ 0 (clientTrades a clients postings trades count) (omega (arith, few-trades, so-many)))
 
@@ -165,7 +166,7 @@ module _ (s : State) (buys sells trades : List ℕ) (a clients : ℕ) (starts : 
         let t : recordedTrades area count ≡ map (clientTrade a clients postings) (recordedTrades trades count) = trades-are in
         let e : used n 17 (tabulate 17 (clientAccount (clientsWith clients starts))) ≡ used (length (x .listings)) 17 (tabulate 17 (clientAccount b)) =
         ap (λ (k : ℕ). used k 17 (tabulate 17 (clientAccount b))) (sym contracts-are) in
-        λ i. record { listings = x .listings; accounts = e i; trades = t i; next = s .next; settlements = s .settlements }
+        λ i. record { listings = x .listings; accounts = e i; trades = t i; next = s .next; nextstamp = s .nextstamp; settlements = s .settlements }
 
     each-booked : (i : ℕ) → i < count → Booked n 17 (getD (recordedTrades area count) i noTrade)
     unfolding exchangeOf

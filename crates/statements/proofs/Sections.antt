@@ -14,6 +14,7 @@ use mir.Syntax.{w64}
 use mir.Val.{SFits}
 use Rattle.laws.specs.Choice.{pick}
 use Rattle.areas.specs.Lists.{over}
+use Rattle.rules.specs.Bounds.{maxResting}
 use Rattle.rules.specs.Exchange.{noTrade}
 use Rattle.rules.specs.Memory.{recordedTrades}
 use Rattle.rules.specs.declared.Holding.{Holding}
@@ -196,7 +197,7 @@ module _ (x : ℤ) (n : ℕ) (f : SFits w64 x) (e : n ≡ natAbs x) where
 
 -- ---- the three sections, each after its count
 
-pub few-entries : {a b : ℕ} → a ≤ 16 → b ≤ 4 → a * b ≤ 64
+pub few-entries : {a b : ℕ} → a ≤ 16 → b ≤ 4 → a * b ≤ maxResting
 few-entries {a} {b} h k = let p = mul-le-mul-right b h in omega arith
 
 module _ (n₁ n₂ n₃ : ℕ) (A B C out : List ℕ) (room : length (section n₁ A ++ (section n₂ B ++ section n₃ C)) ≤ length out) where

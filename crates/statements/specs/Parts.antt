@@ -10,8 +10,9 @@ use Rattle.laws.specs.Choice.{allOf, pick}
 use Rattle.laws.specs.Tabulate.{tabulate}
 use Rattle.areas.specs.Lists.{over, padded}
 use Rattle.rules.specs.Answers.{Refusal, firstOf, _when_}
+use Rattle.rules.specs.Bounds.{maxTrades}
 use Rattle.rules.specs.Exchange.{Exchange, holdingAt, noAccount, noHolding, noTrade}
-use Rattle.rules.specs.Memory.{Declared, Memory, exchangeOf, recordedTrades, used, WellFormedState, memory}
+use Rattle.rules.specs.Memory.{Declared, Memory, exchangeOf, recordedTrades, used, WellFormedState, memory, tradeStride}
 use Rattle.rules.specs.Settlement.{settlementPrice}
 use Rattle.rules.specs.declared.Account.{Account}
 use Rattle.rules.specs.declared.State.{State}
@@ -54,7 +55,7 @@ told ts legs accounts closing holding clients contracts =
 pub record Tellable (area : List ℕ) (count legs : ℕ) (accounts : List Account) (closing holding : List ℤ) (clients contracts : ℕ) (out : List ℕ) : Type 0 where
   pub few-clients : clients ≤ 16
   pub few-contracts : contracts ≤ 4
-  pub area-room : 9 * count ≤ length area
+  pub area-room : tradeStride * count ≤ length area
   pub few-legs : legs ≤ 2_048
   pub each : (i : ℕ) → i < count → getD (recordedTrades area count) i noTrade .contract < 4
   pub room : length (told (recordedTrades area count) legs accounts closing holding clients contracts) ≤ length out
@@ -79,6 +80,7 @@ clientState s accounts clients =
       accountcount = clients;
       tradecount = s .tradecount;
       next = s .next;
+      nextstamp = s .nextstamp;
       settlements = s .settlements;
     }
 
@@ -90,6 +92,7 @@ clientsDay s buys sells area starts clients =
       accounts = used (s .contractcount) 17 (tabulate 17 (clientAccount (clientsWith clients starts)));
       trades = recordedTrades area (s .tradecount);
       next = s .next;
+      nextstamp = s .nextstamp;
       settlements = s .settlements;
     }
 
@@ -111,8 +114,8 @@ pub record Brokered (s : State) (buys sells area starts : List ℕ) (clients leg
   pub declared : Declared s
   pub contracts : s .contractcount ≤ 4
   pub few : clients ≤ 16
-  pub trades : s .tradecount ≤ 1_024
-  pub room : 9 * s .tradecount ≤ length area
+  pub trades : s .tradecount ≤ maxTrades
+  pub room : tradeStride * s .tradecount ≤ length area
   pub each : (i : ℕ) → i < s .tradecount → Booked (s .contractcount) 17 (getD (recordedTrades area (s .tradecount)) i noTrade)
   pub lots : (k c : ℕ) → k < 17 → c < s .contractcount
       → (holdingAt (tabulate 17 (clientAccount (clientsWith clients starts))) k c .startlong ≤ 100_000)

@@ -3,7 +3,7 @@
 -- lot bought at 103 (order 5) is closed in the same trade (order 6). The settlement price due is 719 / 7, rounded down: 102.
 -- Client 1 holds 7 and gains 3 x 2 x 10 on what it holds; client 2 holds nothing and gained 2 x 4 x 10 by closing. By the account's own
 -- order the parts are 110 and 30. Assumes nothing.
-use mathlib.Core.Bool.{Bool, true}
+use mathlib.Core.Bool.{Bool, true, false}
 use mathlib.Core.List.{List, [], _∷_, _++_}
 use mathlib.Core.Path.{_≡_, refl}
 use Prim.Native.Nat.{ℕ}
@@ -47,11 +47,12 @@ dayWith startlong trades =
         buys = [];
         sells = [];
       } ∷ [];
-      accounts = record { balance = pos 0; holdings = noHolding ∷ [] }
-          ∷ record { balance = pos 0; holdings = record { long = 0; short = 0; startlong = startlong; startshort = 0 } ∷ [] }
+      accounts = record { balance = pos 0; maker = false; holdings = noHolding ∷ [] }
+          ∷ record { balance = pos 0; maker = false; holdings = record { long = 0; short = 0; startlong = startlong; startshort = 0 } ∷ [] }
           ∷ [];
       trades = trades;
       next = 7;
+      nextstamp = 1;
       settlements = 0;
     }
 
@@ -137,11 +138,12 @@ shortDay =
         buys = [];
         sells = [];
       } ∷ [];
-      accounts = record { balance = pos 0; holdings = noHolding ∷ noHolding ∷ [] }
-          ∷ record { balance = pos 0; holdings = noHolding ∷ record { long = 0; short = 3; startlong = 0; startshort = 6 } ∷ [] }
+      accounts = record { balance = pos 0; maker = false; holdings = noHolding ∷ noHolding ∷ [] }
+          ∷ record { balance = pos 0; maker = false; holdings = noHolding ∷ record { long = 0; short = 3; startlong = 0; startshort = 6 } ∷ [] }
           ∷ [];
       trades = inSecond (trade 54 3 1 2 1 0 1 0) ∷ trade 101 2 3 4 0 1 0 0 ∷ [];
       next = 5;
+      nextstamp = 1;
       settlements = 0;
     }
 
@@ -224,7 +226,7 @@ codes = refl
 unfoldable pub nowhere : Memory
 nowhere =
     record {
-      state = record { contracts = []; accounts = []; buys = []; sells = []; contractcount = 0; accountcount = 0; tradecount = 0; next = 1; settlements = 0 };
+      state = record { contracts = []; accounts = []; buys = []; sells = []; contractcount = 0; accountcount = 0; tradecount = 0; next = 1; nextstamp = 1; settlements = 0 };
       buys = [];
       sells = [];
       trades = [];

@@ -10,7 +10,7 @@ use rules::Account;
 use rules::State;
 
 // The state with clients in place of its accounts.
-fn with_clients(state: State, accounts: [Account; 32], clients: usize) -> State
+fn with_clients(state: State, accounts: [Account; rules::MAX_ACCOUNTS], clients: usize) -> State
     ensures { λ r. ⌜ r ≡ clientState state accounts clients ⌝ }
 {
     let mut s = state;
@@ -79,7 +79,7 @@ pub fn posted_statement<'a>(
     ensures { λ r. ⌜ PostedIs (memory state (now (buys .entry)) (now (sells .entry)) (now (trades .entry))) place clients (now (starts .entry)) (now (postings .entry)) (now (out .entry)) r (now (out .exit)) ⌝ }
 {
     let count = state.tradecount;
-    let mut area: [u32; 9216] = [0; 9216];
+    let mut area = [0u32; rules::TRADE_STRIDE * rules::MAX_TRADES];
     let posting = clients::posting::post_trades(
         trades,
         count,

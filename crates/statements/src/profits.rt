@@ -9,13 +9,18 @@ use settlement::balances;
 use settlement::balances::Books;
 
 // The settlement price of each contract in use, as a settlement now would find it.
-fn prices_due<'a>(state: State, buys: &'a [u32], sells: &'a [u32], area: &'a [u32]) -> [u32; 4]
+fn prices_due<'a>(
+    state: State,
+    buys: &'a [u32],
+    sells: &'a [u32],
+    area: &'a [u32],
+) -> [u32; rules::MAX_CONTRACTS]
     requires { ⌜ Profitable state (now buys) (now sells) (now area) ⌝ }
     ensures { λ r. ⌜ r ≡ pricesDue state (now (buys .entry)) (now (sells .entry)) (now (area .entry)) ⌝ }
 {
     let contracts = state.contractcount;
     let count = state.tradecount;
-    let mut prices: [u32; 4] = [0; 4];
+    let mut prices: [u32; rules::MAX_CONTRACTS] = [0; rules::MAX_CONTRACTS];
     let mut c: usize = 0;
     while c < contracts {
         let terms = state.contracts[c];

@@ -8,7 +8,7 @@ ghost use lib.ListN.{length, getD};
 ghost use Rattle.laws.specs.Choice.{pick};
 ghost use Rattle.areas.specs.Lists.{over};
 ghost use Rattle.rules.specs.Exchange.{noTrade};
-ghost use Rattle.rules.specs.Memory.{recordedTrades};
+ghost use Rattle.rules.specs.Memory.{recordedTrades, tradeStride};
 ghost use Rattle.lines.specs.Written.{Written};
 ghost use Rattle.clients.specs.Clients.{isClient};
 ghost use Rattle.statements.specs.Parts.{accountBytes, accountsBytes, bookBytes, Tellable, told};
@@ -82,7 +82,7 @@ fn put_trade(out: &mut [u8], at: usize, t: Trade) -> usize
 }
 
 fn put_trades(area: &[u32], count: usize, out: &mut [u8], at: usize) -> usize
-    requires { ⌜ (9 * count ≤ length (now area)) × (at + length (statement.tradesBytes (recordedTrades (now area) count)) ≤ length (now out)) ⌝ }
+    requires { ⌜ (tradeStride * count ≤ length (now area)) × (at + length (statement.tradesBytes (recordedTrades (now area) count)) ≤ length (now out)) ⌝ }
     requires { ⌜ ((i : ℕ) → i < count → getD (recordedTrades (now area) count) i noTrade .contract < 4) ⌝ }
     ensures { λ r. ⌜ Written (length (statement.tradesBytes (recordedTrades (now (area .entry)) count))) (now (out .entry)) at (statement.tradesBytes (recordedTrades (now (area .entry)) count)) (now (out .exit)) r ⌝ }
 {
@@ -122,7 +122,7 @@ fn put_account(out: &mut [u8], at: usize, a: Account, contracts: usize) -> usize
 fn put_holdings(
     out: &mut [u8],
     at: usize,
-    accounts: [Account; 32],
+    accounts: [Account; rules::MAX_ACCOUNTS],
     clients: usize,
     contracts: usize,
 ) -> usize
@@ -161,8 +161,8 @@ fn put_profit(out: &mut [u8], at: usize, closing: i64, holding: i64) -> usize
 fn put_profits(
     out: &mut [u8],
     at: usize,
-    closing: [i64; 32],
-    holding: [i64; 32],
+    closing: [i64; rules::MAX_ACCOUNTS],
+    holding: [i64; rules::MAX_ACCOUNTS],
     clients: usize,
 ) -> usize
     requires { ⌜ (clients ≤ 16) × (at + length (bookBytes closing holding clients) ≤ length (now out)) ⌝ }
@@ -185,9 +185,9 @@ pub fn put_statement(
     area: &[u32],
     count: usize,
     legs: usize,
-    accounts: [Account; 32],
-    closing: [i64; 32],
-    holding: [i64; 32],
+    accounts: [Account; rules::MAX_ACCOUNTS],
+    closing: [i64; rules::MAX_ACCOUNTS],
+    holding: [i64; rules::MAX_ACCOUNTS],
     clients: usize,
     contracts: usize,
 ) -> usize

@@ -30,7 +30,7 @@ pub fn tick_multiple(tick: u32, n: u32) -> bool
     if !on_tick(tick, n) {
         return false;
     }
-    within(tick, 1000000, n)
+    within(tick, rules::MAX_PRICE, n)
 }
 
 pub fn terms_in_range(c: Contract) -> bool
@@ -55,7 +55,7 @@ pub fn terms_in_range(c: Contract) -> bool
     if !within(1, 10000, c.rate as u32) {
         return false;
     }
-    c.method <= 2
+    c.method <= rules::MAX_METHOD
 }
 
 // "the larger of one tick and reference minus band"
@@ -76,7 +76,7 @@ fn day_high(c: Contract) -> u32
     ensures { λ r. ⌜ r ≡ dayHigh c ⌝ }
 {
     let tick = c.tick;
-    laws::smaller(c.reference + c.band, 1000000 / tick * tick)
+    laws::smaller(c.reference + c.band, rules::MAX_PRICE / tick * tick)
 }
 
 // "Both ends may be traded". For the crates of this repository: requires terms within their ranges.

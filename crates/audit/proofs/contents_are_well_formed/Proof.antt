@@ -33,13 +33,13 @@ returns-2 : tie.Need-returns-2
 returns-2 c =
     fails (contents-chain _ _ _ _ (fit (c .before .before .before .before .before .before .before))) 1 (refused (c .before .listings-in-range .ensures) (c .if2 .taken))
 
-numbers-used-once-requires : tie.Need-numbers-used-once-requires
-numbers-used-once-requires c κs =
-    ready _ _ _ _ (c .before .before .before .before .before .before .before .pre .0) (c .before .before .before .before .before .before .before .pre .1)
+used-once-requires : tie.Need-used-once-requires
+used-once-requires c κs =
+    (ready _ _ _ _ (c .before .before .before .before .before .before .before .pre .0) (c .before .before .before .before .before .before .before .pre .1), omega arith)
 
 returns-3 : tie.Need-returns-3
 returns-3 c =
-    fails (contents-chain _ _ _ _ (fit (c .before .before .before .before .before .before .before .before .before))) 2 (refused (c .before .numbers-used-once .ensures) (c .if3 .taken))
+    fails (contents-chain _ _ _ _ (fit (c .before .before .before .before .before .before .before .before .before))) 2 (refused (c .before .used-once .ensures) (c .if3 .taken))
 
 trades-in-range-requires : tie.Need-trades-in-range-requires
 trades-in-range-requires c κs =
@@ -85,7 +85,7 @@ returns-7 c =
       (
         passed (c .before .before .before .before .before .before .before .before .before .before .before .before .listings-in-range .ensures) (c .before .before .before .before .before .before .before .before .before .before .before .if2 .left),
         (
-          passed (c .before .before .before .before .before .before .before .before .before .before .numbers-used-once .ensures) (c .before .before .before .before .before .before .before .before .before .if3 .left),
+          passed (c .before .before .before .before .before .before .before .before .before .before .used-once .ensures) (c .before .before .before .before .before .before .before .before .before .if3 .left),
           (
             passed (c .before .before .before .before .before .before .before .trades-in-range .ensures) (c .before .before .before .before .before .before .if4 .left),
             (passed (c .before .before .replays .ensures) (c .before .if6 .left), (passed (c .before .before .before .before .before .holdings-in-range .ensures) (c .before .before .before .before .if5 .left), tt)),
@@ -102,7 +102,7 @@ contents-are-well-formed-spec =
     returns
     listings-in-range-requires
     returns-2
-    numbers-used-once-requires
+    used-once-requires
     returns-3
     trades-in-range-requires
     returns-4

@@ -8,9 +8,10 @@ use borrow.Author.Needs.{needs}
 use lib.ListN.{getD}
 use Rattle.book_examples.proofs.accounts_known.Statement.{statement}
 use Rattle.book_examples.proofs.accounts_known.Tie as tie
+use Rattle.rules.specs.Memory.{orderStride}
 
 abbrev Inv-loop : tie.InvT-loop
-Inv-loop area count i₀ i = (i ≤ count) × ((k : ℕ) → k < i → getD area (5 * k + 2) 0 < 32)
+Inv-loop area count i₀ i = (i ≤ count) × ((k : ℕ) → k < i → getD area (orderStride * k + 2) 0 < 32)
 
 abbrev μ-loop : tie.MeasureT-loop
 μ-loop area count i₀ i = count - i

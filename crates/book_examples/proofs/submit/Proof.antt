@@ -5,6 +5,7 @@ use borrow.Author.Tests.{ltb-false, not-false}
 use Rattle.book_examples.proofs.Ready.{ready}
 use Rattle.book_examples.proofs.submit.Statement.{statement}
 use Rattle.book_examples.proofs.submit.Tie as tie
+use Rattle.rules.specs.Bounds.{maxResting}
 
 nothing-requires : tie.Need-nothing-requires
 nothing-requires c κs = search needs
@@ -30,7 +31,7 @@ returns-3 c = search needs
 count-trades-requires : tie.Need-count-trades-requires
 count-trades-requires c κs =
     let start = c .before .before .before .before .before .before .before .before .before .before .before .before .before in
-    omega (arith, ltb-false 64 (start .args .oppositecount) (c .before .before .before .before .before .before .if5 .left), start .good)
+    omega (arith, ltb-false maxResting (start .args .oppositecount) (c .before .before .before .before .before .before .if5 .left), start .good)
 
 nothing-requires-4 : tie.Need-nothing-requires-4
 nothing-requires-4 c κs = search needs
@@ -52,7 +53,7 @@ enter-requires c κs =
     (ltb-false 31 (a .t .account) (counts .before .before .before .before .if2 .left))
     (ltb-false 1000 (a .lots) (counts .before .before .before .if3 .left))
     (counts .before .before .if4 .left)
-    (ltb-false 64 (a .oppositecount) (counts .before .if5 .left))
+    (ltb-false maxResting (a .oppositecount) (counts .before .if5 .left))
     (ltb-false 8 (a .before) (counts .if6 .left))
     (omega (arith, start .good)) (omega (arith, start .good)) (omega (arith, start .good))
     (known .accounts-known .ensures (not-false _ (c .before .before .before .before .before .before .before .before .if7 .left)))

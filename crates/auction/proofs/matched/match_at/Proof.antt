@@ -8,7 +8,9 @@ use borrow.Author.Needs.{needs}
 use borrow.Author.Tests.{eqb-true, eqb-false, not-true, not-false}
 use lib.ListN.{length, set}
 use Rattle.rules.specs.Auction.{paired, tradeAt}
+use Rattle.rules.specs.Bounds.{maxResting}
 use Rattle.rules.specs.Holdings.{bookTrade}
+use Rattle.rules.specs.Memory.{tradeStride}
 use Rattle.holdings.proofs.Bookings.{holding-read, buyer-held, trade-booked}
 use Rattle.auction.proofs.Turns.{Going, Meeting, going, stopped-buys, stopped-sells, stopped-unmet, trade-here, trade-few, trade-contract, trade-parties, trade-room, on-sell, on-buy, on-both}
 use Rattle.auction.proofs.matched.match_at.Statement.{statement}
@@ -91,7 +93,7 @@ few : (c : tie.After-trade-at Inv-turns μ-turns) → c .trade-at .result .lots 
 few c = trade-few (Head c .turns .inv) (meeting c) (trade c)
 
 -- at most 64 orders rest on a side
-early : (c : tie.After-trade-at Inv-turns μ-turns) → (Head c .turns .i < 64) × (Head c .turns .j < 64)
+early : (c : tie.After-trade-at Inv-turns μ-turns) → (Head c .turns .i < maxResting) × (Head c .turns .j < maxResting)
 early c =
     let m = meeting c in
     let q = Begun (Head c) .pre .queues in
@@ -175,7 +177,7 @@ legs c =
     trade-booked (Head w .turns .held) (w .trade-at .result) (sym (place w)) (c .before .before .before .before .before .wide2 .ensures) (c .before .before .before .book-leg .ensures) (c .before .before .wide3 .ensures) (c .book-leg2 .ensures)
 
 -- the area has room for the trade
-fits : (c : tie.After-trade-at Inv-turns μ-turns) → 9 * Head c .turns .made + 9 ≤ length (Head c .turns .area)
+fits : (c : tie.After-trade-at Inv-turns μ-turns) → tradeStride * Head c .turns .made + tradeStride ≤ length (Head c .turns .area)
 fits c = trade-room (Head c .turns .inv) (meeting c) (trade c) (Head c .before .wide .ensures) (Begun (Head c) .pre)
 
 put-trade-requires : tie.Need-put-trade-requires Inv-turns μ-turns

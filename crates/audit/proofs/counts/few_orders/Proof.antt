@@ -10,10 +10,11 @@ use Rattle.laws.specs.Choice.{all, all-more, all-none, all-stop}
 use Rattle.audit.proofs.Walks.{all-end}
 use Rattle.audit.proofs.counts.few_orders.Statement.{statement}
 use Rattle.audit.proofs.counts.few_orders.Tie as tie
+use Rattle.rules.specs.Bounds.{maxResting}
 
 abbrev Inv-loop : tie.InvT-loop
 Inv-loop contracts counts c₀ c =
-    (c ≤ contracts) × (all (λ c. leb (getD counts c 0) 64) c ≡ true)
+    (c ≤ contracts) × (all (λ c. leb (getD counts c 0) maxResting) c ≡ true)
 
 abbrev μ-loop : tie.MeasureT-loop
 μ-loop contracts counts c₀ c = contracts - c

@@ -7,7 +7,7 @@ use lib.ListN.{drop, getD, take}
 use lib.Dec.{eqb}
 use Rattle.laws.specs.Choice.{allOf}
 use Rattle.audit.proofs.Walks.{Each, each-end, each-out, each-turn, next-in, none-in}
-use Rattle.audit.proofs.NumberLists.{other-number, same-number}
+use Rattle.audit.proofs.FieldLists.{other-number, same-number}
 use Rattle.audit.proofs.numbers.is_fresh.Statement.{statement}
 use Rattle.audit.proofs.numbers.is_fresh.Tie as tie
 

@@ -5,7 +5,7 @@ use native.Mathlib.Omega.{arith}
 use lib.ListN.{drop, take}
 use Rattle.rules.specs.WellFormed.{usedOnce}
 use Rattle.audit.proofs.Chains.{passed, refused}
-use Rattle.audit.proofs.NumberLists.{once-end, once-out, once-turn}
+use Rattle.audit.proofs.FieldLists.{once-end, once-out, once-turn}
 use Rattle.audit.proofs.numbers.is_used_once.Statement.{statement}
 use Rattle.audit.proofs.numbers.is_used_once.Tie as tie
 

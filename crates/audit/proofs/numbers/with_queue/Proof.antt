@@ -1,23 +1,24 @@
--- `audit::numbers::with_queue` meets its contract. The invariant: behind the numbers listed before stand those of the first i orders. Assumes nothing.
+-- `audit::numbers::with_queue` meets its contract. The invariant: behind what was listed before stand the values of the first i orders. Assumes nothing.
 use Prim.Native.Nat.{_-_, _≤_}
 use native.Mathlib.Omega.{arith}
 use borrow.Author.Needs.{needs}
-use Rattle.audit.proofs.NumberLists.{Written, written-all, written-more, written-none}
+use Rattle.rules.specs.Memory.{wordOf}
+use Rattle.audit.proofs.FieldLists.{Written, written-all, written-more, written-none}
 use Rattle.audit.proofs.numbers.with_queue.Statement.{statement}
 use Rattle.audit.proofs.numbers.with_queue.Tie as tie
 
 abbrev Inv-loop : tie.InvT-loop
-Inv-loop area c count list₀ first i₀ list i =
-    (i ≤ count) × Written list₀ first area c count list i
+Inv-loop area c count word list₀ first i₀ list i =
+    (i ≤ count) × Written (wordOf word) list₀ first area c count list i
 
 abbrev μ-loop : tie.MeasureT-loop
-μ-loop area c count list₀ first i₀ list i = count - i
+μ-loop area c count word list₀ first i₀ list i = count - i
 
 loop-holds : tie.Need-loop-holds Inv-loop μ-loop
 loop-holds c = (omega arith, written-none (search needs))
 
-order-at-requires : tie.Need-order-at-requires Inv-loop μ-loop
-order-at-requires c κs = omega arith
+word-at-requires : tie.Need-word-at-requires Inv-loop μ-loop
+word-at-requires c κs = (omega arith, omega arith)
 
 add-at : tie.Need-add-at Inv-loop μ-loop
 add-at c = omega arith
@@ -36,10 +37,10 @@ loop-less c = omega arith
 
 loop-again : tie.Need-loop-again Inv-loop μ-loop
 loop-again c =
-    (omega arith, written-more (c .before .before .loop .inv .1) (omega arith) (c .before .loop-test .taken) (c .order-at .ensures))
+    (omega arith, written-more (c .before .before .loop .inv .1) (omega arith) (c .before .loop-test .taken) (c .word-at .ensures))
 
-add-t15 : tie.Need-add-t15 Inv-loop μ-loop
-add-t15 c = omega arith
+add-t16 : tie.Need-add-t16 Inv-loop μ-loop
+add-t16 c = omega arith
 
 returns : tie.Need-returns Inv-loop μ-loop
 returns c = written-all (c .before .loop .inv .1) (c .before .loop .inv .0) (c .loop-test .left)
@@ -51,12 +52,12 @@ with-queue-spec =
     Inv-loop
     μ-loop
     loop-holds
-    order-at-requires
+    word-at-requires
     add-at
     mul-list
     array-write-list
     add-i
     loop-less
     loop-again
-    add-t15
+    add-t16
     returns)

@@ -1,6 +1,6 @@
 -- `audit::queues::order_in_range` meets its contract: the tests in the definition's order. Assumes nothing.
 use borrow.Author.Needs.{needs}
-use borrow.Author.Tests.{le-leb, le-ltb, lt-leb, lt-ltb}
+use borrow.Author.Tests.{eq-eqb, ne-eqb, le-leb, le-ltb, lt-leb, lt-ltb}
 use Rattle.audit.proofs.Chains.{fails, last, passed, place-in, place-past, refused}
 use Rattle.audit.proofs.Clauses.{order-chain}
 use Rattle.audit.proofs.queues.order_in_range.Statement.{statement}
@@ -32,12 +32,21 @@ returns-5 : tie.Need-returns-5
 returns-5 c = fails (order-chain _ _ _ _) 4 (le-ltb _ _ (c .if5 .taken))
 
 returns-6 : tie.Need-returns-6
-returns-6 c =
+returns-6 c = fails (order-chain _ _ _ _) 5 (lt-leb _ _ (c .if6 .taken))
+
+returns-7 : tie.Need-returns-7
+returns-7 c = fails (order-chain _ _ _ _) 6 (ne-eqb _ _ (c .if7 .taken))
+
+returns-8 : tie.Need-returns-8
+returns-8 c =
     last (order-chain _ _ _ _) (
-      passed (c .before .before .before .before .before .before .before .before .before .before .within .ensures) (c .before .before .before .before .before .before .before .before .before .if1 .left),
+      passed (c .before .before .before .before .before .before .before .before .before .before .before .before .before .before .within .ensures) (c .before .before .before .before .before .before .before .before .before .before .before .before .before .if1 .left),
       (
-        place-in (c .before .before .before .before .before .before .before .before .wide .ensures) (c .before .before .before .before .before .before .before .if2 .left),
-        (passed (c .before .before .before .before .before .before .allowed-today .ensures) (c .before .before .before .before .before .if3 .left), (le-leb _ _ (c .before .before .before .if4 .left), (lt-ltb _ _ (c .before .if5 .left), tt))),
+        place-in (c .before .before .before .before .before .before .before .before .before .before .before .before .wide .ensures) (c .before .before .before .before .before .before .before .before .before .before .before .if2 .left),
+        (
+          passed (c .before .before .before .before .before .before .before .before .before .before .allowed-today .ensures) (c .before .before .before .before .before .before .before .before .before .if3 .left),
+          (le-leb _ _ (c .before .before .before .before .before .before .before .if4 .left), (lt-ltb _ _ (c .before .before .before .before .before .if5 .left), (le-leb _ _ (c .before .before .before .if6 .left), (eq-eqb _ _ (c .before .if7 .left), tt)))),
+        ),
       ),
     )
 
@@ -53,4 +62,6 @@ order-in-range-spec =
     returns-3
     returns-4
     returns-5
-    returns-6)
+    returns-6
+    returns-7
+    returns-8)

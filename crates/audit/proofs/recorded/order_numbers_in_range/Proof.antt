@@ -3,7 +3,7 @@ use mathlib.Core.Path.{sym}
 use borrow.Author.Tests.{le-leb, le-ltb, lt-leb, lt-ltb}
 use Rattle.audit.proofs.Chains.{fails, last}
 use Rattle.audit.proofs.Clauses.{numbers-chain}
-use Rattle.audit.proofs.NumberLists.{other-number, same-number}
+use Rattle.audit.proofs.FieldLists.{other-number, same-number}
 use Rattle.audit.proofs.recorded.order_numbers_in_range.Statement.{statement}
 use Rattle.audit.proofs.recorded.order_numbers_in_range.Tie as tie
 

@@ -47,7 +47,7 @@ element-set-from-b-4 c = search needs
 returns : tie.Need-returns
 returns c =
     let hs = c .before .before .before .before .before .before .before .before .args .a .holdings in
-    ap (λ (l : List Holding). record { balance = c .before .before .before .before .before .before .before .before .args .a .balance; holdings = l })
+    ap (λ (l : List Holding). record { balance = c .before .before .before .before .before .before .before .before .args .a .balance; maker = c .before .before .before .before .before .before .before .before .args .a .maker; holdings = l })
     (four-starts hs (search (needs, unmapped)) (c .before .before .before .before .before .before .start-holding .ensures) (c .before .before .before .before .start-holding2 .ensures) (c .before .before .start-holding3 .ensures) (c .start-holding4 .ensures))
 
 pub start-account-spec : {M : Type 1} → statement M

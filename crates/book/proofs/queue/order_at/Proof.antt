@@ -1,4 +1,4 @@
--- `book::queue::order_at` meets its contract: the five words that it reads are those of the order there. Assumes nothing.
+-- `book::queue::order_at` meets its contract: the seven words that it reads are those of the order there. Assumes nothing.
 use native.Mathlib.Nat.{add-zero}
 use borrow.Author.Needs.{needs}
 use lib.Seq.{getD-drop}
@@ -56,6 +56,24 @@ mul-t21 c = search needs
 shared-slice-read-t23 : tie.Need-shared-slice-read-t23
 shared-slice-read-t23 c = search needs
 
+add-t24 : tie.Need-add-t24
+add-t24 c = search needs
+
+mul-t25 : tie.Need-mul-t25
+mul-t25 c = search needs
+
+shared-slice-read-t27 : tie.Need-shared-slice-read-t27
+shared-slice-read-t27 c = search needs
+
+add-t28 : tie.Need-add-t28
+add-t28 c = search needs
+
+mul-t29 : tie.Need-mul-t29
+mul-t29 c = search needs
+
+shared-slice-read-t31 : tie.Need-shared-slice-read-t31
+shared-slice-read-t31 c = search needs
+
 returns : tie.Need-returns
 returns c = simp (getD-drop, add-zero)
 
@@ -80,4 +98,10 @@ order-at-spec =
     add-t20
     mul-t21
     shared-slice-read-t23
+    add-t24
+    mul-t25
+    shared-slice-read-t27
+    add-t28
+    mul-t29
+    shared-slice-read-t31
     returns)

@@ -1,4 +1,4 @@
--- `book::queue::put` meets its contract: its five stores are the order's words. Assumes nothing.
+-- `book::queue::put` meets its contract: its seven stores are the order's words. Assumes nothing.
 use native.Mathlib.Omega.{arith}
 use borrow.Author.Needs.{needs}
 use lib.ListN.{length-set}
@@ -19,7 +19,13 @@ slice-write-part-4 : tie.Need-slice-write-part-4
 slice-write-part-4 c = simp length-set (omega arith)
 
 slice-write-part-5 : tie.Need-slice-write-part-5
-slice-write-part-5 c = search needs
+slice-write-part-5 c = simp length-set (omega arith)
+
+slice-write-part-6 : tie.Need-slice-write-part-6
+slice-write-part-6 c = simp length-set (omega arith)
+
+slice-write-part-7 : tie.Need-slice-write-part-7
+slice-write-part-7 c = search needs
 
 same-length : tie.Need-same-length
 same-length c = search needs
@@ -36,5 +42,7 @@ put-spec =
     slice-write-part-3
     slice-write-part-4
     slice-write-part-5
+    slice-write-part-6
+    slice-write-part-7
     same-length
     returns)

@@ -45,7 +45,7 @@ loop-again : tie.Need-loop-again Inv-loop μ-loop
 loop-again c =
     let read = c .before in
     let at = read .before .before in
-    (omega arith, (omega (arith, few c), tally-on (resting _ _) _ _ _ _ _ _ (at .loop .inv .1 .1) _ (read .before .loop-test .taken) (read .order-at .ensures) (resting _ _) _ (resting-on _ _ _ _ (c .lots-of .ensures))))
+    (omega arith, (omega (arith, few c, c .before .order-at .ok), tally-on (resting _ _) _ _ _ _ _ _ (at .loop .inv .1 .1) _ (read .before .loop-test .taken) (read .order-at .ensures) (resting _ _) _ (resting-on _ _ _ _ (c .lots-of .ensures))))
 
 returns : tie.Need-returns Inv-loop μ-loop
 returns c = tally-end (resting _ _) _ _ _ _ _ _ (c .before .loop .inv .1 .1) (c .loop-test .left) (resting-nil _ _)

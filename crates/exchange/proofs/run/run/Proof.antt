@@ -8,6 +8,7 @@ use borrow.Author.Needs.{needs}
 use borrow.Author.Tests.{not-true, not-false}
 use denote.Ref.{now}
 use lib.ListN.{length}
+use Rattle.rules.specs.Bounds.{maxResting}
 use Rattle.rules.specs.Condition3.{run}
 use Rattle.rules.specs.Memory.{Declared, wellFormedMemory, memory}
 use Rattle.engine.proofs.Declared.{declared}
@@ -72,7 +73,7 @@ step-at-requires : tie.Need-step-at-requires Inv-loop μ-loop
 step-at-requires c κs = (running _ (typed (c .before .before .before .before .before .before .before .before .before .before .before .before .before .before)) _ (sound (c .before .before .before .before .before)) _ (c .before .before .before .before .loop .inv .1 .0), omega (arith, whole (length (now (c .before .before .before .before .before .before .before .before .before .before .before .before .before .before .args .bytes)))))
 
 -- src/run.rt:24:9
-few : (c : tie.In-loop Inv-loop μ-loop) → c .before .loop .k + 1 < 2 ^ 64
+few : (c : tie.In-loop Inv-loop μ-loop) → c .before .loop .k + 1 < 2 ^ maxResting
 few c = omega (arith, whole (length (now (c .before .before .before .before .before .before .before .before .before .before .before .args .bytes))))
 
 add-k : tie.Need-add-k Inv-loop μ-loop

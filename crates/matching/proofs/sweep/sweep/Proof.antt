@@ -9,6 +9,7 @@ use borrow.Author.Needs.{needs}
 use borrow.Author.Tests.{eqb-true, eqb-false, not-true, not-false}
 use lib.ListN.{length, set}
 use Rattle.rules.specs.Holdings.{bookTrade}
+use Rattle.rules.specs.Memory.{tradeStride}
 use Rattle.holdings.proofs.Bookings.{held-more, holding-read, buyer-held, trade-booked}
 use Rattle.matching.proofs.Turns.{Going, Meeting, order-read, trade-size, trade-contract, trade-parties, parties-with, stopped, queue-ended, lots-used, no-counterpart, trade-room, going-on, part-filled}
 use Rattle.matching.proofs.sweep.sweep.Statement.{statement}
@@ -152,7 +153,7 @@ legs c =
     trade-booked (Head w .sweep .held) (w .trade-with .result) (place w) (c .before .before .before .before .before .wide2 .ensures) (c .before .before .before .book-leg .ensures) (c .before .before .wide3 .ensures) (c .book-leg2 .ensures)
 
 -- the area has room for the trade
-fits : (c : tie.After-trade-with Inv-sweep μ-sweep) → 9 * Head c .sweep .made + 9 ≤ length (Head c .sweep .area)
+fits : (c : tie.After-trade-with Inv-sweep μ-sweep) → tradeStride * Head c .sweep .made + tradeStride ≤ length (Head c .sweep .area)
 fits c = trade-room (Head c .sweep .inv) (Begun (Head c) .pre .queue) (meeting c) (Begun (Head c) .pre .room)
 
 put-trade-requires : tie.Need-put-trade-requires Inv-sweep μ-sweep
@@ -202,7 +203,7 @@ returns c =
     (⊎-elim (λ ended. queue-ended (ended .taken)) (λ used. lots-used (eqb-true _ _ (used .1 .taken))) (c .if1 .came))
 
 same-length-3 : tie.Need-same-length-3 Inv-sweep μ-sweep
-same-length-3 c = search needs
+same-length-3 c = ap length (c .before .before .before .before .before .before .sweep .inv .same)
 
 same-length-4 : tie.Need-same-length-4 Inv-sweep μ-sweep
 same-length-4 c = search needs

@@ -7,6 +7,9 @@ use Rattle.refusals.proofs.Arrivals.{few-trades, trades-fit, trades-non
 use Rattle.refusals.proofs.codes.trades_refused.Statement.{statement}
 use Rattle.refusals.proofs.codes.trades_refused.Tie as tie
 
+sub-if2 : tie.Need-sub-if2
+sub-if2 c = search needs
+
 returns : tie.Need-returns
 returns c = rw (c .if1 .taken) (sym (trades-none _ (c .before .before .pre .1)))
 
@@ -23,4 +26,4 @@ returns-3 : tie.Need-returns-3
 returns-3 c = rw (c .count-trades .ensures, c .before .before .if1 .left)
 
 pub trades-refused-spec : {M : Type 1} → statement M
-trades-refused-spec = tie.close (tie.spec returns returns-2 count-trades-requires add-result returns-3)
+trades-refused-spec = tie.close (tie.spec returns sub-if2 returns-2 count-trades-requires add-result returns-3)

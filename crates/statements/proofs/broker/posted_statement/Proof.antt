@@ -1,6 +1,6 @@
 -- `broker::posted_statement` meets its contract. Assumes nothing.
 use mathlib.Core.List.{[]}
-use Prim.Native.Nat.{ℕ}
+use Prim.Native.Nat.{ℕ, _*_}
 use native.Mathlib.Omega.{arith}
 use borrow.Author.Tests.{not-false}
 use lib.ListN.{length-replicate}
@@ -14,6 +14,8 @@ use Rattle.laws.proofs.wide.Reads as wide-reads
 use Rattle.statements.proofs.broker.tell.Reads as tell-reads
 use Rattle.clients.proofs.posting.post_trades.Reads as post-trades-reads
 use Rattle.statements.proofs.refused.Reads as refused-reads
+use Rattle.rules.specs.Bounds.{maxTrades}
+use Rattle.rules.specs.Memory.{tradeStride}
 
 slice-aggregate-post-trades : tie.Need-slice-aggregate-post-trades
 slice-aggregate-post-trades c = search needs
@@ -34,13 +36,13 @@ wide-requires : tie.Need-wide-requires
 wide-requires c κs = search needs
 
 tell-requires : tie.Need-tell-requires
-tell-requires c κs = rw (c .before .wide .ensures) (brokered _ _ _ _ _ _ _ (c .before .before .before .before .before .before .before .before .before .before .before .before .before .before .pre) _ _ _ (length-replicate {A = ℕ} 9_216 0) (c .before .before .before .before .before .before .post-trades .ensures .content (not-false _ (c .before .before .before .if1 .left))) _ (c .before .before .before .before .before .before .post-trades .ensures .legs (not-false _ (c .before .before .before .if1 .left))))
+tell-requires c κs = rw (c .before .wide .ensures) (brokered _ _ _ _ _ _ _ (c .before .before .before .before .before .before .before .before .before .before .before .before .before .before .pre) _ _ _ (length-replicate {A = ℕ} (tradeStride * maxTrades) 0) (c .before .before .before .before .before .before .post-trades .ensures .content (not-false _ (c .before .before .before .if1 .left))) _ (c .before .before .before .before .before .before .post-trades .ensures .legs (not-false _ (c .before .before .before .if1 .left))))
 
 same-length : tie.Need-same-length
 same-length c = search needs
 
 returns-2 : tie.Need-returns-2
-returns-2 c = posted-told _ _ _ _ _ _ _ (c .before .before .before .before .before .before .before .before .before .before .before .before .before .before .before .before .before .pre) _ _ _ (length-replicate {A = ℕ} 9_216 0) (c .before .before .before .before .before .before .before .before .before .post-trades .ensures .content (not-false _ (c .before .before .before .before .before .before .if1 .left))) _ (c .before .before .before .before .before .before .before .before .before .post-trades .ensures .all) (not-false _ (c .before .before .before .before .before .before .if1 .left)) _ (c .before .before .before .before .wide .ensures) _ _ _ (c .before .before .tell .ensures)
+returns-2 c = posted-told _ _ _ _ _ _ _ (c .before .before .before .before .before .before .before .before .before .before .before .before .before .before .before .before .before .pre) _ _ _ (length-replicate {A = ℕ} (tradeStride * maxTrades) 0) (c .before .before .before .before .before .before .before .before .before .post-trades .ensures .content (not-false _ (c .before .before .before .before .before .before .if1 .left))) _ (c .before .before .before .before .before .before .before .before .before .post-trades .ensures .all) (not-false _ (c .before .before .before .before .before .before .if1 .left)) _ (c .before .before .before .before .wide .ensures) _ _ _ (c .before .before .tell .ensures)
 
 pub posted-statement-spec : {M : Type 1} → statement M
 posted-statement-spec =
