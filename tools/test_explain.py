@@ -331,7 +331,7 @@ def play(name):
 
 class Prices(unittest.TestCase):
     def test_pairing_methods(self):
-        text = told_of_sample("pairing-methods")
+        text = told_of_sample("12-pairing-methods")
         for words in (
             "T 2 1 108 2 3 2 Trade 2: 2 lots of contract 1 at 108: account 2 buys (order 3, to open), account 1 sells"
             " (order 2, to open). 108 is the middle of the buy price 108, the sell price 108 and the last price 102.",
@@ -396,7 +396,7 @@ class Prices(unittest.TestCase):
 class Workings(unittest.TestCase):
     def test_article_32(self):
         """The third day of the sample: start-of-day lots first, then today's in trade order."""
-        text = told_of_sample("closing-and-holding")
+        text = told_of_sample("profit-of-five-days")
         self.assertIn(
             "Contract 1, closing profit: (2 + 6 - 1) x multiplier 10 = 70"
             " 2 lots long since the start of the day, from the reference 103, sold at 104 (trade 3):"
@@ -409,7 +409,7 @@ class Workings(unittest.TestCase):
         )
 
     def test_several_contracts(self):
-        text = told_of_sample("margin-on-one-side")
+        text = told_of_sample("margin-of-three-days")
         self.assertIn(
             "Charged margin, at the new reference: 6,600 + 350 = 6,950"
             " Contract 1: 40 long against 60 short; the larger counts: 60 x 110 = 6,600"
@@ -425,7 +425,7 @@ class Workings(unittest.TestCase):
         self.assertIn("958 lots sold at 101 (958 trades, 1 to 958), settled at 101: 958 x (101 - 101) = 0", text)
 
     def test_a_wrong_working_is_noticed(self):
-        steps = list(play("closing-and-holding"))
+        steps = list(play("profit-of-five-days"))
         settlement = steps[11]
         prices, accounts = settlement.answer.settlement
         for wrong in ((40, -21, 10_020, 206), (41, -20, 10_020, 206), (40, -20, 10_021, 206), (40, -20, 10_020, 207)):
@@ -510,7 +510,7 @@ class Auctions(unittest.TestCase):
         )
 
     def test_a_wrong_match_is_noticed(self):
-        of = lesson.read(str(SAMPLES / "opening-auction.txt"))
+        of = lesson.read(str(SAMPLES / "auction-examples.txt"))
         step = next(step for step in lesson.play(of, output_of(of.file)) if step.answer.trades)
         for changed in ({"price": 101}, {"lots": 2}):
             trades = [step.answer.trades[0]._replace(**changed), *step.answer.trades[1:]]

@@ -304,14 +304,14 @@ class InABrowser(unittest.TestCase):
         self.assertEqual(self.shown()["prices"], ["102"])
         self.assertEqual(self.shown()["settled"], [])
         self.assertEqual(self.shown()["balances"], [["10,000"], ["10,000"]])
-        self.open("margin-on-one-side", step=11)
+        self.open("margin-of-three-days", step=11)
         refused = "[...document.querySelectorAll('#list .refused')].map((node) => node.dataset.step)"
         self.assertEqual(self.browser.value(refused), [])
         self.browser.press("ArrowRight")
         self.assertEqual(self.browser.value(refused), ["12"])
 
     def test_a_refusal_and_two_contracts(self):
-        self.open("margin-on-one-side", step=12)
+        self.open("margin-of-three-days", step=12)
         shown = self.shown()
         self.assertEqual(
             shown["answer"], ["Refused, code 9: too little money for the charged margin. Nothing changes."]
@@ -356,7 +356,7 @@ class InABrowser(unittest.TestCase):
     def test_nothing_sticks_out(self):
         """At the widths of a projector, a small screen and a telephone. A balance of 10^18 may need scrolling."""
         self.addCleanup(self.resize, 1280, 900)
-        for name, step in (("paper-example", 8), ("margin-on-one-side", 17), ("largest-file", 8), ("every-code", 200)):
+        for name, step in (("paper-example", 8), ("margin-of-three-days", 17), ("largest-file", 8), ("every-code", 200)):
             self.open(name, step)
             for width, height in ((1920, 1080), (1280, 720), (1024, 768), (800, 600), (400, 800)):
                 self.resize(width, height)

@@ -132,7 +132,7 @@ class Files(RunTest):
         self.assertEqual(self.run_run(*arguments, **others), (0, LINES, ""))
 
     def test_samples(self):
-        for name in ("paper-example", "full-book", "pairing-methods", *(["largest-file"] if IS_REAL else [])):
+        for name in ("paper-example", "full-book", "12-pairing-methods", *(["largest-file"] if IS_REAL else [])):
             expected = (SAMPLES / f"{name}.out").read_bytes()
             for file in (SAMPLES / f"{name}.day", SAMPLES / f"{name}.txt"):
                 self.assertEqual(self.run_run(file), (0, expected, ""))

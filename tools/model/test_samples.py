@@ -40,6 +40,16 @@ class Samples(unittest.TestCase):
     def test_every_code_of_a_file(self):
         self.assertEqual(self.codes("every-code"), set(range(20)) - {10})
 
+    def test_contents_of_every_code(self):
+        """The table at its top names for each code just the commands that get it."""
+        refused = {}
+        for _, number, code, *_ in self.lines("every-code", "C"):
+            refused.setdefault(int(code), []).append(int(number))
+        del refused[0]
+        text = (make_samples.SAMPLES / "every-code.txt").read_text()
+        rows = re.findall(r"^#   +(\d+)   (\d[\d, to]*?)  +\D", text, re.MULTILINE)
+        self.assertEqual({int(code): numbers_in(places) for code, places in rows}, refused)
+
     def test_full_book(self):
         self.assertEqual(self.codes("full-book"), {0, 13})
 
@@ -47,16 +57,16 @@ class Samples(unittest.TestCase):
         self.assertIn(12, self.codes("full-day"))
         self.assertEqual(max(int(line[1]) for line in self.lines("full-day", "T")), 1_024)
 
-    def test_opening_auction(self):
+    def test_auction_examples(self):
         """The prices of the papers' examples, and every line of output that the text works out stands in it, in turn."""
-        text = (make_samples.SAMPLES / "opening-auction.txt").read_text()
+        text = (make_samples.SAMPLES / "auction-examples.txt").read_text()
         worked_out = re.findall("^#   ([CTPB] [-0-9 ]+)$", text, re.MULTILINE)
-        output = self.made[make_samples.SAMPLES / "opening-auction.out"].decode().splitlines()
+        output = self.made[make_samples.SAMPLES / "auction-examples.out"].decode().splitlines()
         lines = iter(output)
         self.assertEqual([line for line in worked_out if line not in lines], [])
         for letter in "TPB":
             self.assertEqual(*([line for line in some if line[0] == letter] for some in (worked_out, output)))
-        first_trades = {line[2]: line[3] for line in reversed(self.lines("opening-auction", "T")[:7])}
+        first_trades = {line[2]: line[3] for line in reversed(self.lines("auction-examples", "T")[:7])}
         self.assertEqual(first_trades, {"1": "102", "2": "101", "3": "1608", "4": "101"})
 
     def test_auction_refusals(self):
@@ -75,6 +85,56 @@ class Samples(unittest.TestCase):
         broken = [content for path, content in self.made.items() if path.parent.name == "broken"]
         self.assertGreater(len(broken), 40)
         self.assertEqual({model.run(file) for file in broken}, {b"X 20\n"})
+
+
+def numbers_in(places):
+    """The numbers that "1 to 3, 5" stands for."""
+    numbers = []
+    for part in places.split(", "):
+        first, _, last = part.partition(" to ")
+        numbers += range(int(first), int(last or first) + 1)
+    return numbers
+
+
+class Ladder(unittest.TestCase):
+    """The numbered lessons: one rule each, short, with exercises whose answers are held to the rules."""
+
+    @classmethod
+    def setUpClass(cls):
+        cls.texts = {path.stem: path.read_text() for path in sorted(make_samples.SAMPLES.glob("[0-9]*.txt"))}
+
+    def test_numbers(self):
+        self.assertGreaterEqual(len(self.texts), 12)
+        for number, (name, text) in enumerate(self.texts.items(), 1):
+            self.assertTrue(name.startswith(f"{number:02}-"), name)
+            self.assertTrue(text.startswith(f"# Lesson {number}: "), name)
+
+    def test_listed_in_order(self):
+        listed = re.findall(r"^\| `(\d\d-[a-z-]+)` \|", (make_samples.SAMPLES / "README.md").read_text(), re.MULTILINE)
+        self.assertEqual(listed, list(self.texts))
+
+    def test_short(self):
+        for name, text in self.texts.items():
+            self.assertLessEqual(len(read(daytext.pack(text)).commands), 30, name)
+
+    def test_rule_then_exercises_with_answers(self):
+        for name, text in self.texts.items():
+            worked, *exercises = text.split("# Exercise. ")
+            self.assertIn("\n# The rule. ", worked, name)
+            self.assertTrue(exercises, name)
+            for exercise in exercises:
+                answers = [line for line in exercise.splitlines() if "# Answer: " in line]
+                self.assertTrue(answers, name)
+                self.assertEqual([line for line in answers if "=>" not in line], [], name)
+
+    def test_what_is_refused_is_expected_to_be(self):
+        """An expectation without a code is one of acceptance, so every refusal of a lesson is told with its code."""
+        for name, text in self.texts.items():
+            lesson = daytext.read_lesson(text)
+            run = lines.read_run(model.run(daytext.pack(text)).decode())
+            refused = sum(1 for command in run.commands if command.answer["code"])
+            told = len(re.findall(r"=> code [1-9]", text))
+            self.assertEqual((told, daytext.unmet(lesson, run)), (refused, []), name)
 
 
 if __name__ == "__main__":
