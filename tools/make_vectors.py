@@ -19,10 +19,7 @@ sys.path.insert(0, str(TOP / "tools" / "model"))
 import vectors  # noqa: E402
 
 # A file for each module of cases.
-NAMES = ("well-formed", "command", "bundle", "question", "statement", "side", "mending", "day-file")
-
-# Cases of what the model knows and the engine does not yet.
-LATER = ("auction",)
+NAMES = ("well-formed", "command", "change", "auction", "bundle", "question", "statement", "side", "mending", "day-file")
 
 
 def cases_of(name):
