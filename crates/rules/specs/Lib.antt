@@ -2,6 +2,7 @@ pub mod Bounds
 pub mod Exchange
 pub mod Holdings
 pub mod WellFormed
+pub mod Change
 pub mod Command
 pub mod Matching
 pub mod EarlyStop
