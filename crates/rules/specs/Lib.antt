@@ -19,6 +19,7 @@ pub mod DayFile
 pub mod Lines
 pub mod Examples
 pub mod CodeExamples
+pub mod ChangeExamples
 pub mod Condition3Examples
 pub mod MarginExamples
 pub mod MatchingExamples
