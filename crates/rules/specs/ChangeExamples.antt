@@ -1,7 +1,7 @@
 -- Changes of a resting order worked out by hand (document 02, ticket 8): the code at the ends of each range and where two refusals
 -- hold at once, who keeps the place and who loses it, and what is answered. Two tables, a statement each. Assumes nothing.
-use mathlib.Core.Bool.{Bool, true, false}
-use mathlib.Core.List.{List, [], _∷_, _++_}
+use mathlib.Core.Bool.{true, false}
+use mathlib.Core.List.{List, [], _∷_}
 use mathlib.Core.Path.{_≡_, refl}
 use Prim.Native.Nat.{ℕ, _+_}
 use lib.IntN.{pos}
@@ -12,7 +12,7 @@ use Rattle.rules.specs.Answers.{firstOf, holdingRefused, listingOf, mone
 use Rattle.rules.specs.Bounds.{allowedToday, auction, closed, continuous, dayHigh, dayLow, noTrading, onTick, preOpen}
 use Rattle.rules.specs.Change.{Asked, arriving, asked, changeRefusals, changeTrades, changed, gone, isSell, lessened, losesPlace, oldOrder, placeKept, placeLost, reentered, unchanged}
 use Rattle.rules.specs.Examples.{Row, _gives_, allRight}
-use Rattle.rules.specs.Exchange.{Exchange, absent, accountAt, bestPrice, holdingAt, listingAt, lotsWhere, noHolding, noOrder, noTrade, resting}
+use Rattle.rules.specs.Exchange.{Exchange, absent, accountAt, bestPrice, holdingAt, listingAt, lotsWhere, noOrder, noTrade, resting}
 use Rattle.rules.specs.Holdings.{afterLeg, bookLeg, bookTrade, bookTrades}
 use Rattle.rules.specs.Kinds.{lastOf}
 use Rattle.rules.specs.Margin.{chargeOf, chargedLots, chargedTo}
