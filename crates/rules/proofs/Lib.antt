@@ -18,3 +18,4 @@ pub mod AuctionTrades
 pub mod AuctionUncrossed
 pub mod AuctionOutcome
 pub mod AuctionSteps
+pub mod Changes
