@@ -11,7 +11,8 @@ use lib.ListN.{length, getD, set}
 use Rattle.laws.specs.Choice.{pick, allOf, allOf-imp, both-true, true-both}
 use Rattle.laws.specs.Sums.{sumOf, sumOf-append, sumOf-set, sumOf-bound}
 use Rattle.rules.specs.Exchange.{Listing, noListing, own}
-use Rattle.rules.specs.WellFormed.{orderInRange, listed, allListed, numberOf, allNumbers, usedOnce}
+use Rattle.rules.specs.Matching.{withLots}
+use Rattle.rules.specs.WellFormed.{orderInRange, listed, allListed, numberOf, allNumbers, stampOf, allStamps, usedOnce}
 use Rattle.rules.specs.declared.Order.{Order}
 use Rattle.invariants.proofs.Clauses.{order-ok, ListingOk}
 
@@ -70,6 +71,10 @@ occurs-append : (n : ℕ) (xs ys : List ℕ) → occurs n (xs ++ ys) ≡ occurs 
 unfolding occurs
 occurs-append n xs ys = sumOf-append (λ k. pick (eqb n k) 1 0) xs ys
 
+-- a field that an order keeps with other lots
+abbrev pub KeptByLots : (Order → ℕ) → Type 0
+KeptByLots field = (o : Order) (lots : ℕ) → field (withLots o lots) ≡ field o
+
 module _ (field : Order → ℕ) where
   listed-uses : (n : ℕ) (queue : List Order) → occurs n (listed field queue) ≡ uses field n queue
   unfolding occurs sumOf listed uses
@@ -110,11 +115,21 @@ module _ (field : Order → ℕ) where
       omega (arith, all-uses next ms, sumOf-bound (usesIn field next) 0 ms noListing none)
 
 -- the next order number is no resting order's
-pub next-number-unused : (accounts next : ℕ) (ms : List Listing) → ((c : ℕ) → c < length ms → ListingOk accounts next (getD ms c noListing)) →
+pub next-number-unused : (accounts next nextstamp : ℕ) (ms : List Listing) → ((c : ℕ) → c < length ms → ListingOk accounts next nextstamp (getD ms c noListing)) →
     occurs next (allNumbers ms) ≡ 0
-next-number-unused accounts next ms ok =
+next-number-unused accounts next nextstamp ms ok =
     next-unused numberOf next ms
     (λ c l sell.
     let m = getD ms c noListing in
-    allOf-imp (orderInRange accounts next (m .contract)) (λ o. ltb (o .number) next) (own sell m)
-    (λ o h. lt-ltb (o .number) next (order-ok accounts next (m .contract) o h .number-high)) (ok c l .orders sell))
+    allOf-imp (orderInRange accounts next nextstamp (m .contract)) (λ o. ltb (o .number) next) (own sell m)
+    (λ o h. lt-ltb (o .number) next (order-ok accounts next nextstamp (m .contract) o h .number-high)) (ok c l .orders sell))
+
+-- the next time stamp, too
+pub next-stamp-unused : (accounts next nextstamp : ℕ) (ms : List Listing) → ((c : ℕ) → c < length ms → ListingOk accounts next nextstamp (getD ms c noListing)) →
+    occurs nextstamp (allStamps ms) ≡ 0
+next-stamp-unused accounts next nextstamp ms ok =
+    next-unused stampOf nextstamp ms
+    (λ c l sell.
+    let m = getD ms c noListing in
+    allOf-imp (orderInRange accounts next nextstamp (m .contract)) (λ o. ltb (o .stamp) nextstamp) (own sell m)
+    (λ o h. lt-ltb (o .stamp) nextstamp (order-ok accounts next nextstamp (m .contract) o h .stamp-high)) (ok c l .orders sell))
