@@ -1,6 +1,5 @@
 -- `codes::book_code` meets its contract: the tests in the order of the list. Assumes nothing.
 use mathlib.Core.Path.{_≡_}
-use borrow.Author.Tests.{le-leb, lt-leb}
 use borrow.Author.Needs.{needs}
 use Rattle.rules.specs.Answers.{firstOf}
 use Rattle.rules.specs.Bounds.{inAuction}
