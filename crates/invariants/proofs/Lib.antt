@@ -21,6 +21,7 @@ pub mod Insert
 pub mod MatchedHoldings
 pub mod MatchedTrades
 pub mod Phases
+pub mod ChangeKeeps
 pub mod Keeps
 pub mod MemoryRoom
 pub mod MemoryLaws

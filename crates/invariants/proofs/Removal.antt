@@ -101,13 +101,13 @@ module _ (test : Order → Bool) where
   fewer m field n = omega (arith, without-sum (λ o. pick (eqb n (field o)) 1 0) (m .buys), without-sum (λ o. pick (eqb n (field o)) 1 0) (m .sells))
 
   module _ (x : Exchange) (c : ℕ) (there : c < length (x .listings)) (number : ℕ) where
-    removed-keeps : WellFormed x → WellFormed (lastOf x (removed x c test number .stages))
+    pub removed-keeps : WellFormed x → WellFormed (lastOf x (removed x c test number .stages))
     unfolding removed
     removed-keeps k =
         relisted-keeps x k c there (listingWithout test (listingAt x c)) (listing-without _ _ _ _ (k .listing c there)) (λ p h. h)
-        (λ a h. holding-without (listingAt x c) a h) (fewer (listingAt x c))
+        (λ a h. holding-without (listingAt x c) a h) (λ field kept. fewer (listingAt x c) field)
 
-    removed-counted : Counted x → Counted (lastOf x (removed x c test number .stages))
+    pub removed-counted : Counted x → Counted (lastOf x (removed x c test number .stages))
     unfolding removed
     removed-counted n =
         relisted-counted x c there (listingWithout test (listingAt x c)) n

@@ -19,3 +19,4 @@ pub mod AuctionUncrossed
 pub mod AuctionOutcome
 pub mod AuctionSteps
 pub mod Changes
+pub mod Lessened
