@@ -95,6 +95,9 @@ module _ {s : State} {buys sells trades : List ℕ} (w : WellFormedState s buys 
       let b = place-below (o .contract) (s .contractcount) g in
       record { account-low = a .0; account = a .1; contract-low = b .0; contract = b .1 }
 
+  pub recorded-high : s .tradecount ≤ maxTrades
+  recorded-high = f .trades-high
+
   -- ---- an order whose account and contract are in use; k is its contract's number as the code widens it
 
   module _ (p : Present s o) {k : ℕ} (is : k ≡ o .contract) where
