@@ -36,7 +36,7 @@ use Rattle.invariants.proofs.InsertAccepted.{Given, Passes, next-given,
 use Rattle.invariants.proofs.InsertListing.{allows-last, mark-low, contractOf, swept, rested, own-is, sides, last-on-tick, tick-low, contractAfter, rested-left, listing-after}
 use Rattle.invariants.proofs.InsertQueues.{rested-sum, rested-length, rested-length-one, rested-fewer}
 use Rattle.invariants.proofs.Legs.{resting-cons, KeptAt}
-use Rattle.invariants.proofs.Numbers.{KeptByLots, occurs, uses, usesIn, all-uses, once-count, next-stamp-unused}
+use Rattle.invariants.proofs.Numbers.{KeptByLots, occurs, uses, usesIn, all-uses, once-count, given-unused}
 use Rattle.invariants.proofs.SweptHoldings.{SweptKept, swept-kept, untouched-kept, fewer-by}
 use Rattle.invariants.proofs.SweptTrades.{ofContract, swept-in-range, swept-contract}
 use Rattle.invariants.proofs.Traded.{TradesOk, traded-listings, traded-accounts, traded-allows, traded-counted, traded-keeps}
@@ -267,7 +267,7 @@ module _ (x : Exchange) (k : WellFormed x) (number next : ℕ) (g : Given x numb
         listing = listing-after x k number next g o p;
         allows = allows-here;
         numbers = once-more numberOf (λ r lots. refl) (k .once) (g .unused);
-        stamps = once-more stampOf (λ r lots. refl) (k .stamps-once) (next-stamp-unused (length (x .accounts)) (x .next) (x .nextstamp) (x .listings) (k .listing));
+        stamps = once-more stampOf (λ r lots. refl) (k .stamps-once) (given-unused stampOf (x .nextstamp) (length (x .accounts)) (x .next) (x .nextstamp) (λ c r q. q .stamp-high) (x .listings) (k .listing));
         ranges = new-trades;
         here = its-trades;
         never = swept-holdings .never;

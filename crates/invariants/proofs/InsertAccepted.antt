@@ -11,7 +11,7 @@ use Rattle.laws.specs.Choice.{pick, pick-true, pick-false, both-true, true-both
 use Rattle.rules.specs.Answers.{firstOf, insertRefusals, isGoodForDay, isLimit, listingOf, priceRefusedBy, holdingRefused, overLimit, overHolding, fillableLots, tradesNeeded, tradesRefused, numbersUsedUp, stampsUsedUp, conditionsRefused, dayWithoutLimit}
 use Rattle.rules.specs.Bounds.{within, allowedToday, numbersEnd, maxLots, maxTrades, maxResting, inAuction}
 use Rattle.rules.specs.Exchange.{Exchange, listingAt, placeOf, own, holdingAt, restingOpens, restingCloses}
-use Rattle.rules.specs.WellFormed.{allNumbers}
+use Rattle.rules.specs.WellFormed.{allNumbers, numberOf}
 use Rattle.rules.specs.declared.Contract.{Contract}
 use Rattle.rules.specs.declared.Holding.{Holding}
 use Rattle.rules.specs.declared.NewOrder.{NewOrder}
@@ -20,7 +20,7 @@ use Rattle.rules.specs.declared.PriceCondition.{PriceCondition}
 use Rattle.rules.specs.declared.PriceCondition.the-variants.{Limit}
 use Rattle.invariants.proofs.Accepted.{failed, present}
 use Rattle.invariants.proofs.Clauses.{held, WellFormed}
-use Rattle.invariants.proofs.Numbers.{occurs, next-number-unused}
+use Rattle.invariants.proofs.Numbers.{occurs, given-unused}
 
 abbrev pub itsHolding : Exchange → NewOrder → Holding
 itsHolding x o = holdingAt (x .accounts) (placeOf (o .account)) (placeOf (o .contract))
@@ -64,7 +64,7 @@ next-given x k h =
       below = omega arith;
       later = omega arith;
       high = omega arith;
-      unused = next-number-unused (length (x .accounts)) (x .next) (x .nextstamp) (x .listings) (k .listing);
+      unused = given-unused numberOf (x .next) (length (x .accounts)) (x .next) (x .nextstamp) (λ c o r. r .number-high) (x .listings) (k .listing);
     }
 
 pub both-failed : (a b : Bool) → (a && b) ≡ false → a ≡ true → b ≡ false

@@ -24,7 +24,7 @@ use Rattle.invariants.proofs.SweptHoldings.{Fewer}
 
 -- ---- a listing by side
 
-other-own : (sell : Bool) (m : Listing) → own (not sell) m ≡ opposite sell m
+pub other-own : (sell : Bool) (m : Listing) → own (not sell) m ≡ opposite sell m
 other-own true m = refl
 other-own false m = refl
 

@@ -23,6 +23,7 @@ pub mod MatchedTrades
 pub mod Phases
 pub mod ChangeKeeps
 pub mod Keeps
+pub mod Stamps
 pub mod MemoryRoom
 pub mod MemoryLaws
 pub mod MemoryKeeps

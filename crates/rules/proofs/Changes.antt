@@ -3,17 +3,21 @@
 use mathlib.Core.Bool.{Bool, true, false, not, _&&_, _||_}
 use mathlib.Core.List.{List, []}
 use mathlib.Core.Path.{_≡_, refl, ap}
-use Prim.Native.Nat.{ℕ, _+_}
-use borrow.Author.Tests.{eqb-true}
+use Prim.Native.Nat.{ℕ, _+_, _<_, _≤_}
+use native.Mathlib.Omega.{arith}
+use borrow.Author.Tests.{eqb-true, eq-eqb, ne-eqb, le-ltb}
 use lib.Dec.{ltb, eqb}
 use lib.Seq.{set-set}
 use Rattle.laws.specs.Choice.{pick, pick-true, pick-false, pick-either, false-both}
 use Rattle.rules.specs.Answers.{listingOf}
-use Rattle.rules.specs.Change.{Asked, arriving, changeTrades, changed, gone, isSell, listingFor, losesPlace, oldOrder, placeKept, placeLost, reentered, unchanged}
+use Rattle.rules.specs.Change.{Asked, arriving, asked, changeTrades, changed, gone, isSell, listingFor, listingLessened, losesPlace, oldOrder, placeKept, placeLost, reentered, unchanged}
 use Rattle.rules.specs.Exchange.{Exchange, Listing, placeOf}
+use Rattle.rules.specs.Kinds.{codeOf, kindOf, lastOf, step}
 use Rattle.rules.specs.Matching.{Entered}
 use Rattle.rules.specs.Step.{Effect, cancelled, exchangeAfter, hasNumber, listingAfter, listingWithout, withListing, withTrades}
+use Rattle.rules.specs.declared.Command.the-variants.{Change}
 use Rattle.rules.specs.declared.Trade.{Trade}
+use Rattle.rules.proofs.Stages.{decided}
 
 module _ (x : Exchange) (k : Asked) where
   zero-keeps-none : eqb (k .lots) 0 ≡ true → losesPlace x k ≡ false
@@ -67,3 +71,44 @@ lost-once x k e next =
     replaced-twice x (placeOf (k .contract)) (listingWithout (hasNumber (k .number)) (listingFor x k))
     (listingAfter (listingFor (withListing x (placeOf (k .contract)) (listingWithout (hasNumber (k .number)) (listingFor x k))) k) (isSell x k) e)
     (e .trades) next (x .nextstamp + 1)
+
+-- ---- equal and fewer lots at the same price
+
+module _ (x : Exchange) (k : Asked) (some : 1 ≤ k .lots) (same : k .price ≡ oldOrder x k .price) where
+  none-zero : eqb (k .lots) 0 ≡ false
+  none-zero = ne-eqb (k .lots) 0 (λ (e : k .lots ≡ 0). omega arith)
+
+  place-kept : k .lots ≤ oldOrder x k .lots → losesPlace x k ≡ false
+  unfolding losesPlace
+  place-kept h = rw (none-zero, le-ltb (oldOrder x k .lots) (k .lots) h, eq-eqb (k .price) (oldOrder x k .price) same) refl
+
+  -- "Equal lots and price change nothing."
+  pub equal-unchanged : k .lots ≡ oldOrder x k .lots → changed x k ≡ unchanged x k
+  unfolding changed
+  equal-unchanged e = rw (none-zero, place-kept (omega arith), eq-eqb (k .lots) (oldOrder x k .lots) e) refl
+
+  -- "fewer lots keep the place in the queue"
+  pub fewer-kept : k .lots < oldOrder x k .lots → changed x k ≡ placeKept x k
+  unfolding changed
+  fewer-kept h =
+      rw (none-zero, place-kept (omega arith), ne-eqb (k .lots) (oldOrder x k .lots) (λ (e : k .lots ≡ oldOrder x k .lots). omega arith)) refl
+
+module _ (x : Exchange) (account contract number lots price : ℕ) where
+  abbrev its : Asked
+  its = asked account contract number lots price
+
+  module _ (some : 1 ≤ lots) (same : price ≡ oldOrder x its .price) where
+    -- AN EQUAL CHANGE ALTERS NOTHING
+    pub equal-step : lots ≡ oldOrder x its .lots → step x (Change account contract number lots price) ≡ x
+    unfolding step kindOf unchanged
+    equal-step e =
+        decided (λ d. lastOf x (d .stages) ≡ x) x (Change account contract number lots price)
+        (λ a. ap (λ (f : Effect). lastOf x (f .stages)) (equal-unchanged x its some same e)) (λ r. refl)
+
+    -- FEWER LOTS AT THE SAME PRICE ALTER THAT ORDER'S LOTS AND NOTHING ELSE (`less-at` has the places of its queue)
+    pub fewer-step : lots < oldOrder x its .lots → codeOf x (Change account contract number lots price) ≡ 0 →
+        step x (Change account contract number lots price) ≡ withListing x (placeOf contract) (listingLessened its (listingFor x its))
+    unfolding step kindOf placeKept
+    fewer-step h a =
+        decided (λ d. lastOf x (d .stages) ≡ withListing x (placeOf contract) (listingLessened its (listingFor x its))) x (Change account contract number lots price)
+        (λ q. ap (λ (f : Effect). lastOf x (f .stages)) (fewer-kept x its some same h)) (λ r. absurd (r a))

@@ -3,14 +3,16 @@
 use mathlib.Core.Bool.{Bool, true, false}
 use mathlib.Core.List.{List, [], _∷_}
 use mathlib.Core.Path.{_≡_, refl}
-use Prim.Native.Nat.{ℕ, suc, _+_, _≤_}
+use Prim.Native.Nat.{ℕ, zero, suc, _+_, _<_, _≤_}
+use native.Mathlib.Nat.{le-of-suc-le-suc}
 use native.Mathlib.Omega.{arith}
 use borrow.Author.Tests.{leb-true}
 use lib.Dec.{leb, eqb}
-use lib.ListN.{length}
+use lib.ListN.{length, getD}
 use Rattle.laws.specs.Choice.{pick, allOf, both-true, true-both}
 use Rattle.laws.specs.Sums.{sumOf}
 use Rattle.rules.specs.Change.{lessened}
+use Rattle.rules.specs.Exchange.{noOrder}
 use Rattle.rules.specs.Matching.{withLots}
 use Rattle.rules.specs.Step.{hasNumber}
 use Rattle.rules.specs.WellFormed.{ahead, aheadOfFirst, sorted, uncrossed}
@@ -30,6 +32,13 @@ module _ (number lots : ℕ) where
   unfolding lessened
   less-length [] = refl
   less-length (o ∷ os) = rw (less-length os)
+
+  -- the order with the number has other lots, and every other is as it was
+  pub less-at : (os : List Order) (i : ℕ) → i < length os → getD (lessened number lots os) i noOrder ≡ lessOne (getD os i noOrder)
+  unfolding lessened
+  less-at [] i h = absurd (omega arith)
+  less-at (o ∷ os) zero h = refl
+  less-at (o ∷ os) (suc i) h = less-at os i (le-of-suc-le-suc h)
 
   -- a queue goes by price and time stamp
   less-ahead : (sell : Bool) (o p : Order) → ahead sell (lessOne o) (lessOne p) ≡ ahead sell o p
@@ -67,6 +76,16 @@ module _ (number lots : ℕ) where
   same-sum f same (o ∷ os) = go (hasNumber number o) (same-sum f same os)
     where
       go : (b : Bool) → sumOf f (lessened number lots os) ≡ sumOf f os → f (pick b (withLots o lots) o) + sumOf f (lessened number lots os) ≡ f o + sumOf f os
+      go true ih = rw (same o, ih)
+      go false ih = rw ih
+
+  -- and a test of it is passed as before
+  pub same-all : (test : Order → Bool) → ((o : Order) → test (withLots o lots) ≡ test o) → (os : List Order) → allOf test (lessened number lots os) ≡ allOf test os
+  unfolding lessened allOf
+  same-all test same [] = refl
+  same-all test same (o ∷ os) = go (hasNumber number o) (same-all test same os)
+    where
+      go : (b : Bool) → allOf test (lessened number lots os) ≡ allOf test os → allOf test (pick b (withLots o lots) o ∷ lessened number lots os) ≡ allOf test (o ∷ os)
       go true ih = rw (same o, ih)
       go false ih = rw ih
 
