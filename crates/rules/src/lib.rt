@@ -37,8 +37,10 @@ pub const QUEUE_STRIDE: usize = MAX_RESTING * ORDER_STRIDE;
 
 pub const TRADE_STRIDE: usize = 9;
 
-// The word of an order that holds its number.
+// The words of an order that hold its number and its time stamp.
 pub const NUMBER_WORD: usize = 1;
+
+pub const STAMP_WORD: usize = 5;
 
 // A contract's terms for the day, with the number of its pairing method, its phase (the paper's contract state) and its last
 // price. Rate and method are as wide as in the day file: four contracts then take 128 bytes, which a compiler still copies in
