@@ -30,7 +30,7 @@ use Rattle.query.specs.Gettable.{askRefusals, gettableNow, lotsNow, orde
 use Rattle.query.specs.declared.Reading.{Reading}
 
 order : ℕ → ℕ → ℕ → Order
-order number price lots = record { price = price; number = number; account = 0; lots = lots; close = 0; stamp = 0; quote = 0 }
+order number price lots = record { price = price; number = number; account = 0; lots = lots; close = 0; stamp = number; quote = 0 }
 
 -- one contract in a phase, its low 100 and high 120, two accounts; 3 are bid for at 109
 book : ℕ → List Order → Exchange
