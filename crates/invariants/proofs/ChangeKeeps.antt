@@ -3,7 +3,7 @@
 -- kept that order has fewer lots. Assumes nothing.
 use mathlib.Core.Bool.{Bool, true, false, not, _&&_, _||_, true≢false, false≢true}
 use mathlib.Core.List.{List, [], _∷_, _++_}
-use mathlib.Core.Path.{_≡_, refl, sym, ap, subst, _∙_}
+use mathlib.Core.Path.{_≡_, refl, sym, ap, subst}
 use Prim.Native.Nat.{ℕ, _+_, _<_, _≤_}
 use native.Mathlib.Nat.{le-refl}
 use native.Mathlib.Omega.{arith}
@@ -14,16 +14,14 @@ use lib.Seq.{getD-set-same}
 use Rattle.laws.specs.Choice.{pick, allOf, allOf-append, both-true, true-both, either-false}
 use Rattle.laws.specs.Sums.{sumOf, sumOf-append, sumOf-at, sumOf-set}
 use Rattle.rules.specs.Answers.{firstOf, holdingRefused, listingOf, noSuchOrder, numbered, restingOrder, stampsUsedUp, tradesRefused}
-use Rattle.rules.specs.Bounds.{allowedToday, maxLots, maxResting, maxTrades, numbersEnd}
+use Rattle.rules.specs.Bounds.{allowedToday, maxLots, maxResting, numbersEnd}
 use Rattle.rules.specs.Change.{Asked, arriving, changeRefusals, changed, gone, isSell, lessened, listingFor, listingLessened, losesPlace, oldOrder, placeKept, placeLost, reentered, unchanged}
 use Rattle.rules.specs.Exchange.{Exchange, Listing, listingAt, noListing, noOrder, own, placeOf, lotsWhere, resting}
 use Rattle.rules.specs.Kinds.{lastOf}
-use Rattle.rules.specs.Matching.{withLots}
 use Rattle.rules.specs.Step.{cancelled, exchangeAfter, hasNumber, limitOf, listingWithout, removed, withListing, without}
-use Rattle.rules.specs.WellFormed.{allListed, allNumbers, numberOf, orderInRange, sorted, stampOf, uncrossed}
+use Rattle.rules.specs.WellFormed.{allNumbers, numberOf, orderInRange}
 use Rattle.rules.specs.declared.Holding.{Holding}
 use Rattle.rules.specs.declared.Order.{Order}
-use Rattle.rules.specs.declared.PriceCondition.the-variants.{Limit}
 use Rattle.rules.proofs.Changes.{changed-either}
 use Rattle.rules.proofs.Lessened.{fits, less-all, less-length, less-sorted, less-sum, less-uncrossed, same-sum}
 use Rattle.rules.proofs.Stages.{Each}
@@ -262,8 +260,8 @@ module _ (x : Exchange) (w : WellFormed x) (k : Asked) (e : firstOf (changeRefus
     mine-left true = refl
     mine-left false = refl
 
-    -- 13 cannot occur: its own side has one order fewer
-    has-room : Counted x → length (own (isSell x k) (listingOf (gone x k) (arriving x k))) < maxResting
+    -- 13 CANNOT OCCUR: its own side has one order fewer
+    pub has-room : Counted x → length (own (isSell x k) (listingOf (gone x k) (arriving x k))) < maxResting
     has-room n =
         rw (gone-listing, mine-left (isSell x k))
         (omega (arith, without-shorter number (own (isSell x k) listing), mine-used, n .queues place (isSell x k) there))

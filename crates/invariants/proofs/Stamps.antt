@@ -14,14 +14,14 @@ use lib.ListN.{getD, set, length}
 use Rattle.laws.specs.Choice.{pick, allOf, allOf-imp, both-true, true-both, true-either, either-true}
 use Rattle.laws.specs.Tabulate.{tabulate}
 use Rattle.rules.specs.Answers.{listingOf, numbersUsedUp, stampsUsedUp, takerOf}
-use Rattle.rules.specs.Auction.{Matched, auctionMatch, matchAt, matchOf}
+use Rattle.rules.specs.Auction.{Matched, matchAt, matchOf}
 use Rattle.rules.specs.Change.{Asked, arriving, asked, changed, gone, listingFor, listingLessened, placeKept, placeLost, reentered, unchanged}
 use Rattle.rules.specs.Command.{isSettle, kindNumber}
 use Rattle.rules.specs.Exchange.{Exchange, Listing, listingAt, noListing, opposite, own, placeOf, worse}
-use Rattle.rules.specs.Kinds.{codeOf, kindOf, lastOf, step}
-use Rattle.rules.specs.Matching.{Entered, enter, remainder, restLots, restWhole, withLots}
+use Rattle.rules.specs.Kinds.{kindOf, lastOf, step}
+use Rattle.rules.specs.Matching.{enter, remainder, restLots, restWhole}
 use Rattle.rules.specs.Settlement.{settled, settledListing}
-use Rattle.rules.specs.Step.{cancelled, deposited, enteredOf, exchangeAfter, exchangeMatched, hasNumber, inserted, isOf, limitOf, listingAfter, listingMatched, listingWithout, paid, phaseChanged, pulled, removed, settledAll, withListing, withdrawn, without}
+use Rattle.rules.specs.Step.{cancelled, deposited, enteredOf, exchangeAfter, exchangeMatched, hasNumber, inserted, isOf, limitOf, listingAfter, listingMatched, listingWithout, paid, phaseChanged, pulled, removed, settledAll, withListing, withdrawn}
 use Rattle.rules.specs.WellFormed.{ahead}
 use Rattle.rules.specs.declared.Command.{Command}
 use Rattle.rules.specs.declared.Command.the-variants.{Malformed, Deposit, Withdraw, Insert, Cancel, Pull, Phase, Settle, Change}
@@ -31,7 +31,7 @@ use Rattle.rules.proofs.AuctionOutcome.{auction-either}
 use Rattle.rules.proofs.AuctionSteps.{entered-either, match-either}
 use Rattle.rules.proofs.AuctionTaken.{KeptWithFewer, less-kept}
 use Rattle.rules.proofs.AuctionTurns.{match-ind}
-use Rattle.rules.proofs.Changes.{changed-either, lost-once}
+use Rattle.rules.proofs.Changes.{changed-either}
 use Rattle.rules.proofs.Lessened.{same-all}
 use Rattle.rules.proofs.Rest.{rest-all}
 use Rattle.rules.proofs.Stages.{decided}

@@ -1,14 +1,14 @@
 -- A change of a resting order is one of four: zero lots, the place lost, equal, the place kept. What is done when the place is lost
 -- is one listing replaced, with trades. Assumes nothing.
-use mathlib.Core.Bool.{Bool, true, false, not, _&&_, _||_}
+use mathlib.Core.Bool.{Bool, true, false}
 use mathlib.Core.List.{List, []}
 use mathlib.Core.Path.{_≡_, refl, ap}
 use Prim.Native.Nat.{ℕ, _+_, _<_, _≤_}
 use native.Mathlib.Omega.{arith}
 use borrow.Author.Tests.{eqb-true, eq-eqb, ne-eqb, le-ltb}
-use lib.Dec.{ltb, eqb}
+use lib.Dec.{eqb}
 use lib.Seq.{set-set}
-use Rattle.laws.specs.Choice.{pick, pick-true, pick-false, pick-either, false-both}
+use Rattle.laws.specs.Choice.{pick}
 use Rattle.rules.specs.Answers.{listingOf}
 use Rattle.rules.specs.Change.{Asked, arriving, asked, changeTrades, changed, gone, isSell, listingFor, listingLessened, losesPlace, oldOrder, placeKept, placeLost, reentered, unchanged}
 use Rattle.rules.specs.Exchange.{Exchange, Listing, placeOf}

@@ -38,7 +38,7 @@ oldOrder x k = getD (restingOrder (listingFor x k) (k .number)) 0 noOrder
 unfoldable pub isSell : Exchange → Asked → Bool
 isSell x k = noSuchOrder (numbered (k .number) (listingFor x k .buys))
 
--- "fewer lots keep the place in the queue; more lots or another price lose it"; zero lots keep none
+-- "fewer lots keep the place in the queue; more lots or another price lose it"; zero lots are no loss of place but a removal
 unfoldable pub losesPlace : Exchange → Asked → Bool
 losesPlace x k = not (eqb (k .lots) 0) && (ltb (oldOrder x k .lots) (k .lots) || not (eqb (k .price) (oldOrder x k .price)))
 

@@ -1,7 +1,7 @@
 -- Changes of a resting order worked out by hand (document 02, ticket 8): the code at the ends of each range and where two refusals
 -- hold at once, who keeps the place and who loses it, and what is answered. Two tables, a statement each. Assumes nothing.
-use mathlib.Core.Bool.{Bool, true, false}
-use mathlib.Core.List.{List, [], _∷_, _++_}
+use mathlib.Core.Bool.{true, false}
+use mathlib.Core.List.{List, [], _∷_}
 use mathlib.Core.Path.{_≡_, refl}
 use Prim.Native.Nat.{ℕ, _+_}
 use lib.IntN.{pos}
@@ -12,7 +12,7 @@ use Rattle.rules.specs.Answers.{firstOf, holdingRefused, listingOf, mone
 use Rattle.rules.specs.Bounds.{allowedToday, auction, closed, continuous, dayHigh, dayLow, noTrading, onTick, preOpen}
 use Rattle.rules.specs.Change.{Asked, arriving, asked, changeRefusals, changeTrades, changed, gone, isSell, lessened, losesPlace, oldOrder, placeKept, placeLost, reentered, unchanged}
 use Rattle.rules.specs.Examples.{Row, _gives_, allRight}
-use Rattle.rules.specs.Exchange.{Exchange, absent, accountAt, bestPrice, holdingAt, listingAt, lotsWhere, noHolding, noOrder, noTrade, resting}
+use Rattle.rules.specs.Exchange.{Exchange, absent, accountAt, bestPrice, holdingAt, listingAt, lotsWhere, noOrder, noTrade, resting}
 use Rattle.rules.specs.Holdings.{afterLeg, bookLeg, bookTrade, bookTrades}
 use Rattle.rules.specs.Kinds.{lastOf}
 use Rattle.rules.specs.Margin.{chargeOf, chargedLots, chargedTo}
@@ -113,7 +113,8 @@ unfolding allRight codes order account contract state code open′ usedUp absent
 change-codes = refl
 
 -- ---- effects. Account 1 offers 7 at 110 (number 1) before account 2's 3 at 110 (number 2) and 1 at 112 (number 3); account 2 bids
--- for 2 at 100 (number 4), account 1 for 3 at 100 (number 5). The last price is 99; the next number is 6, the next time stamp 9.
+-- for 2 at 100 (number 4), account 1 for 3 at 100 (number 5). Account 2, 4 lots long, offers 2 of them at 115 to close (number 6). The
+-- last price is 99; the next number is 7, the next time stamp 9.
 
 book : ℕ → Exchange
 book method =
@@ -121,11 +122,11 @@ book method =
       listings = record {
         contract = contract 1 method continuous 99;
         buys = order 4 100 1 2 0 ∷ order 5 100 0 3 0 ∷ [];
-        sells = order 1 110 0 7 0 ∷ order 2 110 1 3 0 ∷ order 3 112 1 1 0 ∷ [];
+        sells = order 1 110 0 7 0 ∷ order 2 110 1 3 0 ∷ order 3 112 1 1 0 ∷ order 6 115 1 2 1 ∷ [];
       } ∷ [];
-      accounts = account 0 0 0 ∷ account 0 0 0 ∷ [];
+      accounts = account 0 0 0 ∷ account 0 4 0 ∷ [];
       trades = [];
-      next = 6;
+      next = 7;
       nextstamp = 9;
       settlements = 0;
     }
@@ -134,8 +135,18 @@ book method =
 to : ℕ → ℕ → Asked
 to lots price = asked 1 1 1 lots price
 
+-- order 5, account 1's buy, and order 6, account 2's close of what it is long, with other lots and another price
+buyTo : ℕ → ℕ → Asked
+buyTo lots price = asked 1 1 5 lots price
+
+closeTo : ℕ → ℕ → Asked
+closeTo lots price = asked 2 1 6 lots price
+
 after : ℕ → Asked → Exchange
 after method k = lastOf (book method) (changed (book method) k .stages)
+
+buyAt : ℕ → Asked → Order
+buyAt place k = getD (listingAt (after 0 k) 0 .buys) place noOrder
 
 sellAt : ℕ → Asked → Order
 sellAt place k = getD (listingAt (after 0 k) 0 .sells) place noOrder
@@ -178,7 +189,7 @@ effects =
     ∷ (sellAt 1 (to 8 110) .number gives 1)
     ∷ (sellAt 1 (to 8 110) .stamp gives 9)
     ∷ (after 0 (to 8 110) .nextstamp gives 10)
-    ∷ (after 0 (to 8 110) .next gives 6)
+    ∷ (after 0 (to 8 110) .next gives 7)
     -- another price, with fewer lots too: behind those at 112
     ∷ (sellAt 1 (to 3 112) .number gives 3)
     ∷ (sellAt 2 (to 3 112) .number gives 1)
@@ -196,8 +207,21 @@ effects =
     -- the middle of 100, 98 and the last price; the first-in price is the other's, since the changed order arrives
     ∷ (tradeAt′ 0 0 (to 6 98) .price gives 99)
     ∷ (tradeAt′ 2 0 (to 6 98) .price gives 100)
+    -- a buy stays a buy: it rests in front at 101, or trades whole with the sells at 110 and rests no more
+    ∷ (buyAt 0 (buyTo 3 101) .number gives 5)
+    ∷ (buyAt 1 (buyTo 3 101) .number gives 4)
+    ∷ (field 1 (answered (buyTo 9 110)) gives 9)
+    ∷ (field 2 (answered (buyTo 9 110)) gives 0)
+    ∷ (tradeAt′ 0 1 (buyTo 9 110) .buyorder gives 5)
+    ∷ (tradeAt′ 0 1 (buyTo 9 110) .sellorder gives 2)
+    ∷ (length (listingAt (after 0 (buyTo 9 110)) 0 .buys) gives 1)
+    -- a close stays a close: its 2 lots leave the long holding, which the account's own buy at 100 brings to 4 again
+    ∷ (field 1 (answered (closeTo 2 100)) gives 2)
+    ∷ (tradeAt′ 0 0 (closeTo 2 100) .sellclose gives 1)
+    ∷ (holdingAt (after 0 (closeTo 2 100) .accounts) 1 0 .long gives 4)
+    ∷ (holdingAt (after 0 (closeTo 2 100) .accounts) 1 0 .short gives 0)
     ∷ []
 
 pub change-effects : allRight effects ≡ true
-unfolding allRight effects order account contract book to after sellAt tradeAt′ answered field accountAt afterLeg arriving bestPrice bookLeg bookTrade bookTrades cancelled changeTrades changed enter enteredOf exchangeAfter gone isSell lastPrice lessened listingAfter listingAt listingOf losesPlace lotsWhere meets methodOf middle noSuchOrder numbered oldOrder pairedPrice placeKept placeLost reentered remainder removed restIn restLots restedLots restingOrder stays sumOf sweep takerOf tradePrice tradeWith tradedLots unchanged without
+unfolding allRight effects order account contract book to buyTo closeTo after buyAt sellAt holdingAt tradeAt′ answered field accountAt afterLeg arriving bestPrice bookLeg bookTrade bookTrades cancelled changeTrades changed enter enteredOf exchangeAfter gone isSell lastPrice lessened listingAfter listingAt listingOf losesPlace lotsWhere meets methodOf middle noSuchOrder numbered oldOrder pairedPrice placeKept placeLost reentered remainder removed restIn restLots restedLots restingOrder stays sumOf sweep takerOf tradePrice tradeWith tradedLots unchanged without
 change-effects = refl

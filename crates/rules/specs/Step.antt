@@ -108,7 +108,7 @@ enteredOf x number o =
 unfoldable pub listingAfter : Listing → Bool → Entered → Listing
 listingAfter l sell e = withQueues sell (withLast (l .contract) (lastPrice (l .contract .last) (e .trades))) (e .own) (e .opposite)
 
--- the order has taken a time stamp; the next order number is given
+-- the state with an order entered: a time stamp is taken, and the next order number is `next`
 unfoldable pub exchangeAfter : Exchange → NewOrder → Entered → ℕ → Exchange
 exchangeAfter x o e next =
     withTrades x (placeOf (o .contract)) (listingAfter (listingOf x o) (o .sell) e) (e .trades) next (x .nextstamp + 1)

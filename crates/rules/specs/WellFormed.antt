@@ -17,7 +17,8 @@ use Rattle.rules.specs.declared.Order.{Order}
 use Rattle.rules.specs.declared.Trade.{Trade}
 
 -- ---- "counts, numbers, parameters and prices keep the ranges above, the next order number 1 to 1,000,000; references and
--- last prices are tick multiples"; the next time stamp too is "1 to 1,000,000" (02, ticket 8)
+-- last prices are tick multiples"; the next time stamp too, since "Stamps end at 999,999 a day."
+-- (02, ticket 8)
 
 unfoldable pub contractInRange : Contract → Bool
 contractInRange c = termsInRange c && leb (c .phase) maxPhase && tickMultiple (c .tick) (c .last)
