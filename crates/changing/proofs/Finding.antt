@@ -1,9 +1,10 @@
 -- The order with a number in one queue: found there, taken out and put back, and its lots written. Assumes nothing.
-use mathlib.Core.Bool.{Bool, true, false, not}
+use mathlib.Core.Bool.{Bool, true, false, not, false≢true}
 use mathlib.Core.List.{List, [], _∷_, _++_}
 use mathlib.Core.Path.{_≡_, refl, sym, ap, _∙_}
 use Prim.Native.Nat.{ℕ, zero, suc, _-_, _<_, _≤_, max}
-use native.Mathlib.Nat.{le-of-suc-le-suc}
+use native.Mathlib.Nat.{eq-or-lt-of-le, le-of-suc-le-suc}
+use mathlib.Core.Logic.{⊎-elim}
 use native.Mathlib.Omega.{arith}
 use lib.ListN.{length, getD, set, drop}
 use Rattle.laws.specs.Choice.{pick}
@@ -16,10 +17,10 @@ use Rattle.rules.specs.Matching.{withLots}
 use Rattle.rules.specs.Memory.{firstWord, orderFrom, putQueue, queueIn}
 use Rattle.rules.specs.Places.{indexOf}
 use Rattle.rules.specs.Step.{hasNumber}
-use Rattle.rules.specs.WellFormed.{numbers, usedOnce}
+use Rattle.rules.specs.WellFormed.{listed, numbers, usedOnce}
 use Rattle.rules.specs.declared.Order.{Order}
 use Rattle.rules.proofs.Codecs.{length-queue, order-at, put-queue, putQueue-putQueue, queue-put}
-use Rattle.rules.proofs.Queue.{first-ind, first-within, numbered-append-found, numbered-append-none, numbered-found, numbered-none, once-only, once-tail}
+use Rattle.rules.proofs.Queue.{first-ind, first-here, first-within, index-apart, index-notIn, numbered-append-found, numbered-append-none, numbered-found, numbered-none, once-append}
 use Rattle.changing.specs.Resting.{RestingIs, putBackIn}
 use Rattle.changing.specs.declared.Resting.{Resting}
 
@@ -75,14 +76,17 @@ module _ (number : ℕ) (buys sells : List ℕ) (c bids offers : ℕ) where
           ∙ numbered-none number sold (omega (arith, es, length-queue sells c offers, first-within (hasNumber number) sold)) in
           record {
             found = sym (rw none);
-            order = λ e. absurd (no e);
-            sell = λ e. absurd (no e);
-            place = λ e. absurd (no e);
-            within = λ e. absurd (no e);
+            order = λ e. absurd (false≢true e);
+            sell = λ e. absurd (false≢true e);
+            place = λ e. absurd (false≢true e);
+            within = λ e. absurd (false≢true e);
           }
-        where
-          no : false ≡ true → ⊥
-          no e = absurd-bool e
+
+-- the other way round: where no order has the number, the search ends past the last
+pub missing-of : (number : ℕ) (os : List Order) → noSuchOrder (numbered number os) ≡ true → indexOf number os ≡ length os
+unfolding noSuchOrder
+missing-of number os h =
+    ⊎-elim (λ e. e) (λ l. absurd (false≢true (rw (numbered-found number os l) at h))) (eq-or-lt-of-le (first-within (hasNumber number) os))
 
 -- ---- taken out and put back
 
@@ -112,10 +116,19 @@ module _ (number lots : ℕ) where
       first-ind (hasNumber number) (λ os i. i ≡ length os → lessened number lots os ≡ os) (λ h. refl) (λ o os e h. absurd (omega arith))
       (λ o os i e ih h. rw e (ap (λ (l : List Order). o ∷ l) (ih (omega arith))))
 
+  -- used once, it is no later order's
+  only : (o : Order) (os : List Order) → hasNumber number o ≡ true → usedOnce (numbers (o ∷ os)) ≡ true → indexOf number os ≡ length os
+  unfolding listed
+  only o os e u = index-notIn number os (index-apart number (o ∷ []) (numbers os) u (rw (first-here (hasNumber number) o [] e) (omega arith)))
+
+  later-once : (o : Order) (os : List Order) → usedOnce (numbers (o ∷ os)) ≡ true → usedOnce (numbers os) ≡ true
+  unfolding listed
+  later-once o os u = once-append (numbers (o ∷ [])) (numbers os) u .1
+
   pub lessened-one : (os : List Order) → usedOnce (numbers os) ≡ true → indexOf number os < length os
       → lessened number lots os ≡ set os (indexOf number os) (withLots (getD os (indexOf number os) noOrder) lots)
   unfolding lessened
   lessened-one =
       first-ind (hasNumber number) (λ os i. usedOnce (numbers os) ≡ true → i < length os → lessened number lots os ≡ set os i (withLots (getD os i noOrder) lots)) (λ u h. absurd (omega arith))
-      (λ o os e u h. rw e (ap (λ (l : List Order). withLots o lots ∷ l) (lessened-none os (only number o os e u))))
-      (λ o os i e ih u h. rw e (ap (λ (l : List Order). o ∷ l) (ih (once-tail o os u) (le-of-suc-le-suc h))))
+      (λ o os e u h. rw e (ap (λ (l : List Order). withLots o lots ∷ l) (lessened-none os (only o os e u))))
+      (λ o os i e ih u h. rw e (ap (λ (l : List Order). o ∷ l) (ih (later-once o os u) (le-of-suc-le-suc h))))
