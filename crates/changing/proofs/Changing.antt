@@ -198,10 +198,19 @@ module _ {s : State} {buys sells trades : List ℕ} (w : WellFormedState s buys 
               let one : resting ≡ r .order ∷ [] = resting-is ∙ rs .order e in
               rw (one, e, listing-is)
 
-      pub refused-order : {code : ℕ} {o : Outcome} → code ≡ firstOf (orderRefusals (getD (s .contracts) c noContract) (placeOf account) r lots price) → (code ≡ 0 → ⊥)
-          → o ≡ refusedWith s code → OutcomeIs (stepIn m command) o buys sells trades
-      refused-order {code} e h a =
-          refusal s buys sells trades command code (omega arith) (in-parts ∙ rw (state-is, st, order-first, order-is, ← e, ne-eqb code 0 h)) a
+    -- n is the contract's number as the code widens it
+    module _ {n : ℕ} (is : n ≡ contract) {bids offers : ℕ} (eb : bids ≡ getD (s .buys) (n - 1) 0) (es : offers ≡ getD (s .sells) (n - 1) 0) {r : Resting}
+        (rs : RestingIs number (queueIn buys (n - 1) bids) (queueIn sells (n - 1) offers) r) {code : ℕ}
+        (ec : code ≡ firstOf (orderRefusals (getD (s .contracts) (n - 1) noContract) (account - 1) r lots price)) where
+      found-here : RestingIs number bought sold r
+      found-here = rw (eb, es, is) at rs
+
+      pub order-refused : (code ≡ 0 → ⊥) → {o : Outcome} → o ≡ refusedWith s code → OutcomeIs (stepIn m command) o buys sells trades
+      order-refused h a =
+          refusal s buys sells trades command code (omega arith) (in-parts ∙ rw (state-is, st, order-first, order-is found-here, ← (rw is at ec), ne-eqb code 0 h)) a
+
+      pub changeable : code ≡ 0 → Changeable s buys sells account contract number lots price r
+      changeable e = record { state = st; resting = found-here; order = sym (rw is at ec) ∙ e }
 
   -- ---- none of these holds
 
@@ -215,7 +224,7 @@ module _ {s : State} {buys sells trades : List ℕ} (w : WellFormedState s buys 
     found : r .found ≡ true
     found = not-false (r .found) (its .0)
 
-    pub few-lots : lots ≤ 1_000
+    few-lots : lots ≤ 1_000
     few-lots = ltb-false _ _ (its .1 .1 .0)
 
     one-resting : resting ≡ r .order ∷ []
@@ -259,7 +268,7 @@ module _ {s : State} {buys sells trades : List ℕ} (w : WellFormedState s buys 
     abbrev queue : Bool → List Order
     queue side = queueIn (area side) c (count side)
 
-    pub room : (side : Bool) → firstWord c (count side) ≤ length (area side)
+    room : (side : Bool) → firstWord c (count side) ≤ length (area side)
     room = side-room w account contract false (none st′) refl
 
     few : (side : Bool) → count side ≤ maxResting
@@ -281,7 +290,7 @@ module _ {s : State} {buys sells trades : List ℕ} (w : WellFormedState s buys 
     other true e = missing-of number bought (sym (g .resting .sell found) ∙ e)
     other false e = apart w account contract false (none st′) refl number (mine-in false e)
 
-    pub place-in : r .place < count (r .sell)
+    place-in : r .place < count (r .sell)
     place-in = mine (r .sell) refl .1
 
     order-there : (side : Bool) → r .sell ≡ side → getD (queue side) (r .place) noOrder ≡ r .order
@@ -385,6 +394,10 @@ module _ {s : State} {buys sells trades : List ℕ} (w : WellFormedState s buys 
             ))
 
         -- n is the contract's number as the code widens it
+        pub can-lessen : {n : ℕ} → n ≡ contract → {count₁ : ℕ} → count₁ ≡ sideCount (r .sell) s (n - 1)
+            → (r .place < count₁) × (firstWord (n - 1) count₁ ≤ length (sideArea (r .sell) buys sells))
+        can-lessen is ec = rw (ec, is) (place-in, room (r .sell))
+
         pub fewer-changed : (lots ≡ r .order .lots → ⊥) → {n : ℕ} → n ≡ contract → {count₁ : ℕ} → count₁ ≡ sideCount (r .sell) s (n - 1) → {buys′ sells′ : List ℕ}
             → buys′ ≡ pick (r .sell) buys (lessenedIn buys (n - 1) count₁ (r .place) lots) → sells′ ≡ pick (r .sell) (lessenedIn sells (n - 1) count₁ (r .place) lots) sells
             → {o : Outcome} → o ≡ acceptedWith s number 0 lots → OutcomeIs (stepIn m command) o buys′ sells′ trades

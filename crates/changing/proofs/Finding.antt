@@ -94,7 +94,7 @@ put-in-place : {A : Type 0} (i : ℕ) (os : List A) (d : A) → i < length os �
 unfolding insertAt removeAt
 put-in-place i [] d h = absurd (omega arith)
 put-in-place zero (o ∷ os) d h = refl
-put-in-place (suc i) (o ∷ os) d h = ap (λ (l : List A). o ∷ l) (put-in-place i os d (le-of-suc-le-suc h))
+put-in-place {A = A} (suc i) (o ∷ os) d h = ap (λ (l : List A). o ∷ l) (put-in-place i os d (le-of-suc-le-suc h))
 
 -- area₁ is the area without the order at place i of contract c's queue, area₂ that with it put back
 pub restored : (area : List ℕ) (c n i : ℕ) (o : Order) → i < n → firstWord c n ≤ length area → getD (queueIn area c n) i noOrder ≡ o

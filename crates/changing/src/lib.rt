@@ -248,9 +248,10 @@ pub fn change(
     if loses_place(order, lots, price) {
         return lose_place(state, buys, sells, trades, account, contract, number, lots, price, r);
     }
-    if lots != order.lots {
-        let count = orders::side_count(r.sell, state, c);
-        lessen(buys, sells, c, count, r, lots);
+    if lots == order.lots {
+        return answers::accepted(state, number, 0, lots);
     }
+    let count = orders::side_count(r.sell, state, c);
+    lessen(buys, sells, c, count, r, lots);
     answers::accepted(state, number, 0, lots)
 }
