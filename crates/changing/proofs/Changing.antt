@@ -34,7 +34,7 @@ use Rattle.rules.proofs.Lessened.{less-length}
 use Rattle.rules.proofs.Queue.{length-without, numbered-append-found, numbered-append-none, numbered-found, without-none, without-number}
 use Rattle.rules.proofs.Stages.{Each}
 use Rattle.invariants.proofs.Accepted.{Failed, failed}
-use Rattle.invariants.proofs.Change.{change-counted, change-keeps}
+use Rattle.invariants.proofs.ChangeKeeps.{change-counted, change-keeps}
 use Rattle.invariants.proofs.Clauses.{Counted, WellFormed, well-formed-test}
 use Rattle.invariants.proofs.MemoryKeeps.{sound, step-in-keeps, step-in-read}
 use Rattle.engine.specs.Outcome.{OutcomeIs, acceptedWith, isAbsent, refusedWith, withCountsIn}
@@ -524,12 +524,14 @@ module _ {s : State} {buys sells trades : List ℕ} (w : WellFormedState s buys 
                   (gone-sells ∙ rw (out-of true e)) (less-one ∙ rw e) q
               back-sells false e q = q ∙ gone-sells ∙ kept-other false e
 
-              pub lost-refused : {b d : List ℕ} → b ≡ pick (r .sell) buys′ (putBackIn buys′ (n - 1) count₁ (r .place) (r .order))
-                  → d ≡ pick (r .sell) (putBackIn sells′ (n - 1) count₁ (r .place) (r .order)) sells′ → {q : Outcome} → q ≡ refusedWith s code
-                  → OutcomeIs (stepIn m command) q b d trades
-              lost-refused eb ed a =
-                  rw (back-buys (r .sell) refl (rw is at eb), back-sells (r .sell) refl (rw is at ed))
-                  (refusal s buys sells trades command code (omega arith) changed-code a)
+              pub buys-back : {b : List ℕ} → b ≡ pick (r .sell) buys′ (putBackIn buys′ (n - 1) count₁ (r .place) (r .order)) → b ≡ buys
+              buys-back eb = back-buys (r .sell) refl (rw is at eb)
+
+              pub sells-back : {b : List ℕ} → b ≡ pick (r .sell) (putBackIn sells′ (n - 1) count₁ (r .place) (r .order)) sells′ → b ≡ sells
+              sells-back eb = back-sells (r .sell) refl (rw is at eb)
+
+              pub lost-refused : {b d : List ℕ} → b ≡ buys → d ≡ sells → {q : Outcome} → q ≡ refusedWith s code → OutcomeIs (stepIn m command) q b d trades
+              lost-refused eb ed a = rw (eb, ed) (refusal s buys sells trades command code (omega arith) changed-code a)
 
             -- ---- accepted: it is entered
 
@@ -564,9 +566,16 @@ module _ {s : State} {buys sells trades : List ℕ} (w : WellFormedState s buys 
               unfolding reentryRefusals
               reentry = failed (reentryRefusals (exchangeOf m′) number o) (omega arith) (sym ec ∙ clear)
 
+              x-next : x .next ≡ s .next
+              unfolding exchangeOf
+              x-next = refl
+
               same-after : exchangeAfter (exchangeOf m′) o (enteredOf (exchangeOf m′) number o) (t .state .next) ≡ after
-              unfolding reentered exchangeOf
-              same-after = rw (next-is) (rw (its-order) (ap (λ (y : Exchange). exchangeAfter y (arriving x k) (enteredOf y number (arriving x k)) (s .next)) read))
+              unfolding reentered
+              same-after =
+                  ap (λ (v : NewOrder). exchangeAfter (exchangeOf m′) v (enteredOf (exchangeOf m′) number v) (t .state .next)) its-order
+                  ∙ ap (λ (y : Exchange). exchangeAfter y (arriving x k) (enteredOf y number (arriving x k)) (t .state .next)) read
+                  ∙ ap (λ (n : ℕ). exchangeAfter (gone x k) (arriving x k) (enteredOf (gone x k) number (arriving x k)) n) (next-is ∙ sym x-next)
 
               -- what it leaves is well formed
               entered-keeps : WellFormed (exchangeAfter (exchangeOf m′) o (enteredOf (exchangeOf m′) number o) (t .state .next))

@@ -202,7 +202,16 @@ fn lose_place(
     let a = laws::wide(account) - 1;
     let who = state.accounts[a];
     let o = arriving(account, contract, r, lots, price);
-    let taken = removal::cancel(state, buys, sells, &trades[..], account, contract, false, number);
+    let taken = removal::cancel(
+        state,
+        buys,
+        sells,
+        &trades[..],
+        account,
+        contract,
+        false,
+        number,
+    );
     let gone = taken.state;
     let code = codes::reentry_code(gone, who, &buys[..], &sells[..], &trades[..], o, number);
     if code != 0 {
@@ -242,11 +251,31 @@ pub fn change(
         return answers::refused(state, code);
     }
     if lots == 0 {
-        return removal::cancel(state, buys, sells, &trades[..], account, contract, false, number);
+        return removal::cancel(
+            state,
+            buys,
+            sells,
+            &trades[..],
+            account,
+            contract,
+            false,
+            number,
+        );
     }
     let order = r.order;
     if loses_place(order, lots, price) {
-        return lose_place(state, buys, sells, trades, account, contract, number, lots, price, r);
+        return lose_place(
+            state,
+            buys,
+            sells,
+            trades,
+            account,
+            contract,
+            number,
+            lots,
+            price,
+            r,
+        );
     }
     if lots == order.lots {
         return answers::accepted(state, number, 0, lots);

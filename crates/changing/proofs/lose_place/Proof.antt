@@ -1,7 +1,8 @@
 -- `changing::lose_place` meets its contract: refused, the order is where it was; accepted, it is entered. Assumes nothing.
-use mathlib.Core.Path.{refl}
+use mathlib.Core.Path.{refl, ap}
+use lib.ListN.{length}
 use native.Mathlib.Omega.{arith}
-use Rattle.changing.proofs.Changing.{account-fits, account-low, can-put-back, contract-fits, contract-low, gone-formed, gone-lots, gone-owner, gone-present, lost-changed, lost-enterable, lost-refused}
+use Rattle.changing.proofs.Changing.{account-fits, account-low, buys-back, can-put-back, contract-fits, contract-low, gone-formed, gone-lots, gone-owner, gone-present, lost-changed, lost-enterable, lost-refused, sells-back}
 use borrow.Author.Needs.{needs}
 use Rattle.changing.proofs.lose_place.Statement.{statement}
 use Rattle.changing.proofs.lose_place.Tie as tie
@@ -56,11 +57,13 @@ refused-requires c κs = search needs
 
 same-length : tie.Need-same-length
 same-length c =
-    omega (arith, c .before .before .before .before .before .put-back .kept .0, c .before .before .before .before .before .before .before .before .before .before .before .before .before .before .before .before .before .before .before .cancel .kept .0)
+    let start = c .before .before .before .before .before .before .before .before .before .before .before .before .before .before .before .before .before .before .before .before .before .before .before .before .before .before .before .before .before .before in
+    ap length (buys-back (start .pre .0) (start .args .account) (start .args .contract) (start .args .number) (start .args .lots) (start .args .price) (start .pre .1) (start .pre .2) (start .pre .3) (c .before .before .before .before .before .before .before .before .before .before .before .before .before .before .before .before .before .before .before .cancel .ensures) (c .before .before .before .before .before .before .before .before .before .before .before .before .before .before .before .before .before .before .before .before .before .before .before .arriving .ensures) (c .before .before .before .before .before .before .before .before .before .before .reentry-code .ensures) (c .before .before .before .before .before .before .before .before .before .if1 .taken) (c .before .before .before .before .before .before .before .before .before .before .before .before .before .before .before .before .before .before .before .before .before .before .before .before .before .before .wide .ensures) (c .before .before .before .before .before .before .before .before .side-count .ensures) (c .before .before .before .before .before .put-back .ensures .0))
 
 same-length-2 : tie.Need-same-length-2
 same-length-2 c =
-    omega (arith, c .before .before .before .before .before .put-back .kept .1, c .before .before .before .before .before .before .before .before .before .before .before .before .before .before .before .before .before .before .before .cancel .kept .1)
+    let start = c .before .before .before .before .before .before .before .before .before .before .before .before .before .before .before .before .before .before .before .before .before .before .before .before .before .before .before .before .before .before in
+    ap length (sells-back (start .pre .0) (start .args .account) (start .args .contract) (start .args .number) (start .args .lots) (start .args .price) (start .pre .1) (start .pre .2) (start .pre .3) (c .before .before .before .before .before .before .before .before .before .before .before .before .before .before .before .before .before .before .before .cancel .ensures) (c .before .before .before .before .before .before .before .before .before .before .before .before .before .before .before .before .before .before .before .before .before .before .before .arriving .ensures) (c .before .before .before .before .before .before .before .before .before .before .reentry-code .ensures) (c .before .before .before .before .before .before .before .before .before .if1 .taken) (c .before .before .before .before .before .before .before .before .before .before .before .before .before .before .before .before .before .before .before .before .before .before .before .before .before .before .wide .ensures) (c .before .before .before .before .before .before .before .before .side-count .ensures) (c .before .before .before .before .before .put-back .ensures .1))
 
 same-length-3 : tie.Need-same-length-3
 same-length-3 c = search needs
@@ -68,7 +71,7 @@ same-length-3 c = search needs
 returns : tie.Need-returns
 returns c =
     let start = c .before .before .before .before .before .before .before .before .before .before .before .before .before .before .before .before .before .before .before .before .before .before .before .before .before .before .before .before .before .before in
-    lost-refused (start .pre .0) (start .args .account) (start .args .contract) (start .args .number) (start .args .lots) (start .args .price) (start .pre .1) (start .pre .2) (start .pre .3) (c .before .before .before .before .before .before .before .before .before .before .before .before .before .before .before .before .before .before .before .cancel .ensures) (c .before .before .before .before .before .before .before .before .before .before .before .before .before .before .before .before .before .before .before .before .before .before .before .arriving .ensures) (c .before .before .before .before .before .before .before .before .before .before .reentry-code .ensures) (c .before .before .before .before .before .before .before .before .before .if1 .taken) (c .before .before .before .before .before .before .before .before .before .before .before .before .before .before .before .before .before .before .before .before .before .before .before .before .before .before .wide .ensures) (c .before .before .before .before .before .before .before .before .side-count .ensures) (c .before .before .before .before .before .put-back .ensures .0) (c .before .before .before .before .before .put-back .ensures .1) (c .refused .ensures)
+    lost-refused (start .pre .0) (start .args .account) (start .args .contract) (start .args .number) (start .args .lots) (start .args .price) (start .pre .1) (start .pre .2) (start .pre .3) (c .before .before .before .before .before .before .before .before .before .before .before .before .before .before .before .before .before .before .before .cancel .ensures) (c .before .before .before .before .before .before .before .before .before .before .before .before .before .before .before .before .before .before .before .before .before .before .before .arriving .ensures) (c .before .before .before .before .before .before .before .before .before .before .reentry-code .ensures) (c .before .before .before .before .before .before .before .before .before .if1 .taken) (c .before .before .before .before .before .before .before .before .before .before .before .before .before .before .before .before .before .before .before .before .before .before .before .before .before .before .wide .ensures) (c .before .before .before .before .before .before .before .before .side-count .ensures) (buys-back (start .pre .0) (start .args .account) (start .args .contract) (start .args .number) (start .args .lots) (start .args .price) (start .pre .1) (start .pre .2) (start .pre .3) (c .before .before .before .before .before .before .before .before .before .before .before .before .before .before .before .before .before .before .before .cancel .ensures) (c .before .before .before .before .before .before .before .before .before .before .before .before .before .before .before .before .before .before .before .before .before .before .before .arriving .ensures) (c .before .before .before .before .before .before .before .before .before .before .reentry-code .ensures) (c .before .before .before .before .before .before .before .before .before .if1 .taken) (c .before .before .before .before .before .before .before .before .before .before .before .before .before .before .before .before .before .before .before .before .before .before .before .before .before .before .wide .ensures) (c .before .before .before .before .before .before .before .before .side-count .ensures) (c .before .before .before .before .before .put-back .ensures .0)) (sells-back (start .pre .0) (start .args .account) (start .args .contract) (start .args .number) (start .args .lots) (start .args .price) (start .pre .1) (start .pre .2) (start .pre .3) (c .before .before .before .before .before .before .before .before .before .before .before .before .before .before .before .before .before .before .before .cancel .ensures) (c .before .before .before .before .before .before .before .before .before .before .before .before .before .before .before .before .before .before .before .before .before .before .before .arriving .ensures) (c .before .before .before .before .before .before .before .before .before .before .reentry-code .ensures) (c .before .before .before .before .before .before .before .before .before .if1 .taken) (c .before .before .before .before .before .before .before .before .before .before .before .before .before .before .before .before .before .before .before .before .before .before .before .before .before .before .wide .ensures) (c .before .before .before .before .before .before .before .before .side-count .ensures) (c .before .before .before .before .before .put-back .ensures .1)) (c .refused .ensures)
 
 enter-order-requires : tie.Need-enter-order-requires
 enter-order-requires c κs =
