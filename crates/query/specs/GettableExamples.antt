@@ -165,8 +165,8 @@ table =
     ∷ case (now′ (buyAt 100 1)) 0 0 1
     ∷ case (now′ (buyAt 99 1)) 7 0 0
     -- any state and any bytes: 21 before 1, 1 before 2; a kind that does not exist, a pull and an unknown flag give 1
-    ∷ case (gettableNow (memoryOf 0) (bytes 9 0 0 0)) 21 0 0
-    ∷ case (gettableNow (memoryOf 1) (bytes 9 0 0 0)) 1 0 0
+    ∷ case (gettableNow (memoryOf 0) (bytes 10 0 0 0)) 21 0 0
+    ∷ case (gettableNow (memoryOf 1) (bytes 10 0 0 0)) 1 0 0
     ∷ case (gettableNow (memoryOf 1) (bytes 5 1 0 0)) 1 0 0
     ∷ case (gettableNow (memoryOf 1) (bytes 3 0 64 0)) 1 0 0
     ∷ case (gettableNow (memoryOf 1) (bytes 3 0 0 0)) 2 0 0
