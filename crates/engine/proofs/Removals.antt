@@ -274,7 +274,7 @@ module _ {s : State} {buys sells trades : List ℕ} (w : WellFormedState s buys 
       side-once true = once-append (numbers (orders false)) (numbers (orders true)) both-once .1
 
       -- a number found among the buys is not among the sells
-      apart : (number : ℕ) → indexOf number (orders false) < length (orders false) → indexOf number (orders true) ≡ length (orders true)
+      pub apart : (number : ℕ) → indexOf number (orders false) < length (orders false) → indexOf number (orders true) ≡ length (orders true)
       apart number h = index-notIn number (orders true) (index-apart number (orders false) (numbers (orders true)) both-once h)
 
       -- ---- orders taken out of both queues
