@@ -1,28 +1,28 @@
 -- A change of a resting order: the code's tests are the rules' refusals, and each of the four ways of an accepted one leaves what the
 -- rules say. Assumes nothing.
-use mathlib.Core.Bool.{Bool, true, false, not, _&&_, _||_}
+use mathlib.Core.Bool.{Bool, true, false, not, _&&_}
 use mathlib.Core.List.{List, [], _∷_, _++_}
 use mathlib.Core.Path.{_≡_, refl, sym, ap, subst, _∙_}
-use Prim.Native.Nat.{ℕ, _+_, _-_, _*_, _<_, _≤_}
+use Prim.Native.Nat.{ℕ, _+_, _-_, _<_, _≤_}
 use native.Mathlib.Omega.{arith}
-use borrow.Author.Tests.{eqb-true, eq-eqb, le-ltb, leb-false, ltb-false, ne-eqb, not-false}
+use borrow.Author.Tests.{eqb-true, eq-eqb, leb-false, ltb-false, ne-eqb, not-false}
 use lib.Dec.{eqb, ltb}
 use lib.ListN.{length, getD, set, length-set}
 use lib.Seq.{getD-set-same, set-getD}
-use Rattle.laws.specs.Choice.{false-both, pick}
+use Rattle.laws.specs.Choice.{pick}
 use Rattle.areas.specs.Lists.{removeAt}
 use Rattle.areas.proofs.Lists.{length-removeAt}
 use Rattle.rules.specs.Answers as rules
 use Rattle.rules.specs.Answers.{Refusal, _when_, cancelRefusals, firstOf, listingOf, noSuchOrder, numbered, ofAnother, removalRefused, restingOrder, stampsUsedUp}
-use Rattle.rules.specs.Bounds.{allowedToday, continuous, inAuction, maxLots, maxResting, numbersEnd, termsInRange}
+use Rattle.rules.specs.Bounds.{allowedToday, continuous, maxLots, maxResting, numbersEnd, termsInRange}
 use Rattle.rules.specs.Change.{Asked, arriving, asked, changeRefusals, changed, gone, isSell, lessened, listingFor, listingLessened, losesPlace, oldOrder, placeKept, placeLost, reentered, unchanged}
-use Rattle.rules.specs.Exchange.{Exchange, Listing, absent, accountAt, listingAt, noAccount, noContract, noOrder, own, placeOf}
+use Rattle.rules.specs.Exchange.{Exchange, absent, listingAt, noAccount, noContract, noOrder, own, placeOf}
 use Rattle.rules.specs.Kinds.{codeOf, decide, done, kindOf, lastOf, step}
 use Rattle.rules.specs.Matching.{Entered, tradedLots}
-use Rattle.rules.specs.Memory.{Declared, Memory, Responded, WellFormedState, exchangeOf, firstWord, listingIn, memory, orderStride, put, putQueue, queueIn, stepIn, wellFormedMemory, written}
+use Rattle.rules.specs.Memory.{Declared, Memory, Responded, WellFormedState, exchangeOf, firstWord, listingIn, memory, orderStride, put, putQueue, queueIn, stepIn, written}
 use Rattle.rules.specs.Places.{indexOf}
-use Rattle.rules.specs.Step.{Effect, answerOf, cancelled, enteredOf, exchangeAfter, hasNumber, listingAfter, listingWithout, removed, withListing, without}
-use Rattle.rules.specs.WellFormed.{allNumbers, numbers, usedOnce}
+use Rattle.rules.specs.Step.{Effect, answerOf, cancelled, enteredOf, exchangeAfter, hasNumber, listingAfter, removed, withListing, without}
+use Rattle.rules.specs.WellFormed.{numbers, usedOnce}
 use Rattle.rules.specs.declared.Account.{Account}
 use Rattle.rules.specs.declared.Command.{Command}
 use Rattle.rules.specs.declared.Command.the-variants.{Cancel, Change}

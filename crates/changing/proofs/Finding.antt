@@ -1,5 +1,5 @@
 -- The order with a number in one queue: found there, taken out and put back, and its lots written. Assumes nothing.
-use mathlib.Core.Bool.{Bool, true, false, not, false≢true}
+use mathlib.Core.Bool.{Bool, true, false, false≢true}
 use mathlib.Core.List.{List, [], _∷_, _++_}
 use mathlib.Core.Path.{_≡_, refl, sym, ap, _∙_}
 use Prim.Native.Nat.{ℕ, zero, suc, _-_, _<_, _≤_, max}
@@ -7,7 +7,6 @@ use native.Mathlib.Nat.{eq-or-lt-of-le, le-of-suc-le-suc}
 use mathlib.Core.Logic.{⊎-elim}
 use native.Mathlib.Omega.{arith}
 use lib.ListN.{length, getD, set, drop}
-use Rattle.laws.specs.Choice.{pick}
 use Rattle.areas.specs.Lists.{insertAt, removeAt}
 use Rattle.areas.proofs.Lists.{length-removeAt}
 use Rattle.rules.specs.Answers.{noSuchOrder, numbered}
@@ -22,7 +21,6 @@ use Rattle.rules.specs.declared.Order.{Order}
 use Rattle.rules.proofs.Codecs.{length-queue, order-at, put-queue, putQueue-putQueue, queue-put}
 use Rattle.rules.proofs.Queue.{first-ind, first-here, first-within, index-apart, index-notIn, numbered-append-found, numbered-append-none, numbered-found, numbered-none, once-append}
 use Rattle.changing.specs.Resting.{RestingIs, putBackIn}
-use Rattle.changing.specs.declared.Resting.{Resting}
 
 -- ---- the order found: bid and offer are the places that the two searches gave
 

@@ -1,6 +1,6 @@
 -- `changing::loses_place` meets its contract: one test after the other. Assumes nothing.
+use mathlib.Core.Path.{refl}
 use borrow.Author.Tests.{le-ltb, lt-ltb}
-use borrow.Author.Needs.{needs}
 use Rattle.changing.proofs.loses_place.Statement.{statement}
 use Rattle.changing.proofs.loses_place.Tie as tie
 
