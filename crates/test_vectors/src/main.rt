@@ -115,7 +115,7 @@ fn run_vectors(name: &[u8], file: &[u8]) {
 
 fn run_file(name: &[u8]) {
     let fd = os::open_read(name);
-    let mut file = [0u8; 700000];
+    let mut file = [0u8; 400000];
     let n = io::read_full(fd, &mut file);
     libc::close(fd);
     run_vectors(name, &file[..n]);
