@@ -969,7 +969,7 @@ FILES = {
 
 def saved_state(rng):
     """The bytes of a state after the last settlement of a random day, or of its opening."""
-    day = dayfile.sections(rng.choice((quiet_file, trading_file, quotes_file, changes_file))(rng))
+    day = dayfile.sections(rng.choice((quiet_file, trading_file, changes_file))(rng))
     state = model.opening_state(day)
     written = saved.state_bytes(state)
     for command in day.commands:
