@@ -74,7 +74,7 @@ class Samples(unittest.TestCase):
         self.assertEqual(max(int(line[1]) for line in self.lines("auction-refusals", "T")), 1_024)
 
     def test_changing_an_order(self):
-        self.assertEqual(self.codes("13-changing-an-order"), {0, 4, 5, 7, 8, 9, 14, 15})
+        self.assertEqual(self.codes("changes-of-a-day"), {0, 4, 5, 7, 8, 9, 14, 15})
 
     def test_largest_file(self):
         day = read(self.made[make_samples.SAMPLES / "largest-file.day"])
