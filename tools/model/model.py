@@ -108,6 +108,24 @@ class State:
     room_for_trades: int = MOST_TRADES
 
 
+# The same state, of which changes of one do not reach the other.
+def copied(state):
+    contracts = {
+        number: replace(
+            contract, queues={side: [replace(order) for order in queue] for side, queue in contract.queues.items()}
+        )
+        for number, contract in state.contracts.items()
+    }
+    return replace(
+        state,
+        contracts=contracts,
+        balances=dict(state.balances),
+        holdings_at_start=dict(state.holdings_at_start),
+        holdings=dict(state.holdings),
+        trades=list(state.trades),
+    )
+
+
 # "Its run opens in pre-open, with no orders, trades, holdings or settlements."
 # "The last price starts as the reference"
 def opening_state(day):
