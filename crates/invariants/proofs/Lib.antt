@@ -25,5 +25,6 @@ pub mod Keeps
 pub mod MemoryRoom
 pub mod MemoryLaws
 pub mod MemoryKeeps
+pub mod RoomBeyond
 pub mod Opening
 pub mod Condition3

@@ -4,6 +4,7 @@ pub mod Holdings
 pub mod WellFormed
 pub mod Command
 pub mod Matching
+pub mod Between
 pub mod EarlyStop
 pub mod Places
 pub mod Margin
