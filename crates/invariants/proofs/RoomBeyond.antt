@@ -1,21 +1,21 @@
 -- What a caller may rely on whatever lies in the memory past the counts: a refusal changes nothing, and room beyond a count affects no
 -- answer. Assumes nothing.
-use mathlib.Core.Bool.{Bool, true, false, _&&_}
+use mathlib.Core.Bool.{Bool, true, false}
 use mathlib.Core.List.{List, [], _∷_}
 use mathlib.Core.Path.{_≡_, refl, sym, ap, ap₂, subst, _∙_}
 use Prim.Native.Nat.{ℕ, _<_}
 use lib.Dec.{leb}
 use lib.ListN.{length, getD}
 use Rattle.laws.specs.Choice.{pick, all, all-ext}
-use Rattle.rules.specs.Bounds.{within, maxAccounts, maxContracts, maxResting, maxTrades}
+use Rattle.rules.specs.Bounds.{maxResting}
 use Rattle.rules.specs.Condition3.{run}
 use Rattle.rules.specs.Exchange.{Exchange, Listing, listingAt}
-use Rattle.rules.specs.Kinds.{Decision, decide, step}
-use Rattle.rules.specs.Memory.{Memory, Responded, countsInRange, exchangeOf, hasRoom, inMemory, listingIn, put, putState, recordedTrades, respond, stepIn, wellFormedMemory, written}
+use Rattle.rules.specs.Kinds.{decide, step}
+use Rattle.rules.specs.Memory.{Memory, countsInRange, exchangeOf, hasRoom, inMemory, listingIn, put, putState, respond, stepIn, wellFormedMemory, written}
 use Rattle.rules.specs.Step.{answerOf}
-use Rattle.rules.specs.WellFormed.{wellFormedContents}
 use Rattle.rules.specs.declared.Answer.{Answer}
 use Rattle.rules.specs.declared.Command.{Command}
+use Rattle.rules.specs.declared.Order.{Order}
 use Rattle.rules.proofs.Codecs.{length-queue, length-trades}
 use Rattle.rules.proofs.InUse.{contracts-in-use, listing-in-use}
 use Rattle.rules.proofs.Stages.{decided}
@@ -66,20 +66,17 @@ module _ (m n : Memory) (s : AgreeInUse m n) where
   unfolding listingIn
   sells-counted m c = length-queue (m .sells) c (getD (m .state .sells) c 0)
 
-  few-buys : all (λ c. leb (getD (m .state .buys) c 0) maxResting) (m .state .contractcount) ≡ all (λ c. leb (getD (n .state .buys) c 0) maxResting) (m .state .contractcount)
-  few-buys =
+  -- a side's counts, in range in both or in neither
+  few : (own : Listing → List Order) (counts : Memory → List ℕ) → ((m : Memory) (c : ℕ) → length (own (listingIn m c)) ≡ getD (counts m) c 0)
+      → all (λ c. leb (getD (counts m) c 0) maxResting) (m .state .contractcount) ≡ all (λ c. leb (getD (counts n) c 0) maxResting) (m .state .contractcount)
+  few own counts counted =
       all-ext _ _ (m .state .contractcount)
-      (λ c h. ap (λ (k : ℕ). leb k maxResting) (sym (buys-counted m c) ∙ ap (λ (l : Listing). length (l .buys)) (same-listing c h) ∙ buys-counted n c))
-
-  few-sells : all (λ c. leb (getD (m .state .sells) c 0) maxResting) (m .state .contractcount) ≡ all (λ c. leb (getD (n .state .sells) c 0) maxResting) (m .state .contractcount)
-  few-sells =
-      all-ext _ _ (m .state .contractcount)
-      (λ c h. ap (λ (k : ℕ). leb k maxResting) (sym (sells-counted m c) ∙ ap (λ (l : Listing). length (l .sells)) (same-listing c h) ∙ sells-counted n c))
+      (λ c h. ap (λ (k : ℕ). leb k maxResting) (sym (counted m c) ∙ ap (λ (l : Listing). length (own l)) (same-listing c h) ∙ counted n c))
 
   same-counts : countsInRange (m .state) ≡ countsInRange (n .state)
   unfolding countsInRange
   same-counts =
-      rw (few-buys, few-sells)
+      rw (few (λ l. l .buys) (λ m. m .state .buys) buys-counted, few (λ l. l .sells) (λ m. m .state .sells) sells-counted)
       (rw (same-contracts, s .accounts, same-trades) refl)
 
   -- both are well formed, or neither

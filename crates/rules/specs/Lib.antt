@@ -27,3 +27,4 @@ pub mod MethodExamples
 pub mod ProfitExamples
 pub mod WellFormedExamples
 pub mod PaperDay
+pub mod FillOrKillExamples
