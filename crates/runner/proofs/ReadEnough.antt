@@ -34,5 +34,5 @@ enough room h input = by (leb (length input) room) refl
         broken-prints (take room input) (too-long (take room input) (omega (arith, length-take-le room input (omega arith))))
         ∙ sym (broken-prints input (too-long input (omega arith)))
 
-pub read-is : {room read : ℕ} → read ≤ room → 48_348 < room → ReadIs room read
-read-is {room} h k = record { within = h; enough = enough room k }
+pub read-is : {bytes : List ℕ} {read : ℕ} → read ≤ length bytes → 48_348 < length bytes → ReadIs bytes read
+read-is {bytes} {read} h k = record { within = h; front = sym (length-take-le read bytes h); enough = enough (length bytes) k }
