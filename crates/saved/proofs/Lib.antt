@@ -1,0 +1,6 @@
+pub mod Fields
+pub mod Lists
+pub mod Numbers
+pub mod Reading
+pub mod Rows
+pub mod Savable
