@@ -1,3 +1,4 @@
+pub mod Again
 pub mod Fields
 pub mod Lists
 pub mod Numbers
