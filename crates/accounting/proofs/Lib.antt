@@ -16,3 +16,4 @@ pub mod EachKind
 pub mod Declared
 pub mod Runs
 pub mod Condition3
+pub mod Joined

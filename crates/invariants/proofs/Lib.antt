@@ -27,3 +27,4 @@ pub mod MemoryLaws
 pub mod MemoryKeeps
 pub mod Opening
 pub mod Condition3
+pub mod SameInUse
