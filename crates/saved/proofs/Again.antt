@@ -8,7 +8,7 @@ use lib.Dec.{eqb}
 use lib.ListN.{length, take, drop, length-drop, take-append-drop}
 use lib.Seq.{take-all}
 use borrow.Author.Tests.{eq-eqb, eqb-true}
-use Rattle.laws.specs.Choice.{all, allOf}
+use Rattle.laws.specs.Choice.{all, allOf, both-true}
 use Rattle.laws.specs.Chains.{passed}
 use Rattle.areas.specs.Records.{encode, records}
 use Rattle.rules.specs.Bounds.{maxAccounts, maxContracts, within}
@@ -18,7 +18,7 @@ use Rattle.rules.specs.declared.Account.{Account}
 use Rattle.rules.specs.declared.Holding.{Holding}
 use Rattle.mending.specs.Mend.{four}
 use Rattle.statements.specs.Statement.{holdingBytes, section}
-use Rattle.saved.specs.Saved.{accountPlace, accountsIn, allEqual, asleep, contractPlace, loadedFrom, markSound, rowPlace, savedBytes, savedContract, savedSound, settlementsPlace, shaped, writable}
+use Rattle.saved.specs.Saved.{accountPlace, accountsIn, allEqual, asleep, contractPlace, countsRight, loadedFrom, markSound, rowPlace, savedBytes, savedContract, savedSound, settlementsPlace, shaped, writable}
 use Rattle.saved.proofs.Fields.{Entry, entry, entryBytes, entryOf, holding, listing, listingBytes, listingFrom}
 use Rattle.saved.proofs.Lists.{accounts-are, accountsOf, entries-again, entriesOf, listings-are, listingsOf, marked, marks-are, rows-again, rowsOf, savedRow}
 use Rattle.saved.proofs.Numbers.{Bytes, four-forth, parts}
@@ -36,17 +36,18 @@ pub record Shape (bs : List ℕ) : Type 0 where
   pub one : u32At bs (rowPlace (contractsIn bs) (accountsIn bs) (accountsIn bs)) ≡ 1
 
 pub shape : (bs : List ℕ) → shaped bs ≡ true → Shape bs
-unfolding shaped
+unfolding shaped countsRight
 shape bs h =
     let c = contractsIn bs in
     let a = accountsIn bs in
-    let p = passed (within 1 maxContracts c) (within 1 maxAccounts a ∷ eqb (length bs) (settlementsPlace c a + 4) ∷ eqb (u32At bs (accountPlace c a)) (a * c) ∷ eqb (u32At bs (rowPlace c a a)) 1 ∷ []) h in
+    let p = passed (within 1 maxContracts c) (within 1 maxAccounts a ∷ eqb (length bs) (settlementsPlace c a + 4) ∷ countsRight bs ∷ []) h in
+    let q = both-true (eqb (u32At bs (accountPlace c a)) (a * c)) (eqb (u32At bs (rowPlace c a a)) 1) (p .1 .1 .1) in
     record {
       contracts = p .0;
       accounts = p .1 .0;
       ends = eqb-true (length bs) (settlementsPlace c a + 4) (p .1 .1 .0);
-      holdings = eqb-true (u32At bs (accountPlace c a)) (a * c) (p .1 .1 .1 .0);
-      one = eqb-true (u32At bs (rowPlace c a a)) 1 (p .1 .1 .1 .1);
+      holdings = eqb-true (u32At bs (accountPlace c a)) (a * c) (q .0);
+      one = eqb-true (u32At bs (rowPlace c a a)) 1 (q .1);
     }
 
 pub record Sound (bs : List ℕ) : Type 0 where

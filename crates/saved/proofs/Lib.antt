@@ -1,6 +1,8 @@
 pub mod Again
+pub mod Continued
 pub mod Fields
 pub mod Lists
+pub mod Loaded
 pub mod Numbers
 pub mod Reading
 pub mod Rows

@@ -18,7 +18,7 @@ use Rattle.rules.specs.declared.Trade.{Trade}
 use Rattle.mending.specs.Mend.{two, four}
 use Rattle.mending.proofs.Writing.{length-four}
 use Rattle.statements.specs.Statement.{holdingBytes, section}
-use Rattle.saved.specs.Saved.{accountBytes, accountPlace, accountsIn, contractPlace, loadedFrom, markSound, rowBytes, rowPlace, savedBytes, savedSound, settlementsPlace, shaped}
+use Rattle.saved.specs.Saved.{accountBytes, accountPlace, accountsIn, contractPlace, countsRight, loadedFrom, markSound, rowBytes, rowPlace, savedBytes, savedSound, settlementsPlace, shaped}
 use Rattle.saved.proofs.Fields.{Entry, entry, entryBytes, entryOf, holding, listing, listingBytes}
 use Rattle.saved.proofs.Lists.{accounts-again, accounts-are, accountsOf, entriesOf, listings-are, listingsOf, marked, marks-are, rowsOf}
 use Rattle.saved.proofs.Numbers.{four-behind}
@@ -187,7 +187,7 @@ module _ (x : Exchange) (s : Savable x) where
       (sym (w .no-trades)) (sym (w .next-one)) (sym (w .stamp-one)) settlements-back
 
   shaped-back : shaped file ≡ true
-  unfolding shaped
+  unfolding shaped countsRight
   shaped-back =
       rw (
         contracts-back,

@@ -56,14 +56,12 @@ savedBytes x =
 unfoldable pub asleep : Listing → Bool
 asleep l = eqb (l .contract .phase) preOpen && eqb (length (l .buys)) 0 && eqb (length (l .sells)) 0
 
-unfoldable pub totalsEqual : Exchange → ℕ → Bool
-totalsEqual x c =
-    eqb
-    (sumOf (λ a. getD (a .holdings) c noHolding .long) (x .accounts))
-    (sumOf (λ a. getD (a .holdings) c noHolding .short) (x .accounts))
+unfoldable pub totalsEqual : List Account → ℕ → Bool
+totalsEqual accounts c =
+    eqb (sumOf (λ a. getD (a .holdings) c noHolding .long) accounts) (sumOf (λ a. getD (a .holdings) c noHolding .short) accounts)
 
 unfoldable pub allEqual : Exchange → Bool
-allEqual x = all (totalsEqual x) (length (x .listings))
+allEqual x = all (totalsEqual (x .accounts)) (length (x .listings))
 
 unfoldable pub writable : Exchange → Bool
 writable x =
@@ -145,14 +143,19 @@ loadedFrom bs =
 
 -- ---- "20 for a broken file or a state not well formed (room of areas aside)"
 
--- the counts are in range, the holdings' is accounts times contracts and the last is 1, and the settlement count ends the file
+-- the holdings' count is accounts times contracts, and the last section's is 1
+unfoldable pub countsRight : List ℕ → Bool
+countsRight bs =
+    eqb (u32At bs (accountPlace (contractsIn bs) (accountsIn bs))) (accountsIn bs * contractsIn bs)
+    && eqb (u32At bs (rowPlace (contractsIn bs) (accountsIn bs) (accountsIn bs))) 1
+
+-- the settlement count ends the file
 unfoldable pub shaped : List ℕ → Bool
 shaped bs =
     within 1 maxContracts (contractsIn bs)
     && within 1 maxAccounts (accountsIn bs)
     && eqb (length bs) (settlementsPlace (contractsIn bs) (accountsIn bs) + 4)
-    && eqb (u32At bs (accountPlace (contractsIn bs) (accountsIn bs))) (accountsIn bs * contractsIn bs)
-    && eqb (u32At bs (rowPlace (contractsIn bs) (accountsIn bs) (accountsIn bs))) 1
+    && countsRight bs
 
 -- "maker mark 1, its value 0 or 1"
 unfoldable pub markSound : List ℕ → ℕ → Bool

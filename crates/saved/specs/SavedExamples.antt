@@ -23,7 +23,7 @@ use Rattle.rules.specs.declared.Holding.{Holding}
 use Rattle.rules.specs.declared.State.{State}
 use Rattle.mending.specs.Mend.{two, four, eight}
 use Rattle.statements.specs.Statement.{holdingBytes, unsigned}
-use Rattle.saved.specs.Saved.{accountBytes, accountsIn, allEqual, asleep, contractBytes, loadedAccount, loadedFrom, loadedInto, loadedListing, loadedState, markSound, readCode, rowBytes, savedAccount, savedBytes, savedContract, savedHolding, savedSound, shaped, signedOf, totalsEqual, writable, writeCode}
+use Rattle.saved.specs.Saved.{accountBytes, accountsIn, allEqual, asleep, contractBytes, countsRight, loadedAccount, loadedFrom, loadedInto, loadedListing, loadedState, markSound, readCode, rowBytes, savedAccount, savedBytes, savedContract, savedHolding, savedSound, shaped, signedOf, totalsEqual, writable, writeCode}
 
 -- ---- the state
 
@@ -140,7 +140,7 @@ unfolding write-codes terms holders all allOf sumOf tabulate decode encode recor
 write-example = refl
 
 pub read-example : read-codes ≡ 0 ∷ 0 ∷ 20 ∷ 20 ∷ 20 ∷ 20 ∷ 20 ∷ 20 ∷ 30 ∷ 29 ∷ 30 ∷ []
-unfolding read-codes terms holders fileOf all allOf sumOf tabulate decode records onTick tickMultiple termsInRange u8At u16At u32At u64At contractsIn contractFrom accountAt holdingAt listingAt lotsWhere resting bookTrades neverBelowZero startOfDay sameLots sameHoldings contractInRange countersInRange sorted uncrossed listingInRange listed allListed usedOnce replays holdingInRange holdingsInRange balanceInRange wellFormedContents hasRoom putAccounts putState signedOf savedContract savedHolding savedAccount accountsIn loadedListing loadedAccount loadedFrom shaped markSound savedSound totalsEqual allEqual loadedState firstOf readCode
+unfolding read-codes terms holders fileOf all allOf sumOf tabulate decode records onTick tickMultiple termsInRange u8At u16At u32At u64At contractsIn contractFrom accountAt holdingAt listingAt lotsWhere resting bookTrades neverBelowZero startOfDay sameLots sameHoldings contractInRange countersInRange sorted uncrossed listingInRange listed allListed usedOnce replays holdingInRange holdingsInRange balanceInRange wellFormedContents hasRoom putAccounts putState signedOf savedContract savedHolding savedAccount accountsIn loadedListing loadedAccount loadedFrom countsRight shaped markSound savedSound totalsEqual allEqual loadedState firstOf readCode
 read-example = refl
 
 -- ---- the state after reading: the second contract's places and counts stay as they were
