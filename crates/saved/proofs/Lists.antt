@@ -73,7 +73,7 @@ rows-again (o ∷ es) (r ∷ rows) e = ap (λ (l : List (List Holding)). r ∷ l
 
 -- ---- the file's lists
 
-allOf-table : {A : Type 0} (p : A → Bool) (n : ℕ) (f : ℕ → A) → allOf p (tabulate n f) ≡ all (λ i. p (f i)) n
+pub allOf-table : {A : Type 0} (p : A → Bool) (n : ℕ) (f : ℕ → A) → allOf p (tabulate n f) ≡ all (λ i. p (f i)) n
 allOf-table p n f =
     allOf-all p (tabulate n f) (f 0)
     ∙ ap (all (λ i. p (getD (tabulate n f) i (f 0)))) (length-tabulate n f)

@@ -1,0 +1,4 @@
+pub mod AddedUp
+pub mod Sections
+pub mod Shapes
+pub mod Signs

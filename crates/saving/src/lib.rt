@@ -82,7 +82,8 @@ pub fn read_state(file: &[u8], state: State, buys: &[u32], sells: &[u32], trades
     if !is_formed(loaded) {
         return Loaded { code: 20, state };
     }
-    if !totals::all_equal(loaded.accounts, accounts, contracts) {
+    let holders = loaded.accounts;
+    if !totals::all_equal(holders, accounts, contracts) {
         return Loaded { code: 30, state };
     }
     // well formed with room aside: what is missing is room

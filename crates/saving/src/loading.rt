@@ -16,6 +16,7 @@ use rules::Account;
 use rules::Contract;
 use rules::Holding;
 use rules::State;
+use settlement::reopen::no_orders;
 
 // the day file's contract, with its own last price
 fn contract_from(file: &[u8], at: usize) -> Contract
@@ -39,20 +40,6 @@ fn contracts_over(
     let mut c: usize = 0;
     while c < n {
         list[c] = contract_from(file, 4 + 24 * c);
-        c += 1;
-    }
-    list
-}
-
-// no orders in the contracts in use
-fn none_over(n: usize, places: [usize; rules::MAX_CONTRACTS]) -> [usize; rules::MAX_CONTRACTS]
-    requires { ⌜ n ≤ 4 ⌝ }
-    ensures { λ r. ⌜ r ≡ written (λ c. 0) places n ⌝ }
-{
-    let mut list = places;
-    let mut c: usize = 0;
-    while c < n {
-        list[c] = 0;
         c += 1;
     }
     list
@@ -145,10 +132,14 @@ pub fn loaded_state(file: &[u8], contracts: usize, accounts: usize, state: State
     requires { ⌜ Laid (now file) contracts accounts ⌝ }
     ensures { λ r. ⌜ r ≡ loadedState state (loadedFrom (now (file .entry))) ⌝ }
 {
-    let terms = contracts_over(file, contracts, state.contracts);
-    let holders = accounts_over(file, contracts, accounts, state.accounts);
-    let buys = none_over(contracts, state.buys);
-    let sells = none_over(contracts, state.sells);
+    let old_terms = state.contracts;
+    let old_holders = state.accounts;
+    let old_buys = state.buys;
+    let old_sells = state.sells;
+    let terms = contracts_over(file, contracts, old_terms);
+    let holders = accounts_over(file, contracts, accounts, old_holders);
+    let buys = no_orders(old_buys, contracts);
+    let sells = no_orders(old_sells, contracts);
     let settlements = u32_at(file, file.len() - 4);
     State {
         contracts: terms,

@@ -8,6 +8,13 @@ ghost use Rattle.saving.specs.Parts.{asleepAt, stateWritable};
 use rules::Account;
 use rules::State;
 
+// A cast as a call, which says how large the number is.
+fn wide(x: u32) -> u64
+    ensures { λ r. ⌜ (r ≡ x) × (r < 4294967296) ⌝ }
+{
+    x as u64
+}
+
 // "its long and short totals are equal"
 fn totals_equal(list: [Account; rules::MAX_ACCOUNTS], accounts: usize, c: usize) -> bool
     requires { ⌜ (accounts ≤ 32) × (c < 4) ⌝ }
@@ -19,8 +26,8 @@ fn totals_equal(list: [Account; rules::MAX_ACCOUNTS], accounts: usize, c: usize)
     while a < accounts {
         let holder = list[a];
         let h = holder.holdings[c];
-        long += laws::wide32(h.long);
-        short += laws::wide32(h.short);
+        long += wide(h.long);
+        short += wide(h.short);
         a += 1;
     }
     long == short
