@@ -1,5 +1,5 @@
 -- A contract's long and short lots added up, account by account, and a state's contracts found asleep one by one. Assumes nothing.
-use mathlib.Core.Bool.{Bool, true, false, _&&_}
+use mathlib.Core.Bool.{true, false, _&&_}
 use mathlib.Core.List.{List}
 use mathlib.Core.Path.{_≡_, refl, sym, ap, ap₂, _∙_}
 use Prim.Native.Nat.{ℕ, _+_, _*_, _≤_, _<_}
@@ -9,9 +9,11 @@ use lib.ListN.{length, getD, take}
 use borrow.Author.Tests.{eq-eqb, ne-eqb}
 use Rattle.laws.specs.Choice.{both-false, false-both}
 use Rattle.laws.specs.Sums.{sumOf, sumOf-more}
-use Rattle.rules.specs.Exchange.{noAccount, noHolding}
+use Rattle.rules.specs.Exchange.{noAccount, noContract, noHolding}
 use Rattle.rules.specs.declared.Account.{Account}
+use Rattle.rules.specs.declared.State.{State}
 use Rattle.saved.specs.Saved.{totalsEqual}
+use Rattle.saving.specs.Parts.{asleepAt}
 
 module _ (list : List Account) (accounts c : ℕ) where
   abbrev longOf : Account → ℕ
@@ -50,20 +52,26 @@ module _ (list : List Account) (accounts c : ℕ) where
       let e : a ≡ accounts = omega (arith, s .within) in
       ap₂ eqb (s .long-is ∙ ap (λ (k : ℕ). sumOf longOf (take k list)) e) (s .short-is ∙ ap (λ (k : ℕ). sumOf shortOf (take k list)) e)
 
--- ---- a contract in pre-open without orders: three numbers that are 0
+-- ---- a contract in pre-open without orders
 
-module _ (phase buys sells : ℕ) where
-  abbrev allZero : Bool
-  allZero = eqb phase 0 && eqb buys 0 && eqb sells 0
+module _ (s : State) (c : ℕ) where
+  abbrev phase : ℕ
+  phase = getD (s .contracts) c noContract .phase
 
-  pub not-pre-open : (phase ≡ 0 → ⊥) → allZero ≡ false
+  abbrev buys : ℕ
+  buys = getD (s .buys) c 0
+
+  abbrev sells : ℕ
+  sells = getD (s .sells) c 0
+
+  pub not-pre-open : (phase ≡ 0 → ⊥) → asleepAt s c ≡ false
   not-pre-open d = false-both (eqb phase 0 && eqb buys 0) (eqb sells 0) (false-both (eqb phase 0) (eqb buys 0) (ne-eqb phase 0 d))
 
-  pub some-buys : (buys ≡ 0 → ⊥) → allZero ≡ false
+  pub some-buys : (buys ≡ 0 → ⊥) → asleepAt s c ≡ false
   some-buys d = false-both (eqb phase 0 && eqb buys 0) (eqb sells 0) (both-false (eqb phase 0) (eqb buys 0) (ne-eqb buys 0 d))
 
-  pub some-sells : (sells ≡ 0 → ⊥) → allZero ≡ false
+  pub some-sells : (sells ≡ 0 → ⊥) → asleepAt s c ≡ false
   some-sells d = both-false (eqb phase 0 && eqb buys 0) (eqb sells 0) (ne-eqb sells 0 d)
 
-  pub all-zero : phase ≡ 0 → buys ≡ 0 → sells ≡ 0 → allZero ≡ true
-  all-zero e f g = rw (eq-eqb phase 0 e, eq-eqb buys 0 f, eq-eqb sells 0 g)
+  pub is-asleep : phase ≡ 0 → buys ≡ 0 → sells ≡ 0 → asleepAt s c ≡ true
+  is-asleep e f g = rw (eq-eqb phase 0 e, eq-eqb buys 0 f, eq-eqb sells 0 g)

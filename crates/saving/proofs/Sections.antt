@@ -13,16 +13,17 @@ use Rattle.rules.specs.declared.Contract.{Contract}
 use Rattle.lines.specs.Written.{Written}
 use Rattle.lines.proofs.Text.{then}
 use Rattle.mending.specs.Mend.{two, four, eight}
+use Rattle.mending.proofs.Writing.{length-four}
 use Rattle.statements.specs.Statement.{section, unsigned}
 use Rattle.statements.proofs.Sections.{exact}
 use Rattle.saved.specs.Saved.{accountBytes, contractBytes}
 
 -- ---- one part after another
 
-module _ (xs ys : List ℕ) where
-  pub first-room : (at room : ℕ) → at + length (xs ++ ys) ≤ room → at + length xs ≤ room
-  first-room at room h = omega (arith, length-append xs ys)
+pub count-room : (n : ℕ) (ys : List ℕ) (at room : ℕ) → at + length (section n ys) ≤ room → at + 4 ≤ room
+count-room n ys at room h = omega (arith, length-append (four n) ys, length-four n)
 
+module _ (xs ys : List ℕ) where
   module _ {before after : List ℕ} {most at next : ℕ} (w : Written most before at xs after next) where
     pub second-room : at + length (xs ++ ys) ≤ length before → next + length ys ≤ length after
     second-room h = omega (arith, length-append xs ys, w .ends, w .kept)

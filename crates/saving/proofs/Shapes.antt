@@ -118,7 +118,7 @@ module _ (bs : List ℕ) (c a : ℕ) (l : Laid bs c a) where
     one-decides h m q =
         let p : length bs - 8 ≡ rowPlace c a a = omega (arith, l .ends) in
         let t : holdingsRight ≡ true = eq-eqb _ _ (read-there ∙ h ∙ sym product) in
-        ap (λ (k : ℕ). eqb k 1) (q ∙ ap (u32At bs) (p ∙ sym one-place)) ∙ sym (ap (λ (b : Bool). b && _) t)
+        ap (λ (k : ℕ). eqb k 1) (q ∙ ap (u32At bs) (p ∙ sym one-place)) ∙ sym (ap (λ (b : Bool). b && eqb (u32At bs (rowPlace (contractsIn bs) (accountsIn bs) (accountsIn bs))) 1) t)
 
   -- a mark stands eight bytes behind its account's first byte
   module _ (first i n : ℕ) (p : first ≡ 16 + 24 * c) (e : n ≡ u8At bs (first + 9 * i)) where

@@ -121,7 +121,7 @@ fn accounts_over(
     let mut list = places;
     let mut a: usize = 0;
     while a < accounts {
-        let room = list[a];
+        let room = places[a];
         list[a] = account_over(file, first + 9 * a, rows + wide * a, contracts, room);
         a += 1;
     }

@@ -1,3 +1,9 @@
+-- `loading::account_over` meets its contract. Assumes nothing.
+use mathlib.Core.Path.{ap, _∙_}
+use mir.Facts.{toZ-ofZ}
+use mir.Syntax.{w64}
+use Rattle.saved.specs.Saved.{signedOf}
+use Rattle.saving.proofs.Placed.{account-made}
 use borrow.Author.Needs.{needs}
 use Rattle.saving.proofs.loading.account_over.Statement.{statement}
 use Rattle.saving.proofs.loading.account_over.Tie as tie
@@ -8,29 +14,23 @@ use Rattle.dayfile.proofs.bytes.u8_at.Reads as u8-at-reads
 use Rattle.saving.proofs.loading.holdings_over.Reads as holdings-over-reads
 use Rattle.saving.proofs.loading.signed.Reads as signed-reads
 
--- src/loading.rt:98:26
 u64-at-requires : tie.Need-u64-at-requires
 u64-at-requires c κs = search needs
 
--- src/loading.rt:98:9
 signed-requires : tie.Need-signed-requires
 signed-requires c κs = search needs
 
--- src/loading.rt:99:28
 add-u8-at : tie.Need-add-u8-at
 add-u8-at c = search needs
 
--- src/loading.rt:99:9
 u8-at-requires : tie.Need-u8-at-requires
 u8-at-requires c κs = search needs
 
--- src/loading.rt:101:9
 holdings-over-requires : tie.Need-holdings-over-requires
 holdings-over-requires c κs = search needs
 
--- src/loading.rt:94:1
 returns : tie.Need-returns
-returns c = ?
+returns c = account-made _ _ _ _ (c .before .before .before .before .before .before .args .room) (toZ-ofZ {w = w64} (record { sfits = c .before .before .before .signed .ok }) ∙ c .before .before .before .signed .ensures ∙ ap signedOf (c .before .before .before .before .u64-at .ensures)) (c .before .before .u8-at .ensures) (c .holdings-over .ensures)
 
 pub account-over-spec : {M : Type 1} → statement M
 account-over-spec =

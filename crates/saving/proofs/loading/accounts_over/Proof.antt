@@ -5,10 +5,10 @@ use Rattle.saving.proofs.loading.accounts_over.Lts as lts
 use Rattle.saving.proofs.loading.account_over.Reads as account-over-reads
 
 abbrev Inv-loop : tie.InvT-loop
-Inv-loop file contracts accounts first rows wide list₀ a₀ list a = ?
+Inv-loop file contracts accounts places first rows wide list₀ a₀ list a = ?
 
 abbrev μ-loop : tie.MeasureT-loop
-μ-loop file contracts accounts first rows wide list₀ a₀ list a = ?
+μ-loop file contracts accounts places first rows wide list₀ a₀ list a = ?
 
 -- src/loading.rt:118:21
 mul-first : tie.Need-mul-first Inv-loop μ-loop

@@ -1,3 +1,6 @@
+-- `writing::put_account_section` meets its contract. Assumes nothing.
+use Rattle.saving.specs.Parts.{accountRow}
+use Rattle.saving.proofs.Sections.{both-written, count-room, second-room}
 use borrow.Author.Needs.{needs}
 use Rattle.saving.proofs.writing.put_account_section.Statement.{statement}
 use Rattle.saving.proofs.writing.put_account_section.Tie as tie
@@ -6,25 +9,20 @@ use Rattle.saving.proofs.writing.put_account_section.Lts as lts
 use Rattle.mending.proofs.bytes.put_u32.Reads as put-u32-reads
 use Rattle.saving.proofs.writing.put_accounts.Reads as put-accounts-reads
 
--- src/writing.rt:112:33
 cast-put-u32 : tie.Need-cast-put-u32
 cast-put-u32 c = search needs
 
--- src/writing.rt:112:9
 put-u32-requires : tie.Need-put-u32-requires
-put-u32-requires c κs = ?
+put-u32-requires c κs = count-room (c .before .before .args .n) (accountRow (c .before .before .args .list) (c .before .before .args .n)) _ _ (c .before .before .pre .1)
 
--- src/writing.rt:113:5
 put-accounts-requires : tie.Need-put-accounts-requires
-put-accounts-requires c κs = ?
+put-accounts-requires c κs = (c .before .before .before .before .before .before .pre .0, second-room _ _ (c .before .before .before .put-u32 .ensures) (c .before .before .before .before .before .before .pre .1))
 
--- src/writing.rt:103:1
 same-length : tie.Need-same-length
 same-length c = search needs
 
--- src/writing.rt:103:1
 returns : tie.Need-returns
-returns c = ?
+returns c = both-written _ _ (c .before .before .before .before .before .before .put-u32 .ensures) (c .before .before .put-accounts .ensures)
 
 pub put-account-section-spec : {M : Type 1} → statement M
 put-account-section-spec =
