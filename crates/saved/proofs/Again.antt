@@ -112,7 +112,7 @@ module _ (bs : List ℕ) where
   unfolding loadedFrom
   loaded-settlements = refl
 
-  loaded-start : (length (loadedFrom bs .trades) ≡ 0) × ((loadedFrom bs .next ≡ 1) × (loadedFrom bs .nextstamp ≡ 1))
+  pub loaded-start : (length (loadedFrom bs .trades) ≡ 0) × ((loadedFrom bs .next ≡ 1) × (loadedFrom bs .nextstamp ≡ 1))
   unfolding loadedFrom
   loaded-start = (refl, (refl, refl))
 
@@ -170,7 +170,7 @@ module _ (bs : List ℕ) where
 
   -- ---- a sound file's state is one that can be saved
 
-  loaded-asleep : allOf asleep (loadedFrom bs .listings) ≡ true
+  pub loaded-asleep : allOf asleep (loadedFrom bs .listings) ≡ true
   loaded-asleep = ap (allOf asleep) (listings-are bs) ∙ records-all 24 listingFrom asleep still bs 4 c
 
   pub loaded-places : allOf (λ o. eqb (length (o .holdings)) (length (loadedFrom bs .listings))) (loadedFrom bs .accounts) ≡ true

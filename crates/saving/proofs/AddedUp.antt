@@ -1,5 +1,5 @@
 -- A contract's long and short lots added up, account by account, and a state's contracts found asleep one by one. Assumes nothing.
-use mathlib.Core.Bool.{true, false, _&&_}
+use mathlib.Core.Bool.{Bool, true, false, _&&_}
 use mathlib.Core.List.{List}
 use mathlib.Core.Path.{_≡_, refl, sym, ap, ap₂, _∙_}
 use Prim.Native.Nat.{ℕ, _+_, _*_, _≤_, _<_}
@@ -7,13 +7,13 @@ use native.Mathlib.Omega.{arith}
 use lib.Dec.{eqb}
 use lib.ListN.{length, getD, take}
 use borrow.Author.Tests.{eq-eqb, ne-eqb}
-use Rattle.laws.specs.Choice.{both-false, false-both}
+use Rattle.laws.specs.Choice.{all, both-false, false-both}
 use Rattle.laws.specs.Sums.{sumOf, sumOf-more}
 use Rattle.rules.specs.Exchange.{noAccount, noContract, noHolding}
 use Rattle.rules.specs.declared.Account.{Account}
 use Rattle.rules.specs.declared.State.{State}
 use Rattle.saved.specs.Saved.{totalsEqual}
-use Rattle.saving.specs.Parts.{asleepAt}
+use Rattle.saving.specs.Parts.{asleepAt, stateWritable}
 
 module _ (list : List Account) (accounts c : ℕ) where
   abbrev longOf : Account → ℕ
@@ -75,3 +75,37 @@ module _ (s : State) (c : ℕ) where
 
   pub is-asleep : phase ≡ 0 → buys ≡ 0 → sells ≡ 0 → asleepAt s c ≡ true
   is-asleep e f g = rw (eq-eqb phase 0 e, eq-eqb buys 0 f, eq-eqb sells 0 g)
+
+-- ---- a state that may be written
+
+module _ (s : State) where
+  abbrev asleepAll : Bool
+  asleepAll = all (asleepAt s) (s .contractcount)
+
+  abbrev equalAll : Bool
+  equalAll = all (totalsEqual (take (s .accountcount) (s .accounts))) (s .contractcount)
+
+  pub not-asleep : asleepAll ≡ false → false ≡ stateWritable s
+  unfolding stateWritable
+  not-asleep h = rw h
+
+  pub not-equal : equalAll ≡ false → false ≡ stateWritable s
+  unfolding stateWritable
+  not-equal h =
+      sym (false-both (asleepAll && equalAll && eqb (s .tradecount) 0 && eqb (s .next) 1) (eqb (s .nextstamp) 1)
+      (false-both (asleepAll && equalAll && eqb (s .tradecount) 0) (eqb (s .next) 1)
+      (false-both (asleepAll && equalAll) (eqb (s .tradecount) 0) (both-false asleepAll equalAll h))))
+
+  module _ (e : asleepAll ≡ true) (f : equalAll ≡ true) where
+    pub some-trades : (s .tradecount ≡ 0 → ⊥) → false ≡ stateWritable s
+    unfolding stateWritable
+    some-trades d = rw (e, f, ne-eqb (s .tradecount) 0 d)
+
+    module _ (g : s .tradecount ≡ 0) where
+      pub next-given : (s .next ≡ 1 → ⊥) → false ≡ stateWritable s
+      unfolding stateWritable
+      next-given d = rw (e, f, eq-eqb (s .tradecount) 0 g, ne-eqb (s .next) 1 d)
+
+      pub stamp-decides : s .next ≡ 1 → eqb (s .nextstamp) 1 ≡ stateWritable s
+      unfolding stateWritable
+      stamp-decides h = rw (e, f, eq-eqb (s .tradecount) 0 g, eq-eqb (s .next) 1 h)

@@ -1,6 +1,6 @@
 -- A state's bytes written section by section. Assumes nothing.
 use mathlib.Core.List.{List, [], _∷_, _++_}
-use mathlib.Core.Path.{_≡_, refl, sym, ap, _∙_}
+use mathlib.Core.Path.{_≡_, refl, ap, _∙_}
 use Prim.Native.Nat.{ℕ, _+_, _*_, _≤_, _<_}
 use native.Mathlib.Nat.{mul-le-mul}
 use native.Mathlib.Omega.{arith}
@@ -10,6 +10,7 @@ use Rattle.laws.specs.Choice.{pick}
 use Rattle.areas.specs.Lists.{over}
 use Rattle.rules.specs.declared.Account.{Account}
 use Rattle.rules.specs.declared.Contract.{Contract}
+use Rattle.rules.specs.declared.State.{State}
 use Rattle.lines.specs.Written.{Written}
 use Rattle.lines.proofs.Text.{then}
 use Rattle.mending.specs.Mend.{two, four, eight}
@@ -17,6 +18,7 @@ use Rattle.mending.proofs.Writing.{length-four}
 use Rattle.statements.specs.Statement.{section, unsigned}
 use Rattle.statements.proofs.Sections.{exact}
 use Rattle.saved.specs.Saved.{accountBytes, contractBytes}
+use Rattle.saving.specs.Parts.{accountSection, contractSection, holdingSection, stateBytes}
 
 -- ---- one part after another
 
@@ -64,11 +66,25 @@ pub length-account : (a : Account) → length (accountBytes a) ≡ 9
 unfolding accountBytes eight four two
 length-account a = refl
 
--- ---- four sections
+-- ---- the four sections of a state
 
-module _ (A B C D out : List ℕ) (room : length (A ++ (B ++ (C ++ D))) ≤ length out) where
-  size : length (A ++ (B ++ (C ++ D))) ≡ length A + length B + length C + length D
-  size = simp length-append (omega arith)
+module _ (s : State) (out : List ℕ) (room : length (stateBytes s) ≤ length out) where
+  abbrev A : List ℕ
+  A = contractSection (s .contracts) (s .contractcount)
+
+  abbrev B : List ℕ
+  B = accountSection (s .accounts) (s .accountcount)
+
+  abbrev C : List ℕ
+  C = holdingSection (s .accounts) (s .accountcount) (s .contractcount)
+
+  abbrev D : List ℕ
+  D = section 1 (four (s .settlements))
+
+  size : length (stateBytes s) ≡ length A + (length B + (length C + length D))
+  size =
+      length-append A (B ++ (C ++ D))
+      ∙ ap (λ (n : ℕ). length A + n) (length-append B (C ++ D) ∙ ap (λ (n : ℕ). length B + n) (length-append C D))
 
   pub room-first : 0 + length A ≤ length out
   room-first = omega (arith, size)
@@ -82,8 +98,8 @@ module _ (A B C D out : List ℕ) (room : length (A ++ (B ++ (C ++ D))) ≤ leng
       room-third = omega (arith, size, w₁ .ends, w₁ .kept, w₂ .ends, w₂ .kept)
 
       module _ {o₃ : List ℕ} {p₃ : ℕ} (w₃ : Written (length C) o₂ p₂ C o₃ p₃) where
-        pub room-last : p₃ + length D ≤ length o₃
-        room-last = omega (arith, size, w₁ .ends, w₁ .kept, w₂ .ends, w₂ .kept, w₃ .ends, w₃ .kept)
+        pub room-last : p₃ + 8 ≤ length o₃
+        room-last = omega (arith, size, w₁ .ends, w₁ .kept, w₂ .ends, w₂ .kept, w₃ .ends, w₃ .kept, length-append (four 1) (four (s .settlements)), length-four 1, length-four (s .settlements))
 
-        pub all-written : {most p₄ : ℕ} {o₄ : List ℕ} → Written most o₃ p₃ D o₄ p₄ → o₄ ≡ over out 0 (A ++ (B ++ (C ++ D)))
+        pub all-written : {p₄ : ℕ} {o₄ : List ℕ} → Written 8 o₃ p₃ D o₄ p₄ → o₄ ≡ over out 0 (stateBytes s)
         all-written w₄ = then w₁ (then w₂ (then w₃ w₄)) .content

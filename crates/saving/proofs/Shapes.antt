@@ -81,6 +81,12 @@ module _ (bs : List ℕ) (c a n : ℕ) (e : c ≡ contractsIn bs) (f : a ≡ acc
         }))
 
 -- a file that passed
+pub shaped-long : (bs : List ℕ) → shaped bs ≡ true → 4 ≤ length bs
+shaped-long bs h = omega (arith, lengths bs h .ends)
+
+pub count-ready : (bs : List ℕ) (c : ℕ) → c ≡ contractsIn bs → shaped bs ≡ true → (c ≡ contractsIn bs) × (c ≤ 4) × (8 + 24 * c ≤ length bs)
+count-ready bs c e h = let l = lengths bs h in (e, omega (arith, e, l .few-contracts), omega (arith, e, l .ends))
+
 pub shaped-laid : (bs : List ℕ) (c a : ℕ) → c ≡ contractsIn bs → a ≡ accountsIn bs → shaped bs ≡ true → Laid bs c a
 shaped-laid bs c a e f h =
     let l = lengths bs h in

@@ -36,7 +36,7 @@ accountSection list n = section n (accountRow list n)
 abbrev pub holdingSection : List Account → ℕ → ℕ → List ℕ
 holdingSection list n contracts = section (n * contracts) (accountsBytes list n contracts)
 
-unfoldable pub stateBytes : State → List ℕ
+abbrev pub stateBytes : State → List ℕ
 stateBytes s =
     contractSection (s .contracts) (s .contractcount)
     ++ (accountSection (s .accounts) (s .accountcount)

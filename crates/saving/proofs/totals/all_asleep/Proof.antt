@@ -40,13 +40,13 @@ element-copy-out-asks : tie.Need-element-copy-out-asks Inv-loop μ-loop
 element-copy-out-asks c = omega arith
 
 returns : tie.Need-returns Inv-loop μ-loop
-returns c = sym (all-stop _ _ _ (c .before .before .before .before .before .loop-test .taken) (not-pre-open _ _ (c .if1 .taken)))
+returns c = sym (all-stop _ _ _ (c .before .before .before .before .before .loop-test .taken) (not-pre-open (c .before .before .before .before .before .before .before .args .t1) (c .before .before .before .before .before .before .loop .c) (c .if1 .taken)))
 
 returns-2 : tie.Need-returns-2 Inv-loop μ-loop
-returns-2 c = sym (all-stop _ _ _ (c .before .before .before .before .before .before .loop-test .taken) (some-buys _ _ (c .if2 .taken)))
+returns-2 c = sym (all-stop _ _ _ (c .before .before .before .before .before .before .loop-test .taken) (some-buys (c .before .before .before .before .before .before .before .before .args .t1) (c .before .before .before .before .before .before .before .loop .c) (c .if2 .taken)))
 
 returns-3 : tie.Need-returns-3 Inv-loop μ-loop
-returns-3 c = sym (all-stop _ _ _ (c .before .before .before .before .before .before .before .loop-test .taken) (some-sells _ _ (c .if3 .taken)))
+returns-3 c = sym (all-stop _ _ _ (c .before .before .before .before .before .before .before .loop-test .taken) (some-sells (c .before .before .before .before .before .before .before .before .before .args .t1) (c .before .before .before .before .before .before .before .before .loop .c) (c .if3 .taken)))
 
 add-c : tie.Need-add-c Inv-loop μ-loop
 add-c c = omega arith
@@ -55,7 +55,7 @@ loop-less : tie.Need-loop-less Inv-loop μ-loop
 loop-less c = omega arith
 
 loop-again : tie.Need-loop-again Inv-loop μ-loop
-loop-again c = (omega arith, all-more _ _ (c .before .before .before .before .before .before .before .before .loop .inv .1) (is-asleep _ _ (c .before .before .if1 .left) (c .before .if2 .left) (c .if3 .left)))
+loop-again c = (omega arith, all-more _ _ (c .before .before .before .before .before .before .before .before .loop .inv .1) (is-asleep (c .before .before .before .before .before .before .before .before .before .args .t1) (c .before .before .before .before .before .before .before .before .loop .c) (c .before .before .if1 .left) (c .before .if2 .left) (c .if3 .left)))
 
 returns-4 : tie.Need-returns-4 Inv-loop μ-loop
 returns-4 c = all-end _ (c .before .loop .inv .1) (c .before .loop .inv .0) (c .loop-test .left)

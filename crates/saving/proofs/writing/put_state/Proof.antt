@@ -1,3 +1,5 @@
+-- `writing::put_state` meets its contract: the four sections. Assumes nothing.
+use Rattle.saving.proofs.Sections.{all-written, room-first, room-last, room-second, room-third}
 use borrow.Author.Needs.{needs}
 use Rattle.saving.proofs.writing.put_state.Statement.{statement}
 use Rattle.saving.proofs.writing.put_state.Tie as tie
@@ -8,29 +10,23 @@ use Rattle.saving.proofs.writing.put_contract_section.Reads as put-cont
 use Rattle.saving.proofs.writing.put_holding_section.Reads as put-holding-section-reads
 use Rattle.saving.proofs.writing.put_settlements.Reads as put-settlements-reads
 
--- src/writing.rt:148:9
 put-contract-section-requires : tie.Need-put-contract-section-requires
-put-contract-section-requires c κs = ?
+put-contract-section-requires c κs = ((c .before .before .before .before .pre .contracts, room-first (c .before .before .before .before .args .state) (c .before .before .before .before .args .out .now) (c .before .before .before .before .pre .room)), c .before .before .before .before .pre .short)
 
--- src/writing.rt:149:9
 put-account-section-requires : tie.Need-put-account-section-requires
-put-account-section-requires c κs = ?
+put-account-section-requires c κs = (c .before .before .before .before .before .before .before .before .pre .accounts, room-second (c .before .before .before .before .before .before .before .before .args .state) (c .before .before .before .before .before .before .before .before .args .out .now) (c .before .before .before .before .before .before .before .before .pre .room) (c .before .before .before .put-contract-section .ensures))
 
--- src/writing.rt:150:9
 put-holding-section-requires : tie.Need-put-holding-section-requires
-put-holding-section-requires c κs = ?
+put-holding-section-requires c κs = (c .before .before .before .before .before .before .before .before .before .before .before .before .pre .accounts, c .before .before .before .before .before .before .before .before .before .before .before .before .pre .contracts, room-third (c .before .before .before .before .before .before .before .before .before .before .before .before .args .state) (c .before .before .before .before .before .before .before .before .before .before .before .before .args .out .now) (c .before .before .before .before .before .before .before .before .before .before .before .before .pre .room) (c .before .before .before .before .before .before .before .put-contract-section .ensures) (c .before .before .before .put-account-section .ensures))
 
--- src/writing.rt:151:5
 put-settlements-requires : tie.Need-put-settlements-requires
-put-settlements-requires c κs = ?
+put-settlements-requires c κs = room-last (c .before .before .before .before .before .before .before .before .before .before .before .before .before .before .before .before .args .state) (c .before .before .before .before .before .before .before .before .before .before .before .before .before .before .before .before .args .out .now) (c .before .before .before .before .before .before .before .before .before .before .before .before .before .before .before .before .pre .room) (c .before .before .before .before .before .before .before .before .before .before .before .put-contract-section .ensures) (c .before .before .before .before .before .before .before .put-account-section .ensures) (c .before .before .before .put-holding-section .ensures)
 
--- src/writing.rt:140:1
 same-length : tie.Need-same-length
 same-length c = search needs
 
--- src/writing.rt:140:1
 returns : tie.Need-returns
-returns c = ?
+returns c = all-written (c .before .before .before .before .before .before .before .before .before .before .before .before .before .before .before .before .before .before .before .args .state) (c .before .before .before .before .before .before .before .before .before .before .before .before .before .before .before .before .before .before .before .args .out .now) (c .before .before .before .before .before .before .before .before .before .before .before .before .before .before .before .before .before .before .before .pre .room) (c .before .before .before .before .before .before .before .before .before .before .before .before .before .before .put-contract-section .ensures) (c .before .before .before .before .before .before .before .before .before .before .put-account-section .ensures) (c .before .before .before .before .before .before .put-holding-section .ensures) (c .before .before .put-settlements .ensures)
 
 pub put-state-spec : {M : Type 1} → statement M
 put-state-spec =
