@@ -1,6 +1,6 @@
 -- CONTINUE TOMORROW: a list of commands, the state that it leaves written, read again into another memory, and a second list there give
 -- the answers and the state in use of both lists in one run; and condition 3 of each gives condition 3 of both. Assumes nothing.
-use mathlib.Core.Bool.{Bool, true}
+use mathlib.Core.Bool.{true}
 use mathlib.Core.List.{List, [], _∷_, _++_}
 use mathlib.Core.Path.{_≡_, refl, sym, subst⁻¹, ap, _∙_}
 use Prim.Native.Nat.{ℕ, _+_, _≤_, _<_}
@@ -9,7 +9,7 @@ use lib.Dec.{eqb}
 use lib.IntN.{ℤ, pos, _+ℤ_}
 use lib.ListN.{length, getD}
 use borrow.Author.Tests.{eq-eqb, eqb-true, le-ltb}
-use Rattle.laws.specs.Choice.{all-at, allOf, allOf-true}
+use Rattle.laws.specs.Choice.{all-at, allOf-true}
 use Rattle.laws.specs.Sums.{sumOf, sumTo, sumTo-first}
 use Rattle.rules.specs.Answers.{firstOf}
 use Rattle.rules.specs.Bounds.{maxAccounts, maxContracts}

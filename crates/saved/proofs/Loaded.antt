@@ -1,11 +1,11 @@
 -- A state without orders or trades put into memory: what is in use there is that state, and it is well formed in areas that have room.
 -- Assumes nothing.
-use mathlib.Core.Bool.{Bool, true}
-use mathlib.Core.List.{List, [], _∷_, map}
-use mathlib.Core.Path.{_≡_, refl, sym, ap, ap₂, _∙_}
+use mathlib.Core.Bool.{true}
+use mathlib.Core.List.{List, [], _∷_}
+use mathlib.Core.Path.{_≡_, refl, sym, ap, _∙_}
 use Prim.Native.Nat.{ℕ, _≤_, _<_}
 use native.Mathlib.Omega.{arith}
-use lib.Dec.{leb, eqb}
+use lib.Dec.{eqb}
 use lib.ListN.{length, getD, drop}
 use lib.Seq.{take-at}
 use borrow.Author.Tests.{eqb-true}
@@ -14,14 +14,11 @@ use Rattle.laws.specs.Chains.{passed}
 use Rattle.laws.specs.Tabulate.{tabulate, tabulate-eq}
 use Rattle.areas.specs.Records.{decode, records}
 use Rattle.rules.specs.Bounds.{maxAccounts, maxContracts, preOpen, within}
-use Rattle.rules.specs.Exchange.{Exchange, Listing, accountAt, listingAt, noAccount, noContract, noListing}
+use Rattle.rules.specs.Exchange.{Exchange, accountAt, listingAt, noAccount, noContract, noListing}
 use Rattle.rules.specs.Memory.{put as Memory·put}
-use Rattle.rules.specs.Memory.{Declared, Memory, countsInRange, exchangeOf, hasRoom, listingIn, memory, putAccounts, putFirst, putState, queueIn, recordedTrades, used, wellFormedMemory}
+use Rattle.rules.specs.Memory.{Declared, Memory, countsInRange, exchangeOf, hasRoom, listingIn, memory, putAccounts, putState, queueIn, recordedTrades, used, wellFormedMemory}
 use Rattle.rules.specs.WellFormed.{wellFormedContents}
 use Rattle.rules.specs.declared.Account.{Account}
-use Rattle.rules.specs.declared.Contract.{Contract}
-use Rattle.rules.specs.declared.Order.{Order}
-use Rattle.rules.specs.declared.State.{State}
 use Rattle.rules.specs.declared.Trade.{Trade}
 use Rattle.rules.proofs.Codecs.{trades-none}
 use Rattle.rules.proofs.Terms.{within-high, within-low}

@@ -1,11 +1,11 @@
 -- A small state to bytes and back, byte by byte: one contract with last price 107, two accounts with balances -2 and 20,002, the second
 -- a maker, 3 lots long and 3 short, after one settlement. Assumes nothing.
 use mathlib.Core.Bool.{true, false}
-use mathlib.Core.List.{List, [], _∷_, _++_, map}
+use mathlib.Core.List.{List, [], _∷_, _++_}
 use mathlib.Core.Path.{_≡_, refl}
 use Prim.Native.Nat.{ℕ, _*_}
 use lib.IntN.{pos, negsuc}
-use lib.ListN.{length, replicate}
+use lib.ListN.{replicate}
 use Rattle.laws.specs.Choice.{all, allOf}
 use Rattle.laws.specs.Sums.{sumOf}
 use Rattle.laws.specs.Tabulate.{tabulate}

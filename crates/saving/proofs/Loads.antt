@@ -1,24 +1,22 @@
 -- The whole answer of `read_state`, by the test that decides it. Assumes nothing.
 use mathlib.Core.Bool.{Bool, true, false, _&&_}
-use mathlib.Core.List.{List, [], _∷_}
+use mathlib.Core.List.{List}
 use mathlib.Core.Path.{_≡_, refl, sym, ap, ap₂, _∙_}
-use Prim.Native.Nat.{ℕ, _*_, _≤_, _<_}
+use Prim.Native.Nat.{ℕ, _*_}
 use native.Mathlib.Omega.{arith}
 use lib.Dec.{eqb}
-use lib.ListN.{length, replicate, take, length-replicate}
-use Rattle.laws.specs.Choice.{all, allOf}
+use lib.ListN.{length, take, length-replicate}
+use Rattle.laws.specs.Choice.{all}
 use Rattle.rules.specs.Answers.{firstOf}
-use Rattle.rules.specs.Bounds.{maxContracts, maxTrades}
-use Rattle.rules.specs.DayFile.{contractsIn}
+use Rattle.rules.specs.Bounds.{maxTrades}
 use Rattle.rules.specs.Exchange.{Exchange}
-use Rattle.rules.specs.Memory.{Declared, Memory, countsInRange, exchangeOf, hasRoom, memory, queueStride, tradeStride, used, wellFormedMemory}
+use Rattle.rules.specs.Memory.{Declared, Memory, countsInRange, exchangeOf, hasRoom, memory, tradeStride, used, wellFormedMemory}
 use Rattle.rules.specs.WellFormed.{wellFormedContents}
 use Rattle.rules.specs.declared.Account.{Account}
 use Rattle.rules.specs.declared.State.{State}
-use Rattle.rules.proofs.Terms.{within-high}
 use Rattle.invariants.proofs.MemoryRoom.{room-test}
 use Rattle.saved.specs.Saved.{ReadIs, accountsIn, allEqual, loadedFrom, loadedInto, loadedState, markSound, readCode, savedSound, shaped, totalsEqual}
-use Rattle.saved.proofs.Again.{Shape, loaded-accounts, loaded-asleep, loaded-contracts, loaded-places, loaded-start, shape}
+use Rattle.saved.proofs.Again.{loaded-accounts, loaded-asleep, loaded-contracts, loaded-places, loaded-start, shape}
 use Rattle.saved.proofs.Fields.{nothing-in}
 use Rattle.saved.proofs.Loaded.{Loadable, loaded-counts, loaded-in-use}
 use Rattle.saving.specs.Parts.{Laid, inSpare, spare}

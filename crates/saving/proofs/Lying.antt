@@ -1,8 +1,8 @@
 -- A state as it lies in its arrays, against the state in use: its file, and whether it may be written. Assumes nothing.
-use mathlib.Core.Bool.{Bool, true, _&&_}
+use mathlib.Core.Bool.{true}
 use mathlib.Core.List.{List, [], _∷_, _++_, map, append-assoc, append-nil}
 use mathlib.Core.Path.{_≡_, refl, sym, ap, ap₂, _∙_}
-use Prim.Native.Nat.{ℕ, zero, suc, _+_, _*_, _≤_, _<_}
+use Prim.Native.Nat.{ℕ, zero, suc, _+_, _≤_, _<_}
 use native.Mathlib.Omega.{arith}
 use lib.Dec.{eqb}
 use lib.ListN.{length, getD, take}
@@ -10,8 +10,7 @@ use lib.Seq.{getD-take, length-take-le}
 use Rattle.laws.specs.Choice.{all, all-ext, allOf, allOf-all}
 use Rattle.laws.specs.Sums.{sumOf, sumOf-ext}
 use Rattle.areas.specs.Records.{encode}
-use Rattle.rules.specs.Bounds.{preOpen}
-use Rattle.rules.specs.Exchange.{Exchange, accountAt, listingAt, noAccount, noContract, noHolding, noListing}
+use Rattle.rules.specs.Exchange.{accountAt, listingAt, noAccount, noContract, noHolding, noListing}
 use Rattle.rules.specs.Memory.{Declared, Memory, exchangeOf, inUse, listingIn, used, wellFormedMemory}
 use Rattle.rules.specs.declared.Account.{Account}
 use Rattle.rules.specs.declared.Holding.{Holding}
@@ -20,11 +19,10 @@ use Rattle.rules.proofs.InUse.{account-in-use, accounts-in-use, contracts-in-us
 use Rattle.rules.proofs.Terms.{contract-terms}
 use Rattle.invariants.proofs.Clauses.{well-formed}
 use Rattle.invariants.proofs.MemoryRoom.{CountsOk, memory-ok}
-use Rattle.mending.specs.Mend.{four}
 use Rattle.clients.specs.Clients.{inRow}
 use Rattle.clients.proofs.Rows.{row-ext}
 use Rattle.statements.specs.Parts.{accountsBytes}
-use Rattle.statements.specs.Statement.{holdingBytes, section}
+use Rattle.statements.specs.Statement.{holdingBytes}
 use Rattle.saved.specs.Saved.{accountBytes, allEqual, asleep, contractBytes, rowBytes, savedBytes, totalsEqual, writable}
 use Rattle.saving.specs.Parts.{Short, accountRow, asleepAt, contractRow, stateBytes, stateWritable}
 

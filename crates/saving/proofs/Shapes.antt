@@ -12,7 +12,7 @@ use Rattle.laws.specs.Choice.{false-both}
 use Rattle.rules.specs.DayFile.{contractsIn, u8At, u32At}
 use Rattle.rules.proofs.Terms.{within-high, within-low, within-test}
 use Rattle.saved.specs.Saved.{accountPlace, accountsIn, countsRight, markSound, rowPlace, settlementsPlace, shaped}
-use Rattle.saved.proofs.Again.{Shape, shape}
+use Rattle.saved.proofs.Again.{shape}
 use Rattle.saving.specs.Parts.{Laid}
 
 -- rows of eight bytes for each of four contracts and 32 accounts at most

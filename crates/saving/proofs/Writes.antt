@@ -6,7 +6,7 @@ use Prim.Native.Nat.{ℕ, _+_, _≤_, _<_}
 use native.Mathlib.Omega.{arith}
 use lib.Dec.{eqb}
 use lib.ListN.{length}
-use borrow.Author.Tests.{le-ltb, lt-ltb}
+use borrow.Author.Tests.{lt-ltb}
 use Rattle.areas.specs.Lists.{over}
 use Rattle.rules.specs.Answers.{firstOf}
 use Rattle.rules.specs.Memory.{Declared, Memory, exchangeOf, wellFormedMemory}

@@ -1,6 +1,5 @@
 // Continue tomorrow (ticket 10 of document 02): the state written to bytes after settlement, and read again. The state's areas are lent
 // for reading only: nothing in them is in use in a state that is saved, and reading leaves them as they are.
-ghost use mathlib.Core.Bool.{true};
 ghost use mathlib.Core.Path.{_≡_};
 ghost use Rattle.rules.specs.Memory.{memory, wellFormedMemory};
 ghost use Rattle.saved.specs.Saved.{WrittenIs, ReadIs};

@@ -1,12 +1,12 @@
 // The state that a file gives, written over another: "Reading leaves places not in use untouched." For this crate: each requires its bytes
 // within the file.
 ghost use mathlib.Core.Path.{_≡_};
-ghost use Prim.Native.Nat.{ℕ, _+_, _*_, _<_, _≤_};
+ghost use Prim.Native.Nat.{_+_, _*_, _<_, _≤_};
 ghost use lib.ListN.{length, getD};
 ghost use Rattle.laws.specs.Written.{written};
 ghost use Rattle.rules.specs.Exchange.{noAccount};
 ghost use Rattle.rules.specs.Memory.{putAccount};
-ghost use Rattle.saved.specs.Saved.{contractPlace, accountPlace, rowPlace, savedContract, signedOf, savedHolding, savedAccount, loadedAccount, loadedFrom, loadedState};
+ghost use Rattle.saved.specs.Saved.{contractPlace, savedContract, signedOf, savedHolding, savedAccount, loadedAccount, loadedFrom, loadedState};
 ghost use Rattle.saving.specs.Parts.{Laid};
 use dayfile::bytes::contract_at;
 use dayfile::bytes::u8_at;

@@ -1,5 +1,4 @@
 -- `loading::signed` meets its contract. Assumes nothing.
-use native.Mathlib.Omega.{arith}
 use Rattle.saving.proofs.Signs.{as-it-is, below-fits, below-is, opposite-fits}
 use borrow.Author.Needs.{needs}
 use Rattle.saving.proofs.loading.signed.Statement.{statement}

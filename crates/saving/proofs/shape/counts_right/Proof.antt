@@ -1,7 +1,6 @@
 -- `shape::counts_right` meets its contract. Assumes nothing.
 use mathlib.Core.Path.{_∙_}
-use native.Mathlib.Omega.{arith}
-use Rattle.saving.proofs.Shapes.{few-bytes, holdings-wrong, one-decides}
+use Rattle.saving.proofs.Shapes.{holdings-wrong, one-decides}
 use borrow.Author.Needs.{needs}
 use Rattle.saving.proofs.shape.counts_right.Statement.{statement}
 use Rattle.saving.proofs.shape.counts_right.Tie as tie
