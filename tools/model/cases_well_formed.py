@@ -58,6 +58,7 @@ def counts_in_range():
     yield from each("sells of contract 2", queue("sell", 2, 2), (64,), (65,))
     yield ill("2^63 buys", counts(exchange(), order_counts={"buy": [2**63, 0, 0, 0], "sell": [0] * 4}))
     yield from each("next order number", lambda n: counts(exchange(), next=n), (1, 10**6), (0, 10**6 + 1))
+    yield from each("next time stamp", lambda n: counts(exchange(), nextstamp=n), (1, 10**6), (0, 10**6 + 1))
     yield from each("settlements", lambda n: counts(exchange(), settlements=n), (0, 250), (251,))
 
 

@@ -39,6 +39,9 @@ class Order(NamedTuple):
     account: int
     lots: int
     close: int
+    # No rule gives an order a time stamp or a quote mark yet.
+    stamp: int = 0
+    quote: int = 0
 
 
 class Trade(NamedTuple):
@@ -94,6 +97,7 @@ class Memory:
     account_count: int = 1
     trade_count: int = 0
     next: int = 1
+    nextstamp: int = 1
     settlements: int = 0
     orders: dict = field(default_factory=lambda: {side: Area(MOST_CONTRACTS * MOST_RESTING) for side in dayfile.SIDES})
     trades: Area = field(default_factory=lambda: Area(MOST_TRADES))
@@ -130,6 +134,7 @@ def in_use(memory):
         holdings=by_side(holdings, "long", "short"),
         trades=[trade_in_use(memory.trades.contents.get(place, NO_TRADE)) for place in range(trade_count)],
         next_order_number=memory.next,
+        next_stamp=memory.nextstamp,
         settlements=memory.settlements,
         room_for_orders={side: room_of(area) for side, area in memory.orders.items()},
         room_for_trades=room_of(memory.trades),
@@ -225,6 +230,7 @@ def put(memory, state):
     put_records(memory.trades, 0, memory.trade_count, trades, NO_TRADE)
     memory.trade_count = len(trades)
     memory.next = state.next_order_number
+    memory.nextstamp = state.next_stamp
     memory.settlements = state.settlements
 
 

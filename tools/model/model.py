@@ -16,6 +16,7 @@ import dayfile
 from bounds import (
     BALANCE_STEP,
     LAST_ORDER_NUMBER,
+    LAST_STAMP,
     MOST_ACCOUNTS,
     MOST_CONTRACTS,
     MOST_LOTS,
@@ -93,6 +94,8 @@ class State:
     holdings: dict
     trades: list = field(default_factory=list)
     next_order_number: int = 1
+    # "given in turn from 1 each day" (02, ticket 8); no command gives any yet.
+    next_stamp: int = 1
     settlements: int = 0
     room_for_orders: dict = field(
         default_factory=lambda: {side: MOST_CONTRACTS * MOST_RESTING for side in dayfile.SIDES}
@@ -195,6 +198,7 @@ def ranges_are_kept(state):
         and len(state.trades) <= MOST_TRADES
         and state.settlements <= MOST_SETTLEMENTS
         and 1 <= state.next_order_number <= LAST_ORDER_NUMBER + 1
+        and 1 <= state.next_stamp <= LAST_STAMP + 1
         and all(room >= len(state.contracts) * MOST_RESTING for room in state.room_for_orders.values())
         and state.room_for_trades >= MOST_TRADES
         and all(
@@ -903,6 +907,7 @@ def start_next_day(state, prices):
     state.holdings_at_start = dict(state.holdings)
     state.trades = []
     state.next_order_number = 1
+    state.next_stamp = 1
     state.settlements += 1
 
 

@@ -17,7 +17,7 @@ The file begins with the count of its vectors. A vector is
 
 An edit is its number, then
 
-    0 counts    contracts, accounts, trades, next order number, settlements
+    0 counts    contracts, accounts, trades, next order number, next time stamp, settlements
     1 areas     for the areas of buys, sells, trades and answers: as many records as it is long, and words more (may be
                 negative)
     2 contract  place, its fields
@@ -165,7 +165,7 @@ def edit(kind, *values):
 
 
 def counts(state):
-    return edit(0, state.contract_count, state.account_count, state.trade_count, state.next, state.settlements)
+    return edit(0, state.contract_count, state.account_count, state.trade_count, state.next, state.nextstamp, state.settlements)
 
 
 def first_edits(state):

@@ -7,22 +7,22 @@ use rules::Holding;
 use rules::State;
 
 // The words of a record, one for each of its fields in the order in which they are declared.
-pub const ORDER_WORDS: usize = 5;
+pub const ORDER_WORDS: usize = rules::ORDER_STRIDE;
 
-pub const TRADE_WORDS: usize = 9;
+pub const TRADE_WORDS: usize = rules::TRADE_STRIDE;
 
 pub const ANSWER_WORDS: usize = 4;
 
 // Where the areas begin in the one that holds them all, and how many words each may have.
 pub const BUYS: usize = 0;
 
-pub const SELLS: usize = 2400;
+pub const SELLS: usize = 3360;
 
-pub const TRADES: usize = 4800;
+pub const TRADES: usize = 6720;
 
-pub const ANSWERS: usize = 14100;
+pub const ANSWERS: usize = 16020;
 
-pub const ALL: usize = 14600;
+pub const ALL: usize = 16520;
 
 // How many words of each area are lent.
 pub struct Lengths {
@@ -59,8 +59,8 @@ fn filling() -> State {
     };
     let account = Account {
         balance: -4611686018427387904,
-        maker: false,
         holdings: [holding; 4],
+        maker: false,
     };
     let contract = Contract {
         multiplier: 2779096485,
@@ -82,19 +82,20 @@ fn filling() -> State {
         accountcount: 0,
         tradecount: 0,
         next: 0,
-        nextstamp: 1,
+        nextstamp: 0,
         settlements: 0,
     }
 }
 
-// "0 counts: contracts, accounts, trades, next order number, settlements"
+// "0 counts: contracts, accounts, trades, next order number, next time stamp, settlements"
 fn with_counts(state: State, v: [u64; 16]) -> State {
     let mut s = state;
     s.contractcount = reading::size(v[0]);
     s.accountcount = reading::size(v[1]);
     s.tradecount = reading::size(v[2]);
     s.next = reading::word(v[3]);
-    s.settlements = reading::word(v[4]);
+    s.nextstamp = reading::word(v[4]);
+    s.settlements = reading::word(v[5]);
     s
 }
 
@@ -226,7 +227,7 @@ fn numbers_of(kind: u64) -> usize
     ensures { λ r. ⌜ r ≤ 16 ⌝ }
 {
     match kind {
-        0 => 5,
+        0 => 6,
         1 => 8,
         2 => 10,
         3 => 3,

@@ -52,6 +52,7 @@ fn same_account(a: Account, b: Account) -> bool {
         && same_holding(first[1], second[1])
         && same_holding(first[2], second[2])
         && same_holding(first[3], second[3])
+        && a.maker == b.maker
 }
 
 fn same_accounts(a: [Account; 32], b: [Account; 32]) -> bool {
@@ -86,5 +87,6 @@ pub fn same_state(a: State, b: State) -> bool {
         && a.accountcount == b.accountcount
         && a.tradecount == b.tradecount
         && a.next == b.next
+        && a.nextstamp == b.nextstamp
         && a.settlements == b.settlements
 }

@@ -38,9 +38,9 @@ fn run_vector(file: &[u8], at: usize) -> Checked {
     let mut all = [0u32; ALL];
     let call = reading::number(file, at);
     let given = building::build(file, call.next, &mut all);
-    let mut buys = [0u32; 2400];
+    let mut buys = [0u32; 3360];
     building::copy_out(&all, building::BUYS, &mut buys);
-    let mut sells = [0u32; 2400];
+    let mut sells = [0u32; 3360];
     building::copy_out(&all, building::SELLS, &mut sells);
     let mut trades = [0u32; 9300];
     building::copy_out(&all, building::TRADES, &mut trades);
