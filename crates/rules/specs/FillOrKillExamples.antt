@@ -8,7 +8,7 @@ use lib.IntN.{pos}
 use lib.ListN.{length, getD}
 use Rattle.laws.specs.Choice.{all, allOf}
 use Rattle.laws.specs.Sums.{sumOf}
-use Rattle.rules.specs.Answers.{conditionsRefused, fillableLots, firstOf, holdingRefused, insertRefusals, listingOf, moneyRefused, overHolding, overLimit, priceRefusedBy, takerOf, takesOrders, tradesNeeded}
+use Rattle.rules.specs.Answers.{conditionsRefused, fillableLots, firstOf, holdingRefused, insertRefusals, listingOf, moneyRefused, overHolding, overLimit, priceRefusedBy, takerOf, takesOrders, tradesNeeded, tradesRefused}
 use Rattle.rules.specs.Bounds.{allowedToday, dayHigh, dayLow, onTick, termsInRange, tickMultiple}
 use Rattle.rules.specs.Examples.{Row, _gives_, allRight}
 use Rattle.rules.specs.Exchange.{Exchange, absent, accountAt, bestPrice, holdingAt, listingAt, lotsWhere, noHolding, noTrade, resting}
@@ -27,7 +27,7 @@ use Rattle.rules.specs.declared.TimeCondition.the-variants.{FillOrKill}
 
 -- a sell open of account 1
 unfoldable pub order : ℕ → ℕ → ℕ → Order
-order number price lots = record { price = price; number = number; account = 0; lots = lots; close = 0; stamp = 0; quote = 0 }
+order number price lots = record { price = price; number = number; account = 0; lots = lots; close = 0; stamp = number; quote = 0 }
 
 unfoldable pub account : Account
 account = record { balance = pos 100_000; maker = false; holdings = noHolding ∷ [] }
@@ -43,7 +43,7 @@ book =
       accounts = account ∷ account ∷ [];
       trades = [];
       next = 3;
-      nextstamp = 1;
+      nextstamp = 3;
       settlements = 0;
     }
 
@@ -83,7 +83,7 @@ table =
     ∷ []
 
 pub fill-or-kill-examples : allRight table ≡ true
-unfolding allRight table order account book fillOrKill after absent accountAt afterLeg allowedToday bestPrice bookLeg bookTrade bookTrades chargeOf chargedLots chargedTo codeOf conditionsRefused dayHigh dayLow decide enter enteredOf exchangeAfter fillable fillableLots firstOf holdingAt holdingRefused insertRefusals inserted kindOf lastPrice listingAfter listingAt listingOf lotsWhere meets methodOf middle moneyRefused onTick overHolding overLimit pairedPrice priceRefusedBy remainder restIn restLots restedLots resting stays step sumOf sweep takerOf takesOrders tradePrice tradeWith tradedLots tradesNeeded
+unfolding allRight table order account book fillOrKill after absent accountAt afterLeg allowedToday bestPrice bookLeg bookTrade bookTrades chargeOf chargedLots chargedTo codeOf conditionsRefused dayHigh dayLow decide enter enteredOf exchangeAfter fillable fillableLots firstOf holdingAt holdingRefused insertRefusals inserted kindOf lastPrice listingAfter listingAt listingOf lotsWhere meets methodOf middle moneyRefused onTick overHolding overLimit pairedPrice priceRefusedBy remainder restIn restLots restedLots resting stays step sumOf sweep takerOf takesOrders tradePrice tradeWith tradedLots tradesNeeded tradesRefused
 fill-or-kill-examples = refl
 
 -- the state that it is asked of is well formed
