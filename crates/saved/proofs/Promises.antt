@@ -7,12 +7,13 @@ use Prim.Native.Nat.{ℕ, _+_, _*_, _≤_}
 use native.Mathlib.Omega.{arith}
 use lib.ListN.{length}
 use Rattle.rules.specs.Answers.{_when_}
+use Rattle.rules.specs.Condition3.{Loaded}
 use Rattle.rules.specs.Exchange.{Exchange}
 use Rattle.rules.specs.Memory.{Declared, Memory, exchangeOf, hasRoom, wellFormedMemory}
 use Rattle.invariants.proofs.Accepted.{failed}
 use Rattle.saved.specs.Saved.{allEqual, loadedFrom, loadedInto, readCode, savedBytes, savedSound, writable, writeCode}
 use Rattle.saved.proofs.Again.{loaded-savable, loaded-writable, sound-parts, write-again}
-use Rattle.saved.proofs.Continued.{loadable, writes}
+use Rattle.saved.proofs.Continued.{loadable, writable-loaded, writes}
 use Rattle.saved.proofs.Loaded.{Loadable, loaded-declared, loaded-formed, loaded-in-use}
 use Rattle.saved.proofs.Numbers.{Bytes}
 use Rattle.saved.proofs.Reading.{length-saved, read-back, sound-back}
@@ -60,6 +61,13 @@ module _ (m : Memory) (d : Declared (m .state)) (bs : List ℕ) (e : readCode m 
   read-writable : writable (exchangeOf (loadedInto m bs)) ≡ true
   read-writable = ap writable read-in-use ∙ loaded-writable bs (read m bs e .equal)
 
+  -- so the claims of condition 3 "for a loaded run" hold of it
+  pub read-loaded : Loaded (loadedInto m bs)
+  read-loaded = writable-loaded (loadedInto m bs) read-writable
+
+  pub read-declared : Declared (loadedInto m bs .state)
+  read-declared = loaded-declared m d (loadedFrom bs) its
+
   -- "writing what was read gives the same bytes", and it can be written
   module _ (b : Bytes bs) where
     pub same-bytes : savedBytes (exchangeOf (loadedInto m bs)) ≡ bs
@@ -69,4 +77,4 @@ module _ (m : Memory) (d : Declared (m .state)) (bs : List ℕ) (e : readCode m 
 
     pub writes-again : (room : ℕ) → length bs ≤ room → writeCode (loadedInto m bs) room ≡ 0
     writes-again room h =
-        writes (loadedInto m bs) (loaded-declared m d (loadedFrom bs) its) read-formed read-writable room (rw same-bytes h)
+        writes (loadedInto m bs) read-declared read-formed read-writable room (rw same-bytes h)
