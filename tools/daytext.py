@@ -19,10 +19,12 @@ before a line and commas in numbers (10,000) are free.
     insert 2 contract 1 buy close market lots 3 kill     limit PRICE, market or best; day, immediate or kill
     cancel 1 contract 1 order 7                          account 1; add operator for the operator bit
     pull 2 contract 1 operator
+    change 1 contract 1 order 7 lots 3 price 102         account 1: the lots it is to have now, and its price
+    change 1 contract 1 order 7 lots 0                   no lots: out of the book, whatever the price
     deposit 1 500                                        account 1
     withdraw 1 500
     settle
-    raw 08 01 01 00 05000000 66000000 00000000 0000000000000000
+    raw 0a 01 01 00 05000000 66000000 00000000 0000000000000000
                                                          any 24 bytes, for a command that has no other form
     repeat 64                                            the commands up to end, 64 times
     end
@@ -151,6 +153,16 @@ def read_pull(words):
     return dayfile.pull(account, contract, words.optional("operator"))
 
 
+def read_change(words):
+    account = words.number("account", BITS_8)
+    contract = words.named_number("contract", BITS_8)
+    order_number = words.named_number("order", BITS_32)
+    lots = words.named_number("lots", BITS_32)
+    # Without lots the price is not looked at, and may be left out.
+    price = words.named_number("price", BITS_32) if lots or words else 0
+    return dayfile.change(account, contract, order_number, lots, price)
+
+
 def read_state(words):
     return dayfile.state(words.number("contract", BITS_8), words.one_of(dayfile.STATES))
 
@@ -177,6 +189,7 @@ COMMANDS = {
     "insert": read_insert,
     "cancel": read_cancel,
     "pull": read_pull,
+    "change": read_change,
     "deposit": read_deposit,
     "withdraw": read_withdraw,
     "settle": read_settle,
@@ -368,6 +381,13 @@ def operator_text(command):
     return " operator" if command.flags else ""
 
 
+def change_text(command):
+    price = f" price {command.price}" if command.lots or command.price else ""
+    return (
+        f"change {command.account} contract {command.contract} order {command.order_number} lots {command.lots}{price}"
+    )
+
+
 TEXT_OF_KIND = {
     "deposit": lambda command: f"deposit {command.account} {command.amount}",
     "withdraw": lambda command: f"withdraw {command.account} {command.amount}",
@@ -378,6 +398,7 @@ TEXT_OF_KIND = {
     "pull": lambda command: f"pull {command.account} contract {command.contract}{operator_text(command)}",
     "state": lambda command: f"state {command.contract} {dayfile.STATES[command.flags]}",
     "settle": lambda command: "settle",
+    "change": change_text,
 }
 
 

@@ -15,6 +15,7 @@ EXPECTED_OF = {
     "insert": ("code", "order", "traded", "rested", "trade"),
     "cancel": ("code", "order", "removed"),
     "pull": ("code", "removed"),
+    "change": ("code", "order", "traded", "rested", "removed", "trade"),
     "state": ("code", "traded", "trade"),
     "deposit": ("code",),
     "withdraw": ("code",),

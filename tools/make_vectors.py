@@ -19,10 +19,20 @@ sys.path.insert(0, str(TOP / "tools" / "model"))
 import vectors  # noqa: E402
 
 # A file for each module of cases.
-NAMES = ("well-formed", "command", "bundle", "question", "statement", "side", "mending", "day-file")
+NAMES = ("well-formed", "command", "change", "auction", "bundle", "question", "statement", "side", "mending", "day-file")
 
-# Cases of what the model knows and the engine does not yet.
-LATER = ("auction",)
+
+# The program reads a file into an area of so many bytes: cases that need more stand in several files.
+LONGEST = 400_000
+
+
+def parts_of(name):
+    """The files of a module's cases: name and cases of each."""
+    cases = cases_of(name)
+    parts = len(vectors.vector_file(cases)) // LONGEST + 1
+    each = -(-len(cases) // parts)
+    for k in range(parts):
+        yield name if k == 0 else f"{name}-{k + 1}", cases[k * each : (k + 1) * each]
 
 
 def cases_of(name):
@@ -31,12 +41,13 @@ def cases_of(name):
 
 def made_files():
     """The content of every file that is made, by its path."""
-    files, wanted = {}, ""
-    for name in NAMES:
-        cases = cases_of(name)
-        files[DATA / name] = vectors.vector_file(cases)
-        wanted += f"{name}: {len(cases)} vectors, 0 differ\n"
-    files[DATA / "list"] = "".join(name + "\n" for name in NAMES).encode()
+    files, wanted, names = {}, "", ""
+    for module in NAMES:
+        for name, cases in parts_of(module):
+            files[DATA / name] = vectors.vector_file(cases)
+            wanted += f"{name}: {len(cases)} vectors, 0 differ\n"
+            names += name + "\n"
+    files[DATA / "list"] = names.encode()
     files[CRATE / "stdout"] = wanted.encode()
     return files
 

@@ -63,7 +63,10 @@ class Pack(unittest.TestCase):
             state 2 no-trading
             state 2 closed
             settle
-            raw 08 ff 00 03 01000000 0000000200000003 0400000000000000
+            change 1 contract 2 order 7 lots 3 price 102
+            change 1 contract 2 order 7 lots 0
+            change 1 contract 2 order 7 lots 0 price 5
+            raw 0a ff 00 03 01000000 0000000200000003 0400000000000000
             """
         self.assertEqual(
             commands(text),
@@ -83,7 +86,10 @@ class Pack(unittest.TestCase):
                 dayfile.Command(6, contract=2, flags=2),
                 dayfile.Command(6, contract=2, flags=3),
                 dayfile.Command(7),
-                dayfile.Command(8, 255, 0, 3, 1, 2 << 24, 3 << 24, 4),
+                dayfile.Command(9, 1, 2, 0, 3, 102, 7),
+                dayfile.Command(9, 1, 2, 0, 0, 0, 7),
+                dayfile.Command(9, 1, 2, 0, 0, 5, 7),
+                dayfile.Command(10, 255, 0, 3, 1, 2 << 24, 3 << 24, 4),
             ],
         )
 
@@ -117,8 +123,8 @@ class Messages(unittest.TestCase):
     def test_first_word(self):
         self.assert_message(
             "hello 1",
-            "'hello' where contract, account, state, insert, cancel, pull, deposit, withdraw, settle, raw, repeat"
-            " or end should stand",
+            "'hello' where contract, account, state, insert, cancel, pull, change, deposit, withdraw, settle, raw,"
+            " repeat or end should stand",
         )
 
     def test_other_words(self):

@@ -6,6 +6,7 @@ import shlex
 import subprocess
 import sys
 import tempfile
+import types
 import unittest
 from fractions import Fraction
 from functools import cache
@@ -139,7 +140,7 @@ class Refusals(unittest.TestCase):
 
     def test_malformed(self):
         record = "raw {} 01 01 {} 01000000 64000000 00000000 0000000000000000"
-        self.assert_refused(record.format("09", "00"), 1, "There is no kind 9; the kinds are 1 deposit, 2 withdraw,")
+        self.assert_refused(record.format("0a", "00"), 1, "There is no kind 10; the kinds are 1 deposit, 2 withdraw,")
         self.assert_refused(
             record.format("01", "00"),
             1,
@@ -321,7 +322,10 @@ class Refusals(unittest.TestCase):
         codes = {step.answer.code for step in play("every-code") if explanation.explained(step)}
         self.assertEqual(codes, set(range(20)) - {10})
         self.assertEqual(set(refusals.REFUSALS), set(range(1, 20)))
-        self.assertEqual(refusals.why_numbers(None), ["All order numbers of the day, 1 to 999,999, are given."])
+        for used_up, words in (("next_order_number", "order numbers"), ("next_stamp", "time stamps")):
+            state = model.State({}, {}, {}, {}, **{used_up: 1_000_000})
+            step = types.SimpleNamespace(before=state)
+            self.assertEqual(refusals.why_numbers(step), [f"All {words} of the day, 1 to 999,999, are given."])
 
 
 def play(name):
@@ -553,6 +557,51 @@ def words_of(of, printed):
             yield from (words for _, words in said.working)
         for account in told.accounts:
             yield from (charged.words() for charged in charged_by_contract(step.after, account))
+
+
+class Changes(unittest.TestCase):
+    """A changed order, its place and why it is refused."""
+
+    BOOK = (
+        CONTRACT
+        + TWO_ACCOUNTS
+        + """state 1 continuous
+        insert 1 contract 1 buy open limit 100 lots 4 day
+        insert 2 contract 1 buy open limit 100 lots 5 day
+        insert 2 contract 1 sell open limit 103 lots 2 day
+        """
+    )
+
+    def assert_words(self, change, words, text=BOOK):
+        self.assertIn(words, told_of_text(text + change, command=len(dayfile.read(daytext.pack(text + change)).commands)))
+
+    def test_places(self):
+        self.assert_words(
+            "change 1 contract 1 order 1 lots 3 price 100",
+            "5 Account 1: change order 1 in contract 1 to 3 lots at 100",
+        )
+        for lots, price, words in (
+            (3, 100, "Accepted. Order 1 goes from 4 to 3 lots and keeps its place: first of 2 at 100."),
+            (4, 100, "Accepted. Order 1 is as it was, and nothing changes."),
+            (0, 100, "Accepted. Without lots order 1 leaves the book, with the 4 lots it had."),
+            (5, 100, "4 to 5 is more lots, so order 1 loses its place and arrives anew under its number. Nothing trades"),
+            (5, 100, "5 lots rest at 100. It is last of 2 at 100."),
+            (3, 99, "100 to 99 is another price, so order 1 loses its place"),
+            (5, 104, "4 to 5 is more lots and 100 to 104 is another price, so order 1 loses its place"),
+            (5, 104, "103 is the middle of the buy price 104, the sell price 103 and the last price 100."),
+        ):
+            self.assert_words(f"change 1 contract 1 order 1 lots {lots} price {price}", words)
+
+    def test_refusals(self):
+        limited = self.BOOK.replace("limit 1000 rate", "limit 9 rate")
+        for order, lots, price, words, text in (
+            (1, 10, 100, "As though the old order were gone: 0 long + 0 resting to buy open + 10 of this order = 10", limited),
+            (1, 101, 100, "As though the old order were gone: with the lots of this order 10,100 would be", self.BOOK),
+            (1, 4, 111, "111 is above the day's high", self.BOOK),
+            (2, 4, 100, "Order 2 is account 2's, not account 1's.", self.BOOK),
+            (1, 4, 100, "The state of contract 1 is closed; a change needs continuous.", self.BOOK + "state 1 closed\n"),
+        ):
+            self.assert_words(f"change 1 contract 1 order {order} lots {lots} price {price}", words, text)
 
 
 class Arithmetic(unittest.TestCase):

@@ -14,6 +14,7 @@ MEANT_BY = {
     "insert": "new place add send submit enter order",
     "cancel": "delete remove",
     "pull": "cancel-all remove-all mass-cancel",
+    "change": "modify amend replace alter edit",
     "deposit": "pay-in credit",
     "withdraw": "pay-out debit",
     "settle": "settlement",

@@ -69,7 +69,7 @@ impl Random {
     }
 
     fn order(&mut self, number: u32, lots: u32) -> Order {
-        Order { price: self.price(), number, account: self.below(ACCOUNTS as u32), lots, close: self.below(2) }
+        Order { price: self.price(), number, account: self.below(ACCOUNTS as u32), lots, close: self.below(2), stamp: number }
     }
 }
 
@@ -108,7 +108,8 @@ pub fn queue_case(r: &mut Random, count: usize, absent: u32) -> QueueCase {
     let contract = r.below(4) as usize;
     let sell = r.coin();
     let area = area(r, contract, count, sell, up_to_50_lots);
-    let order = r.order(1000, 7);
+    // `book_exports` takes no time stamp
+    let order = Order { stamp: 0, ..r.order(1000, 7) };
     let number = 1 + r.below((count as u32 + absent).max(1));
     QueueCase { area, contract, count, sell, order, number }
 }

@@ -79,6 +79,14 @@ pub fn phase(contract: usize, phase: u8) -> Command {
     Command { kind: 6, contract: contract as u8, flags: phase, ..Command::default() }
 }
 
+fn cancel(account: u8, contract: u8, number: u32) -> Command {
+    Command { kind: 4, account, contract, number, ..Command::default() }
+}
+
+fn change(account: u8, contract: u8, number: u32, lots: u32, price: u32) -> Command {
+    Command { kind: 9, lots, price, ..cancel(account, contract, number) }
+}
+
 pub fn settle() -> Command {
     Command { kind: 7, ..Command::default() }
 }
@@ -106,16 +114,40 @@ fn order(r: &mut Random, state: &State, account: u8, contract: u8) -> Command {
     Command { kind: 3, account, contract, flags: flags + conditions, lots, price, ..Command::default() }
 }
 
-/// The account and the number of some resting order of a contract.
-fn some_order(r: &mut Random, state: &State, memory: &Memory, contract: u8) -> Option<(u8, u32)> {
+/// The queue of a side of a contract, in whole orders.
+fn queue<'a>(state: &State, memory: &'a Memory, side: usize, contract: u8) -> &'a [u32] {
     let c = contract as usize - 1;
-    let side = r.below(2) as usize;
-    let count = state.resting[side][c];
     let area = if side == 0 { &memory.buys } else { &memory.sells };
-    (count > 0).then(|| {
-        let o = &area[QUEUE * c + ORDER * r.below(count as u32) as usize..];
-        (o[2] as u8 + 1, o[1])
-    })
+    &area[QUEUE * c..][..ORDER * state.resting[side][c]]
+}
+
+/// The side and the words of some resting order of a contract.
+fn some_order<'a>(r: &mut Random, state: &State, memory: &'a Memory, contract: u8) -> Option<(usize, &'a [u32])> {
+    let side = r.below(2) as usize;
+    let queue = queue(state, memory, side, contract);
+    let count = queue.len() / ORDER;
+    (count > 0).then(|| (side, &queue[ORDER * r.below(count as u32) as usize..][..ORDER]))
+}
+
+/// Zero lots, equal, fewer or more; another price, with fewer lots or more; the best price of the other side, or beyond it. One in
+/// twenty is of another account's order.
+fn any_change(r: &mut Random, state: &State, memory: &Memory, contract: u8, side: usize, o: &[u32]) -> Command {
+    let (price, lots) = (o[0], o[3]);
+    let toward = |price: u32, by: u32| if side == 0 { price + by } else { price - by };
+    let (lots, price) = match r.below(8) {
+        0 => (0, 0),
+        1 => (lots, price),
+        2 | 3 => (1 + r.below(lots), price),
+        4 => (lots + 1 + r.below(10), price),
+        5 => (1 + r.below(2 * lots), price - 5 + r.below(11)),
+        _ => match queue(state, memory, 1 - side, contract).first() {
+            Some(&best) => (1 + r.below(2 * lots), toward(best, r.below(3))),
+            None => (lots, toward(price, 1)),
+        },
+    };
+    let of_another = r.below(20) == 0;
+    let account = if of_another { 1 + r.below(state.accountcount as u32) as u8 } else { o[2] as u8 + 1 };
+    change(account, contract, o[1], lots, price)
 }
 
 fn any_command(r: &mut Random, state: &State, memory: &Memory) -> Command {
@@ -128,8 +160,9 @@ fn any_command(r: &mut Random, state: &State, memory: &Memory) -> Command {
         7 => Command { kind: 5, account, contract, ..Command::default() },
         8..=10 if phase_now == 2 || phase_now == AUCTION => phase(contract as usize, 1),
         8 => phase(contract as usize, 2),
-        9..=34 => match some_order(r, state, memory, contract) {
-            Some((account, number)) => Command { kind: 4, account, contract, number, ..Command::default() },
+        choice @ 9..=34 => match some_order(r, state, memory, contract) {
+            Some((_, o)) if choice < 22 => cancel(o[2] as u8 + 1, contract, o[1]),
+            Some((side, o)) => any_change(r, state, memory, contract, side, o),
             None => order(r, state, account, contract),
         },
         _ => order(r, state, account, contract),
@@ -142,8 +175,8 @@ fn opening(r: &mut Random) -> impl DoubleEndedIterator<Item = Command> {
     (1..=CONTRACTS).map(move |c| phase(c, if c == auction { AUCTION as u8 } else { 1 }))
 }
 
-/// A mixed list: orders, cancels, money, state changes, and a settlement after each 500 commands. One contract in four opens by an
-/// auction. The commands are chosen by the state that they meet.
+/// A mixed list: orders, cancels, changes, money, state changes, and a settlement after each 500 commands. One contract in four opens
+/// by an auction. The commands are chosen by the state that they meet.
 pub fn mixed(r: &mut Random, accounts: usize, count: usize) -> Vec<Command> {
     let mut state = State::open(&file(accounts));
     let mut memory = Memory::new();
@@ -196,19 +229,38 @@ impl Script {
 }
 
 /// The kinds of command that are counted one by one.
-pub const KINDS: [&str; 8] =
-    ["deposit", "withdraw", "insert that rests", "insert that trades", "cancel", "pull", "state change", "settle"];
+pub const KINDS: [&str; 10] = [
+    "deposit",
+    "withdraw",
+    "insert that rests",
+    "insert that trades",
+    "cancel",
+    "change that keeps its place",
+    "change that loses its place",
+    "pull",
+    "state change",
+    "settle",
+];
 
 /// A list without and with so many commands of one kind at its end.
 pub fn kind_lists(kind: usize, trades: usize) -> [Vec<Command>; 2] {
     let mut s = Script::prepared(trades);
     let first = s.next - 160;
-    if kind == 7 {
-        s.commands.extend((1..=CONTRACTS).map(|c| phase(c, 3)));
+    // the buys of the first contract: account and number
+    let buy = |i: u32| (1 + (i % 2) as u8, first + 8 * i);
+    let change_buy = |i: u32, lots: u32| {
+        let (account, number) = buy(i);
+        change(account, 1, number, lots, REFERENCE - 10)
+    };
+    match kind {
+        // two lots each, in the same order as before
+        5 => s.commands.extend((0..20).map(|i| change_buy(i, 2))),
+        9 => s.commands.extend((1..=CONTRACTS).map(|c| phase(c, 3))),
+        _ => {}
     }
     let without = s.commands.clone();
     for i in 0..20u32 {
-        let account = 1 + (i % 2) as u8;
+        let (account, number) = buy(i);
         match kind {
             0 | 1 => s.commands.push(Command { kind: kind as u8 + 1, account, amount: 1000, ..Command::default() }),
             2 => {
@@ -217,10 +269,12 @@ pub fn kind_lists(kind: usize, trades: usize) -> [Vec<Command>; 2] {
             3 => {
                 s.order(account, 1, IMMEDIATE, REFERENCE + 10);
             }
-            4 => s.commands.push(Command { kind: 4, account, contract: 1, number: first + 8 * i, ..Command::default() }),
-            5 if i < 8 => s.commands.push(Command { kind: 5, account, contract: 1 + i as u8 / 2, ..Command::default() }),
-            6 => s.commands.push(phase(4, 2 - (i % 2) as u8)),
-            7 if i == 0 => s.commands.push(settle()),
+            4 => s.commands.push(cancel(account, 1, number)),
+            5 => s.commands.push(change_buy(i, 1)),
+            6 => s.commands.push(change_buy(i, 2)),
+            7 if i < 8 => s.commands.push(Command { kind: 5, account, contract: 1 + i as u8 / 2, ..Command::default() }),
+            8 => s.commands.push(phase(4, 2 - (i % 2) as u8)),
+            9 if i == 0 => s.commands.push(settle()),
             _ => {}
         }
     }

@@ -1,8 +1,8 @@
-//! The same exchange in plain Rust, after document 01: the state changed where it stands, the same areas of words, the same
-//! refusals in the same order.
+//! The same exchange in plain Rust, after document 01 and tickets 2, 4, 6 and 8 of document 02: the state changed where it
+//! stands, the same areas of words, the same refusals in the same order.
 
 use crate::cases::{ACCOUNTS, ORDER, QUEUE, TRADE};
-use crate::plain::{close_up, enter, insert, Account, Entry, Holding, Order, PairingMethod, PriceCondition, Taker};
+use crate::plain::{close_up, enter, insert, Account, Entry, Holding, PairingMethod, PriceCondition, Taker};
 
 pub const RECORD: usize = 24;
 
@@ -33,6 +33,7 @@ pub struct State {
     pub accountcount: usize,
     pub made: usize,
     pub next: u32,
+    pub nextstamp: u32,
     pub settlements: u32,
     pub profits: [[i64; 2]; ACCOUNTS],
 }
@@ -117,6 +118,7 @@ impl Record {
                 self.account != 0 || self.contract != 0 || self.flags != 0
                     || order_fields || self.number != 0 || self.amount != 0
             }
+            9 => self.flags != 0 || self.amount != 0,
             _ => true,
         }
     }
@@ -243,6 +245,54 @@ impl State {
         trades
     }
 
+    // What a change shares with an insert or a cancel is always inlined: each is counted as a compiler makes it that sees this one
+    // use alone.
+
+    /// "it would make more trades than the day has room for"
+    #[inline(always)]
+    fn lacks_room(&self, areas: &Areas, t: &Taker) -> bool {
+        self.made > 960 && self.made + self.trades_needed(areas, t) > 1_024
+    }
+
+    /// Codes 8 and 9: what the account holds, and its money.
+    #[inline(always)]
+    fn uncovered(&self, areas: &Areas, o: &NewOrder) -> Option<u32> {
+        let (a, c) = (o.account - 1, o.contract - 1);
+        let h = &self.accounts[a].holdings[c];
+        let rested = self.resting_lots(areas, o.sell, c, a, o.close);
+        if o.close {
+            let held = if o.sell { h.long } else { h.short };
+            return (rested + o.lots as u64 > held as u64).then_some(8);
+        }
+        let held = if o.sell { h.short } else { h.long };
+        if held as u64 + rested + o.lots as u64 > self.contracts[c].limit as u64 {
+            return Some(8);
+        }
+        let mut holdings = self.accounts[a].holdings;
+        *(if o.sell { &mut holdings[c].short } else { &mut holdings[c].long }) += o.lots;
+        (self.accounts[a].balance < self.charged(areas, a, &holdings) as i64).then_some(9)
+    }
+
+    /// An order as it meets the book: with a number, and with the next time stamp.
+    #[inline(always)]
+    fn taker(&self, areas: &Areas, o: &NewOrder, number: u32) -> Taker {
+        let c = o.contract - 1;
+        Taker {
+            account: o.account as u32 - 1,
+            contract: c,
+            sell: o.sell,
+            close: o.close as u32,
+            number,
+            stamp: self.nextstamp,
+            condition: o.condition,
+            method: self.contracts[c].pairing_method(),
+            best: self.queue(areas, !o.sell, c).first().copied().unwrap_or(0),
+            lots: o.lots,
+            price: o.price,
+            day: o.day,
+        }
+    }
+
     /// Codes 2 to 13, or the order as it meets the book.
     fn arrive(&self, areas: &Areas, o: &NewOrder) -> Result<Taker, u32> {
         if State::absent(o.account, self.accountcount) {
@@ -251,7 +301,7 @@ impl State {
         if State::absent(o.contract, self.contractcount) {
             return Err(3);
         }
-        let (a, c) = (o.account - 1, o.contract - 1);
+        let c = o.contract - 1;
         let terms = &self.contracts[c];
         let auction = terms.phase == AUCTION;
         if terms.phase != CONTINUOUS && !auction {
@@ -267,44 +317,17 @@ impl State {
         if if limit { !terms.allows(o.price) } else { o.price != 0 } {
             return Err(7);
         }
-        let h = &self.accounts[a].holdings[c];
-        let rested = self.resting_lots(areas, o.sell, c, a, o.close);
-        if o.close {
-            let held = if o.sell { h.long } else { h.short };
-            if rested + o.lots as u64 > held as u64 {
-                return Err(8);
-            }
-        } else {
-            let held = if o.sell { h.short } else { h.long };
-            if held as u64 + rested + o.lots as u64 > terms.limit as u64 {
-                return Err(8);
-            }
-            let mut holdings = self.accounts[a].holdings;
-            *(if o.sell { &mut holdings[c].short } else { &mut holdings[c].long }) += o.lots;
-            if self.accounts[a].balance < self.charged(areas, a, &holdings) as i64 {
-                return Err(9);
-            }
+        if let Some(code) = self.uncovered(areas, o) {
+            return Err(code);
         }
-        if self.next >= 1_000_000 {
+        if self.next >= 1_000_000 || self.nextstamp >= 1_000_000 {
             return Err(10);
         }
-        let t = Taker {
-            account: a as u32,
-            contract: c,
-            sell: o.sell,
-            close: o.close as u32,
-            number: self.next,
-            condition: o.condition,
-            method: terms.pairing_method(),
-            best: self.queue(areas, !o.sell, c).first().copied().unwrap_or(0),
-            lots: o.lots,
-            price: o.price,
-            day: o.day,
-        };
+        let t = self.taker(areas, o, self.next);
         if o.kill && self.fillable(areas, &t) < o.lots as u64 {
             return Err(11);
         }
-        if !auction && self.made > 960 && self.made + self.trades_needed(areas, &t) > 1_024 {
+        if !auction && self.lacks_room(areas, &t) {
             return Err(12);
         }
         if o.day && self.resting[o.sell as usize][c] == 64 && (auction || self.fillable(areas, &t) < o.lots as u64) {
@@ -318,14 +341,21 @@ impl State {
             Ok(t) => t,
             Err(code) => return refused(code),
         };
-        let (c, side) = (t.contract, t.sell as usize);
-        if self.contracts[c].phase == AUCTION {
-            let o = Order { price: t.price, number: t.number, account: t.account, lots: t.lots, close: t.close };
-            insert(areas.queues[side], c, self.resting[side][c], t.sell, &o);
-            self.resting[side][c] += 1;
-            self.next += 1;
-            return Answer { code: 0, number: t.number, traded: 0, lots: t.lots };
+        self.next += 1;
+        if self.contracts[t.contract].phase != AUCTION {
+            return self.enter(areas, &t);
         }
+        let (c, side) = (t.contract, t.sell as usize);
+        insert(areas.queues[side], c, self.resting[side][c], t.sell, &t.remainder(t.lots));
+        self.resting[side][c] += 1;
+        self.nextstamp += 1;
+        Answer { code: 0, number: t.number, traded: 0, lots: t.lots }
+    }
+
+    /// The order trades and its remainder rests; its time stamp is used.
+    #[inline(always)]
+    fn enter(&mut self, areas: &mut Areas, t: &Taker) -> Answer {
+        let (c, side) = (t.contract, t.sell as usize);
         let before = Entry {
             rested: 0,
             own: self.resting[side][c],
@@ -335,13 +365,13 @@ impl State {
         };
         let [buys, sells] = &mut areas.queues;
         let (own, opposite) = if t.sell { (sells, buys) } else { (buys, sells) };
-        let after = enter(own, opposite, areas.trades, &before, &t, &mut self.accounts);
+        let after = enter(own, opposite, areas.trades, &before, t, &mut self.accounts);
         let traded = areas.trades[TRADE * self.made..TRADE * after.made].chunks_exact(TRADE).map(|trade| trade[2]).sum();
         self.resting[side][c] = after.own;
         self.resting[1 - side][c] = after.opposite;
         self.made = after.made;
         self.contracts[c].last = after.last;
-        self.next += 1;
+        self.nextstamp += 1;
         Answer { code: 0, number: t.number, traded, lots: after.rested }
     }
 
@@ -360,27 +390,116 @@ impl State {
         }
     }
 
+    /// Side and place of the order that a cancel or a change names, or codes 14 and 15.
+    #[inline(always)]
+    fn find(&self, areas: &Areas, r: &Record) -> Result<(usize, usize), u32> {
+        for side in [0, 1] {
+            let queue = self.queue(areas, side == 1, r.contract - 1);
+            if let Some(place) = orders(queue).position(|o| o[1] == r.number) {
+                let owner = queue[ORDER * place + 2] as usize;
+                return if owner == r.account - 1 { Ok((side, place)) } else { Err(15) };
+            }
+        }
+        Err(14)
+    }
+
+    /// Takes out the order at a place; its lots.
+    #[inline(always)]
+    fn remove(&mut self, areas: &mut Areas, side: usize, c: usize, place: usize) -> u32 {
+        let rest = &mut areas.queues[side][QUEUE * c..][ORDER * place..ORDER * self.resting[side][c]];
+        let lots = rest[3];
+        close_up(rest, ORDER);
+        self.resting[side][c] -= 1;
+        lots
+    }
+
     fn cancel(&mut self, areas: &mut Areas, r: &Record) -> Answer {
         if let Some(code) = self.removal_refused(r) {
             return refused(code);
         }
+        match self.find(areas, r) {
+            Ok((side, place)) => {
+                let lots = self.remove(areas, side, r.contract - 1, place);
+                Answer { code: 0, number: r.number, traded: 0, lots }
+            }
+            Err(code) => refused(code),
+        }
+    }
+
+    fn change(&mut self, areas: &mut Areas, r: &Record) -> Answer {
+        if State::absent(r.account, self.accountcount) {
+            return refused(2);
+        }
+        if State::absent(r.contract, self.contractcount) {
+            return refused(3);
+        }
         let c = r.contract - 1;
-        for side in [0, 1] {
-            let count = &mut self.resting[side][c];
-            let queue = &mut areas.queues[side][QUEUE * c..][..ORDER * *count];
-            let found = orders(queue).position(|o| o[1] == r.number);
-            if let Some(place) = found {
-                let o = &queue[ORDER * place..];
-                if o[2] as usize != r.account - 1 {
-                    return refused(15);
-                }
-                let lots = o[3];
-                close_up(&mut queue[ORDER * place..], ORDER);
-                *count -= 1;
-                return Answer { code: 0, number: r.number, traded: 0, lots };
+        if self.contracts[c].phase != CONTINUOUS {
+            return refused(4);
+        }
+        let (side, place) = match self.find(areas, r) {
+            Ok(found) => found,
+            Err(code) => return refused(code),
+        };
+        let kept = |lots| Answer { code: 0, number: r.number, traded: 0, lots };
+        if r.lots == 0 {
+            return kept(self.remove(areas, side, c, place));
+        }
+        if r.lots > 1_000 {
+            return refused(5);
+        }
+        if !self.contracts[c].allows(r.price) {
+            return refused(7);
+        }
+        let old = &mut areas.queues[side][QUEUE * c + ORDER * place..][..ORDER];
+        if r.price == old[0] && r.lots <= old[3] {
+            old[3] = r.lots;
+            return kept(r.lots);
+        }
+        self.lose_place(areas, r, side, place)
+    }
+
+    /// "tested as though the old order were gone, then matched at once": without lots it counts for nothing.
+    fn lose_place(&mut self, areas: &mut Areas, r: &Record, side: usize, place: usize) -> Answer {
+        let c = r.contract - 1;
+        let at = QUEUE * c + ORDER * place;
+        let lots = std::mem::take(&mut areas.queues[side][at + 3]);
+        let o = NewOrder {
+            account: r.account,
+            contract: r.contract,
+            sell: side == 1,
+            close: areas.queues[side][at + 4] == 1,
+            lots: r.lots,
+            price: r.price,
+            condition: PriceCondition::Limit(r.price),
+            day: true,
+            kill: false,
+        };
+        match self.arrive_again(areas, &o, r.number) {
+            Ok(t) => {
+                self.remove(areas, side, c, place);
+                self.enter(areas, &t)
+            }
+            Err(code) => {
+                areas.queues[side][at + 3] = lots;
+                refused(code)
             }
         }
-        refused(14)
+    }
+
+    /// Codes 8, 9, 10 and 12 of an order that keeps its number, or that order as it meets the book.
+    fn arrive_again(&self, areas: &Areas, o: &NewOrder, number: u32) -> Result<Taker, u32> {
+        if let Some(code) = self.uncovered(areas, o) {
+            return Err(code);
+        }
+        if self.nextstamp >= 1_000_000 {
+            return Err(10);
+        }
+        let t = self.taker(areas, o, number);
+        if self.lacks_room(areas, &t) {
+            return Err(12);
+        }
+        Ok(t)
     }
 
     fn pull(&mut self, areas: &mut Areas, r: &Record) -> Answer {
@@ -520,6 +639,7 @@ impl State {
         areas.trades[..TRADE * self.made].fill(0);
         self.made = 0;
         self.next = 1;
+        self.nextstamp = 1;
         self.settlements += 1;
         Answer::default()
     }
@@ -537,7 +657,8 @@ impl State {
             4 => self.cancel(areas, &r),
             5 => self.pull(areas, &r),
             6 => self.change_phase(areas, &r),
-            _ => self.settle(areas),
+            7 => self.settle(areas),
+            _ => self.change(areas, &r),
         }
     }
 
@@ -565,7 +686,18 @@ impl State {
         for (a, account) in accounts[..accountcount].iter_mut().enumerate() {
             account.balance = long(day, 8 + 20 * contractcount + 8 * a) as i64;
         }
-        State { contracts, accounts, resting: [[0; 4]; 2], contractcount, accountcount, made: 0, next: 1, settlements: 0, profits: [[0; 2]; ACCOUNTS] }
+        State {
+            contracts,
+            accounts,
+            resting: [[0; 4]; 2],
+            contractcount,
+            accountcount,
+            made: 0,
+            next: 1,
+            nextstamp: 1,
+            settlements: 0,
+            profits: [[0; 2]; ACCOUNTS],
+        }
     }
 }
 

@@ -25,12 +25,13 @@ pub struct Order {
     pub account: u32,
     pub lots: u32,
     pub close: u32,
+    pub stamp: u32,
 }
 
 impl Order {
-    /// As it lies in its queue: no time stamp and no quote mark yet.
+    /// As it lies in its queue: no quote mark yet.
     pub fn words(&self) -> [u32; ORDER] {
-        [self.price, self.number, self.account, self.lots, self.close, 0, 0]
+        [self.price, self.number, self.account, self.lots, self.close, self.stamp, 0]
     }
 }
 
@@ -56,6 +57,7 @@ pub struct Taker {
     pub sell: bool,
     pub close: u32,
     pub number: u32,
+    pub stamp: u32,
     pub condition: PriceCondition,
     pub method: PairingMethod,
     pub best: u32,
@@ -121,6 +123,7 @@ impl Taker {
             sell: s.sell,
             close: s.close,
             number: s.number,
+            stamp: s.number,
             condition,
             method: PairingMethod::Middle,
             best: s.best,
@@ -128,6 +131,11 @@ impl Taker {
             price: s.price,
             day: s.day,
         }
+    }
+
+    /// The order that rests, at its limit, with its time stamp.
+    pub fn remainder(&self, lots: u32) -> Order {
+        Order { price: self.price, number: self.number, account: self.account, lots, close: self.close, stamp: self.stamp }
     }
 
     pub fn meets(&self, price: u32) -> bool {
@@ -222,8 +230,7 @@ pub fn enter(
         last,
     };
     if after.rested > 0 {
-        let o = Order { price: t.price, number: t.number, account: t.account, lots: after.rested, close: t.close };
-        insert(own, c, before.own, t.sell, &o);
+        insert(own, c, before.own, t.sell, &t.remainder(after.rested));
         after.own += 1;
     }
     after

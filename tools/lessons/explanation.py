@@ -60,7 +60,7 @@ def accounts_of(step):
 
 
 class Level(NamedTuple):
-    """The orders that rest at one price, in the order of their numbers."""
+    """The orders that rest at one price, in the order of their time stamps."""
 
     price: int
     orders: list
@@ -83,8 +83,14 @@ def price_levels(contract, side):
 def inserted(step):
     order = model.arriving(step.command)
     contract = step.before.contracts[order.contract]
+    words = f"Accepted as order {step.answer.order_number}. {arrived_words(step, contract, order)}"
+    return [Said(step.lines[0], words), *trades_said(step, contract, order)]
+
+
+def trades_said(step, contract, order):
+    """The trades of an order that arrives, each with its price."""
     fills = model.sweep(contract, order)
-    said = [Said(step.lines[0], inserted_words(step, contract, order, fills))]
+    said = []
     last_price = contract.last_price
     for place, (trade, (resting, lots)) in enumerate(zip(step.answer.trades, fills)):
         check("lots of a trade", lots, trade.lots)
@@ -94,22 +100,23 @@ def inserted(step):
     return said
 
 
-def inserted_words(step, contract, order, fills):
+def arrived_words(step, contract, order):
+    """What of an order trades, what rests, and why no more trades."""
     given = step.answer
+    fills = model.sweep(contract, order)
     vanished = order.lots - given.lots_traded - given.lots_rested_or_removed
-    accepted = f"Accepted as order {given.order_number}."
     if contract.state == "auction":
         rest = f"{lots_of(order.lots)} rest{'s' if order.lots == 1 else ''} at {order.price:,}"
-        return f"{accepted} In an auction nothing trades until the match: {rest}."
+        return f"In an auction nothing trades until the match: {rest}."
     if vanished == given.lots_rested_or_removed == 0:
-        return f"{accepted} {all_lots(order.lots)} trade{'s' if order.lots == 1 else ''}."
+        return f"{all_lots(order.lots)} trade{'s' if order.lots == 1 else ''}."
     traded = f"{given.lots_traded:,} of {lots_of(order.lots)}" if given.lots_traded else "Nothing"
     trade = "trade" if given.lots_traded > 1 else "trades"
     remainder = vanished + given.lots_rested_or_removed
     s = "s" if remainder == 1 else ""
     end = f"vanish{'es' if s else ''}" if vanished else f"rest{s} at {order.price:,}"
     time = f"As it is {TIME_WORDS[order.time_condition]}, {lots_of(remainder)} {end}."
-    return f"{accepted} {traded} {trade}: {stop_words(contract, order, fills)}. {time}"
+    return f"{traded} {trade}: {stop_words(contract, order, fills)}. {time}"
 
 
 def all_lots(lots):
@@ -184,6 +191,45 @@ def pulled(step):
     return [Said(step.lines[0], f"Accepted. Out of the book: {which}{total}.")]
 
 
+# "fewer lots keep the place in the queue; more lots or another price lose it" (001, 4.1.2.3; document 02, ticket 8)
+def changed(step):
+    contract = step.before.contracts[step.command.contract]
+    old = model.resting_order(contract, step.command.order_number)
+    if step.command.lots == 0:
+        left = lots_of(old.lots)
+        return [Said(step.lines[0], f"Accepted. Without lots order {old.number} leaves the book, with the {left} it had.")]
+    if model.keeps_place(step.before, step.command):
+        check("lots resting after a change", step.command.lots, step.answer.lots_rested_or_removed)
+        if step.command.lots == old.lots:
+            return [Said(step.lines[0], f"Accepted. Order {old.number} is as it was, and nothing changes.")]
+        fewer = f"{old.lots:,} to {lots_of(step.command.lots)} and keeps its place: {place_words(step, old)}"
+        return [Said(step.lines[0], f"Accepted. Order {old.number} goes from {fewer}.")]
+    order = model.changed_order(step.before, step.command)
+    lost = f"{why_place_lost(step, old)}, so order {old.number} loses its place and arrives anew under its number."
+    words = f"Accepted. {lost} {arrived_words(step, contract, order)}"
+    if step.answer.lots_rested_or_removed:
+        words += f" It is {place_words(step, old)}."
+    return [Said(step.lines[0], words), *trades_said(step, contract, order)]
+
+
+def why_place_lost(step, old):
+    more = f"{old.lots:,} to {step.command.lots:,} is more lots" if step.command.lots > old.lots else ""
+    other = f"{old.price:,} to {step.command.price:,} is another price" if step.command.price != old.price else ""
+    return " and ".join(filter(None, (more, other)))
+
+
+def place_words(step, order):
+    """first of 3 at 102"""
+    contract = step.after.contracts[step.command.contract]
+    now = model.resting_order(contract, order.number)
+    level = [other.number for other in contract.queues[model.side_of(contract, now)] if other.price == now.price]
+    if len(level) == 1:
+        return f"alone at {now.price:,}"
+    place = level.index(order.number)
+    which = "first" if place == 0 else "last" if place == len(level) - 1 else f"number {place + 1}"
+    return f"{which} of {len(level)} at {now.price:,}"
+
+
 def deposited(step):
     return [Said(step.lines[0], f"Accepted. The balance is {balance_change(step)}.")]
 
@@ -255,4 +301,5 @@ ACCEPTED = {
     "pull": pulled,
     "state": state_changed,
     "settle": settled,
+    "change": changed,
 }

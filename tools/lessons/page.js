@@ -225,11 +225,11 @@ function ladderRow(book, before, price) {
     queueCell("sell", sell, before.sells));
 }
 
-// The orders at one price in the order of their numbers; on the buy side the first stands next to the price.
+// The orders at one price in the order of their time stamps; on the buy side the first stands next to the price.
 function queueCell(side, level, before) {
   if (!level) return element("td", {});
-  const known = new Map(before.flatMap(([, orders]) => orders.map(([number, , count]) => [number, count])));
-  const marks = level[1].slice(0, MOST_ORDERS).map((order) => orderMark(order, known));
+  const known = new Map(before.flatMap(([price, orders]) => orders.map(([number, , count]) => [number, [price, count]])));
+  const marks = level[1].slice(0, MOST_ORDERS).map((order) => orderMark(level[0], order, known));
   const others = level[1].slice(MOST_ORDERS);
   if (others.length) {
     const total = others.reduce((sum, [, , count]) => sum + count, 0);
@@ -238,9 +238,10 @@ function queueCell(side, level, before) {
   return element("td", { class: side }, ...(side === "buy" ? marks.reverse() : marks));
 }
 
-function orderMark([number, account, count, effect], known) {
+function orderMark(price, [number, account, count, effect], known) {
+  const [priceBefore, countBefore] = known.get(number) ?? [];
   const attributes = {
-    class: `order ${effect} ${known.get(number) === count ? "" : "new"}`,
+    class: `order ${effect} ${price === priceBefore && count === countBefore ? "" : "new"}`,
     title: `order ${number} of account ${account}: ${lots(count)} to ${effect}`,
     style: `border-color: ${colour(account)}`,
   };

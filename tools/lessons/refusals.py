@@ -6,6 +6,7 @@ import dayfile
 import model
 from bounds import (
     LAST_ORDER_NUMBER,
+    LAST_STAMP,
     MOST_LOTS,
     MOST_RESTING,
     MOST_SETTLEMENTS,
@@ -29,6 +30,25 @@ def refused(step):
     return Said(
         step.lines[0], f"Refused, code {code}: {meaning}. Nothing changes.", [(1, figure) for figure in figures]
     )
+
+
+def arriving(step):
+    """The order that a command would bring into the book: an insert's, or what a change makes of a resting one."""
+    if dayfile.KINDS[step.command.kind] == "change":
+        return model.changed_order(step.before, step.command)
+    return model.arriving(step.command)
+
+
+def found(step):
+    """The state that the order is tested in: a change as though the old order were gone."""
+    if dayfile.KINDS[step.command.kind] == "change":
+        return model.without_order(step.before, step.command.contract, step.command.order_number)
+    return step.before
+
+
+def old_is_gone(step):
+    """How the figures of a change begin."""
+    return "As though the old order were gone: " if dayfile.KINDS[step.command.kind] == "change" else ""
 
 
 def why_malformed(step):
@@ -96,8 +116,11 @@ def why_wrong_state(step):
     state = step.before.contracts[step.command.contract].state
     trading = [STATE_WORDS[name] for name in ("continuous", "auction") if name in dayfile.STATES]
     now = f"The state of contract {step.command.contract} is {STATE_WORDS[state]}"
-    if dayfile.KINDS[step.command.kind] == "insert":
+    kind = dayfile.KINDS[step.command.kind]
+    if kind == "insert":
         return [f"{now}; an insert needs {listed(trading, 'or')}."]
+    if kind == "change":
+        return [f"{now}; a change needs continuous."]
     return [f"{now}; cancel and pull need {listed(trading, 'or')}, or no trading with the operator."]
 
 
@@ -114,7 +137,7 @@ def why_conditions(step):
 
 
 def why_price(step):
-    order = model.arriving(step.command)
+    order = arriving(step)
     contract = step.before.contracts[order.contract]
     price, low, high = order.price, model.low(contract), model.high(contract)
     if order.price_condition != "limit":
@@ -141,23 +164,24 @@ def high_words(contract):
 
 def why_holding(step):
     """8: an open against the limit, a close against the holding."""
-    order = model.arriving(step.command)
-    contract = step.before.contracts[order.contract]
+    order = arriving(step)
+    state = found(step)
+    contract = state.contracts[order.contract]
     held = model.HELD[order.side, order.effect]
-    holding = step.before.holdings[order.account, order.contract, held]
+    holding = state.holdings[order.account, order.contract, held]
     resting = model.resting_lots(contract, order.account, order.side, order.effect)
-    permitted = model.most_lots_by_holding(step.before, order)
+    permitted = model.most_lots_by_holding(state, order)
     if order.effect == "open":
         check("lots that the limit permits", contract.limit - holding - resting, permitted)
         total = holding + resting + order.lots
         return [
-            f"{holding:,} {held} + {resting:,} resting to {order.side} open + {order.lots:,} of this order = {total:,},"
-            f" above the limit of {contract.limit:,}."
+            f"{old_is_gone(step)}{holding:,} {held} + {resting:,} resting to {order.side} open + {order.lots:,} of this"
+            f" order = {total:,}, above the limit of {contract.limit:,}."
         ]
     check("lots that the holding permits", holding - resting, permitted)
     return [
-        f"{holding:,} {held} - {resting:,} resting to {order.side} close = {permitted:,} that can be closed;"
-        f" the order is for {order.lots:,}."
+        f"{old_is_gone(step)}{holding:,} {held} - {resting:,} resting to {order.side} close = {permitted:,} that can be"
+        f" closed; the order is for {order.lots:,}."
     ]
 
 
@@ -165,10 +189,11 @@ def why_margin(step):
     """9: an open, with its lots counted in; a withdrawal, by what it would leave."""
     account, amount = step.command.account, step.command.amount
     balance = step.before.balances[account]
-    if dayfile.KINDS[step.command.kind] == "insert":
-        charges = charged_by_contract(step.before, account, model.arriving(step.command))
+    if dayfile.KINDS[step.command.kind] != "withdraw":
+        charges = charged_by_contract(found(step), account, arriving(step))
         total = margin_total(charges)
-        words = f"With the lots of this order {total} would be charged, more than the balance of {balance:,}."
+        words = f"{old_is_gone(step)}with the lots of this order {total} would be charged, more than the balance of {balance:,}."
+        words = words[0].upper() + words[1:]
     else:
         charges = charged_by_contract(step.before, account)
         left = f"{balance:,} - {amount:,} = {balance - amount:,}"
@@ -177,6 +202,8 @@ def why_margin(step):
 
 
 def why_numbers(step):
+    if step.before.next_stamp > LAST_STAMP:
+        return [f"All time stamps of the day, 1 to {LAST_STAMP:,}, are given."]
     return [f"All order numbers of the day, 1 to {LAST_ORDER_NUMBER:,}, are given."]
 
 
@@ -198,10 +225,10 @@ def why_no_room(step):
     """12: an order's sweep, or an auction's match."""
     made = len(step.before.trades)
     contract = step.before.contracts[step.command.contract]
-    if dayfile.KINDS[step.command.kind] == "insert":
-        trades = len(model.sweep(contract, model.arriving(step.command)))
-    else:
+    if dayfile.KINDS[step.command.kind] == "state":
         trades = len(model.auction_pairs(contract))
+    else:
+        trades = len(model.sweep(contract, arriving(step)))
     return [f"{made:,} trades made today + {trades:,} more = {made + trades:,}; a day has room for {MOST_TRADES:,}."]
 
 
@@ -226,7 +253,7 @@ def why_no_order(step):
         given = f"1 to {state.next_order_number - 1:,}" if state.next_order_number > 1 else "none so far"
         return [f"No order has the number {number:,}; the numbers given today: {given}."]
     return [
-        f"Order {number:,} was given today, but rests no longer: it is filled, cancelled or pulled, or never rested."
+        f"Order {number:,} was given today, but rests no longer: it is filled or removed, or never rested."
     ]
 
 
@@ -276,7 +303,7 @@ REFUSALS = {
     7: ("the price is not allowed", why_price),
     8: ("more lots than the limit or the holding permits", why_holding),
     9: ("too little money for the charged margin", why_margin),
-    10: ("the day's order numbers are used up", why_numbers),
+    10: ("the day's order numbers or time stamps are used up", why_numbers),
     11: ("fill or kill, and not all lots can be filled", why_not_filled),
     12: ("more trades than the day has room for", why_no_room),
     13: ("it would have to rest, and its side is full", why_side_full),

@@ -113,6 +113,10 @@ COMMAND_WORDS = {
     "pull": lambda command: (
         f"Account {command.account}: pull all its orders in contract {command.contract}{by_operator(command)}"
     ),
+    "change": lambda command: (
+        f"Account {command.account}: change order {command.order_number} in contract {command.contract} to"
+        + (f" {lots_of(command.lots)} at {command.price:,}" if command.lots else " no lots")
+    ),
     "state": lambda command: f"Contract {command.contract}: change to {STATE_WORDS[dayfile.STATES[command.flags]]}",
     "settle": lambda command: "Settle the day",
 }

@@ -11,6 +11,7 @@ MOST_SETTLEMENTS = 250
 
 # "Order numbers: 1 to 999,999 each day", "Lots per order: 1 to 1,000", "Prices: 1 to 1,000,000".
 LAST_ORDER_NUMBER = 999_999
+# "Stamps end at 999,999 a day." (document 02, ticket 8)
 LAST_STAMP = 999_999
 MOST_LOTS = 1_000
 TOP_PRICE = 1_000_000

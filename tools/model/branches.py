@@ -46,6 +46,11 @@ class Case:
         return model.free_balance(self.state, self.command.account)
 
     @cached_property
+    def free_without(self):
+        """What would be free of the balance without the order that a change loses."""
+        return model.free_balance(self.found, self.command.account)
+
+    @cached_property
     def by_operator(self):
         return self.command.flags == 1
 
@@ -61,16 +66,27 @@ class Case:
         """How many trades the day has room for."""
         return MOST_TRADES - len(self.state.trades)
 
-    # What follows is asked of inserts alone.
+    # What follows is asked of inserts and of changes alone. A change finds the state without the order that it changes.
 
     @cached_property
     def order(self):
-        return model.arriving(self.command)
+        return model.arriving(self.command) if self.kind == "insert" else model.changed_order(self.state, self.command)
+
+    @cached_property
+    def found(self):
+        """The state that the order arrives in."""
+        if self.kind == "insert":
+            return self.state
+        return model.without_order(self.state, self.command.contract, self.command.order_number)
 
     def added_charge(self, lots):
         """What so many lots of the order, an open, would add to the charged margin."""
         order = self.order._replace(lots=lots)
-        return model.charged_margin(self.state, order.account, order) - model.charged_margin(self.state, order.account)
+        return model.charged_margin(self.found, order.account, order) - model.charged_margin(self.found, order.account)
+
+    @cached_property
+    def most_lots_by_holding(self):
+        return model.most_lots_by_holding(self.found, self.order)
 
     @cached_property
     def opposite(self):
@@ -78,7 +94,7 @@ class Case:
 
     @cached_property
     def own_side(self):
-        return self.contract.queues[self.order.side]
+        return self.found.contracts[self.command.contract].queues[self.order.side]
 
     @cached_property
     def fillable(self):
@@ -121,6 +137,37 @@ class Case:
             prices.append((price, resting.price, last_price))
             last_price = price
         return prices
+
+    # What follows is asked of changes of an order alone.
+
+    @cached_property
+    def old(self):
+        """The order before the change."""
+        return model.resting_order(self.contract, self.command.order_number)
+
+    @cached_property
+    def old_side(self):
+        return self.contract.queues[model.side_of(self.contract, self.old)]
+
+    @cached_property
+    def behind_at_its_price(self):
+        """The orders that stand behind the old one at its price."""
+        place = self.old_side.index(self.old)
+        return [order for order in self.old_side[place + 1 :] if order.price == self.old.price]
+
+    @cached_property
+    def keeps_place(self):
+        return model.keeps_place(self.state, self.command)
+
+    @cached_property
+    def lots_compared(self):
+        return compared(self.command.lots, self.old.lots, ("fewer", "as many", "more"))
+
+    @cached_property
+    def price_compared(self):
+        """Whether the price is better for the other side, the same or worse."""
+        better, worse = ("a better", "a worse") if self.order.side == "buy" else ("a worse", "a better")
+        return compared(self.command.price, self.old.price, (worse, "the same", better))
 
     # What follows is asked of the change that ends an auction.
 
@@ -221,6 +268,11 @@ class Case:
         ]
 
 
+def compared(first, second, names):
+    """One of three names: for a first that is below the second, equal to it, above it."""
+    return names[(first > second) - (first < second) + 1]
+
+
 def for_each(values, name, test):
     """A name and its test for each of the values: both are given the value."""
     return {name(value): (lambda case, value=value: test(case, value)) for value in values}
@@ -281,6 +333,29 @@ def under(heading, tests):
     return {f"{heading}: {name}": test for name, test in tests.items()}
 
 
+# Of two orders of one price the later number stands first, since the other has lost its place.
+def out_of_turn(orders):
+    return any(
+        first.price == second.price and first.number > second.number for first, second in zip(orders, orders[1:])
+    )
+
+
+BY_STAMP = {
+    "sweep: a higher number before a lower one at one price": lambda case: (
+        out_of_turn([resting for resting, _ in case.fills])
+    ),
+    "sweep: stops between two of one price whose numbers are out of turn": lambda case: (
+        case.share_traded == "all"
+        and out_of_turn(case.opposite)
+        and any(
+            first.number == case.fills[-1][0].number and first.price == second.price and first.number > second.number
+            for first, second in zip(case.opposite, case.opposite[1:])
+        )
+    ),
+    "sweep: own orders are out of turn": lambda case: out_of_turn(case.own_side),
+}
+
+
 INSERT_REFUSED = {
     **codes("insert", (2, 3, 4, 5, 6, 7, 8, 9, 11, 12, 13)),
     **for_each(
@@ -309,7 +384,7 @@ INSERT_REFUSED = {
         lambda case, value: (
             case.code == 8
             and (case.order.side, case.order.effect) == value
-            and case.order.lots == model.most_lots_by_holding(case.state, case.order) + 1
+            and case.order.lots == case.most_lots_by_holding + 1
         ),
     ),
     "insert: open one lot above what the balance covers": lambda case: (
@@ -349,7 +424,7 @@ INSERT_ACCEPTED = {
         lambda value: f"insert: {value[0]} {value[1]} for all that the holding permits",
         lambda case, value: (
             (case.order.side, case.order.effect) == value
-            and case.order.lots == model.most_lots_by_holding(case.state, case.order)
+            and case.order.lots == case.most_lots_by_holding
         ),
     ),
     "insert: open takes all of the balance": lambda case: (
@@ -402,6 +477,7 @@ INSERT_ACCEPTED = {
         and len(case.own_side) == MOST_RESTING
     ),
     **under("insert", PLACES),
+    **BY_STAMP,
     "sweep: while another contract is in auction": lambda case: (
         case.fills != [] and "auction" in case.states_of_others
     ),
@@ -520,7 +596,7 @@ AUCTION_INSERT_REFUSED = {
         lambda case, effect: (
             case.code == 8
             and case.order.effect == effect
-            and case.order.lots == model.most_lots_by_holding(case.state, case.order) + 1
+            and case.order.lots == case.most_lots_by_holding + 1
         ),
     ),
     "insert in auction: open one lot above what the balance covers": lambda case: (
@@ -555,7 +631,7 @@ AUCTION_INSERT_ACCEPTED = {
         dayfile.EFFECTS,
         lambda effect: f"insert in auction: {effect} for all that the holding permits",
         lambda case, effect: (
-            case.order.effect == effect and case.order.lots == model.most_lots_by_holding(case.state, case.order)
+            case.order.effect == effect and case.order.lots == case.most_lots_by_holding
         ),
     ),
     "insert in auction: open takes all of the balance": lambda case: (
@@ -588,24 +664,33 @@ def work_in_auction(kind, code, does):
     )
 
 
+def names_no_order(kind):
+    return {
+        f"{kind}: order number 0": lambda case: case.code == 14 and case.command.order_number == 0,
+        f"{kind}: a number not given yet": lambda case: (
+            case.code == 14 and case.command.order_number >= case.state.next_order_number
+        ),
+        f"{kind}: an order of another contract": lambda case: (
+            case.code == 14
+            and any(model.resting_order(other, case.command.order_number) for other in case.state.contracts.values())
+        ),
+    }
+
+
 CANCEL = {
     **codes("cancel", (0, 2, 3, 4, 14, 15)),
     **work_of_state("cancel"),
     **work_in_auction("cancel", 0, "removes an order"),
     **work_in_auction("cancel", 14, "no such order"),
     **work_in_auction("cancel", 15, "another account's order"),
-    "cancel: order number 0": lambda case: case.code == 14 and case.command.order_number == 0,
-    "cancel: a number not given yet": lambda case: (
-        case.code == 14 and case.command.order_number >= case.state.next_order_number
-    ),
-    "cancel: an order of another contract": lambda case: (
-        case.code == 14
-        and any(model.resting_order(other, case.command.order_number) for other in case.state.contracts.values())
-    ),
+    **names_no_order("cancel"),
     "cancel: another account's order by operator": lambda case: case.code == 15 and case.by_operator,
-    "cancel: an order filled in part": lambda case: (
-        case.code == 0
-        and any(case.command.order_number in (trade.buy_order, trade.sell_order) for trade in case.state.trades)
+    "cancel: an order filled in part": lambda case: case.code == 0 and traded_before(case),
+    "cancel: an order that lost its place": lambda case: case.code == 0 and any(
+        out_of_turn([first, second])
+        for queue in case.contract.queues.values()
+        for first, second in zip(queue, queue[1:])
+        if second.number == case.command.order_number
     ),
 }
 
@@ -637,6 +722,208 @@ PULL = {
         case.code == 0 and any(len(pulled(case, side)) < len(case.contract.queues[side]) for side in dayfile.SIDES)
     ),
 }
+
+# A change that is refused (document 02, ticket 8).
+CHANGE_REFUSED = {
+    **codes("change", (2, 3, 4, 14, 15)),
+    **for_each(
+        ("pre-open", "no-trading", "closed", "auction"),
+        lambda state: f"change: refused in {state}",
+        lambda case, state: case.code == 4 and case.contract.state == state,
+    ),
+    "change: an order of its own refused in auction": lambda case: (
+        case.code == 4
+        and case.contract.state == "auction"
+        and case.old is not None
+        and case.old.account == case.command.account
+    ),
+    **names_no_order("change"),
+    "change: no lots of another account's order": lambda case: case.code == 15 and case.command.lots == 0,
+    "change: another account's order comes before the lots": lambda case: (
+        case.code == 15 and case.command.lots > MOST_LOTS
+    ),
+    "change: no such order comes before the lots": lambda case: case.code == 14 and case.command.lots > MOST_LOTS,
+}
+
+# A change of an order of one's own that is refused for what it would make of it.
+CHANGE_REFUSED_FOR_ITSELF = {
+    **codes("change", (5, 7, 8, 9, 12)),
+    "change: 1,001 lots": lambda case: case.code == 5 and case.command.lots == MOST_LOTS + 1,
+    "change: the lots come before the price": lambda case: (
+        case.code == 5 and not model.allowed_today(case.contract, case.command.price)
+    ),
+    "change: price off tick": lambda case: case.code == 7 and case.command.price % case.contract.tick != 0,
+    "change: price one tick below the low": lambda case: (
+        case.code == 7 and case.command.price == model.low(case.contract) - case.contract.tick
+    ),
+    "change: price one tick above the high": lambda case: (
+        case.code == 7 and case.command.price == model.high(case.contract) + case.contract.tick
+    ),
+    **for_each(
+        ("fewer", "as many", "more"),
+        lambda lots: f"change: price not allowed, {lots} lots",
+        lambda case, lots: case.code == 7 and case.lots_compared == lots,
+    ),
+    **for_each(
+        product(dayfile.SIDES, dayfile.EFFECTS),
+        lambda value: f"change: {value[0]} {value[1]} one lot above what the holding permits",
+        lambda case, value: (
+            case.code == 8
+            and (case.order.side, case.order.effect) == value
+            and case.order.lots == case.most_lots_by_holding + 1
+        ),
+    ),
+    "change: at another price, above what the holding permits": lambda case: (
+        case.code == 8 and case.price_compared != "the same"
+    ),
+    "change: open one lot above what the balance covers": lambda case: (
+        case.code == 9 and case.order.lots > 1 and case.added_charge(case.order.lots - 1) <= case.free_without
+    ),
+    "change: one trade more than the day has room for": lambda case: (
+        case.code == 12 and len(case.state.trades) + len(case.fills) == MOST_TRADES + 1
+    ),
+    "change: a full day, one trade": lambda case: case.code == 12 and len(case.state.trades) == MOST_TRADES,
+}
+
+# A change that is accepted, and keeps its place or removes the order.
+CHANGE_KEEPS = {
+    "change: code 0": lambda case: True,
+    **for_each(
+        dayfile.EFFECTS,
+        lambda effect: f"change: no lots, {effect}",
+        lambda case, effect: case.command.lots == 0 and case.old.effect == effect,
+    ),
+    "change: no lots, price 0": lambda case: case.command.lots == 0 and case.command.price == 0,
+    "change: no lots, its own price": lambda case: case.command.lots == 0 and case.command.price == case.old.price,
+    "change: no lots, a price that is not allowed": lambda case: (
+        case.command.lots == 0
+        and case.command.price != 0
+        and not model.allowed_today(case.contract, case.command.price)
+    ),
+    "change: no lots of an order filled in part": lambda case: case.command.lots == 0 and traded_before(case),
+    "change: no lots of the only order": lambda case: case.command.lots == 0 and len(case.old_side) == 1,
+    **for_each(
+        product(("fewer", "as many"), dayfile.SIDES, dayfile.EFFECTS),
+        lambda value: "change: {} lots at the same price, {} {}".format(*value),
+        lambda case, value: (
+            case.command.lots > 0 and (case.lots_compared, case.order.side, case.old.effect) == value
+        ),
+    ),
+    "change: fewer lots, others behind at the price": lambda case: (
+        case.command.lots > 0 and case.lots_compared == "fewer" and case.behind_at_its_price != []
+    ),
+    "change: fewer lots of an order that stands out of turn": lambda case: (
+        case.command.lots > 0
+        and case.lots_compared == "fewer"
+        and any(order.number < case.old.number for order in case.behind_at_its_price)
+    ),
+    "change: fewer lots, with more charged than the balance": lambda case: (
+        case.command.lots > 0 and case.lots_compared == "fewer" and case.free < 0
+    ),
+    "change: fewer lots on a full day": lambda case: (
+        case.command.lots > 0 and case.lots_compared == "fewer" and case.room == 0
+    ),
+    "change: as many lots, filled in part before": lambda case: (
+        case.lots_compared == "as many" and traded_before(case)
+    ),
+}
+
+# A change that is accepted and loses its place.
+CHANGE_LOSES = {
+    "change: code 0": lambda case: True,
+    **for_each(
+        [
+            (lots, price, side)
+            for lots, price, side in product(("fewer", "as many", "more"), ("a worse", "the same", "a better"), dayfile.SIDES)
+            if lots == "more" or price != "the same"
+        ],
+        lambda value: "change: {} lots at {} price, {}".format(*value),
+        lambda case, value: (case.lots_compared, case.price_compared, case.order.side) == value,
+    ),
+    **for_each(
+        product(dayfile.SIDES, dayfile.EFFECTS, ("all", "some", "none")),
+        lambda value: "change: {} {}, {} trades".format(*value),
+        lambda case, value: (case.order.side, case.order.effect, case.share_traded) == value,
+    ),
+    "change: more lots, others behind at the price": lambda case: (
+        case.price_compared == "the same" and case.behind_at_its_price != []
+    ),
+    "change: more lots, first of its price among three": lambda case: (
+        case.price_compared == "the same" and len(case.behind_at_its_price) > 1
+    ),
+    "change: fewer lots, and some trade": lambda case: case.lots_compared == "fewer" and case.share_traded == "some",
+    **under("change", {name: test for name, test in PLACES.items() if name != "rests as the 64th"}),
+    "change: rests on a side that was full": lambda case: case.rests and len(case.old_side) == MOST_RESTING,
+    "change: rests alone": lambda case: case.rests and case.own_side == [],
+    "change: a side that was full, some lots trade": lambda case: (
+        case.share_traded == "some" and len(case.old_side) == MOST_RESTING
+    ),
+    "change: an order changed before": lambda case: any(
+        order.number > case.old.number and order.stamp < case.old.stamp
+        for contract in case.state.contracts.values()
+        for queue in contract.queues.values()
+        for order in queue
+    ),
+    "change: an order filled in part before": lambda case: traded_before(case),
+    **for_each(
+        dayfile.EFFECTS,
+        lambda effect: f"change: {effect} permitted by the holding only as the old order is gone",
+        lambda case, effect: (
+            case.order.effect == effect and case.order.lots > model.most_lots_by_holding(case.state, case.order)
+        ),
+    ),
+    **for_each(
+        product(dayfile.SIDES, dayfile.EFFECTS),
+        lambda value: f"change: {value[0]} {value[1]} to all that the holding permits",
+        lambda case, value: (
+            (case.order.side, case.order.effect) == value and case.order.lots == case.most_lots_by_holding
+        ),
+    ),
+    "change: open covered by the balance only as the old order is gone": lambda case: (
+        case.order.effect == "open"
+        and model.charged_margin(case.state, case.order.account, case.order) > case.balance
+    ),
+    "change: open takes all of the balance": lambda case: (
+        case.order.effect == "open" and 0 < case.free_without == case.added_charge(case.order.lots)
+    ),
+    "change: close with more charged than the balance": lambda case: case.order.effect == "close" and case.free < 0,
+    "change: 1,000 lots": lambda case: case.order.lots == MOST_LOTS,
+    "change: price at the low": lambda case: case.order.price == model.low(case.contract),
+    "change: price at the high": lambda case: case.order.price == model.high(case.contract),
+    "change: the day's last trade": lambda case: (
+        case.fills != [] and len(case.state.trades) + len(case.fills) == MOST_TRADES
+    ),
+    "change: a full day, no trade": lambda case: case.room == 0,
+    "change: several trades": lambda case: len(case.fills) > 1,
+    "change: empties the other side": lambda case: (
+        case.fills != [] and len(case.fills) == len(case.opposite) and case.order.lots >= case.fillable
+    ),
+    "change: takes orders that are out of turn": lambda case: out_of_turn([resting for resting, _ in case.fills]),
+    **for_each(
+        product(dayfile.EFFECTS, dayfile.EFFECTS, dayfile.SIDES),
+        lambda value: f"change: own order met, {value[2]} {value[0]} arrives, {value[1]} rests",
+        lambda case, value: (
+            case.order.effect == value[0]
+            and case.order.side == value[2]
+            and any(
+                resting.account == case.order.account and resting.effect == value[1] for resting, _ in case.fills
+            )
+        ),
+    ),
+    **for_each(
+        (0, 1, 2),
+        lambda method: f"change: method {method}, the price is neither its own nor the last",
+        lambda case, method: paired_by(case, method) and any(
+            price not in (case.order.price, last) for price, _, last in case.trade_prices
+        ),
+    ),
+    "change: while another contract is in auction": lambda case: "auction" in case.states_of_others,
+}
+
+
+def traded_before(case):
+    return any(case.command.order_number in (trade.buy_order, trade.sell_order) for trade in case.state.trades)
+
 
 DEPOSIT = {
     **codes("deposit", (0, 2, 16)),
@@ -878,6 +1165,7 @@ NAMES = [
     *INSERT_ACCEPTED,
     *AUCTION_INSERT_REFUSED,
     *AUCTION_INSERT_ACCEPTED,
+    *dict.fromkeys((*CHANGE_REFUSED, *CHANGE_REFUSED_FOR_ITSELF, *CHANGE_KEEPS, *CHANGE_LOSES)),
     *(name for table in OF_KIND.values() for name in table),
     *AUCTION,
     *AUCTION_WITH_VOLUME,
@@ -898,6 +1186,12 @@ def tables(case):
         return [AUCTION_INSERT_ACCEPTED if case.code == 0 else AUCTION_INSERT_REFUSED]
     if case.kind == "insert":
         return [INSERT_ACCEPTED if case.code == 0 else INSERT_REFUSED]
+    if case.kind == "change":
+        if case.code in (2, 3, 4, 14, 15):
+            return [CHANGE_REFUSED]
+        if case.code != 0:
+            return [CHANGE_REFUSED_FOR_ITSELF]
+        return [CHANGE_KEEPS if case.command.lots == 0 or case.keeps_place else CHANGE_LOSES]
     if case.kind == "state" and case.code == 0 and case.contract.state == "auction":
         return [STATE, AUCTION] if case.auction_price is None else [STATE, AUCTION, AUCTION_WITH_VOLUME]
     if case.kind == "settle" and case.code == 0:

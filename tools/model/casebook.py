@@ -16,14 +16,16 @@ TERMS = Contract(
 
 
 def exchange(contracts=1, accounts=2, **terms):
-    """A state with these contracts, all with the same terms, and rich accounts; no order number from 100 on is given."""
-    state = Memory(contract_count=contracts, account_count=accounts, next=100)
+    """A state with these contracts, all with the same terms, and rich accounts; no order number from 100 on is given, and
+    no stamp from 700 on."""
+    state = Memory(contract_count=contracts, account_count=accounts, next=100, next_stamp=700)
     for place in range(contracts):
         state.contracts[place] = TERMS._replace(**terms)
         for counts in state.order_counts.values():
             counts[place] = 0
     for place in range(accounts):
         state.balances[place] = RICH
+        state.makers[place] = 0
         for contract in range(contracts):
             state.holdings[place][contract] = Holding()
     return state
@@ -46,13 +48,18 @@ def balance(state, account, value):
     return state
 
 
+# An order's stamp is no order's number, unless a case says otherwise.
+FIRST_STAMP = 300
+
+
 def rest(state, side, contract, *orders):
-    """Orders at the end of a queue: (price, lots, number, account, OPEN or CLOSE), the last two 1 and OPEN if left out."""
+    """Orders at the end of a queue: (price, lots, number, account, OPEN or CLOSE, stamp). What is left out is account 1,
+    OPEN, and a stamp that rises with the number."""
     queue_counts = state.order_counts[side]
     for price, lots, number, *more in orders:
-        account, close = (*more, *(1, OPEN)[len(more) :])
+        account, close, stamp = (*more, *(1, OPEN, FIRST_STAMP + number)[len(more) :])
         place = MOST_RESTING * (contract - 1) + queue_counts[contract - 1]
-        state.orders[side].contents[place] = Order(price, number, account - 1, lots, close)
+        state.orders[side].contents[place] = Order(price, number, account - 1, lots, close, stamp, 0)
         queue_counts[contract - 1] += 1
     return state
 
@@ -107,16 +114,17 @@ def tempting(state):
         state.contracts[contracts] = TERMS._replace(multiplier=3, phase=PRE_OPEN)
         for side, price in (("buy", 95), ("sell", 105)):
             state.order_counts[side][contracts] = 1
-            state.orders[side].contents.setdefault(MOST_RESTING * contracts, Order(price, 98, 0, 7, OPEN))
+            state.orders[side].contents.setdefault(MOST_RESTING * contracts, Order(price, 98, 0, 7, OPEN, 398, 0))
         state.holdings[0][contracts] = Holding(3, 4, 5, 6)
     if accounts < MOST_ACCOUNTS:
         state.balances[accounts] = 2_000
+        state.makers[accounts] = 0
         state.holdings[accounts][0] = Holding(8, 8, 8, 8)
     for side, price in (("buy", 95), ("sell", 105)):
         for contract, count in enumerate(state.order_counts[side][: min(contracts, MOST_CONTRACTS)]):
             if count < MOST_RESTING:
                 place = MOST_RESTING * contract + count
-                state.orders[side].contents.setdefault(place, Order(price, 99, 0, 7, contract % 2))
+                state.orders[side].contents.setdefault(place, Order(price, 99, 0, 7, contract % 2, 399, 0))
     if state.trade_count < room_of(state.trades):
         state.trades.contents.setdefault(state.trade_count, Trade(0, 95, 7, 97, 98, 0, 1, OPEN, OPEN))
     return state
@@ -155,8 +163,12 @@ def best(account, contract, side, lots, time="immediate", effect="open", price=0
     return insert(account, contract, side, price, lots, time, effect, "best")
 
 
+def change(account, contract, order_number, lots, price):
+    return dayfile.change(account, contract, order_number, lots, price)
+
+
 def full_queue(state, side, contract, price, first_number, count=MOST_RESTING, lots=1, account=1):
-    """A queue of equal orders; numbers in turn."""
+    """A queue of equal orders; numbers and stamps in turn."""
     return rest(state, side, contract, *((price, lots, first_number + k, account) for k in range(count)))
 
 

@@ -111,7 +111,7 @@ def state_changes():
     for flags in (5, 12, 255):
         yield given(f"state flags {flags} in auction", auction(), Command(6, contract=1, flags=flags), 1)
     second = terms(exchange(2, phase=PRE_OPEN), 1, phase=CLOSED)
-    yield given("contract 2 to auction", second, Command(6, contract=2, flags=4))
+    yield given("contract 2 of 2 to auction", second, Command(6, contract=2, flags=4))
     yield given("a settlement, a contract in auction", terms(exchange(2, phase=CLOSED), 2, phase=AUCTION), dayfile.settle(), 18)
     yield given("a deposit", auction(), dayfile.deposit(1, 7))
     yield given("a withdrawal", auction(), dayfile.withdraw(1, 7))

@@ -41,6 +41,7 @@ def sound_commands():
         "pull": (book(), dayfile.pull(1, 1)),
         "state": (book(), dayfile.state(1, "closed")),
         "settle": (book(phase=CLOSED), dayfile.settle()),
+        "change": (book(), change(1, 1, 1, 2, 100)),
     }
 
 
@@ -101,6 +102,10 @@ def spoilt_states():
     yield "65 buys", counts(book(), order_counts={"buy": [65, 0, 0, 0], "sell": [0] * 4})
     yield "1,025 trades", counts(book(), trade_count=1_025)
     yield "a million and one", counts(book(), next=10**6 + 1)
+    yield "an order without a stamp", change_order(book(), "buy", 1, 1, stamp=0)
+    yield "a stamp that is still to be given", change_order(book(), "buy", 1, 1, stamp=700)
+    yield "one stamp for two orders", change_order(book(), "buy", 1, 1, stamp=301)
+    yield "a million and one stamps", counts(book(), next_stamp=10**6 + 1)
 
 
 # "2: account 0 or absent", for these two accounts: numbers that have none
@@ -112,7 +117,7 @@ NO_CONTRACT = (0, 3, 4, 5, 255)
 def deposits():
     for account in (1, 2):
         yield given(f"deposit for account {account}", exchange(), dayfile.deposit(account, 7))
-    yield given("deposit for account 32", exchange(accounts=32), dayfile.deposit(32, 7))
+    yield given("deposit for account 32 of 32", exchange(accounts=32), dayfile.deposit(32, 7))
     for account in NO_ACCOUNT:
         yield given(f"deposit for account {account}", exchange(), dayfile.deposit(account, 7), 2)
     yield given("deposit of nothing for account 0", exchange(), dayfile.deposit(0, 0), 2)
@@ -194,12 +199,12 @@ def with_margin():
 def refused_inserts():
     for account in (1, 2):
         yield given(f"insert of account {account}", exchange(2), insert(account, 1, "buy", 100, 1))
-    yield given("insert of account 32", exchange(accounts=32), insert(32, 1, "buy", 100, 1))
+    yield given("insert of account 32 of 32", exchange(accounts=32), insert(32, 1, "buy", 100, 1))
     for account in NO_ACCOUNT:
         yield given(f"insert of account {account}", exchange(2), insert(account, 1, "buy", 100, 1), 2)
     for contract in (1, 2):
         yield given(f"insert in contract {contract}", exchange(2), insert(1, contract, "sell", 100, 1))
-    yield given("insert in contract 4", exchange(4), insert(1, 4, "sell", 100, 1))
+    yield given("insert in contract 4 of 4", exchange(4), insert(1, 4, "sell", 100, 1))
     for contract in NO_CONTRACT:
         yield given(f"insert in contract {contract}", exchange(2), insert(1, contract, "buy", 100, 1), 3)
     for phase in (PRE_OPEN, NO_TRADING, CLOSED):
@@ -583,10 +588,10 @@ def pulls():
     yield given("pull of 128 orders", counts(renumbered(full), next=200), dayfile.pull(1, 1))
 
 
-# The sells' numbers behind the buys'.
+# The sells' numbers and stamps behind the buys'.
 def renumbered(state):
     for place in range(64):
-        change_order(state, "sell", 1, place, number=101 + place)
+        change_order(state, "sell", 1, place, number=101 + place, stamp=401 + place)
     return state
 
 

@@ -260,7 +260,7 @@ def statements():
         for side, order in orders:
             rest(quiet, side, 2, order)
         yield asked(f"lots without trades: {name}", quiet, lots({2: (3, 2)}, {2: (2, 0)}), [])
-    yield asked("an account meets its own order", own_trade(), NOTHING, postings((11, 2), (12, 1)))
+    yield asked("an account meets its own order, posted the other way", own_trade(), NOTHING, postings((11, 2), (12, 1)))
     sixteen = exchange(4, accounts=2)
     for contract in (1, 2, 3, 4):
         start(sixteen, 1, contract, 16, 16)

@@ -14,6 +14,7 @@ def cases():
     yield from uncrossed_queues()
     yield from resting_orders()
     yield from numbers_used_once()
+    yield from stamps_used_once()
     yield from recorded_trades()
     yield from replays()
     yield from limits()
@@ -30,6 +31,7 @@ def each(name, make, inside=(), outside=()):
 
 
 # "counts, numbers, [...] keep the ranges above, the next order number 1 to 1,000,000"
+# "Stamps end at 999,999 a day." (document 02, ticket 8)
 def counts_in_range():
     def contracts(count):
         state = exchange(contracts=min(max(count, 1), 4))
@@ -58,7 +60,7 @@ def counts_in_range():
     yield from each("sells of contract 2", queue("sell", 2, 2), (64,), (65,))
     yield ill("2^63 buys", counts(exchange(), order_counts={"buy": [2**63, 0, 0, 0], "sell": [0] * 4}))
     yield from each("next order number", lambda n: counts(exchange(), next=n), (1, 10**6), (0, 10**6 + 1))
-    yield from each("next time stamp", lambda n: counts(exchange(), nextstamp=n), (1, 10**6), (0, 10**6 + 1))
+    yield from each("next stamp", lambda n: counts(exchange(), next_stamp=n), (1, 10**6), (0, 10**6 + 1, 2**63))
     yield from each("settlements", lambda n: counts(exchange(), settlements=n), (0, 250), (251,))
 
 
@@ -104,7 +106,8 @@ def rooms():
     yield from each("room for trades", trade_area, (1_024, (1_024, 1), 1_025), ((1_024, -1), 1, 0))
 
 
-# "each queue is sorted best price first, then lower order number"
+# "each queue is sorted best price first, then lower order number"; since ticket 8 "by price, then stamp", whatever the
+# numbers
 def sorted_queues():
     # From the best to the worst.
     prices = {"buy": (95, 90, 90, 85), "sell": (105, 110, 110, 115)}
@@ -112,16 +115,20 @@ def sorted_queues():
         first, second, third, fourth = prices[side]
         for contract in (1, 2):
 
-            def queue(*orders):
-                return rest(exchange(2), side, contract, *((price, 1, number) for price, number in orders))
+            for numbers in ((11, 12, 13, 14), (14, 13, 12, 11), (12, 14, 11, 13)):
 
-            where = f"{side} orders of contract {contract}"
-            yield well(f"{where}, sorted", queue((first, 9), (second, 3), (third, 7), (fourth, 1)))
-            yield ill(f"{where}, first two prices exchanged", queue((second, 3), (first, 9), (third, 7), (fourth, 1)))
-            yield ill(f"{where}, last two prices exchanged", queue((first, 9), (second, 3), (fourth, 1), (third, 7)))
-            yield ill(f"{where}, numbers exchanged at one price", queue((first, 9), (second, 7), (third, 3), (fourth, 1)))
-            yield ill(f"{where}, first two numbers exchanged", queue((first, 5), (first, 4)))
-            yield well(f"{where}, first two of one price", queue((first, 4), (first, 5)))
+                def queue(*orders):
+                    numbered = zip(numbers, orders)
+                    return rest(exchange(2), side, contract, *((price, 1, n, 1, OPEN, stamp) for n, (price, stamp) in numbered))
+
+                where = f"{side} orders of contract {contract} with numbers {numbers}"
+                yield well(f"{where}, sorted", queue((first, 9), (second, 3), (third, 7), (fourth, 1)))
+                yield ill(f"{where}, first two prices exchanged", queue((second, 3), (first, 9), (third, 7), (fourth, 1)))
+                yield ill(f"{where}, last two prices exchanged", queue((first, 9), (second, 3), (fourth, 1), (third, 7)))
+                yield ill(f"{where}, stamps exchanged at one price", queue((first, 9), (second, 7), (third, 3), (fourth, 1)))
+                yield ill(f"{where}, first two stamps exchanged", queue((first, 5), (first, 4)))
+                yield well(f"{where}, first two of one price", queue((first, 4), (first, 5)))
+                yield ill(f"{where}, equal stamps at one price", queue((first, 4), (first, 4)))
 
 
 # "the two are uncrossed (best buy below best sell)"
@@ -163,7 +170,9 @@ def resting_orders():
             yield from each(f"{where} account's place", field("account"), (0, 1), (2, 31, 32, 2**32 - 1))
             yield from each(f"{where} close mark", field("close"), (0, 1), (2, 2**32 - 1))
             yield from each(f"{where} off tick", field("price"), (), (99, 101))
-            yield from each(f"{where} number", field("number"), ({0: (1,), 1: (99,)}[place]), (0, 100, 2**32 - 1))
+            yield from each(f"{where} number", field("number"), (1, 99), (0, 100, 2**32 - 1))
+            yield from each(f"{where} stamp", field("stamp"), ({0: (1,), 1: (699,)}[place]), (0, 700, 2**32 - 1))
+            yield from each(f"{where} quote mark", field("quote"), (0,), (1, 2, 2**32 - 1))
         # The best and the worst of a side stand alone, at the two ends of the day's prices.
         alone = lambda price: rest(exchange(), side, 1, (price, 1, 1))
         yield from each(f"{side}, price", alone, (50, 55, 145, 150), (0, 45, 49, 151, 155, 10**6))
@@ -185,11 +194,29 @@ def numbers_used_once():
         for second in range(first, len(places)):
             for number in (4, 5):
                 state = exchange(2)
-                for (side, contract), own in ((places[first], 4), (places[second], number)):
-                    rest(state, side, contract, (prices[side], 1, own))
+                for (side, contract), own, stamp in ((places[first], 4, 301), (places[second], number, 302)):
+                    rest(state, side, contract, (prices[side], 1, own, 1, OPEN, stamp))
                 verdict = well if number == 5 else ill
                 where = " and ".join(f"a {side} of contract {contract}" for side, contract in (places[first], places[second]))
                 yield verdict(f"numbers 4 and {number}: {where}", state)
+
+
+# A stamp is "used once, below the next": over all queues (document 02, ticket 8). A stamp may be another's number.
+def stamps_used_once():
+    places = [(side, contract) for contract in (1, 2) for side in dayfile.SIDES]
+    prices = {"buy": (90, 85), "sell": (110, 115)}
+    for first in range(len(places)):
+        for second in range(first, len(places)):
+            for stamp in (4, 5):
+                state = exchange(2)
+                for (side, contract), number, own, worse in ((places[first], 5, 4, 0), (places[second], 4, stamp, 1)):
+                    rest(state, side, contract, (prices[side][worse], 1, number, 1, OPEN, own))
+                verdict = well if stamp == 5 else ill
+                where = " and ".join(f"a {side} of contract {contract}" for side, contract in (places[first], places[second]))
+                yield verdict(f"stamps 4 and {stamp}: {where}", state)
+    queue = lambda *stamps: rest(exchange(), "buy", 1, *((95 - 5 * k, 1, 9 - k, 1, OPEN, stamp) for k, stamp in enumerate(stamps)))
+    yield well("stamps 3, 2, 1, 699 at falling prices", queue(3, 2, 1, 699))
+    yield ill("stamps 3, 2, 1, 3 at falling prices", queue(3, 2, 1, 3))
 
 
 # "recorded trades have existing contract and accounts, two different order numbers below the next, a price allowed

@@ -44,7 +44,8 @@ class DayFile(NamedTuple):
 
 
 # "1 deposit, 2 withdraw", "3 insert", "4 cancel", "5 pull", "6 state", "7 settle"
-KINDS = {1: "deposit", 2: "withdraw", 3: "insert", 4: "cancel", 5: "pull", 6: "state", 7: "settle"}
+# "Kind 9 [...] gives account, contract, order number, the new remaining lots and the price." (document 02, ticket 8)
+KINDS = {1: "deposit", 2: "withdraw", 3: "insert", 4: "cancel", 5: "pull", 6: "state", 7: "settle", 9: "change"}
 NUMBER_OF_KIND = {name: number for number, name in KINDS.items()}
 
 # The table's second column: the fields that each kind uses.
@@ -56,6 +57,7 @@ FIELDS_USED = {
     "pull": ("account", "contract", "flags"),
     "state": ("contract", "flags"),
     "settle": (),
+    "change": ("account", "contract", "order_number", "lots", "price"),
 }
 
 # "bit 0 sell, bit 1 close, bits 2 and 3 price condition, bits 4 and 5 time condition, bits 6 and 7 zero"
@@ -132,6 +134,10 @@ def state(contract, name):
 
 def settle():
     return Command(NUMBER_OF_KIND["settle"])
+
+
+def change(account, contract, order_number, lots, price):
+    return Command(NUMBER_OF_KIND["change"], account, contract, 0, lots, price, order_number)
 
 
 class Broken(Exception):

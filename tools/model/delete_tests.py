@@ -392,7 +392,7 @@ class Notice:
     def __init__(self, trees):
         self.trees = trees
         self.codes = {name: compile(tree, f"{name}.py", "exec") for name, tree in trees.items()}
-        self.cases = [case for name in make_vectors.NAMES + make_vectors.LATER for case in make_vectors.cases_of(name)]
+        self.cases = [case for name in make_vectors.NAMES for case in make_vectors.cases_of(name)]
         self.reached = cases_by_place(trees, self.cases)
         modules = load(self.codes)
         self.wanted = [written(modules, case) for case in self.cases]

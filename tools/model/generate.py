@@ -250,6 +250,103 @@ def some_cancel(day):
     return dayfile.cancel(day.account(), number, order_number, operator)
 
 
+def some_change(day, number=None):
+    """A change of a resting order of any sort, mostly by its owner; else of an order of another contract, or of none."""
+    rng = day.rng
+    number = number or day.contract()
+    contract = day.state.contracts[number]
+    orders = contract.queues["buy"] + contract.queues["sell"]
+    if not orders or rng.random() < 0.05:
+        anywhere = [found for other in day.state.contracts.values() for found in resting_numbers(other)]
+        order_number = rng.choice(anywhere + [0, rng.randint(1, day.state.next_order_number), 2**32 - 1])
+        lots = pick(rng, {0: 2, rng.randint(1, 5): 4, MOST_LOTS + 1: 1})
+        account = pick(rng, {day.account(): 8, 0: 1, len(day.state.balances) + 1: 1})
+        named = pick(rng, {number: 8, 0: 1, len(day.state.contracts) + 1: 1})
+        return dayfile.change(account, named, order_number, lots, contract.reference)
+    order = rng.choice(orders)
+    account = pick(rng, {order.account: 30, day.account(): 1})
+    lots, price = pick(rng, SORTS_OF_CHANGE)(day, number, order)
+    return dayfile.change(account, number, order.number, lots, price)
+
+
+def no_lots(day, number, order):
+    """The order removed; its price is not looked at."""
+    price = day.rng.choice((0, order.price, order.price + 1, TOP_PRICE + 1, 2**32 - 1))
+    return 0, price
+
+
+def equal_change(day, number, order):
+    return order.lots, order.price
+
+
+def fewer_lots(day, number, order):
+    return day.rng.randint(1, max(order.lots - 1, 1)), order.price
+
+
+def more_lots(day, number, order):
+    return order.lots + day.rng.randint(1, 3), order.price
+
+
+def other_price(day, number, order):
+    """The same lots, fewer or more at a price near those in the book, which may cross."""
+    rng = day.rng
+    contract = day.state.contracts[number]
+    price = some_price(rng, contract, model.side_of(contract, order))
+    return max(order.lots + rng.choice((0, 0, -1, -2, 1, 2)), 1), price
+
+
+def crossing_price(day, number, order):
+    """At an opposite price, or beyond the first, with lots about what can be filled there."""
+    rng = day.rng
+    contract = day.state.contracts[number]
+    side = model.side_of(contract, order)
+    opposite = contract.queues[model.OPPOSITE[side]]
+    if not opposite:
+        return other_price(day, number, order)
+    price = rng.choice(opposite[: rng.choice((1, 3, 9))]).price
+    fillable = model.fillable(contract, arriving_limit(number, side, price))
+    return rng.choice((order.lots, max(fillable + rng.choice((-1, 0, 1, 2)), 1), rng.randint(1, order.lots))), price
+
+
+def lots_at_an_edge(day, number, order):
+    """As many lots as the holding, the balance or an order permits with the old order gone, or one more; at its price, a
+    worse one or one that trades."""
+    rng = day.rng
+    contract = day.state.contracts[number]
+    side = model.side_of(contract, order)
+    without = model.without_order(day.state, number, order.number)
+    arriving = model.Arriving(order.account, number, side, order.effect, "limit", "day", 1, order.price)
+    most = rng.choice(
+        [model.most_lots_by_holding(without, arriving)] * 4
+        + [most_lots_by_money(without, arriving)] * 3 * (order.effect == "open")
+        + [MOST_LOTS]
+    )
+    price = rng.choice((order.price, order.price, some_price(rng, contract, side)))
+    return min(max(most + rng.choice((0, 0, 1)), 1), MOST_LOTS + 1), price
+
+
+def wrong_lots_or_price(day, number, order):
+    """Lots or a price that no order may have, or both."""
+    rng = day.rng
+    contract = day.state.contracts[number]
+    ends = (model.low(contract) - contract.tick, model.high(contract) + contract.tick)
+    price = rng.choice((*ends, order.price + rng.randint(1, contract.tick), 0, 2**32 - 1))
+    lots = rng.choice((order.lots, max(order.lots - 1, 1), order.lots + 1, MOST_LOTS + 1))
+    return lots, rng.choice((max(price, 0), order.price))
+
+
+SORTS_OF_CHANGE = {
+    no_lots: 5,
+    equal_change: 8,
+    fewer_lots: 20,
+    more_lots: 20,
+    other_price: 30,
+    crossing_price: 25,
+    lots_at_an_edge: 15,
+    wrong_lots_or_price: 4,
+}
+
+
 def some_pull(day):
     """In any contract, and now and then in contract 0, which is not all of them."""
     number = day.contract()
@@ -293,7 +390,7 @@ def some_amount(rng):
 def some_state_change(day):
     """Any change, listed or not, but seldom an end of trading."""
     number = day.rng.choice(list(day.state.contracts))
-    states = {"no-trading": 4, "continuous": 2, "closed": 1, "pre-open": 1, "auction": 1}
+    states = {"no-trading": 4, "continuous": 2, "closed": 1, "pre-open": 1, "auction": 2}
     return dayfile.state(number, pick(day.rng, states))
 
 
@@ -325,7 +422,7 @@ def some_malformed(day):
 
 def spoiling_values(day, spoilt):
     return {
-        "kind": (0, 8, 9, 255),
+        "kind": (0, 8, 10, 255),
         "account": (0, 1, len(day.state.balances) + 1, 255),
         "contract": (0, 1, len(day.state.contracts) + 1, 255),
         "flags": (1, 2, 3, 4, 5, 64, 128, 12, 48, 255),
@@ -343,6 +440,7 @@ def settle(day):
 REASONABLE = {
     some_insert: 70,
     some_cancel: 6,
+    some_change: 12,
     some_pull: 3,
     some_deposit: 3,
     some_withdrawal: 4,
@@ -446,6 +544,9 @@ def full_book_file(rng):
     other = model.OPPOSITE[side]
     rest_many(day, number, side, MOST_RESTING)
     rest_many(day, number, other, rng.randint(0, 3))
+    for _ in range(rng.randint(0, 10)):
+        day.give(some_change(day, number))
+        rest_many(day, number, side, rng.randint(0, 1))
     price = full_side_price(day, number, side)
     for _ in range(rng.randint(5, 25)):
         lots = model.fillable(day.state.contracts[number], arriving_limit(number, side, price)) + rng.choice((0, 0, 1))
@@ -481,6 +582,8 @@ def full_day_file(rng):
     number = day.contract()
     rest_many(day, number, side, MOST_RESTING)
     rest_many(day, number, model.OPPOSITE[side], 2)
+    for _ in range(12):
+        day.give(some_change(day, number))
     trade(day, 10)
     price = full_side_price(day, number, side)
     day.give(dayfile.insert(day.account(), number, side, "open", "limit", price, MOST_LOTS, "day"))
@@ -512,7 +615,11 @@ def auction_file(rng):
     day = rng.choice((some_day, wide_day, two_account_day))(rng)
     for _ in range(rng.randint(1, 4)):
         for number in day.state.contracts:
-            day.give(dayfile.state(number, pick(rng, {"auction": 8, "continuous": 1, "closed": 1})))
+            day.give(dayfile.state(number, pick(rng, {"auction": 8, "continuous": 2, "closed": 1})))
+        for number in day.in_state("continuous"):
+            if rng.random() < 0.5:
+                day.give(dayfile.state(number, "no-trading"))
+                day.give(dayfile.state(number, "auction"))
         for _ in range(rng.randint(0, 40)):
             day.give(pick(rng, AUCTION_COMMANDS)(day))
         if rng.random() < 0.3:
@@ -532,6 +639,7 @@ def two_account_day(rng):
 AUCTION_COMMANDS = {
     some_insert: 60,
     some_cancel: 8,
+    some_change: 2,
     some_pull: 3,
     some_withdrawal: 1,
     some_state_change: 3,
@@ -659,6 +767,66 @@ def make_trades(day, number, trades):
         day.give(dayfile.insert(day.account(), number, "buy", "open", "market", 0, orders, "immediate"))
 
 
+def changes_file(rng):
+    """Queues of several orders at few prices, changed in every way, and swept in between."""
+    day = rng.choice((wide_day, two_account_day, two_account_day, tight_day))(rng)
+    for _ in range(rng.randint(1, 3)):
+        if rng.random() < 0.2:
+            day.give(dayfile.state(1, "auction"))
+            for _ in range(3):
+                rest(day, 1, rng.choice(dayfile.SIDES), rng.randint(-1, 1), lots=rng.randint(1, 4))
+            day.give(some_change(day, 1))
+            if rng.random() < 0.5:
+                leave_auction(day, 1)
+        for number, contract in day.state.contracts.items():
+            if contract.state == "pre-open":
+                day.give(dayfile.state(number, "continuous"))
+        for _ in range(rng.randint(5, 50)):
+            day.give(pick(rng, CHANGES)(day))
+        end_of_day(day)
+    return day.file()
+
+
+def tight_day(rng):
+    """A low limit and little money, so that what a change frees decides."""
+    contract = ContractRecord(10, 1, 100, 10, rng.randint(4, 15), 1_000, rng.choice((0, 1, 2)))
+    return Day(rng, [contract], [rng.choice((10**6, 100 * rng.randint(3, 20))) for _ in range(rng.randint(1, 3))])
+
+
+def rest_near(day):
+    """An order of a few lots on its own side of the reference, at one of two prices; to close where it can."""
+    number = day.contract()
+    side = day.rng.choice(dayfile.SIDES)
+    contract = day.state.contracts[number]
+    ticks = day.rng.randint(1, 2) * (-1 if side == "buy" else 1)
+    account = day.account()
+    effect = some_effect(day, account, number, side)
+    price = max(contract.reference + ticks * contract.tick, 0)
+    return dayfile.insert(account, number, side, effect, "limit", price, day.rng.randint(1, 5), "day")
+
+
+CHANGES = {rest_near: 40, some_change: 45, some_insert: 12, some_cancel: 2, some_pull: 0.5, some_malformed: 1}
+
+
+def full_day_changes_file(rng):
+    """Changes that the day has no room for, or just enough, and those that need none."""
+    day = wide_day(rng)
+    open_all(day)
+    make_trades(day, 1, MOST_TRADES - rng.randint(1, 3))
+    for _ in range(6):
+        for side, ticks in (("buy", -2), ("sell", 2)):
+            rest(day, 1, side, ticks + rng.randint(-1, 1), lots=rng.randint(1, 4))
+    for _ in range(rng.randint(8, 20)):
+        day.give(some_change(day, 1))
+    make_trades(day, 1, MOST_TRADES)
+    for _ in range(rng.randint(8, 20)):
+        day.give(some_change(day, 1))
+    end_of_day(day)
+    open_all(day)
+    trade(day, rng.randint(0, 10))
+    return day.file()
+
+
 def many_settlements_file(rng):
     """250 settlements with a few trades on the way, and the 251st refused."""
     contracts = pick(rng, {1: 5, 2: 2, 4: 1})
@@ -696,11 +864,25 @@ def ruined_file(rng):
     day = Day(rng, [contract], [rng.randint(1_000, 100_000) for _ in range(rng.randint(2, 4))])
     for _ in range(rng.randint(2, 6)):
         open_all(day)
+        change_closes_of_the_ruined(day)
         trade(day, rng.randint(4, 25))
         end_of_day(day)
     open_all(day)
     trade(day, 10)
     return day.file()
+
+
+def change_closes_of_the_ruined(day):
+    """Closes of accounts with more charged than their balance, at an end of the band, and changes of them."""
+    contract = day.state.contracts[1]
+    for account in day.state.balances:
+        for side, held, price in (("sell", "long", model.high(contract)), ("buy", "short", model.low(contract))):
+            holding = day.state.holdings[account, 1, held]
+            if model.free_balance(day.state, account) < 0 and holding > 1:
+                number = day.state.next_order_number
+                day.give(dayfile.insert(account, 1, side, "close", "limit", price, min(holding, MOST_LOTS), "day"))
+                day.give(dayfile.change(account, 1, number, 1, price))
+                day.give(dayfile.change(account, 1, number, day.rng.randint(1, 3), price))
 
 
 def swinging_file(rng):
@@ -726,7 +908,7 @@ def senseless_file(rng):
     """Commands that are mere bytes, most of them with a kind that exists."""
     day = some_day(rng)
     for _ in range(rng.randint(1, 40)):
-        bytes_of_command = bytes([rng.randint(0, 8)]) + bytes(rng.choices((0, 1, 2, 3, 4, 5, 255), k=23))
+        bytes_of_command = bytes([rng.randint(0, 10)]) + bytes(rng.choices((0, 1, 2, 3, 4, 5, 255), k=23))
         day.give(Command(*dayfile.COMMAND.unpack(bytes_of_command)))
     return day.file()
 
@@ -768,6 +950,8 @@ FILES = {
     tied_auction_file: 4,
     full_auction_file: 3,
     full_day_auction_file: 1,
+    changes_file: 12,
+    full_day_changes_file: 1,
     many_settlements_file: 1,
     rich_file: 5,
     ruined_file: 5,

@@ -39,9 +39,10 @@ class Order(NamedTuple):
     account: int
     lots: int
     close: int
-    # No rule gives an order a time stamp or a quote mark yet.
-    stamp: int = 0
-    quote: int = 0
+    # "Orders need a time stamp of their own" (document 02, ticket 8).
+    stamp: int
+    # The mark of a quote, which is 0 until ticket 7.
+    quote: int
 
 
 class Trade(NamedTuple):
@@ -66,6 +67,7 @@ FILLING = 0xA5A5A5A5
 FILLED_CONTRACT = Contract(*[FILLING & 0xFFFF if name in ("rate", "method") else FILLING for name in Contract._fields])
 FILLED_HOLDING = Holding(*[FILLING] * len(Holding._fields))
 FILLED_BALANCE = -(2**62)
+FILLED_MAKER = 1
 FILLED_COUNT = 2**63 + FILLING
 
 
@@ -90,6 +92,8 @@ class Memory:
 
     contracts: list = field(default_factory=lambda: [FILLED_CONTRACT] * MOST_CONTRACTS)
     balances: list = field(default_factory=lambda: [FILLED_BALANCE] * MOST_ACCOUNTS)
+    # The mark of a market maker, which is 0 until ticket 7.
+    makers: list = field(default_factory=lambda: [FILLED_MAKER] * MOST_ACCOUNTS)
     # By account, then contract.
     holdings: list = field(default_factory=lambda: [[FILLED_HOLDING] * MOST_CONTRACTS for _ in range(MOST_ACCOUNTS)])
     order_counts: dict = field(default_factory=lambda: {side: [FILLED_COUNT] * MOST_CONTRACTS for side in dayfile.SIDES})
@@ -97,7 +101,7 @@ class Memory:
     account_count: int = 1
     trade_count: int = 0
     next: int = 1
-    nextstamp: int = 1
+    next_stamp: int = 1
     settlements: int = 0
     orders: dict = field(default_factory=lambda: {side: Area(MOST_CONTRACTS * MOST_RESTING) for side in dayfile.SIDES})
     trades: Area = field(default_factory=lambda: Area(MOST_TRADES))
@@ -134,7 +138,7 @@ def in_use(memory):
         holdings=by_side(holdings, "long", "short"),
         trades=[trade_in_use(memory.trades.contents.get(place, NO_TRADE)) for place in range(trade_count)],
         next_order_number=memory.next,
-        next_stamp=memory.nextstamp,
+        next_stamp=memory.next_stamp,
         settlements=memory.settlements,
         room_for_orders={side: room_of(area) for side, area in memory.orders.items()},
         room_for_trades=room_of(memory.trades),
@@ -169,10 +173,19 @@ def queue_in_use(memory, side, place):
     count = min(memory.order_counts[side][place], MOST_RESTING + 1)
     first = MOST_RESTING * place
     orders = [memory.orders[side].contents.get(first + k, NO_ORDER) for k in range(count)]
-    return [
-        model.Resting(order.number, order.account + 1, name_of(dayfile.EFFECTS, order.close), order.price, order.lots)
-        for order in orders
-    ]
+    return [order_in_use(order) for order in orders]
+
+
+def order_in_use(record):
+    return model.Resting(
+        record.number,
+        record.account + 1,
+        name_of(dayfile.EFFECTS, record.close),
+        record.price,
+        record.lots,
+        record.stamp,
+        quote=record.quote != 0,
+    )
 
 
 def trade_in_use(record):
@@ -230,7 +243,7 @@ def put(memory, state):
     put_records(memory.trades, 0, memory.trade_count, trades, NO_TRADE)
     memory.trade_count = len(trades)
     memory.next = state.next_order_number
-    memory.nextstamp = state.next_stamp
+    memory.next_stamp = state.next_stamp
     memory.settlements = state.settlements
 
 
@@ -242,7 +255,15 @@ def put_records(area, first, count, records, nothing):
 
 
 def order_record(order):
-    return Order(order.price, order.number, order.account - 1, order.lots, dayfile.EFFECTS.index(order.effect))
+    return Order(
+        order.price,
+        order.number,
+        order.account - 1,
+        order.lots,
+        dayfile.EFFECTS.index(order.effect),
+        order.stamp,
+        int(order.quote),
+    )
 
 
 def trade_record(trade):

@@ -1,5 +1,5 @@
 #!/usr/bin/env python3
-"""The rules of document 01, with tickets 2, 4 and 6 of document 02, as a slow, plain interpreter: a day file in, the
+"""The rules of document 01, with tickets 2, 4, 6 and 8 of document 02, as a slow, plain interpreter: a day file in, the
 day runner's whole output out.
 
 Written from the papers alone, in their order and under their sentences (in quotation marks), so that it can be
@@ -9,7 +9,7 @@ the quotation marks says which reading is taken.
 
 import sys
 from collections import Counter, deque
-from dataclasses import dataclass, field
+from dataclasses import dataclass, field, replace
 from typing import NamedTuple
 
 import dayfile
@@ -43,6 +43,10 @@ class Resting:
     effect: str  # "open" or "close"
     price: int
     lots: int
+    # "Orders need a time stamp of their own" (document 02, ticket 8, as all below on stamps and changes).
+    stamp: int
+    # The mark of a quote, which no order has until ticket 7.
+    quote: bool = False
 
 
 class Leg(NamedTuple):
@@ -83,7 +87,7 @@ class Contract:
 
 # "The state keeps, for each account and each contract, long and short holdings at the start of the day and now;
 # balances; queues; the day's trades; each contract's state, reference and last price; the next order number; the count
-# of settlements."
+# of settlements." And the next stamp.
 # Contracts and balances stand under their numbers from 1, holdings under (account, contract, "long" or "short").
 # The room is that of the lent areas: how many orders the area of each side holds, and how many trades the trade area.
 @dataclass
@@ -94,7 +98,6 @@ class State:
     holdings: dict
     trades: list = field(default_factory=list)
     next_order_number: int = 1
-    # "given in turn from 1 each day" (02, ticket 8); no command gives any yet.
     next_stamp: int = 1
     settlements: int = 0
     room_for_orders: dict = field(
@@ -165,10 +168,11 @@ def resting_lots(contract, account, side, effect):
 
 
 # "sorted best price first, then lower order number"
+# "queues, matching and auction go by price, then stamp, in the well-formed rule too"
 def place_in_queue(side, order):
     if side == "buy":
-        return (-order.price, order.number)
-    return (order.price, order.number)
+        return (-order.price, order.stamp)
+    return (order.price, order.stamp)
 
 
 def sort_queue(side, queue):
@@ -190,6 +194,7 @@ def well_formed(state):
 
 # "counts, numbers, parameters and prices keep the ranges above, the next order number 1 to 1,000,000; references and
 # last prices are tick multiples; each queue area has room for 64 orders and the trade area for 1,024 trades"
+# "Stamps end at 999,999 a day", so the next stamp is 1 to 1,000,000 too.
 # One area has the queues of one side of all contracts, and needs the room of those in use.
 def ranges_are_kept(state):
     return (
@@ -214,6 +219,7 @@ def ranges_are_kept(state):
 
 
 # "each queue is sorted best price first, then lower order number; the two are uncrossed (best buy below best sell)"
+# Since ticket 8 by price, then stamp.
 # In auction "the book may be crossed; "uncrossed" now holds in all other states" (document 02, ticket 4).
 def queues_are_sorted_and_uncrossed(state):
     for contract in state.contracts.values():
@@ -227,20 +233,25 @@ def queues_are_sorted_and_uncrossed(state):
 
 # "resting orders have 1 to 1,000 lots, an existing account, a price allowed today, and a number below the next, used
 # once over all queues"
+# A stamp is "given in turn from 1 each day, [...] used once, below the next": over all queues, as the numbers are.
 def resting_orders_are_sound(state):
     numbers = []
+    stamps = []
     for contract in state.contracts.values():
         for order in contract.queues["buy"] + contract.queues["sell"]:
             numbers.append(order.number)
+            stamps.append(order.stamp)
             if not (
                 1 <= order.lots <= MOST_LOTS
                 and order.account in state.balances
                 and order.effect in dayfile.EFFECTS
                 and allowed_today(contract, order.price)
                 and 1 <= order.number < state.next_order_number
+                and 1 <= order.stamp < state.next_stamp
+                and not order.quote
             ):
                 return False
-    return len(numbers) == len(set(numbers))
+    return len(numbers) == len(set(numbers)) and len(stamps) == len(set(stamps))
 
 
 # "recorded trades have existing contract and accounts, two different order numbers below the next, a price allowed
@@ -388,21 +399,20 @@ def insert_code(state, command):
     code = order_code(contract, order, in_auction)
     if code != 0:
         return code
-    # "8: open: holding, resting opens on that side and lots exceed the limit; close: lots exceed holding less own
-    # resting closes on it"
-    if order.lots > most_lots_by_holding(state, order):
-        return 8
-    # "An open passes if all charged margin, its lots included, is at most the balance" (document 02, ticket 2)
-    if order.effect == "open" and charged_margin(state, order.account, order) > state.balances[order.account]:
-        return 9
+    code = cover_code(state, order)
+    if code != 0:
+        return code
     # "10: order numbers used up"
     if state.next_order_number > LAST_ORDER_NUMBER:
+        return 10
+    # "10 (stamps used up, for inserts too)"
+    if state.next_stamp > LAST_STAMP:
         return 10
     # "11: fill or kill: fillable lots below lots"
     if order.time_condition == "kill" and fillable(contract, order) < order.lots:
         return 11
     # "12: it would make more trades than the day has room for"
-    if len(sweep(contract, order)) > MOST_TRADES - len(state.trades):
+    if has_no_room_for_trades(state, order):
         return 12
     # "13: good for day, own side has 64, fillable lots below lots"
     own_side_is_full = len(contract.queues[order.side]) == MOST_RESTING
@@ -444,6 +454,22 @@ def order_code(contract, order, in_auction):
     return 0
 
 
+# The refusals of an order for what its account holds and owns.
+def cover_code(state, order):
+    # "8: open: holding, resting opens on that side and lots exceed the limit; close: lots exceed holding less own
+    # resting closes on it"
+    if order.lots > most_lots_by_holding(state, order):
+        return 8
+    # "An open passes if all charged margin, its lots included, is at most the balance" (document 02, ticket 2)
+    if order.effect == "open" and charged_margin(state, order.account, order) > state.balances[order.account]:
+        return 9
+    return 0
+
+
+def has_no_room_for_trades(state, order):
+    return len(sweep(state.contracts[order.contract], order)) > MOST_TRADES - len(state.trades)
+
+
 # Long and short are neither added nor netted. The orders that count against the same holding as this one rest on its
 # own side, to open where it opens and to close where it closes.
 def most_lots_by_holding(state, order):
@@ -462,6 +488,11 @@ def cancel_code(state, command):
     code = pull_code(state, command)
     if code != 0:
         return code
+    return ownership_code(state, command)
+
+
+# The refusals of a command that names a resting order.
+def ownership_code(state, command):
     order = resting_order(state.contracts[command.contract], command.order_number)
     # "14: no such resting order in that contract"
     if order is None:
@@ -511,6 +542,89 @@ def pull(state, command):
 def remove_orders(contract, orders):
     for side, queue in contract.queues.items():
         contract.queues[side] = [order for order in queue if order not in orders]
+
+
+# --- change: "21, 1, 2, 3, 4, 14, 15; then, unless lots are zero, 5 and 7 as for insert, and where the place is lost 8, 9,
+# 10 (stamps used up, for inserts too) and 12. 13 never occurs here." (document 02, ticket 8) ---
+
+
+def change_code(state, command):
+    code = absence_code(state, command)
+    if code != 0:
+        return code
+    # "Kind 9, in continuous only": not in auction, and no operator.
+    if state.contracts[command.contract].state != "continuous":
+        return 4
+    code = ownership_code(state, command)
+    if code != 0:
+        return code
+    # "Zero lots removes the order, its price not looked at."
+    if command.lots == 0:
+        return 0
+    order = changed_order(state, command)
+    code = order_code(state.contracts[command.contract], order, in_auction=False)
+    if code != 0:
+        return code
+    return 0 if keeps_place(state, command) else lost_place_code(state, command, order)
+
+
+# "where the place is lost 8, 9, 10 (stamps used up, for inserts too) and 12"
+# "A change that loses its place is tested as though the old order were gone": its lots count for neither 8 nor 9.
+def lost_place_code(state, command, order):
+    without = without_order(state, command.contract, command.order_number)
+    code = cover_code(without, order)
+    if code != 0:
+        return code
+    # The number stays, so stamps alone are looked at.
+    if state.next_stamp > LAST_STAMP:
+        return 10
+    if has_no_room_for_trades(without, order):
+        return 12
+    return 0
+
+
+# The order that a change makes of a resting one: a limit order good for day, as every order that rests.
+def changed_order(state, command):
+    contract = state.contracts[command.contract]
+    old = resting_order(contract, command.order_number)
+    side = side_of(contract, old)
+    return Arriving(old.account, command.contract, side, old.effect, "limit", "day", command.lots, command.price)
+
+
+def side_of(contract, order):
+    return "buy" if order in contract.queues["buy"] else "sell"
+
+
+# "fewer lots keep the place in the queue; more lots or another price lose it": fewer lots at another price too.
+def keeps_place(state, command):
+    old = resting_order(state.contracts[command.contract], command.order_number)
+    return command.lots <= old.lots and command.price == old.price
+
+
+# The same state with one order gone.
+def without_order(state, number, order_number):
+    contract = state.contracts[number]
+    queues = {
+        side: [order for order in queue if order.number != order_number] for side, queue in contract.queues.items()
+    }
+    return replace(state, contracts={**state.contracts, number: replace(contract, queues=queues)})
+
+
+# "The answer gives the number, lots traded, and lots now resting (removed, for zero lots)."
+def change(state, command):
+    contract = state.contracts[command.contract]
+    old = resting_order(contract, command.order_number)
+    if command.lots == 0:
+        remove_orders(contract, [old])
+        return Answer(0, old.number, lots_rested_or_removed=old.lots)
+    if keeps_place(state, command):
+        # "Equal lots and price change nothing." Fewer lots keep the stamp.
+        old.lots = command.lots
+        return Answer(0, old.number, lots_rested_or_removed=command.lots)
+    order = changed_order(state, command)
+    remove_orders(contract, [old])
+    # "then matched at once". "The number stays."
+    return arrive(state, order, old.number)
 
 
 # --- "deposit 2, 16; withdraw 2, 16, 9" ---
@@ -614,7 +728,7 @@ def is_counterpart(contract, order, resting):
 
 
 # "Taken by price, then number, each trades the smaller remainder. The sweep stops at the first order that is no
-# counterpart, or when the lots are used up."
+# counterpart, or when the lots are used up." Since ticket 8 by price, then stamp, which is the queue's order.
 # The resting orders that the arriving order trades with, each with its lots, before anything is changed.
 # "In auction, limit good-for-day orders rest without matching" (document 02, ticket 4).
 def sweep(contract, order):
@@ -662,13 +776,20 @@ def middle(first, second, third):
 
 
 # An accepted order takes the next number ("given to accepted orders in turn over all contracts") and trades.
-# "A good-for-day remainder rests, and every later order moves one place back. Other remainders vanish; filled orders
-# leave."
 def insert(state, command):
-    order = arriving(command)
-    contract = state.contracts[order.contract]
     number = state.next_order_number
     state.next_order_number += 1
+    return arrive(state, arriving(command), number)
+
+
+# An order that arrives under its number takes the next stamp ("given in turn from 1 each day, new at insert and at each
+# loss of place"), whether it comes to rest or not, and trades.
+# "A good-for-day remainder rests, and every later order moves one place back. Other remainders vanish; filled orders
+# leave."
+def arrive(state, order, number):
+    contract = state.contracts[order.contract]
+    stamp = state.next_stamp
+    state.next_stamp += 1
 
     trades = [make_trade(state, order, number, resting, lots) for resting, lots in sweep(contract, order)]
     remove_orders(contract, [resting for resting in opposite_queue(contract, order) if resting.lots == 0])
@@ -676,7 +797,7 @@ def insert(state, command):
     lots_traded = sum(trade.lots for trade in trades)
     lots_rested = order.lots - lots_traded if order.time_condition == "day" else 0
     if lots_rested > 0:
-        rester = Resting(number, order.account, order.effect, order.price, lots_rested)
+        rester = Resting(number, order.account, order.effect, order.price, lots_rested, stamp)
         contract.queues[order.side] = sort_queue(order.side, contract.queues[order.side] + [rester])
     return Answer(0, number, lots_traded, lots_rested, trades)
 
@@ -746,8 +867,9 @@ def auction_price(contract):
     return min(prices, key=lambda price: place_by_the_four_steps(contract, price), default=None)
 
 
-# "All trades are at it, best buy with best sell by price and number": buys at or above the price, sells at or below it,
-# each pair with the smaller remainder, until one side has none left. Before anything is changed.
+# "All trades are at it, best buy with best sell by price and number", since ticket 8 by price and stamp: buys at or above
+# the price, sells at or below it, each pair with the smaller remainder, until one side has none left. Before anything is
+# changed.
 def auction_pairs(contract):
     price = auction_price(contract)
     if price is None:
@@ -907,6 +1029,7 @@ def start_next_day(state, prices):
     state.holdings_at_start = dict(state.holdings)
     state.trades = []
     state.next_order_number = 1
+    # Stamps are "given in turn from 1 each day".
     state.next_stamp = 1
     state.settlements += 1
 
@@ -919,6 +1042,7 @@ CODE_OF_KIND = {
     "pull": pull_code,
     "state": state_code,
     "settle": settle_code,
+    "change": change_code,
 }
 
 EFFECT_OF_KIND = {
@@ -929,6 +1053,7 @@ EFFECT_OF_KIND = {
     "pull": pull,
     "state": change_state,
     "settle": settle,
+    "change": change,
 }
 
 

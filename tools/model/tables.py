@@ -6,7 +6,9 @@ from model import Arriving, Contract, Leg, Resting, State, Trade
 def contract(tick=1, reference=100, multiplier=10, rate=1_000, buys=(), sells=(), last=100):
     found = Contract(multiplier, tick, reference, band=10, limit=1_000, rate=rate, last_price=last)
     for side, orders in (("buy", buys), ("sell", sells)):
-        found.queues[side] = [Resting(number, 1, "open", price, lots) for number, (price, lots) in enumerate(orders, 1)]
+        found.queues[side] = [
+            Resting(number, 1, "open", price, lots, stamp=number) for number, (price, lots) in enumerate(orders, 1)
+        ]
     return found
 
 

@@ -2,10 +2,16 @@
 
 import ast
 import struct
+import sys
 import unittest
+from collections import Counter
+from pathlib import Path
+
+sys.path.insert(0, str(Path(__file__).resolve().parents[1]))
 
 import baskets
 import delete_tests
+import make_vectors
 import memory
 import mending
 import model
@@ -47,6 +53,23 @@ class InMemory(unittest.TestCase):
         queue = [state.orders["buy"].contents[place] for place in range(4)]
         self.assertEqual([(order.price, order.number) for order in queue], [(95, 1), (90, 2), (90, 100), (85, 3)])
 
+    def test_a_change_moves_its_order_and_leaves_the_room(self):
+        state = rest(exchange(2), "buy", 1, (95, 2, 1), (95, 3, 2, 2), (90, 4, 3), (90, 5, 4, 2))
+        state = tempting(state)
+        before = state.copy()
+        given = memory.execute(state, change(1, 1, 1, 7, 90))
+        self.assertEqual((given.code, given.order_number, given.lots_traded, given.lots_rested_or_removed), (0, 1, 0, 7))
+        after = state.orders["buy"].contents
+        old = before.orders["buy"].contents
+        self.assertEqual([after[place] for place in range(4)], [old[1], old[2], old[3], Order(90, 1, 0, 7, OPEN, 700, 0)])
+        self.assertEqual({place: after[place] for place in after if place > 3}, {k: old[k] for k in old if k > 3})
+        self.assertEqual((state.next, state.next_stamp), (100, 701))
+        # Fewer lots alter the lots of that order and nothing else.
+        memory.execute(before, change(2, 1, 2, 1, 95))
+        before.orders["buy"].contents[1] = before.orders["buy"].contents[1]._replace(lots=3)
+        self.assertEqual(before.orders["buy"].contents, old)
+        self.assertEqual((before.next, before.next_stamp), (100, 700))
+
     def test_room_affects_nothing(self):
         bare, full = exchange(2), tempting(exchange(2))
         for command in (insert(1, 1, "sell", 100, 2), insert(2, 1, "buy", 105, 3), dayfile.withdraw(1, 5)):
@@ -69,7 +92,7 @@ class InMemory(unittest.TestCase):
         state = self.book()
         first = [state.orders["buy"].contents[place] for place in range(3)]
         self.assertEqual(memory.resting_orders(state.orders, "buy", 1, 2, 3), first)
-        self.assertEqual(memory.resting_orders(state.orders, "buy", 2, 2, 1), [Order(95, 4, 0, 2, OPEN)])
+        self.assertEqual(memory.resting_orders(state.orders, "buy", 2, 2, 1), [Order(95, 4, 0, 2, OPEN, 304, 0)])
         for contract, contracts, count in ((0, 2, 1), (3, 2, 1), (1, 2, 65)):
             self.assertEqual(memory.resting_orders(state.orders, "buy", contract, contracts, count), [])
         areas(state, buys=64)
@@ -159,6 +182,16 @@ class Form(unittest.TestCase):
             at += 2 + size
         self.assertEqual(at, len(written))
         return content
+
+    def test_cases_have_names_of_their_own(self):
+        for name in make_vectors.NAMES:
+            names = Counter((case.call, case.name) for case in make_vectors.cases_of(name))
+            self.assertEqual([of for of, times in names.items() if times > 1], [])
+
+    def test_runs_of_orders(self):
+        orders = {k: Order(95, 5 + k, 0, 1, OPEN, 305 + k, 0) for k in range(3)}
+        orders[3] = Order(95, 8, 0, 1, OPEN, 309, 0)
+        self.assertEqual(vectors.runs(orders), [(0, 3, 1, orders[0]), (3, 1, 0, orders[3])])
 
     def test_runs(self):
         places = {3: (5, 7, 1), 4: (5, 8, 1), 5: (5, 9, 1), 7: (0, 0, 0), 8: (0, 0, 0), 9: (1, 0, 0)}

@@ -9,6 +9,7 @@ import sys
 import tempfile
 import unittest
 from collections import deque
+from itertools import product
 from pathlib import Path
 from unittest import mock
 
@@ -18,10 +19,15 @@ import dayfile
 import generate
 import model
 
-FILES = 250
+# So many files as the comparison takes them, and so many of each sort, since some are rare.
+FILES = 200
+FILES_OF_A_SORT = 4
 
 # The right definitions, for wrong ones that differ from them in some cases only.
+right_arrive = model.arrive
 right_auction_price = model.auction_price
+right_change = model.change
+right_changed_order = model.changed_order
 right_is_counterpart = model.is_counterpart
 right_match = model.match_auction
 right_most_lots = model.most_lots_by_holding
@@ -422,6 +428,119 @@ WRONG_AUCTIONS = {
     ),
 }
 
+def arrives_without_a_match(state, order, number):
+    """As a changed order would that is only put in its new place; a crossed book is then told as a fault."""
+    with replaced(sweep=lambda contract, order: []):
+        return right_arrive(state, order, number)
+
+
+def change_with(**definitions):
+    """The model whose changes alone are carried out by other definitions."""
+
+    def changed(state, command):
+        with replaced(**definitions):
+            return right_change(state, command)
+
+    return mock.patch.dict(model.EFFECT_OF_KIND, {"change": changed})
+
+
+def change_tested_with(**definitions):
+    """The model whose changes alone are tested by other definitions."""
+    right = model.CODE_OF_KIND["change"]
+
+    def code(state, command):
+        with replaced(**definitions):
+            return right(state, command)
+
+    return mock.patch.dict(model.CODE_OF_KIND, {"change": code})
+
+
+def new_number(state, order, number):
+    number = state.next_order_number
+    state.next_order_number += 1
+    return right_arrive(state, order, number)
+
+
+def place_by_number(side, order):
+    return (-order.price if side == "buy" else order.price, order.number)
+
+
+def lots_are_added(state, command):
+    """The lots of the change taken as so many more."""
+    order = right_changed_order(state, command)
+    old = model.resting_order(state.contracts[command.contract], command.order_number)
+    return order._replace(lots=order.lots + old.lots)
+
+
+def keeps_place_by(test):
+    """The model with another test for the place: it is given the command and the old order."""
+
+    def keeps(state, command):
+        old = model.resting_order(state.contracts[command.contract], command.order_number)
+        return test(command, old)
+
+    return replaced(keeps_place=keeps)
+
+
+def full_side_gives_13(state, command, code):
+    if code != 0 or command.lots == 0 or model.keeps_place(state, command):
+        return code
+    order = model.changed_order(state, command)
+    contract = state.contracts[command.contract]
+    is_full = len(contract.queues[order.side]) == 64
+    return 13 if is_full and model.fillable(contract, order) < order.lots else code
+
+
+def price_looked_at_without_lots(state, command, code):
+    if code != 0 or command.lots != 0:
+        return code
+    return 0 if model.allowed_today(state.contracts[command.contract], command.price) else 7
+
+
+def lots_before_the_order(state, command, code):
+    return 5 if code in (14, 15) and command.lots > 1_000 else code
+
+
+def changes_in_auction(state, command, code):
+    if code != 4 or state.contracts[command.contract].state != "auction":
+        return code
+    return model.ownership_code(state, command)
+
+
+def cancels_instead(state, command):
+    """Without lots the answer of a cancel, whose number is the order's too, but with the lots as traded."""
+    given = right_change(state, command)
+    if command.lots == 0:
+        given.lots_traded, given.lots_rested_or_removed = given.lots_rested_or_removed, 0
+    return given
+
+
+WRONG_CHANGES = {
+    "queues by number": replaced(place_in_queue=place_by_number),
+    "more lots keep the place": keeps_place_by(lambda command, old: command.price == old.price),
+    "fewer lots lose the place": keeps_place_by(
+        lambda command, old: (command.lots, command.price) == (old.lots, old.price)
+    ),
+    "an equal change loses the place": keeps_place_by(
+        lambda command, old: command.lots < old.lots and command.price == old.price
+    ),
+    "fewer lots keep the place at any price": keeps_place_by(lambda command, old: command.lots <= old.lots),
+    "a changed order does not trade": change_with(arrive=arrives_without_a_match),
+    "a changed order gets a new number": change_with(arrive=new_number),
+    "the lots are added": change_with(changed_order=lots_are_added),
+    "the old order still counts for 8 and 9": change_tested_with(without_order=lambda state, number, order: state),
+    "the old order still counts for 8": change_tested_with(
+        most_lots_by_holding=lambda state, order: right_most_lots(state, order) - 1
+    ),
+    "13 for a change": code_changed("change", full_side_gives_13),
+    "the price looked at without lots": code_changed("change", price_looked_at_without_lots),
+    "5 before 14 and 15": code_changed("change", lots_before_the_order),
+    "changes in auction": code_changed("change", changes_in_auction),
+    "no bound on a change's trades": code_changed("change", lambda state, command, code: 0 if code == 12 else code),
+    "anyone may change": code_changed("change", lambda state, command, code: 0 if code == 15 else code),
+    "no lots told as traded": mock.patch.dict(model.EFFECT_OF_KIND, {"change": cancels_instead}),
+}
+
 WRONG_ENGINES = {
     "one price for the whole sweep": replaced(trade_price=one_price_for_the_sweep),
     "market trades by the method": replaced(trade_price=method_for_market_too),
@@ -496,6 +615,7 @@ WRONG_ENGINES = {
     "closes the newest lots first": replaced(profit=closes_last_opened_first),
     "values of the file not checked": mock.patch.object(dayfile, "check_ranges", lambda day: None),
     **WRONG_AUCTIONS,
+    **WRONG_CHANGES,
 }
 
 
@@ -504,8 +624,10 @@ class Generated(unittest.TestCase):
     def setUpClass(cls):
         cls.reached = compare.Reached()
         # Short files first, since most wrong engines are found out by them.
-        files = sorted((generate.day_file(1, index) for index in range(FILES)), key=len)
-        cls.outputs = [(file, cls.reached.run_model(file)) for file in files]
+        files = [generate.day_file(1, index) for index in range(FILES)]
+        for sort in generate.FILES:
+            files += [sort(random.Random(index)) for index in range(FILES_OF_A_SORT)]
+        cls.outputs = [(file, cls.reached.run_model(file)) for file in sorted(files, key=len)]
 
     def test_same_numbers_same_file(self):
         for index in range(20):
@@ -520,12 +642,22 @@ class Generated(unittest.TestCase):
         self.assertGreater(len(self.reached.branches), 0.9 * len(branches.NAMES))
 
     def test_every_branch_of_an_auction_is_reached(self):
-        """With four more of the files that are rare because they are long."""
-        reached = compare.Reached()
-        for index in range(4):
-            reached.run_model(generate.full_day_auction_file(random.Random(index)))
         names = {name for name in branches.NAMES if "auction" in name or name in branches.STATE and "match" in name}
-        self.assertEqual(names - set(reached.branches) - set(self.reached.branches), set())
+        self.assert_reached(names, generate.auction_file, generate.full_auction_file, generate.trading_file)
+
+    def test_every_branch_of_a_change_is_reached(self):
+        names = {name for name in branches.NAMES if name.startswith("change:") or name in branches.BY_STAMP}
+        self.assert_reached(names, generate.changes_file, generate.ruined_file, generate.full_book_file)
+
+    def assert_reached(self, names, *sorts):
+        """By the files of all sorts, or else by more of some."""
+        reached = compare.Reached()
+        for index, sort in product(range(FILES_OF_A_SORT, 40), sorts):
+            left = names - set(reached.branches) - set(self.reached.branches)
+            if not left:
+                return
+            reached.run_model(sort(random.Random(index)))
+        self.assertEqual(left, set())
 
     def test_no_branch_without_a_name(self):
         self.assertLessEqual(set(self.reached.branches), set(branches.NAMES))

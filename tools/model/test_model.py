@@ -13,6 +13,7 @@ import bounds
 import broken
 import dayfile
 import daytext
+import generate
 import model
 
 # The contract of the paper's example: its charge is 100.
@@ -158,7 +159,7 @@ class Malformed(unittest.TestCase):
         return model.carry_out(model.opening_state(day), command).code
 
     def test_unknown_kinds_whatever_the_rest(self):
-        for kind in (0, 8, 255):
+        for kind in (0, 8, 10, 255):
             self.assertEqual(self.code(dayfile.Command(kind)), 1)
             self.assertEqual(self.code(dayfile.Command(kind, 1, 1, 0, 1, 100, 0, 0)), 1)
 
@@ -171,6 +172,7 @@ class Malformed(unittest.TestCase):
             dayfile.pull(1, 1): ("lots", "price", "order_number", "amount"),
             dayfile.state(1, "continuous"): ("account", "lots", "price", "order_number", "amount"),
             dayfile.settle(): ("account", "contract", "flags", "lots", "price", "order_number", "amount"),
+            dayfile.change(1, 1, 1, 1, 100): ("flags", "amount"),
         }
         for command, fields in unused.items():
             self.assertNotEqual(self.code(command), 1)
@@ -211,16 +213,18 @@ class AccountsAndContracts(unittest.TestCase):
                 insert {absent} contract 1 buy open limit 100 lots 1 day
                 cancel {absent} contract 1 order 1
                 pull {absent} contract 1
+                change {absent} contract 1 order 1 lots 1 price 100
                 """
-            self.assertEqual(codes(OPEN_DAY + commands), [0, 2, 2, 2, 2, 2])
+            self.assertEqual(codes(OPEN_DAY + commands), [0, 2, 2, 2, 2, 2, 2])
         for absent in (0, 2, 255):
             commands = f"""
                 insert 1 contract {absent} buy open limit 100 lots 1 day
                 cancel 1 contract {absent} order 1
                 pull 1 contract {absent}
                 state {absent} closed
+                change 1 contract {absent} order 1 lots 1 price 100
                 """
-            self.assertEqual(codes(OPEN_DAY + commands), [0, 3, 3, 3, 3])
+            self.assertEqual(codes(OPEN_DAY + commands), [0, 3, 3, 3, 3, 3])
 
     def test_account_comes_first(self):
         self.assertEqual(last_code(OPEN_DAY + "insert 0 contract 0 buy open limit 100 lots 1 day"), 2)
@@ -672,6 +676,159 @@ class Matching(unittest.TestCase):
         self.assertTrue(model.well_formed(state))
 
 
+class Changes(unittest.TestCase):
+    """A resting order changed (document 02, ticket 8), and the time stamps that queues go by."""
+
+    # Buys at 100: order 1 of account 1, 2 of account 2, 3 of account 1; order 4 sells at 103. Account 1 has 1,000 for ten
+    # lots, of which 7 rest.
+    BOOK = CONTRACT + "account 1,000\naccount 10,000\nstate 1 continuous\n" + """
+        insert 1 contract 1 buy open limit 100 lots 4 day
+        insert 2 contract 1 buy open limit 100 lots 5 day
+        insert 1 contract 1 buy open limit 100 lots 3 day
+        insert 2 contract 1 sell open limit 103 lots 2 day
+        """
+
+    def change(self, order, lots, price, account=1, text=BOOK):
+        return text + f"change {account} contract 1 order {order} lots {lots} price {price}\n"
+
+    def queue(self, text, side="buy"):
+        """The orders of a queue: number, price, lots and stamp."""
+        queue = state_after(text).contracts[1].queues[side]
+        return [(order.number, order.price, order.lots, order.stamp) for order in queue]
+
+    def test_fewer_lots_keep_the_place(self):
+        text = self.change(1, 1, 100)
+        self.assertEqual(last_answer(text), "0 1 0 1")
+        self.assertEqual(self.queue(text), [(1, 100, 1, 1), (2, 100, 5, 2), (3, 100, 3, 3)])
+        self.assertEqual(state_after(text).next_stamp, 5)
+
+    def test_equal_lots_and_price_change_nothing(self):
+        text = self.change(1, 4, 100)
+        self.assertEqual(last_answer(text), "0 1 0 4")
+        self.assertEqual(state_after(text), state_after(self.BOOK))
+
+    def test_more_lots_lose_the_place(self):
+        text = self.change(1, 5, 100)
+        self.assertEqual(last_answer(text), "0 1 0 5")
+        self.assertEqual(self.queue(text), [(2, 100, 5, 2), (3, 100, 3, 3), (1, 100, 5, 5)])
+        self.assertEqual((state_after(text).next_stamp, state_after(text).next_order_number), (6, 5))
+        sold = text + "insert 2 contract 1 sell open market lots 9 immediate\n"
+        self.assertEqual(lines_of("T", sold), ["T 1 1 100 5 2 5", "T 2 1 100 3 3 5", "T 3 1 100 1 1 5"])
+
+    def test_another_price_loses_the_place_with_fewer_lots_too(self):
+        text = self.change(1, 2, 101)
+        self.assertEqual(last_answer(text), "0 1 0 2")
+        self.assertEqual(self.queue(text), [(1, 101, 2, 5), (2, 100, 5, 2), (3, 100, 3, 3)])
+        back = self.change(1, 2, 100, text=text)
+        self.assertEqual(self.queue(back), [(2, 100, 5, 2), (3, 100, 3, 3), (1, 100, 2, 6)])
+
+    def test_matched_at_once(self):
+        text = self.change(1, 3, 104)
+        self.assertEqual(last_answer(text), "0 1 2 1")
+        self.assertEqual(lines_of("T", text), ["T 1 1 103 2 1 4"])
+        self.assertEqual(self.queue(text)[0], (1, 104, 1, 5))
+        self.assertEqual(last_answer(self.change(1, 2, 103)), "0 1 2 0")
+
+    def test_the_changed_order_arrives_for_every_method(self):
+        for method, price in ((0, 103), (1, 104), (2, 103)):
+            text = self.change(1, 2, 106).replace("rate 1000", f"rate 1000 method {method}")
+            self.assertEqual(lines_of("T", text), [f"T 1 1 {price} 2 1 4"])
+        # A sell that goes down to a buy at 100: the middle with the last price 100, half of 97 + 100, and the resting 100.
+        for method, price in ((0, 100), (1, 98), (2, 100)):
+            text = self.change(4, 1, 97, account=2).replace("rate 1000", f"rate 1000 method {method}")
+            self.assertEqual(lines_of("T", text), [f"T 1 1 {price} 1 1 4"])
+
+    def test_no_lots_remove_the_order_whatever_the_price(self):
+        for price in (0, 100, 1, 2**32 - 1):
+            text = self.change(1, 0, price)
+            self.assertEqual(last_answer(text), "0 1 0 4")
+            self.assertEqual(self.queue(text), [(2, 100, 5, 2), (3, 100, 3, 3)])
+            self.assertEqual(state_after(text).next_stamp, 5)
+
+    def test_refusals_in_turn(self):
+        for order, lots, price, account, code in (
+            (9, 1_001, 1, 1, 14),
+            (0, 0, 0, 1, 14),
+            (2, 1_001, 1, 1, 15),
+            (2, 0, 0, 1, 15),
+            (1, 1_001, 1, 1, 5),
+            (1, 1_000, 111, 1, 7),
+            (1, 4, 89, 1, 7),
+            (1, 1_000, 100, 1, 8),
+            (1, 8, 100, 1, 9),
+            (1, 7, 100, 1, 0),
+            (1, 8, 99, 1, 9),
+            (1, 7, 99, 1, 0),
+        ):
+            self.assertEqual(last_code(self.change(order, lots, price, account)), code, (order, lots, price))
+        limited = self.BOOK.replace("limit 1000 rate", "limit 9 rate")
+        for lots, code in ((6, 0), (7, 8)):
+            self.assertEqual(last_code(self.change(1, lots, 100, text=limited)), code)
+
+    def test_in_continuous_only(self):
+        for state in ("no-trading", "closed"):
+            for lots in (0, 4, 5):
+                self.assertEqual(last_code(self.change(1, lots, 100, text=self.BOOK + f"state 1 {state}\n")), 4)
+        auction = self.BOOK.replace("continuous", "auction")
+        self.assertEqual(last_code(self.change(1, 3, 100, text=auction)), 4)
+
+    def test_closes(self):
+        held = self.BOOK + "insert 2 contract 1 sell open limit 100 lots 4 day\n"
+        held += "insert 1 contract 1 sell close limit 105 lots 3 day\n"
+        self.assertEqual(last_answer(self.change(6, 4, 105, text=held)), "0 6 0 4")
+        self.assertEqual(last_code(self.change(6, 5, 105, text=held)), 8)
+        # It is sold to order 2, and the 4 lots are closed.
+        self.assertEqual(last_answer(self.change(6, 4, 100, text=held)), "0 6 4 0")
+
+    def test_own_order_met(self):
+        text = self.BOOK + "insert 1 contract 1 sell open limit 105 lots 2 day\n"
+        self.assertEqual(lines_of("T", self.change(5, 5, 100, text=text)), ["T 1 1 100 4 1 5", "T 2 1 100 1 2 5"])
+
+    def test_stamps_end_at_999999(self):
+        for lots, price, needs_one in ((5, 100, True), (4, 99, True), (1, 99, True), (4, 104, True), (4, 100, False), (3, 100, False), (0, 0, False)):
+            for next_stamp in (999_999, 1_000_000):
+                state = state_after(self.BOOK)
+                state.next_stamp = next_stamp
+                given = model.answer(state, dayfile.change(1, 1, 1, lots, price))
+                self.assertEqual(given.code, 10 if needs_one and next_stamp == 1_000_000 else 0)
+        state = state_after(self.BOOK)
+        state.next_stamp = 1_000_000
+        self.assertEqual(model.answer(state, dayfile.insert(2, 1, "buy", "open", "limit", 99, 1, "day")).code, 10)
+        # The number stays, so that numbers may be used up.
+        state = state_after(self.BOOK)
+        state.next_order_number = 1_000_000
+        self.assertEqual(model.answer(state, dayfile.change(1, 1, 1, 5, 100)).code, 0)
+
+    def test_every_insert_takes_a_stamp(self):
+        text = self.BOOK + "insert 2 contract 1 sell open market lots 1 immediate\n"
+        text += "insert 2 contract 1 sell open limit 109 lots 1 immediate\n insert 2 contract 1 buy open limit 95 lots 1 day\n"
+        self.assertEqual(self.queue(text)[-1], (7, 95, 1, 7))
+        self.assertEqual(state_after(text + "state 1 closed\nsettle").next_stamp, 1)
+
+    def test_a_full_side_gives_no_13(self):
+        full = OPEN_DAY + "repeat 64\n insert 1 contract 1 buy open limit 100 lots 1 day\n end\n"
+        for lots, price in ((2, 100), (1, 99), (1, 101)):
+            self.assertEqual(last_answer(self.change(1, lots, price, text=full)), f"0 1 0 {lots}")
+
+    def test_12(self):
+        state = state_after(self.BOOK)
+        state.trades = [None] * 1_024
+        for lots, price, code in ((4, 103, 12), (4, 102, 0), (5, 100, 0), (3, 100, 0), (0, 103, 0)):
+            self.assertEqual(model.change_code(state, dayfile.change(1, 1, 1, lots, price)), code)
+
+    def test_without_changes_stamps_are_numbers(self):
+        """Where every resting stamp is its number and the next stamp the next number, all other commands keep it so."""
+        for index in range(40):
+            day = dayfile.sections(generate.trading_file(random.Random(index)))
+            state = model.opening_state(day)
+            for command in day.commands:
+                if command.kind != dayfile.NUMBER_OF_KIND["change"]:
+                    model.carry_out(state, command)
+                    orders = [order for contract in state.contracts.values() for queue in contract.queues.values() for order in queue]
+                    self.assertTrue(all(order.stamp == order.number for order in orders))
+                    self.assertEqual(state.next_stamp, state.next_order_number)
+
+
 class Auction(unittest.TestCase):
     """The opening auction: document 02, ticket 4. The last price is 100 where nothing else is said."""
 
@@ -992,7 +1149,7 @@ class Auction(unittest.TestCase):
         for _ in range(2_000):
             sides = {
                 side: [
-                    model.Resting(number, 1, "open", rng.randint(1, 7), rng.randint(1, 4))
+                    model.Resting(number, 1, "open", rng.randint(1, 7), rng.randint(1, 4), stamp=number)
                     for number in rng.sample(range(100), rng.randint(0, 5))
                 ]
                 for side in dayfile.SIDES
@@ -1242,6 +1399,13 @@ class WellFormed(unittest.TestCase):
         self.state.next_order_number = 1_000_001
         self.assert_21()
 
+    def test_next_stamp(self):
+        for next_stamp in (0, 1_000_001):
+            self.state.next_stamp = next_stamp
+            self.assert_21()
+        self.state.next_stamp = 1_000_000
+        self.assertTrue(model.well_formed(self.state))
+
     def test_settlements(self):
         self.state.settlements = 251
         self.assert_21()
@@ -1309,6 +1473,26 @@ class WellFormed(unittest.TestCase):
 
     def test_resting_number_used_once(self):
         self.sells[0].number = self.buys[0].number
+        self.assert_21()
+
+    def test_resting_stamp_below_the_next(self):
+        for stamp in (0, self.state.next_stamp):
+            self.buys[0].stamp = stamp
+            self.assert_21()
+
+    def test_resting_stamp_used_once(self):
+        self.sells[0].stamp = self.buys[0].stamp
+        self.assert_21()
+
+    def test_sorted_by_stamp(self):
+        self.buys[1].price = self.buys[0].price
+        self.buys[0].number, self.buys[1].number = self.buys[1].number, self.buys[0].number
+        self.assertTrue(model.well_formed(self.state))
+        self.buys[0].stamp, self.buys[1].stamp = self.buys[1].stamp, self.buys[0].stamp
+        self.assert_21()
+
+    def test_no_order_is_marked_as_a_quote(self):
+        self.buys[0].quote = True
         self.assert_21()
 
     def test_trade_contract(self):

@@ -73,6 +73,9 @@ class Samples(unittest.TestCase):
         self.assertEqual(self.codes("auction-refusals"), {0, 5, 6, 7, 8, 9, 12, 13, 14, 15, 17, 18})
         self.assertEqual(max(int(line[1]) for line in self.lines("auction-refusals", "T")), 1_024)
 
+    def test_changing_an_order(self):
+        self.assertEqual(self.codes("changes-of-a-day"), {0, 4, 5, 7, 8, 9, 14, 15})
+
     def test_largest_file(self):
         day = read(self.made[make_samples.SAMPLES / "largest-file.day"])
         self.assertEqual(

@@ -17,20 +17,22 @@ The file begins with the count of its vectors. A vector is
 
 An edit is its number, then
 
-    0 counts    contracts, accounts, trades, next order number, next time stamp, settlements
+    0 counts    contracts, accounts, trades, next order number, next stamp, settlements
     1 areas     for the areas of buys, sells, trades and answers: as many records as it is long, and words more (may be
                 negative)
     2 contract  place, its fields
     3 queues    place of the contract, count of buys, count of sells
-    4 balance   place of the account, balance (may be negative)
+    4 account   place of the account, balance (may be negative), maker mark
     5 holding   place of the account, place of the contract, its fields
-    6 buys      first place in the area, count, step, the fields of the first record; the second field of each further
-                record is higher by the step
+    6 buys      first place in the area, count, step, the fields of the first record: price, number, place of the account,
+                lots, close mark, stamp, quote mark; the number and the stamp of each further record are higher by the
+                step
     7 sells     the same
-    8 trades    the same
-    9 answers   the same; the area of a bundle's answers, of code, number, traded, lots
+    8 trades    first place in the area, count, step, the fields of the first record; the second field of each further
+                record is higher by the step
+    9 answers   as trades; the area of a bundle's answers, of code, number, traded, lots
 
-with the fields in the order in which the records are declared. A contract's queue begins at place 64 x the contract's
+with the fields in the order in which the records are declared; marks are 0 or 1. A contract's queue begins at place 64 x the contract's
 place. What no edit writes has the filling, which is expected to stay: every word of an area has one of its own, the
 records of contracts and accounts those of `memory.py`.
 
@@ -165,7 +167,8 @@ def edit(kind, *values):
 
 
 def counts(state):
-    return edit(0, state.contract_count, state.account_count, state.trade_count, state.next, state.nextstamp, state.settlements)
+    numbers_given = (state.next, state.next_stamp)
+    return edit(0, state.contract_count, state.account_count, state.trade_count, *numbers_given, state.settlements)
 
 
 def first_edits(state):
@@ -188,9 +191,9 @@ def changes(old, new):
         queue_counts = [[state.order_counts[side][place] for side in dayfile.SIDES] for state in (old, new)]
         if queue_counts[0] != queue_counts[1]:
             written.append(edit(3, place, *queue_counts[1]))
-    for place, balance in enumerate(new.balances):
-        if balance != old.balances[place]:
-            written.append(edit(4, place) + signed(balance))
+    for place, (balance, maker) in enumerate(zip(new.balances, new.makers)):
+        if (balance, maker) != (old.balances[place], old.makers[place]):
+            written.append(edit(4, place) + signed(balance) + number(maker))
         for contract, holding in enumerate(new.holdings[place]):
             if holding != old.holdings[place][contract]:
                 written.append(edit(5, place, contract, *holding))
@@ -204,14 +207,15 @@ def changed_records(old, new):
     return {place: record for place, record in sorted(new.contents.items()) if old.contents.get(place) != record}
 
 
-# Records one after the other that are the same but for a second field that rises by one, or the same altogether.
+# Records one after the other that are the same but for a second field that rises by one (of orders the number, and the
+# stamp with it), or the same altogether.
 def runs(records):
     found = []
     for place, record in records.items():
         if found:
             first, count, step, like = found[-1]
             for next_step in (0, 1) if count == 1 else (step,):
-                if place == first + count and record == (like[0], like[1] + next_step * count, *like[2:]):
+                if place == first + count and record == raised(like, next_step * count):
                     found[-1] = (first, count + 1, next_step, like)
                     break
             else:
@@ -219,6 +223,12 @@ def runs(records):
         else:
             found.append((place, 1, 0, record))
     return found
+
+
+def raised(record, by):
+    if isinstance(record, memory.Order):
+        return record._replace(number=record.number + by, stamp=record.stamp + by)
+    return (record[0], record[1] + by, *record[2:])
 
 
 # =====================================================================================================================

@@ -13,7 +13,7 @@ use Rattle.laws.specs.Choice.{all, allOf, all-at, allOf-at, both-true}
 use Rattle.laws.specs.Chains.{Passed, passed}
 use Rattle.rules.specs.Bounds.{within, inAuction, onTick, dayLow, dayHigh, allowedToday, maxPrice, maxLots}
 use Rattle.rules.specs.Exchange.{Exchange, Listing, noListing, listingAt, holdingAt, restingOpens, restingCloses}
-use Rattle.rules.specs.WellFormed.{contractInRange, sorted, uncrossed, orderInRange, listingInRange, tradeInRange, replays, holdingInRange, holdingsInRange, balanceInRange, countersInRange, usedOnce, allNumbers, wellFormedContents}
+use Rattle.rules.specs.WellFormed.{contractInRange, sorted, uncrossed, orderInRange, listingInRange, tradeInRange, replays, holdingInRange, holdingsInRange, balanceInRange, countersInRange, usedOnce, allNumbers, allStamps, wellFormedContents}
 use Rattle.rules.specs.declared.Contract.{Contract}
 use Rattle.rules.specs.declared.Holding.{Holding}
 use Rattle.rules.specs.declared.Order.{Order}
@@ -30,12 +30,12 @@ allowed-price c p h =
     let r = leb-true p (dayHigh c) (both-true (leb (dayLow c) p) (leb p (dayHigh c)) (q .1) .1) in
     omega (arith, r, div-add-mod' maxPrice (c .tick))
 
-pub order-price : (accounts next : ℕ) (c : Contract) (o : Order) → orderInRange accounts next c o ≡ true → o .price ≤ maxPrice
+pub order-price : (accounts next nextstamp : ℕ) (c : Contract) (o : Order) → orderInRange accounts next nextstamp c o ≡ true → o .price ≤ maxPrice
 unfolding orderInRange
-order-price accounts next c o h =
+order-price accounts next nextstamp c o h =
     allowed-price c (o .price)
     (passed (within 1 maxLots (o .lots))
-    (ltb (o .account) accounts ∷ allowedToday c (o .price) ∷ leb 1 (o .number) ∷ ltb (o .number) next ∷ leb (o .close) 1 ∷ eqb (o .stamp) 0 ∷ eqb (o .quote) 0 ∷ []) h .1 .1 .0)
+    (ltb (o .account) accounts ∷ allowedToday c (o .price) ∷ leb 1 (o .number) ∷ ltb (o .number) next ∷ leb (o .close) 1 ∷ leb 1 (o .stamp) ∷ ltb (o .stamp) nextstamp ∷ eqb (o .quote) 0 ∷ []) h .1 .1 .0)
 
 -- ---- a recorded trade
 
@@ -69,7 +69,7 @@ trade-facts x t h =
 
 pub record Facts (x : Exchange) : Type 0 where
   pub terms-of : (c : ℕ) → c < length (x .listings) → Terms (listingAt x c .contract)
-  pub buys : (c : ℕ) → c < length (x .listings) → allOf (orderInRange (length (x .accounts)) (x .next) (listingAt x c .contract)) (listingAt x c .buys) ≡ true
+  pub buys : (c : ℕ) → c < length (x .listings) → allOf (orderInRange (length (x .accounts)) (x .next) (x .nextstamp) (listingAt x c .contract)) (listingAt x c .buys) ≡ true
   pub trades : allOf (tradeInRange x) (x .trades) ≡ true
   pub replay : replays x ≡ true
   pub startlong : (a c : ℕ) → a < length (x .accounts) → c < length (x .listings) → holdingAt (x .accounts) a c .startlong ≤ 100_000
@@ -77,25 +77,25 @@ pub record Facts (x : Exchange) : Type 0 where
 
 module _ (x : Exchange) (h : wellFormedContents x ≡ true) where
   clauses : Passed (countersInRange x)
-      (allOf (listingInRange (length (x .accounts)) (x .next)) (x .listings) ∷ usedOnce (allNumbers (x .listings)) ∷ allOf (tradeInRange x) (x .trades)
+      (allOf (listingInRange (length (x .accounts)) (x .next) (x .nextstamp)) (x .listings) ∷ usedOnce (allNumbers (x .listings)) ∷ usedOnce (allStamps (x .listings)) ∷ allOf (tradeInRange x) (x .trades)
       ∷ replays x ∷ all (holdingsInRange x) (length (x .accounts)) ∷ allOf (balanceInRange (x .settlements)) (x .accounts) ∷ [])
   unfolding wellFormedContents
   clauses = passed (countersInRange x)
-      (allOf (listingInRange (length (x .accounts)) (x .next)) (x .listings) ∷ usedOnce (allNumbers (x .listings)) ∷ allOf (tradeInRange x) (x .trades)
+      (allOf (listingInRange (length (x .accounts)) (x .next) (x .nextstamp)) (x .listings) ∷ usedOnce (allNumbers (x .listings)) ∷ usedOnce (allStamps (x .listings)) ∷ allOf (tradeInRange x) (x .trades)
       ∷ replays x ∷ all (holdingsInRange x) (length (x .accounts)) ∷ allOf (balanceInRange (x .settlements)) (x .accounts) ∷ []) h
 
-  listing-in-range : (c : ℕ) → c < length (x .listings) → listingInRange (length (x .accounts)) (x .next) (listingAt x c) ≡ true
+  listing-in-range : (c : ℕ) → c < length (x .listings) → listingInRange (length (x .accounts)) (x .next) (x .nextstamp) (listingAt x c) ≡ true
   unfolding listingAt
-  listing-in-range c l = allOf-at (listingInRange (length (x .accounts)) (x .next)) (x .listings) c noListing (clauses .1 .0) l
+  listing-in-range c l = allOf-at (listingInRange (length (x .accounts)) (x .next) (x .nextstamp)) (x .listings) c noListing (clauses .1 .0) l
 
-  listing-clauses : (m : Listing) → listingInRange (length (x .accounts)) (x .next) m ≡ true →
-      (contractInRange (m .contract) ≡ true) × (allOf (orderInRange (length (x .accounts)) (x .next) (m .contract)) (m .buys) ≡ true)
+  listing-clauses : (m : Listing) → listingInRange (length (x .accounts)) (x .next) (x .nextstamp) m ≡ true →
+      (contractInRange (m .contract) ≡ true) × (allOf (orderInRange (length (x .accounts)) (x .next) (x .nextstamp) (m .contract)) (m .buys) ≡ true)
   unfolding listingInRange
   listing-clauses m e =
       let p = passed (contractInRange (m .contract))
       (sorted false (m .buys) ∷ sorted true (m .sells) ∷ (inAuction (m .contract) || uncrossed (m .buys) (m .sells))
-      ∷ allOf (orderInRange (length (x .accounts)) (x .next) (m .contract)) (m .buys)
-      ∷ allOf (orderInRange (length (x .accounts)) (x .next) (m .contract)) (m .sells) ∷ []) e in
+      ∷ allOf (orderInRange (length (x .accounts)) (x .next) (x .nextstamp) (m .contract)) (m .buys)
+      ∷ allOf (orderInRange (length (x .accounts)) (x .next) (x .nextstamp) (m .contract)) (m .sells) ∷ []) e in
       (p .0, p .1 .1 .1 .1 .0)
 
   terms-at : (c : ℕ) → c < length (x .listings) → Terms (listingAt x c .contract)
@@ -106,7 +106,7 @@ module _ (x : Exchange) (h : wellFormedContents x ≡ true) where
   unfolding holdingsInRange
   holding-in-range a c la lc =
       all-at (λ c. holdingInRange (listingAt x c) a (holdingAt (x .accounts) a c)) c (length (x .listings))
-      (all-at (holdingsInRange x) a (length (x .accounts)) (clauses .1 .1 .1 .1 .1 .0) la) lc
+      (all-at (holdingsInRange x) a (length (x .accounts)) (clauses .1 .1 .1 .1 .1 .1 .0) la) lc
 
   start-lots : (m : Listing) (a : ℕ) (k : Holding) → holdingInRange m a k ≡ true →
       (k .startlong ≤ m .contract .limit) × (k .startshort ≤ m .contract .limit)
@@ -129,8 +129,8 @@ module _ (x : Exchange) (h : wellFormedContents x ≡ true) where
   facts = record {
     terms-of = terms-at;
     buys = λ c l. listing-clauses (listingAt x c) (listing-in-range c l) .1;
-    trades = clauses .1 .1 .1 .0;
-    replay = clauses .1 .1 .1 .1 .0;
+    trades = clauses .1 .1 .1 .1 .0;
+    replay = clauses .1 .1 .1 .1 .1 .0;
     startlong = λ a c la lc. starts a c la lc .0;
     startshort = λ a c la lc. starts a c la lc .1;
   }

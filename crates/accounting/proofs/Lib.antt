@@ -11,6 +11,7 @@ pub mod PriceBound
 pub mod ProfitBound
 pub mod BooksLaws
 pub mod StepMoves
+pub mod ChangeMoves
 pub mod StepShape
 pub mod EachKind
 pub mod Declared

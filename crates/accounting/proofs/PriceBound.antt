@@ -54,24 +54,24 @@ middle-to : (M a b c : ℕ) → a ≤ M → c ≤ M → middle a b c ≤ M
 unfolding middle
 middle-to M a b c h k = omega arith
 
-quoted-to : (M reference accounts next : ℕ) (c : Contract) (buys sells : List Order) → maxPrice ≤ M → reference ≤ M →
-    allOf (orderInRange accounts next c) buys ≡ true → quotedPrice reference buys sells ≤ M
+quoted-to : (M reference accounts next nextstamp : ℕ) (c : Contract) (buys sells : List Order) → maxPrice ≤ M → reference ≤ M →
+    allOf (orderInRange accounts next nextstamp c) buys ≡ true → quotedPrice reference buys sells ≤ M
 unfolding quotedPrice allOf
-quoted-to M reference accounts next c [] sells m h q = h
-quoted-to M reference accounts next c (b ∷ bs) [] m h q = h
-quoted-to M reference accounts next c (b ∷ bs) (s ∷ ss) m h q =
+quoted-to M reference accounts next nextstamp c [] sells m h q = h
+quoted-to M reference accounts next nextstamp c (b ∷ bs) [] m h q = h
+quoted-to M reference accounts next nextstamp c (b ∷ bs) (s ∷ ss) m h q =
     middle-to M (b .price) (s .price) reference
-    (omega (arith, order-price accounts next c b (both-true (orderInRange accounts next c b) (allOf (orderInRange accounts next c) bs) q .0))) h
+    (omega (arith, order-price accounts next nextstamp c b (both-true (orderInRange accounts next nextstamp c b) (allOf (orderInRange accounts next nextstamp c) bs) q .0))) h
 
-price-to : (reference tick accounts next : ℕ) (c : Contract) (ts : List Trade) (buys sells : List Order) → TradesTo maxPrice ts → reference ≤ maxPrice →
-    allOf (orderInRange accounts next c) buys ≡ true → priceFrom tick reference ts buys sells ≤ maxPrice
+price-to : (reference tick accounts next nextstamp : ℕ) (c : Contract) (ts : List Trade) (buys sells : List Order) → TradesTo maxPrice ts → reference ≤ maxPrice →
+    allOf (orderInRange accounts next nextstamp c) buys ≡ true → priceFrom tick reference ts buys sells ≤ maxPrice
 unfolding priceFrom
-price-to reference tick accounts next c [] buys sells t h q = quoted-to maxPrice reference accounts next c buys sells (omega arith) h q
-price-to reference tick accounts next c (t ∷ ts) buys sells q h o = weighted-to maxPrice tick (t ∷ ts) q
+price-to reference tick accounts next nextstamp c [] buys sells t h q = quoted-to maxPrice reference accounts next nextstamp c buys sells (omega arith) h q
+price-to reference tick accounts next nextstamp c (t ∷ ts) buys sells q h o = weighted-to maxPrice tick (t ∷ ts) q
 
 pub settlement-price-bound : (x : Exchange) → wellFormedContents x ≡ true → (c : ℕ) → c < length (x .listings) → settlementPrice x c ≤ maxPrice
 unfolding settlementPrice
 settlement-price-bound x w c l =
     let f = facts x w in
-    price-to _ _ (length (x .accounts)) (x .next) (listingAt x c .contract) _ _ _
+    price-to _ _ (length (x .accounts)) (x .next) (x .nextstamp) (listingAt x c .contract) _ _ _
     (one-contract maxPrice c (x .trades) (trades-to x (x .trades) (f .trades))) (f .terms-of c l .reference .high) (f .buys c l)

@@ -27,7 +27,7 @@ use Rattle.accounting.proofs.Declared.{declared-shaped, declared-kept}
 use Rattle.accounting.proofs.Facts.{facts, known-trades}
 use Rattle.accounting.proofs.Identity.{net-moves, placed}
 use Rattle.accounting.proofs.EachKind.{step-shape, step-moves}
-use Rattle.accounting.proofs.StepMoves.{Makes, unchanged}
+use Rattle.accounting.proofs.StepMoves.{Makes, nothing-moves}
 use Rattle.accounting.proofs.StepShape.{SameShape, same-shape, shape-trans}
 
 -- ---- acceptance
@@ -185,7 +185,7 @@ module _
         by true w =
             rw (read-back m c w, accepted-is m c w)
             (step-moves (exchangeOf m) (facts (exchangeOf m) (in-wellformed m w) .replay) (declared-shaped m d w) c)
-        by false w = rw (stays-so m c w, never-accepted m c w) (unchanged (exchangeOf m))
+        by false w = rw (stays-so m c w, never-accepted m c w) (nothing-moves (exchangeOf m))
 
   pub end-declared : (m : Memory) (cs : List Command) → Declared (m .state) → Declared (run m cs .state)
   unfolding run

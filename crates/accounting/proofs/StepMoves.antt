@@ -18,8 +18,9 @@ use Rattle.rules.specs.Answers.{listingOf}
 use Rattle.rules.specs.Auction.{matchOf}
 use Rattle.rules.specs.Exchange.{Exchange, Listing, noAccount, noHolding, noListing, listingAt, accountAt, holdingAt, placeOf}
 use Rattle.rules.specs.Kinds.{Move, paysIn, paysOut, makes, settles, nothing}
+use Rattle.rules.specs.Matching.{Entered}
 use Rattle.rules.specs.Settlement.{dayOf, holdingGain, settlementPrice, closingProfit, holdingProfit, carriedHolding, settledAccount, settledContract, settledListing, settled}
-use Rattle.rules.specs.Step.{withListing, withTrades, withBalance, paid, enteredOf, listingAfter, exchangeAfter, listingMatched, exchangeMatched}
+use Rattle.rules.specs.Step.{withListing, withTrades, withBalance, paid, listingAfter, exchangeAfter, listingMatched, exchangeMatched}
 use Rattle.rules.specs.WellFormed.{replays}
 use Rattle.rules.specs.declared.Account.{Account}
 use Rattle.rules.specs.declared.Holding.{Holding}
@@ -51,9 +52,9 @@ same-listing x c l r m = record {
   trades = append-nil (x .trades);
 }
 
-pub unchanged : (x : Exchange) → Makes x nothing x
+pub nothing-moves : (x : Exchange) → Makes x nothing x
 unfolding after booksOf
-unchanged x = record {
+nothing-moves x = record {
   balance = λ a k. refl;
   start = λ a e k j. refl;
   reference = λ e k. refl;
@@ -108,11 +109,11 @@ paid-out-moves x u n = paid-books x u (negℤ (pos n))
 -- ---- trades are made
 
 -- by an order that is entered, and by the match of an auction
-traded-moves : (x : Exchange) (c : ℕ) (l : Listing) (ts : List Trade) (next : ℕ) →
+pub traded-moves : (x : Exchange) (c : ℕ) (l : Listing) (ts : List Trade) (next nextstamp : ℕ) →
     l .contract .reference ≡ listingAt x c .contract .reference → l .contract .multiplier ≡ listingAt x c .contract .multiplier →
-    Makes x (makes ts) (withTrades x c l ts next)
+    Makes x (makes ts) (withTrades x c l ts next nextstamp)
 unfolding after booksOf netAtStart listingAt
-traded-moves x c l ts next r m = record {
+traded-moves x c l ts next nextstamp r m = record {
   balance = λ a k. sym (all-booked-balance (x .accounts) ts a);
   start = λ a e k j. sym (all-booked-start (x .accounts) ts (λ i j. pos i -ℤ pos j) a e);
   reference = λ e k. sym (kept-at (λ (n : Listing). n .contract .reference) (x .listings) c l noListing r e);
@@ -120,13 +121,13 @@ traded-moves x c l ts next r m = record {
   trades = refl;
 }
 
-pub inserted-moves : (x : Exchange) (o : NewOrder) → Makes x (makes (enteredOf x o .trades)) (exchangeAfter x o (enteredOf x o))
+pub entered-moves : (x : Exchange) (o : NewOrder) (e : Entered) (next : ℕ) → Makes x (makes (e .trades)) (exchangeAfter x o e next)
 unfolding exchangeAfter listingAfter listingOf
-inserted-moves x o = traded-moves x (placeOf (o .contract)) _ (enteredOf x o .trades) (x .next + 1) refl refl
+entered-moves x o e next = traded-moves x (placeOf (o .contract)) _ (e .trades) next (x .nextstamp + 1) refl refl
 
 pub matched-moves : (x : Exchange) (c phase : ℕ) → Makes x (makes (matchOf x c .trades)) (exchangeMatched x c phase (matchOf x c))
 unfolding exchangeMatched listingMatched
-matched-moves x c phase = traded-moves x c _ (matchOf x c .trades) (x .next) refl refl
+matched-moves x c phase = traded-moves x c _ (matchOf x c .trades) (x .next) (x .nextstamp) refl refl
 
 -- ---- all is settled
 

@@ -9,8 +9,9 @@ use Rattle.laws.specs.Tabulate.{length-tabulate, getD-tabulate}
 use Rattle.laws.specs.Lists.{kept-at}
 use Rattle.rules.specs.Auction.{matchOf}
 use Rattle.rules.specs.Exchange.{Exchange, Listing, noAccount, accountAt, placeOf}
+use Rattle.rules.specs.Matching.{Entered}
 use Rattle.rules.specs.Settlement.{carriedHolding, settledAccount, settledListing, settled}
-use Rattle.rules.specs.Step.{withListing, withTrades, paid, enteredOf, exchangeAfter, exchangeMatched}
+use Rattle.rules.specs.Step.{withListing, withTrades, paid, exchangeAfter, exchangeMatched}
 use Rattle.rules.specs.declared.Account.{Account}
 use Rattle.rules.specs.declared.NewOrder.{NewOrder}
 use Rattle.rules.specs.declared.Trade.{Trade}
@@ -46,20 +47,20 @@ module _ (x : Exchange) where
     wide = λ a l. kept-at (λ (k : Account). length (k .holdings)) (x .accounts) u _ noAccount refl a;
   }
 
-  traded-shape : (c : ℕ) (l : Listing) (ts : List Trade) (next : ℕ) → SameShape x (withTrades x c l ts next)
-  traded-shape c l ts next = record {
+  traded-shape : (c : ℕ) (l : Listing) (ts : List Trade) (next nextstamp : ℕ) → SameShape x (withTrades x c l ts next nextstamp)
+  traded-shape c l ts next nextstamp = record {
     listings = length-set (x .listings) c l;
     accounts = all-booked-length (x .accounts) ts;
     wide = λ a k. all-booked-wide (x .accounts) ts a;
   }
 
-  pub inserted-shape : (o : NewOrder) → SameShape x (exchangeAfter x o (enteredOf x o))
+  pub entered-shape : (o : NewOrder) (e : Entered) (next : ℕ) → SameShape x (exchangeAfter x o e next)
   unfolding exchangeAfter
-  inserted-shape o = traded-shape (placeOf (o .contract)) _ (enteredOf x o .trades) (x .next + 1)
+  entered-shape o e next = traded-shape (placeOf (o .contract)) _ (e .trades) next (x .nextstamp + 1)
 
   pub matched-shape : (c phase : ℕ) → SameShape x (exchangeMatched x c phase (matchOf x c))
   unfolding exchangeMatched
-  matched-shape c phase = traded-shape c _ (matchOf x c .trades) (x .next)
+  matched-shape c phase = traded-shape c _ (matchOf x c .trades) (x .next) (x .nextstamp)
 
   pub settled-shape : SameShape x (settled x)
   unfolding settled accountAt settledAccount

@@ -46,24 +46,24 @@ pub contract-chain : (c : Contract) → Chain (contractInRange c) (termsInRange 
 unfolding contractInRange
 contract-chain c = record { is = refl }
 
-pub order-chain : (accounts next : ℕ) (c : Contract) (o : Order)
-    → Chain (orderInRange accounts next c o)
-    (within 1 1_000 (o .lots) ∷ ltb (o .account) accounts ∷ allowedToday c (o .price) ∷ leb 1 (o .number) ∷ ltb (o .number) next ∷ leb (o .close) 1 ∷ eqb (o .stamp) 0 ∷ [])
+pub order-chain : (accounts next nextstamp : ℕ) (c : Contract) (o : Order)
+    → Chain (orderInRange accounts next nextstamp c o)
+    (within 1 1_000 (o .lots) ∷ ltb (o .account) accounts ∷ allowedToday c (o .price) ∷ leb 1 (o .number) ∷ ltb (o .number) next ∷ leb (o .close) 1 ∷ leb 1 (o .stamp) ∷ ltb (o .stamp) nextstamp ∷ [])
     (eqb (o .quote) 0)
 unfolding orderInRange
-order-chain accounts next c o = record { is = refl }
+order-chain accounts next nextstamp c o = record { is = refl }
 
-pub listing-chain : (accounts next : ℕ) (l : Listing)
-    → Chain (listingInRange accounts next l)
+pub listing-chain : (accounts next nextstamp : ℕ) (l : Listing)
+    → Chain (listingInRange accounts next nextstamp l)
     (contractInRange (l .contract)
     ∷ sorted false (l .buys)
     ∷ sorted true (l .sells)
     ∷ (inAuction (l .contract) || uncrossed (l .buys) (l .sells))
-    ∷ allOf (orderInRange accounts next (l .contract)) (l .buys)
+    ∷ allOf (orderInRange accounts next nextstamp (l .contract)) (l .buys)
     ∷ [])
-    (allOf (orderInRange accounts next (l .contract)) (l .sells))
+    (allOf (orderInRange accounts next nextstamp (l .contract)) (l .sells))
 unfolding listingInRange
-listing-chain accounts next l = record { is = refl }
+listing-chain accounts next nextstamp l = record { is = refl }
 
 -- ---- a holding
 

@@ -13,7 +13,7 @@ use Rattle.laws.specs.Tabulate.{tabulate, length-tabulate, getD-tabulate}
 use Rattle.rules.specs.Bounds.{within, termsInRange}
 use Rattle.rules.specs.Exchange.{Exchange, Listing, listingAt, holdingAt, noContract, noListing, noTrade}
 use Rattle.rules.specs.Memory.{Memory, exchangeOf, inUse, listingIn, recordedTrades, countsInRange, hasRoom, wellFormedMemory, used, memory, tradeStride}
-use Rattle.rules.specs.WellFormed.{countersInRange, listingInRange, allNumbers, usedOnce, tradeInRange, replays, holdingInRange, holdingsInRange, balanceInRange, wellFormedContents}
+use Rattle.rules.specs.WellFormed.{countersInRange, listingInRange, allNumbers, allStamps, usedOnce, tradeInRange, replays, holdingInRange, holdingsInRange, balanceInRange, wellFormedContents}
 use Rattle.rules.specs.declared.State.{State}
 use Rattle.rules.specs.declared.Trade.{Trade}
 use Rattle.rules.proofs.Codecs.{length-trades}
@@ -59,10 +59,13 @@ module _ (s : State) (buys sells trades : List ℕ) where
   countersTest = within 1 1_000_000 (s .next) && within 1 1_000_000 (s .nextstamp) && leb (s .settlements) 250
 
   abbrev listingsTest : Bool
-  listingsTest = all (λ c. listingInRange (s .accountcount) (s .next) (listing s buys sells c)) (s .contractcount)
+  listingsTest = all (λ c. listingInRange (s .accountcount) (s .next) (s .nextstamp) (listing s buys sells c)) (s .contractcount)
 
   abbrev numbersTest : Bool
   numbersTest = usedOnce (allNumbers (tabulate (s .contractcount) (listing s buys sells)))
+
+  abbrev stampsTest : Bool
+  stampsTest = usedOnce (allStamps (tabulate (s .contractcount) (listing s buys sells)))
 
   abbrev asked : Exchange
   asked = tested (s .contracts) (s .contractcount) (s .accountcount) (s .next)
@@ -89,16 +92,20 @@ module _ (s : State) (buys sells trades : List ℕ) where
     unfolding countersInRange exchangeOf
     counters-same = refl
 
-    in-table : allOf (listingInRange (s .accountcount) (exchangeOf m .next)) (exchangeOf m .listings) ≡ listingsTest
+    in-table : allOf (listingInRange (s .accountcount) (exchangeOf m .next) (exchangeOf m .nextstamp)) (exchangeOf m .listings) ≡ listingsTest
     unfolding exchangeOf listingIn
-    in-table = all-of-table (listingInRange (s .accountcount) (s .next)) (s .contractcount) (listingIn m) noListing
+    in-table = all-of-table (listingInRange (s .accountcount) (s .next) (s .nextstamp)) (s .contractcount) (listingIn m) noListing
 
-    listings-same : allOf (listingInRange (length (exchangeOf m .accounts)) (exchangeOf m .next)) (exchangeOf m .listings) ≡ listingsTest
+    listings-same : allOf (listingInRange (length (exchangeOf m .accounts)) (exchangeOf m .next) (exchangeOf m .nextstamp)) (exchangeOf m .listings) ≡ listingsTest
     listings-same = rw accounts-count in-table
 
     numbers-same : usedOnce (allNumbers (exchangeOf m .listings)) ≡ numbersTest
     unfolding exchangeOf listingIn
     numbers-same = refl
+
+    stamps-same : usedOnce (allStamps (exchangeOf m .listings)) ≡ stampsTest
+    unfolding exchangeOf listingIn
+    stamps-same = refl
 
     trade-same : (t : Trade) → tradeInRange (exchangeOf m) t ≡ tradeInRange asked t
     unfolding tradeInRange tested exchangeOf listingAt listingIn
@@ -134,9 +141,9 @@ module _ (s : State) (buys sells trades : List ℕ) where
     balances-same = all-of-map (balanceInRange (s .settlements)) (inUse (s .contractcount)) (take (s .accountcount) (s .accounts))
 
     pub contents-chain :
-        Chain (wellFormedContents (exchangeOf m)) (countersTest ∷ listingsTest ∷ numbersTest ∷ tradesTest ∷ replayTest ∷ holdingsTest ∷ []) balancesTest
+        Chain (wellFormedContents (exchangeOf m)) (countersTest ∷ listingsTest ∷ numbersTest ∷ stampsTest ∷ tradesTest ∷ replayTest ∷ holdingsTest ∷ []) balancesTest
     unfolding wellFormedContents
-    contents-chain = record { is = rw (counters-same, listings-same, numbers-same, trades-same, replay-same, holdings-same, balances-same) refl }
+    contents-chain = record { is = rw (counters-same, listings-same, numbers-same, stamps-same, trades-same, replay-same, holdings-same, balances-same) refl }
 
 -- the whole: counts and room before the contents
 pub whole-chain : (m : Memory) → Chain (wellFormedMemory m) (countsInRange (m .state) ∷ hasRoom m ∷ []) (wellFormedContents (exchangeOf m))
@@ -161,7 +168,7 @@ module _ (s : State) (buys sells trades : List ℕ) (counts : countsInRange s �
     pub terms-tested : (c : ℕ) → c < s .contractcount → termsInRange (getD (s .contracts) c noContract) ≡ true
     unfolding listingIn
     terms-tested c h =
-        terms-passed _ (listing-ok (s .accountcount) (s .next) (listing s buys sells c) (all-at (λ c. listingInRange (s .accountcount) (s .next) (listing s buys sells c)) c (s .contractcount) listings h) .contract)
+        terms-passed _ (listing-ok (s .accountcount) (s .next) (s .nextstamp) (listing s buys sells c) (all-at (λ c. listingInRange (s .accountcount) (s .next) (s .nextstamp) (listing s buys sells c)) c (s .contractcount) listings h) .contract)
 
     pub starts-tested : holdingsTest s buys sells trades ≡ true
         → (a c : ℕ) → a < s .accountcount → c < s .contractcount → (holdingAt (s .accounts) a c .startlong ≤ 100_000) × (holdingAt (s .accounts) a c .startshort ≤ 100_000)

@@ -31,6 +31,9 @@ fn contents_are_well_formed(state: State, buys: &[u32], sells: &[u32], trades: &
     if !numbers::used_once(state, buys, sells, rules::NUMBER_WORD) {
         return false;
     }
+    if !numbers::used_once(state, buys, sells, rules::STAMP_WORD) {
+        return false;
+    }
     let contracts = state.contractcount;
     let holders = state.accountcount;
     let count = state.tradecount;

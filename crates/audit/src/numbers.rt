@@ -1,4 +1,4 @@
-// "a number .. used once over all queues": a field of all resting orders is listed, then each value is held against those behind
+// "a number .. used once over all queues", and a time stamp: a field of all resting orders is listed, then each value is held against those behind
 // it. `word` is the word of an order that holds the field.
 ghost use mathlib.Core.Bool.{true, not};
 ghost use mathlib.Core.List.{_++_};

@@ -27,7 +27,7 @@ fn contract_in_range(c: Contract) -> bool
     terms::tick_multiple(c.tick, c.last)
 }
 
-// "best price first, then lower order number"
+// "best price first", then lower time stamp
 fn is_ahead(sell: bool, o: Order, p: Order) -> bool
     ensures { λ r. ⌜ r ≡ ahead sell o p ⌝ }
 {
@@ -37,7 +37,7 @@ fn is_ahead(sell: bool, o: Order, p: Order) -> bool
     if o.price != p.price {
         return false;
     }
-    o.number < p.number
+    o.stamp < p.stamp
 }
 
 // Each order is ahead of the next.
@@ -91,10 +91,11 @@ fn is_apart(
     is_uncrossed(buys, bids, sells, asks, c)
 }
 
-// "1 to 1,000 lots, an existing account, a price allowed today, and a number below the next"; no time stamp and no quote mark.
-fn order_in_range(accounts: usize, next: u32, c: Contract, o: Order) -> bool
+// "1 to 1,000 lots, an existing account, a price allowed today, and a number below the next", and a time stamp below the next; no quote
+// mark.
+fn order_in_range(accounts: usize, next: u32, nextstamp: u32, c: Contract, o: Order) -> bool
     requires { ⌜ termsInRange c ≡ true ⌝ }
-    ensures { λ r. ⌜ r ≡ orderInRange accounts next c o ⌝ }
+    ensures { λ r. ⌜ r ≡ orderInRange accounts next nextstamp c o ⌝ }
 {
     if !terms::within(1, rules::MAX_LOTS, o.lots) {
         return false;
@@ -115,7 +116,10 @@ fn order_in_range(accounts: usize, next: u32, c: Contract, o: Order) -> bool
     if 1 < o.close {
         return false;
     }
-    if o.stamp != 0 {
+    if o.stamp < 1 {
+        return false;
+    }
+    if nextstamp <= o.stamp {
         return false;
     }
     o.quote == 0
@@ -127,15 +131,16 @@ fn orders_in_range(
     count: usize,
     accounts: usize,
     next: u32,
+    nextstamp: u32,
     contract: Contract,
 ) -> bool
     requires { ⌜ (firstWord c count ≤ length (now area)) × (termsInRange contract ≡ true) ⌝ }
-    ensures { λ r. ⌜ r ≡ allOf (orderInRange accounts next contract) (queueIn (now (area .entry)) c count) ⌝ }
+    ensures { λ r. ⌜ r ≡ allOf (orderInRange accounts next nextstamp contract) (queueIn (now (area .entry)) c count) ⌝ }
 {
     let mut i: usize = 0;
     while i < count {
         let o = queue::order_at(area, c, i);
-        if !order_in_range(accounts, next, contract, o) {
+        if !order_in_range(accounts, next, nextstamp, contract, o) {
             return false;
         }
         i += 1;
@@ -146,13 +151,14 @@ fn orders_in_range(
 // The contract at a place with its queues.
 fn listing_in_range(state: State, c: usize, buys: &[u32], sells: &[u32]) -> bool
     requires { ⌜ Ready state (now buys) (now sells) × (c < state .contractcount) ⌝ }
-    ensures { λ r. ⌜ r ≡ listingInRange (state .accountcount) (state .next) (listing state (now (buys .entry)) (now (sells .entry)) c) ⌝ }
+    ensures { λ r. ⌜ r ≡ listingInRange (state .accountcount) (state .next) (state .nextstamp) (listing state (now (buys .entry)) (now (sells .entry)) c) ⌝ }
 {
     let contract = state.contracts[c];
     let bids = state.buys[c];
     let asks = state.sells[c];
     let accounts = state.accountcount;
     let next = state.next;
+    let nextstamp = state.nextstamp;
     if !contract_in_range(contract) {
         return false;
     }
@@ -165,15 +171,15 @@ fn listing_in_range(state: State, c: usize, buys: &[u32], sells: &[u32]) -> bool
     if !is_apart(contract, buys, bids, sells, asks, c) {
         return false;
     }
-    if !orders_in_range(buys, c, bids, accounts, next, contract) {
+    if !orders_in_range(buys, c, bids, accounts, next, nextstamp, contract) {
         return false;
     }
-    orders_in_range(sells, c, asks, accounts, next, contract)
+    orders_in_range(sells, c, asks, accounts, next, nextstamp, contract)
 }
 
 pub fn listings_in_range(state: State, buys: &[u32], sells: &[u32]) -> bool
     requires { ⌜ Ready state (now buys) (now sells) ⌝ }
-    ensures { λ r. ⌜ r ≡ all (λ c. listingInRange (state .accountcount) (state .next) (listing state (now (buys .entry)) (now (sells .entry)) c)) (state .contractcount) ⌝ }
+    ensures { λ r. ⌜ r ≡ all (λ c. listingInRange (state .accountcount) (state .next) (state .nextstamp) (listing state (now (buys .entry)) (now (sells .entry)) c)) (state .contractcount) ⌝ }
 {
     let contracts = state.contractcount;
     let mut c: usize = 0;

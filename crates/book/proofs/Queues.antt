@@ -113,7 +113,7 @@ module _ (area : List ℕ) (c n : ℕ) where
   found-within test i found = omega (arith, first-within test (queueIn area c n), length-queue area c n)
 
   -- o put in at place i: from there on the orders and one place more were lent, and came back moved one place back behind o
-  inserted-order : (i : ℕ) (o : Order) (s e : ℕ) (part : List ℕ) → i ≤ n → s ≡ firstWord c i → e ≡ firstWord c n + orderStride → e ≤ length area
+  pub inserted-order : (i : ℕ) (o : Order) (s e : ℕ) (part : List ℕ) → i ≤ n → s ≡ firstWord c i → e ≡ firstWord c n + orderStride → e ≤ length area
       → part ≡ orderWords o ++ take (length (take (e - s) (drop s area)) - orderStride) (take (e - s) (drop s area))
       → putMid s (e - s) area part ≡ putQueue area c n (insertAt i o (queueIn area c n))
   unfolding queueIn
@@ -127,13 +127,10 @@ module _ (area : List ℕ) (c n : ℕ) where
       rw (p, lent-over area (orderWords o ++ take r (drop s area)) s e (omega arith) lp, hs, put-full area c n (insertAt i o (queueIn area c n)) lq)
       (insert-store order-codec area (queueStride * c) n i o h (omega arith))
 
-  -- an order comes to rest
-  pub rested-order : (sell : Bool) (i : ℕ) (o : Order) (s e : ℕ) (part : List ℕ) → i ≡ placeIn sell (o .price) (queueIn area c n)
-      → s ≡ firstWord c i → e ≡ firstWord c n + orderStride → e ≤ length area
-      → part ≡ orderWords o ++ take (length (take (e - s) (drop s area)) - orderStride) (take (e - s) (drop s area))
-      → putMid s (e - s) area part ≡ putQueue area c n (restIn sell o (queueIn area c n))
-  rested-order sell i o s e part found hs he room ep =
-      inserted-order i o s e part (found-within _ i found) hs he room ep ∙ rw (found, ← restIn-insertAt sell o (queueIn area c n))
+  -- an order comes to rest at the place that was searched for
+  pub rested-order : (sell : Bool) (i : ℕ) (o : Order) {after : List ℕ} → i ≡ placeIn sell (o .price) (queueIn area c n)
+      → after ≡ putQueue area c n (insertAt i o (queueIn area c n)) → after ≡ putQueue area c n (restIn sell o (queueIn area c n))
+  rested-order sell i o found e = e ∙ rw (found, ← restIn-insertAt sell o (queueIn area c n))
 
   -- the order at place i taken out: from there on the orders were lent, and came back closed up
   pub removed-order : (i : ℕ) (s e : ℕ) (part : List ℕ) → i < n → s ≡ firstWord c i → e ≡ firstWord c n → e ≤ length area

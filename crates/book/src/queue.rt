@@ -4,7 +4,7 @@ ghost use mathlib.Core.List.{_++_};
 ghost use mathlib.Core.Path.{_≡_};
 ghost use Prim.Native.Nat.{_+_, _-_, _*_, _≤_, _<_};
 ghost use lib.ListN.{length, take, drop, getD, set};
-ghost use Rattle.areas.specs.Lists.{removeAt};
+ghost use Rattle.areas.specs.Lists.{insertAt, removeAt};
 ghost use Rattle.areas.specs.Moves.{closedUp};
 ghost use Rattle.rules.specs.Exchange as exchange;
 ghost use Rattle.rules.specs.Matching as matching;
@@ -87,16 +87,23 @@ pub fn shift(part: &mut [u32], o: Order)
     put(part, o);
 }
 
-// "A good-for-day remainder rests, and every later order moves one place back": the queue from the insertion place on is
-// lent as a writable part and shifted by one order.
+// Puts an order in at a place: the queue from there on is lent as a writable part and shifted by one order.
+pub fn insert_at(area: &mut [u32], c: usize, count: usize, i: usize, o: Order)
+    requires { ⌜ (i ≤ count) × (firstWord c count + orderStride ≤ length (now area)) ⌝ }
+    ensures { λ _. ⌜ now (area .exit) ≡ putQueue (now (area .entry)) c count (insertAt i o (queueIn (now (area .entry)) c count)) ⌝ }
+{
+    let a = rules::QUEUE_STRIDE * c + rules::ORDER_STRIDE * i;
+    let e = rules::QUEUE_STRIDE * c + rules::ORDER_STRIDE * count + rules::ORDER_STRIDE;
+    shift(&mut area[a..e], o);
+}
+
+// "A good-for-day remainder rests, and every later order moves one place back."
 pub fn insert(area: &mut [u32], c: usize, count: usize, sell: bool, o: Order)
     requires { ⌜ firstWord c count + orderStride ≤ length (now area) ⌝ }
     ensures { λ _. ⌜ now (area .exit) ≡ putQueue (now (area .entry)) c count (matching.restIn sell o (queueIn (now (area .entry)) c count)) ⌝ }
 {
     let i = place(&area[..], c, count, sell, o.price);
-    let a = rules::QUEUE_STRIDE * c + rules::ORDER_STRIDE * i;
-    let e = rules::QUEUE_STRIDE * c + rules::ORDER_STRIDE * count + rules::ORDER_STRIDE;
-    shift(&mut area[a..e], o);
+    insert_at(area, c, count, i, o);
 }
 
 // Takes the first order of a part out: later ones close up, and the freed place is set to zero. A function of its own: by a distance

@@ -52,6 +52,7 @@ fn limit_order(sell: bool, number: u32, limit: u32) -> Taker
         sell,
         close: 0,
         number,
+        stamp: number,
         condition: PriceCondition::Limit(limit),
         method: PairingMethod::Middle,
         best: 0,

@@ -30,6 +30,7 @@ takerOf s =
       sell = s .sell;
       close = s .close;
       number = s .number;
+      stamp = s .number;
       condition = priceCondition (s .kind) (s .price);
       method = Middle;
       best = s .best;

@@ -114,6 +114,7 @@ fn taker(s: Sweeps) -> Taker
         sell: s.sell,
         close: s.close,
         number: s.number,
+        stamp: s.number,
         condition,
         method: PairingMethod::Middle,
         best: s.best,

@@ -46,9 +46,9 @@ fn say(byte: u8) {
     io::write_all(STDOUT_FILENO, &[byte]);
 }
 
-// A letter for each kind, by its number.
+// A letter for each kind, by its number; no kind has number 8.
 fn letter(command: Command) -> u8 {
-    let letters = b"-dwicpse";
+    let letters = b"-dwicpse?h";
     let kind = commands::kind_of(command) as usize;
     if kind < letters.len() {
         letters[kind]

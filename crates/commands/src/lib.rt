@@ -2,7 +2,7 @@
 // document 01 gives code 1 is `Malformed`.
 ghost use mathlib.Core.Path.{_≡_};
 ghost use mathlib.Core.List.{[], _∷_};
-ghost use Rattle.rules.specs.Command.{zeros, priceCondition, timeCondition, insertFlags, newOrder, depositOf, withdrawOf, insertOf, cancelOf, pullOf, phaseOf, settleOf, commandOf, kindNumber, isMalformed, isSettle};
+ghost use Rattle.rules.specs.Command.{zeros, priceCondition, timeCondition, insertFlags, newOrder, depositOf, withdrawOf, insertOf, cancelOf, pullOf, phaseOf, settleOf, changeOf, commandOf, kindNumber, isMalformed, isSettle};
 use rules::Command;
 use rules::NewOrder;
 use rules::PriceCondition;
@@ -203,6 +203,23 @@ fn settle_of(r: Record) -> Command
     }
 }
 
+// "Kind 9 .. gives account, contract, order number, the new remaining lots and the price."
+fn change_of(r: Record) -> Command
+    ensures { λ c. ⌜ c ≡ changeOf r ⌝ }
+{
+    if all_zero(0, 0, r.flags, 0, 0, 0, r.amount) {
+        Command::Change {
+            account: r.account as u32,
+            contract: r.contract as u32,
+            number: r.number,
+            lots: r.lots,
+            price: r.price,
+        }
+    } else {
+        Command::Malformed
+    }
+}
+
 // The command that a record is, or `Malformed`: "kind, flag value or unused field is wrong".
 pub fn command_of(r: Record) -> Command
     ensures { λ c. ⌜ c ≡ commandOf r ⌝ }
@@ -216,6 +233,7 @@ pub fn command_of(r: Record) -> Command
         5 => pull_of(r),
         6 => phase_of(r),
         7 => settle_of(r),
+        9 => change_of(r),
         _ => Command::Malformed,
     }
 }
@@ -251,6 +269,13 @@ pub fn kind_of(command: Command) -> u32
             phase: _,
         } => 6,
         Command::Settle => 7,
+        Command::Change {
+            account: _,
+            contract: _,
+            number: _,
+            lots: _,
+            price: _,
+        } => 9,
     }
 }
 

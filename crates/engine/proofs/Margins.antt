@@ -25,7 +25,7 @@ module _ (m : Memory) (f : Formed m) where
   pub contract-terms : (c : ℕ) → c < m .state .contractcount → Terms (getD (m .state .contracts) c noContract)
   unfolding listingIn
   contract-terms c l =
-      let k : ListingOk (length (exchangeOf m .accounts)) (exchangeOf m .next) (listingIn m c) = rw (listing-at m f c l) at (f .contents .listing c (rw (contracts-count m f) l)) in
+      let k : ListingOk (length (exchangeOf m .accounts)) (exchangeOf m .next) (exchangeOf m .nextstamp) (listingIn m c) = rw (listing-at m f c l) at (f .contents .listing c (rw (contracts-count m f) l)) in
       terms _ (terms-passed (getD (m .state .contracts) c noContract) (k .contract))
 
   module _ (a : ℕ) (here : a < m .state .accountcount) where

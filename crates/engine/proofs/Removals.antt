@@ -165,14 +165,14 @@ listing-once (l ∷ ls) (suc c) h u =
 
 -- ---- lots of orders in range
 
-lots-high : (accounts next : ℕ) (contract : Contract) (test : Order → Bool) (os : List Order) → allOf (orderInRange accounts next contract) os ≡ true
+lots-high : (accounts next nextstamp : ℕ) (contract : Contract) (test : Order → Bool) (os : List Order) → allOf (orderInRange accounts next nextstamp contract) os ≡ true
     → lotsWhere test os ≤ maxLots * length os
 unfolding lotsWhere
-lots-high accounts next contract test os h =
+lots-high accounts next nextstamp contract test os h =
     sumOf-bound (λ o. pick (test o) (o .lots) 0) maxLots os noOrder
-    (λ i l. go (test (getD os i noOrder)) (getD os i noOrder) (order-ok accounts next contract (getD os i noOrder) (allOf-at (orderInRange accounts next contract) os i noOrder h l)))
+    (λ i l. go (test (getD os i noOrder)) (getD os i noOrder) (order-ok accounts next nextstamp contract (getD os i noOrder) (allOf-at (orderInRange accounts next nextstamp contract) os i noOrder h l)))
   where
-    go : (b : Bool) (o : Order) → OrderOk accounts next contract o → pick b (o .lots) 0 ≤ maxLots
+    go : (b : Bool) (o : Order) → OrderOk accounts next nextstamp contract o → pick b (o .lots) 0 ≤ maxLots
     go true o k = k .lots-high
     go false o k = omega arith
 
@@ -274,7 +274,7 @@ module _ {s : State} {buys sells trades : List ℕ} (w : WellFormedState s buys 
       side-once true = once-append (numbers (orders false)) (numbers (orders true)) both-once .1
 
       -- a number found among the buys is not among the sells
-      apart : (number : ℕ) → indexOf number (orders false) < length (orders false) → indexOf number (orders true) ≡ length (orders true)
+      pub apart : (number : ℕ) → indexOf number (orders false) < length (orders false) → indexOf number (orders true) ≡ length (orders true)
       apart number h = index-notIn number (orders true) (index-apart number (orders false) (numbers (orders true)) both-once h)
 
       -- ---- orders taken out of both queues
@@ -355,14 +355,14 @@ module _ {s : State} {buys sells trades : List ℕ} (w : WellFormedState s buys 
       -- ---- pull
 
       -- no queue has more lots than 64 orders of 1,000
-      in-range : ListingOk (length (exchangeOf m .accounts)) (s .next) (listingIn m (k - 1))
+      in-range : ListingOk (length (exchangeOf m .accounts)) (s .next) (s .nextstamp) (listingIn m (k - 1))
       unfolding exchangeOf
       in-range = rw (listing-at m f (k - 1) here) at (f .contents .listing (k - 1) (rw (contracts-count m f) here))
 
       side-lots : (sell : Bool) (test : Order → Bool) → lotsWhere test (orders sell) ≤ 64_000
       unfolding listingIn
-      side-lots false test = omega (arith, lots-high _ _ _ test (orders false) (in-range .orders false), length-queue buys (k - 1) (count false), side-few false)
-      side-lots true test = omega (arith, lots-high _ _ _ test (orders true) (in-range .orders true), length-queue sells (k - 1) (count true), side-few true)
+      side-lots false test = omega (arith, lots-high _ _ _ _ test (orders false) (in-range .orders false), length-queue buys (k - 1) (count false), side-few false)
+      side-lots true test = omega (arith, lots-high _ _ _ _ test (orders true) (in-range .orders true), length-queue sells (k - 1) (count true), side-few true)
 
       pub pulled-high : (sell : Bool) {p : Pulled} {area′ : List ℕ} → PulledIs (account - 1) (area sell) (k - 1) (count sell) p area′ → p .lots ≤ 64_000
       pulled-high sell b = rw (b .lots) (side-lots sell (isOf (account - 1)))

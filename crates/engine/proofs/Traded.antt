@@ -32,8 +32,8 @@ trades-used y k n el ea (t ∷ ts) h =
     let q = trade-ok y t (b .0) in
     ((omega (arith, q .contract), (omega (arith, q .buyer), omega (arith, q .seller))), trades-used y k n el ea ts (b .1))
 
-module _ (m : Memory) (f : Formed m) (c : ℕ) (l : Listing) (ts : List Trade) (next : ℕ) (here : c < m .state .contractcount)
-    (kept : WellFormed (withTrades (exchangeOf m) c l ts next)) (counted : Counted (withTrades (exchangeOf m) c l ts next)) where
+module _ (m : Memory) (f : Formed m) (c : ℕ) (l : Listing) (ts : List Trade) (next nextstamp : ℕ) (here : c < m .state .contractcount)
+    (kept : WellFormed (withTrades (exchangeOf m) c l ts next nextstamp)) (counted : Counted (withTrades (exchangeOf m) c l ts next nextstamp)) where
   abbrev x : Exchange
   x = exchangeOf m
 
@@ -50,15 +50,15 @@ module _ (m : Memory) (f : Formed m) (c : ℕ) (l : Listing) (ts : List Trade) (
   unfolding exchangeOf
   accounts-booked =
       put-trades-booked (m .state .contractcount) (m .state .accountcount) (m .state .accounts) ts (few-accounts m f) (wide m f)
-      (trades-used (withTrades x c l ts next) (m .state .contractcount) (m .state .accountcount) contracts-after (length-bookTrades (x .accounts) ts ∙ accounts-count m f) ts
-      (both-true (allOf (tradeInRange (withTrades x c l ts next)) (x .trades)) (allOf (tradeInRange (withTrades x c l ts next)) ts) (rw allOf-append at (kept .trades)) .1))
+      (trades-used (withTrades x c l ts next nextstamp) (m .state .contractcount) (m .state .accountcount) contracts-after (length-bookTrades (x .accounts) ts ∙ accounts-count m f) ts
+      (both-true (allOf (tradeInRange (withTrades x c l ts next nextstamp)) (x .trades)) (allOf (tradeInRange (withTrades x c l ts next nextstamp)) ts) (rw allOf-append at (kept .trades)) .1))
 
   trades-stored : putTrades (m .trades) (m .state .tradecount) (x .trades ++ ts) ≡ store tradeWords (m .trades) (tradeStride * m .state .tradecount) ts
   unfolding exchangeOf
   trades-stored = sym (store-trades (m .trades) (m .state .tradecount) ts (omega (arith, f .trades-room, f .trades-high)))
 
   pub put-traded :
-      put m (withTrades x c l ts next)
+      put m (withTrades x c l ts next nextstamp)
       ≡ record {
         state =
             record {
@@ -70,7 +70,7 @@ module _ (m : Memory) (f : Formed m) (c : ℕ) (l : Listing) (ts : List Trade) (
               accountcount = m .state .accountcount;
               tradecount = m .state .tradecount + length ts;
               next = next;
-              nextstamp = m .state .nextstamp;
+              nextstamp = nextstamp;
               settlements = m .state .settlements;
             };
         buys = putQueue (m .buys) c (getD (m .state .buys) c 0) (l .buys);
@@ -79,5 +79,5 @@ module _ (m : Memory) (f : Formed m) (c : ℕ) (l : Listing) (ts : List Trade) (
       }
   unfolding exchangeOf
   put-traded =
-      put-one-listing m f (bookTrades (x .accounts) ts) (x .trades ++ ts) next (x .nextstamp) (x .settlements) c l here (few-after false) (few-after true)
+      put-one-listing m f (bookTrades (x .accounts) ts) (x .trades ++ ts) next nextstamp (x .settlements) c l here (few-after false) (few-after true)
       ∙ rw (accounts-booked, length-append, trades-count m f, trades-stored)

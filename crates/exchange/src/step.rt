@@ -74,6 +74,23 @@ pub fn step(
             settling::plain(opening::change(state, buys, sells, trades, contract, phase))
         }
         Command::Settle => settling::settle(state, buys, sells, trades),
+        Command::Change {
+            account,
+            contract,
+            number,
+            lots,
+            price,
+        } => settling::plain(changing::change(
+            state,
+            buys,
+            sells,
+            trades,
+            account,
+            contract,
+            number,
+            lots,
+            price,
+        )),
     }
 }
 

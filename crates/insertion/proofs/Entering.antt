@@ -1,40 +1,42 @@
--- An accepted insert: the order is ready for the book, and what the book leaves is the rules' state. Assumes nothing.
+-- An order that is entered: it is ready for the book, and what the book leaves is the rules' state. An accepted insert is one with the
+-- next number. Assumes nothing.
 use mathlib.Core.Bool.{Bool, true, false, not}
 use mathlib.Core.List.{List}
 use mathlib.Core.Path.{_≡_, refl, sym, ap, _∙_}
 use Prim.Native.Nat.{ℕ, _+_, _-_, _*_, _<_, _≤_}
 use native.Mathlib.Omega.{arith}
-use Rattle.rules.specs.Bounds.{maxResting}
+use borrow.Author.Tests.{le-ltb, ltb-false}
 use lib.ListN.{length, getD}
 use Rattle.laws.specs.Choice.{ap-pick, pick}
-use Rattle.rules.specs.Answers.{insertRefusals, listingOf, takerOf, tradesNeeded}
-use Rattle.rules.specs.Bounds.{inAuction}
+use Rattle.rules.specs.Answers.{insertRefusals, listingOf, takerOf, tradesNeeded, tradesRefused}
+use Rattle.rules.specs.Bounds.{inAuction, maxResting, maxTrades}
 use Rattle.rules.specs.Exchange.{Exchange, Listing, opposite, own, placeOf, withQueues}
-use Rattle.rules.specs.Kinds.{codeOf, done, kindOf}
+use Rattle.rules.specs.Kinds.{codeOf, decide, kindOf}
 use Rattle.rules.specs.Matching.{Entered, sweep}
-use Rattle.rules.specs.Memory.{Memory, WellFormedState, exchangeOf, memory, put, putQueue, queueIn, stepIn, written, tradeStride}
-use Rattle.rules.specs.Step.{answerOf, enteredOf, exchangeAfter, inserted, listingAfter, withTrades}
+use Rattle.rules.specs.Memory.{Memory, WellFormedState, exchangeOf, memory, put, putQueue, queueIn, stepIn, tradeStride}
+use Rattle.rules.specs.Step.{enteredOf, exchangeAfter, inserted, listingAfter, withTrades}
 use Rattle.rules.specs.declared.Command.the-variants.{Insert}
 use Rattle.rules.specs.declared.Contract.{Contract}
 use Rattle.rules.specs.declared.NewOrder.{NewOrder}
 use Rattle.rules.specs.declared.Order.{Order}
 use Rattle.rules.specs.declared.State.{State}
+use Rattle.rules.proofs.AuctionSteps.{trades-needed as trades-entered}
 use Rattle.rules.proofs.Terms.{terms}
 use Rattle.prices.proofs.Methods.{method-has-tick}
 use Rattle.matching.specs.Entry.{EntryIs}
 use Rattle.matching.specs.Sweep.{SweepReady}
 use Rattle.matching.specs.declared.entry.Entry.{Entry}
 use Rattle.invariants.proofs.Accepted.{failed}
-use Rattle.invariants.proofs.Clauses.{Counted, WellFormed}
+use Rattle.invariants.proofs.Clauses.{Counted, WellFormed, well-formed, well-formed-test}
 use Rattle.invariants.proofs.Insert.{insert-counted, insert-keeps}
-use Rattle.invariants.proofs.InsertAccepted.{Passes, passes}
+use Rattle.invariants.proofs.InsertAccepted.{Passes, numbered, passes}
 use Rattle.invariants.proofs.MemoryKeeps.{sound}
+use Rattle.invariants.proofs.Traded.{traded-counted}
 use Rattle.refusals.specs.Insertion.{Present, sideArea, sideCount, takerFor}
-use Rattle.insertion.specs.Arrival.{Arrived, Arriving, enteredFor, lastIn, termsIn, withEntry}
+use Rattle.insertion.specs.Arrival.{Arrived, Arriving, Enterable, enteredFor, enteredIn, lastIn, termsIn, withEntry}
 use Rattle.engine.specs.Outcome.{OutcomeIs, acceptedWith}
 use Rattle.engine.specs.declared.answers.Outcome.{Outcome}
-use Rattle.engine.proofs.Formed.{Formed, formed, no-account, no-contract}
-use Rattle.engine.proofs.Outcomes.{acceptance}
+use Rattle.engine.proofs.Formed.{Formed, contracts-count, formed, no-account, no-contract}
 use Rattle.engine.proofs.Puts.{trades-count}
 use Rattle.engine.proofs.Traded.{few-after, put-traded}
 use Rattle.refusals.proofs.Inserting.{present}
@@ -59,8 +61,8 @@ module _ (buys sells bought sold : List ℕ) (c : ℕ) (mine others : List Order
   put-sells true = refl
   put-sells false = refl
 
-module _ {s : State} {buys sells trades : List ℕ} (w : WellFormedState s buys sells trades) (o : NewOrder)
-    (accepted : codeOf (exchangeOf (memory s buys sells trades)) (Insert o) ≡ 0) where
+module _ {s : State} {buys sells trades : List ℕ} (w : WellFormedState s buys sells trades) (o : NewOrder) (number next : ℕ)
+    (g : Enterable s buys sells trades o number next) where
   abbrev m : Memory
   m = memory s buys sells trades
 
@@ -73,19 +75,8 @@ module _ {s : State} {buys sells trades : List ℕ} (w : WellFormedState s buys 
   abbrev c : ℕ
   c = placeOf (o .contract)
 
-  passed : Passes x o
-  unfolding codeOf kindOf
-  passed = passes x o accepted
-
-  pub here : Present s o
-  unfolding codeOf kindOf insertRefusals
-  here =
-      let tests = failed (insertRefusals x o) (omega arith) accepted in
-      present w o (sym (no-account m f (o .account)) ∙ tests .0) (sym (no-contract m f (o .contract)) ∙ tests .1 .0)
-
-  pub next-low : s .next < 1_000_000
-  unfolding exchangeOf
-  next-low = passed .next
+  here : Present s o
+  here = g .present
 
   -- ---- the order and its queues, as they lie
 
@@ -96,9 +87,9 @@ module _ {s : State} {buys sells trades : List ℕ} (w : WellFormedState s buys 
   others = queueIn (sideArea (not (o .sell)) buys sells) c (sideCount (not (o .sell)) s c)
 
   abbrev entered : Entered
-  entered = enteredFor s mine others o
+  entered = enteredFor s number mine others o
 
-  taker-is : takerOf x o ≡ takerFor (s .next) (termsIn s o) others o
+  taker-is : takerOf x number o ≡ takerFor number (s .nextstamp) (termsIn s o) others o
   unfolding takerOf listingOf exchangeOf
   taker-is = rw (opposite-is m f c (here .contract) (o .sell), contract-is m f c (here .contract))
 
@@ -110,11 +101,11 @@ module _ {s : State} {buys sells trades : List ℕ} (w : WellFormedState s buys 
   unfolding listingOf
   terms-are = contract-is m f c (here .contract)
 
-  entered-is : enteredOf x o ≡ entered
+  entered-is : enteredOf x number o ≡ entered
   unfolding enteredOf listingOf
   entered-is = rw (taker-is, last-is, terms-are, side-is m f c (here .contract) (o .sell), opposite-is m f c (here .contract) (o .sell))
 
-  trades-needed : inAuction (termsIn s o) ≡ false → tradesNeeded x o ≡ length (sweep (takerFor (s .next) (termsIn s o) others o) (o .lots) (lastIn s o) others .trades)
+  trades-needed : inAuction (termsIn s o) ≡ false → tradesNeeded x number o ≡ length (sweep (takerFor number (s .nextstamp) (termsIn s o) others o) (o .lots) (lastIn s o) others .trades)
   unfolding tradesNeeded listingOf
   trades-needed e = rw (taker-is, last-is, terms-are, e, opposite-is m f c (here .contract) (o .sell))
 
@@ -124,31 +115,40 @@ module _ {s : State} {buys sells trades : List ℕ} (w : WellFormedState s buys 
   listing = listingAfter (listingOf x o) (o .sell) entered
 
   abbrev after : Exchange
-  after = withTrades x c listing (entered .trades) (x .next + 1)
+  after = withTrades x c listing (entered .trades) next (x .nextstamp + 1)
+
+  few : (side : Bool) → length (own side listing) ≤ maxResting
+  few side = rw (← entered-is) (g .few side)
+
+  trades-fit : length (x .trades) + tradesNeeded x number o ≤ maxTrades
+  unfolding tradesRefused
+  trades-fit = ltb-false _ _ (g .room)
 
   after-counted : Counted after
-  unfolding codeOf kindOf inserted exchangeAfter
-  after-counted = rw (← entered-is) (insert-counted x o accepted (f .contents) (sound m (w .formed) .counts))
+  after-counted =
+      traded-counted x c listing (entered .trades) next (x .nextstamp + 1) (rw (contracts-count m f) (here .contract)) few
+      (rw (← entered-is) (omega (arith, trades-fit, trades-entered x number o)))
+      (sound m (w .formed) .counts)
 
   after-formed : WellFormed after
-  unfolding codeOf kindOf inserted exchangeAfter
-  after-formed = rw (← entered-is) (insert-keeps x o accepted (f .contents))
+  unfolding exchangeAfter
+  after-formed = well-formed after (rw (← entered-is) (g .leaves))
 
   own-few : length (entered .own) ≤ maxResting
   unfolding listingAfter
-  own-few = rw own-with at (few-after m f c listing (entered .trades) (x .next + 1) (here .contract) after-formed after-counted (o .sell))
+  own-few = rw own-with at (few (o .sell))
 
   -- ---- ready for the book; k is the contract's number as the code widens it
 
   sweeps : inAuction (termsIn s o) ≡ false
-      → SweepReady (takerFor (s .next) (termsIn s o) others o) (o .lots) (lastIn s o) (s .accounts) (sideArea (not (o .sell)) buys sells) (sideCount (not (o .sell)) s c) trades (s .tradecount)
+      → SweepReady (takerFor number (s .nextstamp) (termsIn s o) others o) (o .lots) (lastIn s o) (s .accounts) (sideArea (not (o .sell)) buys sells) (sideCount (not (o .sell)) s c) trades (s .tradecount)
   sweeps e =
       record {
         contract = omega (arith, here .contract, f .contracts-high);
         method = method-has-tick (termsIn s o) (terms (termsIn s o) (contract-terms m f c (here .contract)) .tick-low);
-        size = passed .lots-high;
+        size = g .lots;
         queue = side-room m f c (here .contract) (not (o .sell)) .room;
-        room = omega (arith, passed .trades, trades-count m f, trades-needed e, f .trades-room);
+        room = omega (arith, trades-fit, trades-count m f, trades-needed e, f .trades-room);
         parties =
             record {
               used = s .accountcount;
@@ -160,7 +160,7 @@ module _ {s : State} {buys sells trades : List ℕ} (w : WellFormedState s buys 
       }
 
   pub arriving : (side : Bool) → o .sell ≡ side → {k : ℕ} → k ≡ o .contract
-      → Arriving s (sideArea side buys sells) (sideCount side s (k - 1)) (sideArea (not side) buys sells) (sideCount (not side) s (k - 1)) trades o
+      → Arriving s number (sideArea side buys sells) (sideCount side s (k - 1)) (sideArea (not side) buys sells) (sideCount (not side) s (k - 1)) trades o
   arriving side es is =
       rw (← es, is)
       (record {
@@ -176,11 +176,11 @@ module _ {s : State} {buys sells trades : List ℕ} (w : WellFormedState s buys 
 
   module _ {r : Entry} {owns′ opposites′ area′ : List ℕ}
       (is : EntryIs entered c (sideArea (o .sell) buys sells) (sideCount (o .sell) s c) (sideArea (not (o .sell)) buys sells) (sideCount (not (o .sell)) s c) trades (s .tradecount) (lastIn s o) (s .accounts) r owns′ opposites′ area′) where
-    lies : put m after ≡ memory (withEntry s c (pick (o .sell) (r .opposite) (r .own)) (pick (o .sell) (r .own) (r .opposite)) r) (pick (o .sell) opposites′ owns′) (pick (o .sell) owns′ opposites′) area′
+    lies : put m after ≡ memory (withEntry s c (pick (o .sell) (r .opposite) (r .own)) (pick (o .sell) (r .own) (r .opposite)) next r) (pick (o .sell) opposites′ owns′) (pick (o .sell) owns′ opposites′) area′
     unfolding listingAfter listingOf exchangeOf
     lies =
         rw (is .last, is .made, is .accounts, is .own-count, is .opposite-count, is .own-queue, is .opposite-queue, is .trades)
-        (put-traded m f c listing (entered .trades) (x .next + 1) (here .contract) after-formed after-counted
+        (put-traded m f c listing (entered .trades) next (x .nextstamp + 1) (here .contract) after-formed after-counted
         ∙ rw (
           contract-is m f c (here .contract),
           ap-pick length (o .sell) (entered .opposite) (entered .own),
@@ -192,20 +192,71 @@ module _ {s : State} {buys sells trades : List ℕ} (w : WellFormedState s buys 
   -- ---- the outcome, for a side as the code calls it
 
   module _ (side : Bool) (es : o .sell ≡ side) {k : ℕ} (is : k ≡ o .contract) {r : Entry} {owns′ opposites′ area′ : List ℕ}
-      (arrived : Arrived s (sideArea side buys sells) (sideCount side s (k - 1)) (sideArea (not side) buys sells) (sideCount (not side) s (k - 1)) trades o r owns′ opposites′ area′) where
+      (arrived : Arrived s number (sideArea side buys sells) (sideCount side s (k - 1)) (sideArea (not side) buys sells) (sideCount (not side) s (k - 1)) trades o r owns′ opposites′ area′) where
     entry : EntryIs entered c (sideArea (o .sell) buys sells) (sideCount (o .sell) s c) (sideArea (not (o .sell)) buys sells) (sideCount (not (o .sell)) s c) trades (s .tradecount) (lastIn s o) (s .accounts) r owns′ opposites′ area′
     entry = rw (← es, is) at (arrived .entry)
 
-    answer-is : done (kindOf x (Insert o) .effect) .answer ≡ answerOf 0 (s .next) (r .traded) (r .rested)
-    unfolding kindOf inserted exchangeOf
-    answer-is = rw (entered-is, entry .traded, entry .rested)
+    pub order-entered : {left : State} {result : Outcome} → left ≡ withEntry s (k - 1) (pick side (r .opposite) (r .own)) (pick side (r .own) (r .opposite)) next r
+        → result ≡ acceptedWith left number (r .traded) (r .rested)
+        → OutcomeIs (enteredIn m o number next) result (pick side opposites′ owns′) (pick side owns′ opposites′) area′
+    unfolding exchangeAfter
+    order-entered el e =
+        record {
+          answer = ap (λ (q : Outcome). q .answer) e ∙ rw (entered-is, entry .traded, entry .rested);
+          memory =
+              ap (λ (q : Outcome). memory (q .state) (pick side opposites′ owns′) (pick side owns′ opposites′) area′) e
+              ∙ sym (rw (el, ← es, is, entered-is) (lies entry));
+        }
 
-    state-is : written m (kindOf x (Insert o) .effect .stages)
-        ≡ memory (withEntry s (k - 1) (pick side (r .opposite) (r .own)) (pick side (r .own) (r .opposite)) r) (pick side opposites′ owns′) (pick side owns′ opposites′) area′
-    unfolding kindOf inserted exchangeAfter
-    state-is = rw (← es, is, entered-is) (lies entry)
+-- ---- an accepted insert
 
-    pub insert-accepted : {next : State} {result : Outcome} → next ≡ withEntry s (k - 1) (pick side (r .opposite) (r .own)) (pick side (r .own) (r .opposite)) r
-        → result ≡ acceptedWith next (s .next) (r .traded) (r .rested)
-        → OutcomeIs (stepIn m (Insert o)) result (pick side opposites′ owns′) (pick side owns′ opposites′) area′
-    insert-accepted en e = acceptance s buys sells trades (Insert o) accepted answer-is (state-is ∙ rw en) e
+module _ {s : State} {buys sells trades : List ℕ} (w : WellFormedState s buys sells trades) (o : NewOrder)
+    (accepted : codeOf (exchangeOf (memory s buys sells trades)) (Insert o) ≡ 0) where
+  abbrev m′ : Memory
+  m′ = memory s buys sells trades
+
+  abbrev x′ : Exchange
+  x′ = exchangeOf m′
+
+  passed : Passes x′ (x′ .next) o
+  unfolding codeOf kindOf
+  passed = passes x′ o accepted
+
+  pub next-low : s .next < 1_000_000
+  unfolding codeOf kindOf exchangeOf
+  next-low = numbered x′ o accepted
+
+  counted : Counted (exchangeAfter x′ o (enteredOf x′ (x′ .next) o) (x′ .next + 1))
+  unfolding codeOf kindOf inserted
+  counted = insert-counted x′ o accepted (formed w .contents) (sound m′ (w .formed) .counts)
+
+  leaves : WellFormed (exchangeAfter x′ o (enteredOf x′ (x′ .next) o) (x′ .next + 1))
+  unfolding codeOf kindOf inserted
+  leaves = insert-keeps x′ o accepted (formed w .contents)
+
+  there : Present s o
+  unfolding codeOf kindOf insertRefusals
+  there =
+      let tests = failed (insertRefusals x′ o) (omega arith) accepted in
+      present w o (sym (no-account m′ (formed w) (o .account)) ∙ tests .0) (sym (no-contract m′ (formed w) (o .contract)) ∙ tests .1 .0)
+
+  few′ : (side : Bool) → length (own side (listingAfter (listingOf x′ o) (o .sell) (enteredOf x′ (x′ .next) o))) ≤ maxResting
+  unfolding exchangeAfter
+  few′ side = few-after m′ (formed w) (placeOf (o .contract)) _ _ (x′ .next + 1) (x′ .nextstamp + 1) (there .contract) leaves counted side
+
+  pub enterable : Enterable s buys sells trades o (s .next) (s .next + 1)
+  unfolding exchangeOf tradesRefused
+  enterable =
+      record {
+        present = there;
+        lots = passed .lots-high;
+        stamp = passed .stamp;
+        room = le-ltb _ _ (passed .trades);
+        few = few′;
+        leaves = well-formed-test _ leaves;
+      }
+
+  pub insert-entered : {r : Outcome} {buys′ sells′ trades′ : List ℕ} → OutcomeIs (enteredIn m′ o (s .next) (s .next + 1)) r buys′ sells′ trades′
+      → OutcomeIs (stepIn m′ (Insert o)) r buys′ sells′ trades′
+  unfolding stepIn decide kindOf inserted exchangeOf
+  insert-entered e = rw accepted e

@@ -1,9 +1,9 @@
-// Insert. For our own crates: it asks for a well-formed state.
+// An order entered with a number, and insert. For our own crates: each asks for a well-formed state.
 ghost use Prim.Native.Nat.{_<_};
 ghost use mathlib.Core.Path.{_≡_};
 ghost use Rattle.rules.specs.Memory.{stepIn, memory, WellFormedState};
 ghost use Rattle.rules.specs.declared.Command.the-variants.{Insert};
-ghost use Rattle.insertion.specs.Arrival.{Arriving, Arrived, withEntry};
+ghost use Rattle.insertion.specs.Arrival.{Arriving, Arrived, Enterable, enteredIn, withEntry};
 ghost use Rattle.engine.specs.Outcome.{OutcomeIs};
 use engine::answers;
 use engine::answers::Outcome;
@@ -24,14 +24,22 @@ fn enter(
     oppositecount: usize,
     trades: &mut [u32],
     o: NewOrder,
+    number: u32,
 ) -> Entry
-    requires { ⌜ Arriving state (now own) owncount (now opposite) oppositecount (now trades) o ⌝ }
-    ensures { λ r. ⌜ Arrived state (now (own .entry)) owncount (now (opposite .entry)) oppositecount (now (trades .entry)) o r (now (own .exit)) (now (opposite .exit)) (now (trades .exit)) ⌝ }
+    requires { ⌜ Arriving state number (now own) owncount (now opposite) oppositecount (now trades) o ⌝ }
+    ensures { λ r. ⌜ Arrived state number (now (own .entry)) owncount (now (opposite .entry)) oppositecount (now (trades .entry)) o r (now (own .exit)) (now (opposite .exit)) (now (trades .exit)) ⌝ }
 {
     let c = laws::wide(o.contract) - 1;
     let contracts = state.contracts;
     let terms = contracts[c];
-    let t = orders::taker_of(state.next, terms, &opposite[..], oppositecount, o);
+    let t = orders::taker_of(
+        number,
+        state.nextstamp,
+        terms,
+        &opposite[..],
+        oppositecount,
+        o,
+    );
     let condition = o.condition;
     let price = orders::limit_of(condition);
     let accounts = state.accounts;
@@ -65,10 +73,10 @@ fn enter(
     )
 }
 
-// The state after it: one number more is used.
-fn with_entry(state: State, c: usize, bought: usize, sold: usize, e: Entry) -> State
-    requires { ⌜ (c < 4) × (state .next < 1000000) ⌝ }
-    ensures { λ r. ⌜ r ≡ withEntry state c bought sold e ⌝ }
+// The state after it: one time stamp more is used, and `next` is the next number.
+fn with_entry(state: State, c: usize, bought: usize, sold: usize, next: u32, e: Entry) -> State
+    requires { ⌜ (c < 4) × (state .nextstamp < 1000000) ⌝ }
+    ensures { λ r. ⌜ r ≡ withEntry state c bought sold next e ⌝ }
 {
     let mut contracts = state.contracts;
     let mut bids = state.buys;
@@ -87,12 +95,42 @@ fn with_entry(state: State, c: usize, bought: usize, sold: usize, e: Entry) -> S
         contractcount: state.contractcount,
         accountcount: state.accountcount,
         tradecount: e.made,
-        next: state.next + 1,
-        nextstamp: state.nextstamp,
+        next,
+        nextstamp: state.nextstamp + 1,
         settlements: state.settlements,
     }
 }
 
+// An order that is refused for nothing enters with its number; `next` is the next number after it.
+pub fn enter_order(
+    state: State,
+    buys: &mut [u32],
+    sells: &mut [u32],
+    trades: &mut [u32],
+    o: NewOrder,
+    number: u32,
+    next: u32,
+) -> Outcome
+    requires { ⌜ WellFormedState state (now buys) (now sells) (now trades) × Enterable state (now buys) (now sells) (now trades) o number next ⌝ }
+    ensures { λ r. ⌜ OutcomeIs (enteredIn (memory state (now (buys .entry)) (now (sells .entry)) (now (trades .entry))) o number next) r (now (buys .exit)) (now (sells .exit)) (now (trades .exit)) ⌝ }
+{
+    // read before the first call: for what is read of the state after one, the compiler keeps a copy of the state
+    let bids = state.buys;
+    let offers = state.sells;
+    let c = laws::wide(o.contract) - 1;
+    let bought = bids[c];
+    let sold = offers[c];
+    if o.sell {
+        let e = enter(state, sells, sold, buys, bought, trades, o, number);
+        let after = with_entry(state, c, e.opposite, e.own, next, e);
+        return answers::accepted(after, number, e.traded, e.rested);
+    }
+    let e = enter(state, buys, bought, sells, sold, trades, o, number);
+    let after = with_entry(state, c, e.own, e.opposite, next, e);
+    answers::accepted(after, number, e.traded, e.rested)
+}
+
+// "given to accepted orders in turn over all contracts": an accepted insert enters with the next number.
 pub fn insert(
     state: State,
     buys: &mut [u32],
@@ -103,9 +141,6 @@ pub fn insert(
     requires { ⌜ WellFormedState state (now buys) (now sells) (now trades) ⌝ }
     ensures { λ r. ⌜ OutcomeIs (stepIn (memory state (now (buys .entry)) (now (sells .entry)) (now (trades .entry))) (Insert o)) r (now (buys .exit)) (now (sells .exit)) (now (trades .exit)) ⌝ }
 {
-    // read before the first call: for what is read of the state after one, the compiler keeps a copy of the state
-    let bids = state.buys;
-    let offers = state.sells;
     if answers::is_absent(o.account, state.accountcount) {
         return answers::refused(state, 2);
     }
@@ -115,15 +150,5 @@ pub fn insert(
     if refusal != 0 {
         return answers::refused(state, refusal);
     }
-    let c = laws::wide(o.contract) - 1;
-    let bought = bids[c];
-    let sold = offers[c];
-    if o.sell {
-        let e = enter(state, sells, sold, buys, bought, trades, o);
-        let next = with_entry(state, c, e.opposite, e.own, e);
-        return answers::accepted(next, state.next, e.traded, e.rested);
-    }
-    let e = enter(state, buys, bought, sells, sold, trades, o);
-    let next = with_entry(state, c, e.own, e.opposite, e);
-    answers::accepted(next, state.next, e.traded, e.rested)
+    enter_order(state, buys, sells, trades, o, state.next, state.next + 1)
 }

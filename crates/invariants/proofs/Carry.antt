@@ -18,14 +18,14 @@ use Rattle.invariants.proofs.Clauses.{order-ok, order-test, trade-ok, t
 abbrev pub Allows : Contract → Contract → Type 0
 Allows c d = (price : ℕ) → allowedToday c price ≡ true → allowedToday d price ≡ true
 
--- resting orders, for the same accounts, a later number and a contract that allows their prices
-pub orders-carried : (accounts next next′ : ℕ) (c d : Contract) → next ≤ next′ → Allows c d →
-    (queue : List Order) → allOf (orderInRange accounts next c) queue ≡ true → allOf (orderInRange accounts next′ d) queue ≡ true
-orders-carried accounts next next′ c d later allows queue =
-    allOf-imp (orderInRange accounts next c) (orderInRange accounts next′ d) queue
+-- resting orders, for the same accounts, a later number, a later time stamp and a contract that allows their prices
+pub orders-carried : (accounts next next′ stamp stamp′ : ℕ) (c d : Contract) → next ≤ next′ → stamp ≤ stamp′ → Allows c d →
+    (queue : List Order) → allOf (orderInRange accounts next stamp c) queue ≡ true → allOf (orderInRange accounts next′ stamp′ d) queue ≡ true
+orders-carried accounts next next′ stamp stamp′ c d later stamped allows queue =
+    allOf-imp (orderInRange accounts next stamp c) (orderInRange accounts next′ stamp′ d) queue
     (λ o h.
-    let k = order-ok accounts next c o h in
-    order-test accounts next′ d o
+    let k = order-ok accounts next stamp c o h in
+    order-test accounts next′ stamp′ d o
     (record {
       lots-low = k .lots-low;
       lots-high = k .lots-high;
@@ -34,7 +34,8 @@ orders-carried accounts next next′ c d later allows queue =
       number-low = k .number-low;
       number-high = omega arith;
       close = k .close;
-      stamp = k .stamp;
+      stamp-low = k .stamp-low;
+      stamp-high = omega arith;
       quote = k .quote;
     }))
 

@@ -14,7 +14,7 @@ use Rattle.laws.specs.Chains.{passed, join}
 use Rattle.rules.specs.Bounds.{within, allowedToday, inAuction, numbersEnd, maxContracts, maxTrades, maxResting, maxLots, maxSettlements, maxBalance, maxDayProfit}
 use Rattle.rules.specs.Exchange.{Exchange, Listing, listingAt, accountAt, holdingAt, own, restingOpens, restingCloses, noListing, noAccount}
 use Rattle.rules.specs.Holdings.{bookTrades, neverBelowZero, startOfDay, sameHoldings}
-use Rattle.rules.specs.WellFormed.{contractInRange, countersInRange, sorted, uncrossed, orderInRange, listingInRange, allNumbers, usedOnce, tradeInRange, replays, holdingInRange, holdingsInRange, balanceInRange, wellFormedContents}
+use Rattle.rules.specs.WellFormed.{contractInRange, countersInRange, sorted, uncrossed, orderInRange, listingInRange, allNumbers, allStamps, usedOnce, tradeInRange, replays, holdingInRange, holdingsInRange, balanceInRange, wellFormedContents}
 use Rattle.rules.specs.declared.Contract.{Contract}
 use Rattle.rules.specs.declared.Holding.{Holding}
 use Rattle.rules.specs.declared.Order.{Order}
@@ -22,7 +22,7 @@ use Rattle.rules.specs.declared.Trade.{Trade}
 
 -- ---- a resting order
 
-pub record OrderOk (accounts next : ℕ) (c : Contract) (o : Order) : Type 0 where
+pub record OrderOk (accounts next nextstamp : ℕ) (c : Contract) (o : Order) : Type 0 where
   pub lots-low : 1 ≤ o .lots
   pub lots-high : o .lots ≤ maxLots
   pub account : o .account < accounts
@@ -30,10 +30,11 @@ pub record OrderOk (accounts next : ℕ) (c : Contract) (o : Order) : Type 0 whe
   pub number-low : 1 ≤ o .number
   pub number-high : o .number < next
   pub close : o .close ≤ 1
-  pub stamp : o .stamp ≡ 0
+  pub stamp-low : 1 ≤ o .stamp
+  pub stamp-high : o .stamp < nextstamp
   pub quote : o .quote ≡ 0
 
-module _ (accounts next : ℕ) (c : Contract) (o : Order) where
+module _ (accounts next nextstamp : ℕ) (c : Contract) (o : Order) where
   abbrev orderTests : List Bool
   orderTests =
       leb (o .lots) maxLots
@@ -42,11 +43,12 @@ module _ (accounts next : ℕ) (c : Contract) (o : Order) where
       ∷ leb 1 (o .number)
       ∷ ltb (o .number) next
       ∷ leb (o .close) 1
-      ∷ eqb (o .stamp) 0
+      ∷ leb 1 (o .stamp)
+      ∷ ltb (o .stamp) nextstamp
       ∷ eqb (o .quote) 0
       ∷ []
 
-  pub order-ok : orderInRange accounts next c o ≡ true → OrderOk accounts next c o
+  pub order-ok : orderInRange accounts next nextstamp c o ≡ true → OrderOk accounts next nextstamp c o
   unfolding orderInRange
   order-ok h =
       let p = passed (leb 1 (o .lots)) orderTests h in
@@ -58,25 +60,26 @@ module _ (accounts next : ℕ) (c : Contract) (o : Order) where
         number-low = omega (arith, leb-true);
         number-high = omega (arith, ltb-true);
         close = omega (arith, leb-true);
-        stamp = eqb-true (o .stamp) 0 (p .1 .1 .1 .1 .1 .1 .1 .0);
-        quote = eqb-true (o .quote) 0 (p .1 .1 .1 .1 .1 .1 .1 .1);
+        stamp-low = omega (arith, leb-true);
+        stamp-high = omega (arith, ltb-true);
+        quote = eqb-true (o .quote) 0 (p .1 .1 .1 .1 .1 .1 .1 .1 .1);
       }
 
-  pub order-test : OrderOk accounts next c o → orderInRange accounts next c o ≡ true
+  pub order-test : OrderOk accounts next nextstamp c o → orderInRange accounts next nextstamp c o ≡ true
   unfolding orderInRange
   order-test k =
       join (leb 1 (o .lots)) orderTests (
         omega (arith, le-leb),
-        (omega (arith, le-leb), (omega (arith, lt-ltb), (k .price, (omega (arith, le-leb), (omega (arith, lt-ltb), (omega (arith, le-leb), (eq-eqb _ _ (k .stamp), eq-eqb _ _ (k .quote)))))))),
+        (omega (arith, le-leb), (omega (arith, lt-ltb), (k .price, (omega (arith, le-leb), (omega (arith, lt-ltb), (omega (arith, le-leb), (omega (arith, le-leb), (omega (arith, lt-ltb), eq-eqb _ _ (k .quote))))))))),
       )
 
 -- ---- a contract with its queues; of a side, `sell` is false for the buys and true for the sells
 
-pub record ListingOk (accounts next : ℕ) (m : Listing) : Type 0 where
+pub record ListingOk (accounts next nextstamp : ℕ) (m : Listing) : Type 0 where
   pub contract : contractInRange (m .contract) ≡ true
   pub order : (sell : Bool) → sorted sell (own sell m) ≡ true
   pub apart : inAuction (m .contract) ≡ false → uncrossed (m .buys) (m .sells) ≡ true
-  pub orders : (sell : Bool) → allOf (orderInRange accounts next (m .contract)) (own sell m) ≡ true
+  pub orders : (sell : Bool) → allOf (orderInRange accounts next nextstamp (m .contract)) (own sell m) ≡ true
 
 -- a test that need not be passed in one case
 unless : (a b : Bool) → (a || b) ≡ true → a ≡ false → b ≡ true
@@ -87,17 +90,17 @@ or-else : (a b : Bool) → (a ≡ false → b ≡ true) → (a || b) ≡ true
 or-else true b h = refl
 or-else false b h = h refl
 
-module _ (accounts next : ℕ) (m : Listing) where
+module _ (accounts next nextstamp : ℕ) (m : Listing) where
   abbrev listingTests : List Bool
   listingTests =
       sorted false (m .buys)
       ∷ sorted true (m .sells)
       ∷ (inAuction (m .contract) || uncrossed (m .buys) (m .sells))
-      ∷ allOf (orderInRange accounts next (m .contract)) (m .buys)
-      ∷ allOf (orderInRange accounts next (m .contract)) (m .sells)
+      ∷ allOf (orderInRange accounts next nextstamp (m .contract)) (m .buys)
+      ∷ allOf (orderInRange accounts next nextstamp (m .contract)) (m .sells)
       ∷ []
 
-  pub listing-ok : listingInRange accounts next m ≡ true → ListingOk accounts next m
+  pub listing-ok : listingInRange accounts next nextstamp m ≡ true → ListingOk accounts next nextstamp m
   unfolding listingInRange
   listing-ok h =
       let p = passed (contractInRange (m .contract)) listingTests h in
@@ -108,7 +111,7 @@ module _ (accounts next : ℕ) (m : Listing) where
         orders = λ sell. elim sell [ false ↦ p .1 .1 .1 .1 .0 | true ↦ p .1 .1 .1 .1 .1 ];
       }
 
-  pub listing-test : ListingOk accounts next m → listingInRange accounts next m ≡ true
+  pub listing-test : ListingOk accounts next nextstamp m → listingInRange accounts next nextstamp m ≡ true
   unfolding listingInRange
   listing-test k =
       join (contractInRange (m .contract)) listingTests
@@ -251,10 +254,12 @@ module _ (m : Listing) (a : ℕ) (h : Holding) where
 pub record WellFormed (x : Exchange) : Type 0 where
   pub next-low : 1 ≤ x .next
   pub next-high : x .next ≤ numbersEnd
-  pub nextstamp : within 1 numbersEnd (x .nextstamp) ≡ true
+  pub nextstamp-low : 1 ≤ x .nextstamp
+  pub nextstamp-high : x .nextstamp ≤ numbersEnd
   pub settlements : x .settlements ≤ maxSettlements
-  pub listing : (c : ℕ) → c < length (x .listings) → ListingOk (length (x .accounts)) (x .next) (listingAt x c)
+  pub listing : (c : ℕ) → c < length (x .listings) → ListingOk (length (x .accounts)) (x .next) (x .nextstamp) (listingAt x c)
   pub once : usedOnce (allNumbers (x .listings)) ≡ true
+  pub stamps-once : usedOnce (allStamps (x .listings)) ≡ true
   pub trades : allOf (tradeInRange x) (x .trades) ≡ true
   pub covered : neverBelowZero (startOfDay (x .accounts)) (x .trades) ≡ true
   pub replay : sameHoldings (bookTrades (startOfDay (x .accounts)) (x .trades)) (x .accounts) ≡ true
@@ -264,8 +269,9 @@ pub record WellFormed (x : Exchange) : Type 0 where
 module _ (x : Exchange) where
   abbrev stateTests : List Bool
   stateTests =
-      allOf (listingInRange (length (x .accounts)) (x .next)) (x .listings)
+      allOf (listingInRange (length (x .accounts)) (x .next) (x .nextstamp)) (x .listings)
       ∷ usedOnce (allNumbers (x .listings))
+      ∷ usedOnce (allStamps (x .listings))
       ∷ allOf (tradeInRange x) (x .trades)
       ∷ replays x
       ∷ all (holdingsInRange x) (length (x .accounts))
@@ -280,22 +286,25 @@ module _ (x : Exchange) where
   well-formed h =
       let p = passed (countersInRange x) stateTests h in
       let q = passed (leb 1 (x .next)) (leb (x .next) numbersEnd ∷ within 1 numbersEnd (x .nextstamp) ∷ leb (x .settlements) maxSettlements ∷ []) (p .0) in
-      let r = passed (neverBelowZero (startOfDay (x .accounts)) (x .trades)) replayTests (p .1 .1 .1 .1 .0) in
+      let r = passed (neverBelowZero (startOfDay (x .accounts)) (x .trades)) replayTests (p .1 .1 .1 .1 .1 .0) in
+      let s = both-true (leb 1 (x .nextstamp)) (leb (x .nextstamp) numbersEnd) (q .1 .1 .0) in
       record {
         next-low = leb-true _ _ (q .0);
         next-high = leb-true _ _ (q .1 .0);
-        nextstamp = q .1 .1 .0;
+        nextstamp-low = leb-true _ _ (s .0);
+        nextstamp-high = leb-true _ _ (s .1);
         settlements = leb-true _ _ (q .1 .1 .1);
-        listing = λ c l. listing-ok _ _ _ (allOf-at (listingInRange (length (x .accounts)) (x .next)) (x .listings) c noListing (p .1 .0) l);
+        listing = λ c l. listing-ok _ _ _ _ (allOf-at (listingInRange (length (x .accounts)) (x .next) (x .nextstamp)) (x .listings) c noListing (p .1 .0) l);
         once = p .1 .1 .0;
-        trades = p .1 .1 .1 .0;
+        stamps-once = p .1 .1 .1 .0;
+        trades = p .1 .1 .1 .1 .0;
         covered = r .0;
         replay = r .1;
         holding =
             λ a c la lc. holding-ok _ _ _
             (all-at (λ c. holdingInRange (listingAt x c) a (holdingAt (x .accounts) a c)) c (length (x .listings))
-            (all-at (holdingsInRange x) a (length (x .accounts)) (p .1 .1 .1 .1 .1 .0) la) lc);
-        balance = λ a l. leb-true _ _ (allOf-at (balanceInRange (x .settlements)) (x .accounts) a noAccount (p .1 .1 .1 .1 .1 .1) l);
+            (all-at (holdingsInRange x) a (length (x .accounts)) (p .1 .1 .1 .1 .1 .1 .0) la) lc);
+        balance = λ a l. leb-true _ _ (allOf-at (balanceInRange (x .settlements)) (x .accounts) a noAccount (p .1 .1 .1 .1 .1 .1 .1) l);
       }
 
   pub well-formed-test : WellFormed x → wellFormedContents x ≡ true
@@ -303,20 +312,23 @@ module _ (x : Exchange) where
   well-formed-test k =
       join (countersInRange x) stateTests (
         join (leb 1 (x .next)) (leb (x .next) numbersEnd ∷ within 1 numbersEnd (x .nextstamp) ∷ leb (x .settlements) maxSettlements ∷ [])
-            (le-leb _ _ (k .next-low), (le-leb _ _ (k .next-high), (k .nextstamp, le-leb _ _ (k .settlements)))),
+            (le-leb _ _ (k .next-low), (le-leb _ _ (k .next-high), (true-both (leb 1 (x .nextstamp)) (leb (x .nextstamp) numbersEnd) (le-leb _ _ (k .nextstamp-low)) (le-leb _ _ (k .nextstamp-high)), le-leb _ _ (k .settlements)))),
         (
-          allOf-true (listingInRange (length (x .accounts)) (x .next)) (x .listings) noListing (λ c l. listing-test _ _ _ (k .listing c l)),
+          allOf-true (listingInRange (length (x .accounts)) (x .next) (x .nextstamp)) (x .listings) noListing (λ c l. listing-test _ _ _ _ (k .listing c l)),
           (
             k .once,
             (
-              k .trades,
+              k .stamps-once,
               (
-                join (neverBelowZero (startOfDay (x .accounts)) (x .trades)) replayTests (k .covered, k .replay),
+                k .trades,
                 (
-                  all-true (holdingsInRange x) (length (x .accounts))
-                      (λ a la. all-true (λ c. holdingInRange (listingAt x c) a (holdingAt (x .accounts) a c)) (length (x .listings))
-                      (λ c lc. holding-test _ _ _ (k .holding a c la lc))),
-                  allOf-true (balanceInRange (x .settlements)) (x .accounts) noAccount (λ a l. le-leb _ _ (k .balance a l)),
+                  join (neverBelowZero (startOfDay (x .accounts)) (x .trades)) replayTests (k .covered, k .replay),
+                  (
+                    all-true (holdingsInRange x) (length (x .accounts))
+                        (λ a la. all-true (λ c. holdingInRange (listingAt x c) a (holdingAt (x .accounts) a c)) (length (x .listings))
+                        (λ c lc. holding-test _ _ _ (k .holding a c la lc))),
+                    allOf-true (balanceInRange (x .settlements)) (x .accounts) noAccount (λ a l. le-leb _ _ (k .balance a l)),
+                  ),
                 ),
               ),
             ),

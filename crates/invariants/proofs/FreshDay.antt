@@ -13,7 +13,7 @@ use Rattle.laws.specs.Tabulate.{tabulate, length-tabulate, getD-tabulate}
 use Rattle.rules.specs.Bounds.{maxContracts, maxResting, maxSettlements, maxBalance, maxDayProfit}
 use Rattle.rules.specs.Exchange.{Exchange, Listing, listingAt, accountAt, holdingAt, noListing, noAccount, noHolding, lotsWhere, resting}
 use Rattle.rules.specs.Holdings.{bookTrades, neverBelowZero, startHolding, startAccount, startOfDay}
-use Rattle.rules.specs.WellFormed.{contractInRange, sorted, uncrossed, allNumbers, usedOnce, listed, allListed}
+use Rattle.rules.specs.WellFormed.{contractInRange, sorted, uncrossed, numberOf, stampOf, usedOnce, listed, allListed}
 use Rattle.rules.specs.declared.Account.{Account}
 use Rattle.rules.specs.declared.Contract.{Contract}
 use Rattle.rules.specs.declared.Holding.{Holding}
@@ -38,9 +38,9 @@ freshDay contracts contract accounts account settlements =
 
 -- ---- a contract without orders
 
-listing-quiet : (accounts next : ℕ) (c : Contract) → contractInRange c ≡ true → ListingOk accounts next (quiet c)
+listing-quiet : (accounts next nextstamp : ℕ) (c : Contract) → contractInRange c ≡ true → ListingOk accounts next nextstamp (quiet c)
 unfolding sorted uncrossed allOf
-listing-quiet accounts next c h =
+listing-quiet accounts next nextstamp c h =
     record {
       contract = h;
       order = λ sell. elim sell [ false ↦ refl | true ↦ refl ];
@@ -59,10 +59,10 @@ holding-quiet c a h e l s =
       closes = λ sell. elim sell [ false ↦ omega arith | true ↦ omega arith ];
     }
 
-no-numbers : (n : ℕ) (contract : ℕ → Contract) → allNumbers (tabulate n (λ c. quiet (contract c))) ≡ []
+no-orders : (field : Order → ℕ) (n : ℕ) (contract : ℕ → Contract) → allListed field (tabulate n (λ c. quiet (contract c))) ≡ []
 unfolding tabulate allListed listed
-no-numbers zero contract = refl
-no-numbers (suc n) contract = no-numbers n (λ c. contract (suc c))
+no-orders field zero contract = refl
+no-orders field (suc n) contract = no-orders field n (λ c. contract (suc c))
 
 once-none : usedOnce [] ≡ true
 unfolding usedOnce
@@ -118,10 +118,12 @@ module _ (contracts : ℕ) (contract : ℕ → Contract) (accounts : ℕ) (accou
       record {
         next-low = omega arith;
         next-high = omega arith;
-        nextstamp = refl;
+        nextstamp-low = omega arith;
+        nextstamp-high = omega arith;
         settlements = few;
-        listing = λ c l. let h : c < contracts = rw nc at l in rw (listing-at c h) (listing-quiet _ 1 (contract c) (in-range c h));
-        once = rw (no-numbers contracts contract) once-none;
+        listing = λ c l. let h : c < contracts = rw nc at l in rw (listing-at c h) (listing-quiet _ 1 1 (contract c) (in-range c h));
+        once = rw (no-orders numberOf contracts contract) once-none;
+        stamps-once = rw (no-orders stampOf contracts contract) once-none;
         trades = refl;
         covered = refl;
         replay = rw (same-start accounts account start) (same-refl (day .accounts));

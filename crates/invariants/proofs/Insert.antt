@@ -1,22 +1,25 @@
--- An accepted insert keeps a state well formed: its trades, what rests of it and the number it used; in auction it rests whole.
+-- An order that is entered keeps a state well formed: its trades, what rests of it, the number it has and the time stamp it took; in
+-- auction it rests whole. An accepted insert enters its order with the next number.
 -- Assumes nothing.
 use mathlib.Core.Bool.{Bool, true, false, not, _&&_, true≢false}
-use mathlib.Core.List.{List, _∷_}
+use mathlib.Core.List.{List, [], _∷_}
 use mathlib.Core.Path.{_≡_, refl, sym, ap, subst, _∙_}
 use Prim.Native.Nat.{ℕ, _+_, _-_, _<_, _≤_}
+use native.Mathlib.Nat.{le-refl}
 use native.Mathlib.Omega.{arith}
 use borrow.Author.Tests.{eqb-true, leb-true, leb-false}
 use lib.Dec.{leb, eqb}
 use lib.ListN.{length}
 use Rattle.laws.specs.Choice.{pick, allOf}
+use Rattle.laws.specs.Sums.{sumOf, sumOf-at}
 use Rattle.rules.specs.Answers.{firstOf, insertRefusals, isGoodForDay, mark, listingOf, takerOf, fillableLots}
 use Rattle.rules.specs.Bounds.{inAuction, maxResting}
-use Rattle.rules.specs.Exchange.{Exchange, Listing, listingAt, holdingAt, placeOf, own, opposite, withQueues, restingOpens, restingCloses}
+use Rattle.rules.specs.Exchange.{Exchange, Listing, listingAt, holdingAt, noListing, placeOf, own, opposite, withQueues, restingOpens, restingCloses}
 use Rattle.rules.specs.Holdings.{bookTrades}
 use Rattle.rules.specs.Kinds.{lastOf}
-use Rattle.rules.specs.Matching.{Swept, tradedLots, remainder, restLots, restWhole, restedLots, enter}
+use Rattle.rules.specs.Matching.{Swept, fillable, tradedLots, remainder, restLots, restWhole, restedLots, enter}
 use Rattle.rules.specs.Step.{withTrades, limitOf, enteredOf, listingAfter, exchangeAfter, inserted}
-use Rattle.rules.specs.WellFormed.{allNumbers, orderInRange, tradeInRange, numberOf}
+use Rattle.rules.specs.WellFormed.{allListed, orderInRange, tradeInRange, numberOf, stampOf, usedOnce}
 use Rattle.rules.specs.declared.Account.{Account}
 use Rattle.rules.specs.declared.Contract.{Contract}
 use Rattle.rules.specs.declared.Holding.{Holding}
@@ -29,11 +32,11 @@ use Rattle.rules.proofs.Prices.{method-rounds}
 use Rattle.rules.proofs.Rest.{rest-sum, length-rest}
 use Rattle.invariants.proofs.Carry.{Allows}
 use Rattle.invariants.proofs.Clauses.{held, HoldingOk, WellFormed, Counted}
-use Rattle.invariants.proofs.InsertAccepted.{Passes, passes}
+use Rattle.invariants.proofs.InsertAccepted.{Given, Passes, next-given, numbered, passes}
 use Rattle.invariants.proofs.InsertListing.{allows-last, mark-low, contractOf, swept, rested, own-is, sides, last-on-tick, tick-low, contractAfter, rested-left, listing-after}
 use Rattle.invariants.proofs.InsertQueues.{rested-sum, rested-length, rested-length-one, rested-fewer}
 use Rattle.invariants.proofs.Legs.{resting-cons, KeptAt}
-use Rattle.invariants.proofs.Numbers.{occurs, uses, usesIn, once-count, next-number-unused}
+use Rattle.invariants.proofs.Numbers.{KeptByLots, occurs, uses, usesIn, all-uses, once-count, given-unused}
 use Rattle.invariants.proofs.SweptHoldings.{SweptKept, swept-kept, untouched-kept, fewer-by}
 use Rattle.invariants.proofs.SweptTrades.{ofContract, swept-in-range, swept-contract}
 use Rattle.invariants.proofs.Traded.{TradesOk, traded-listings, traded-accounts, traded-allows, traded-counted, traded-keeps}
@@ -73,12 +76,47 @@ own-closes false close lots h r p q = omega arith
 own-closes true false lots h r p q = omega arith
 own-closes true true lots h r p q = omega (arith, q refl refl)
 
-module _ (x : Exchange) (k : WellFormed x) (o : NewOrder) (p : Passes x o) where
+-- a number that is used in neither queue is no order's
+unused-all : (number : ℕ) (queue : List Order) → uses numberOf number queue ≡ 0 → allOf (λ r. not (eqb number (r .number))) queue ≡ true
+unfolding uses sumOf allOf
+unused-all number [] h = refl
+unused-all number (r ∷ rs) h = go (eqb number (r .number)) refl (unused-all number rs)
+  where
+    go : (b : Bool) → eqb number (r .number) ≡ b → (uses numberOf number rs ≡ 0 → allOf (λ r. not (eqb number (r .number))) rs ≡ true) →
+        allOf (λ r. not (eqb number (r .number))) (r ∷ rs) ≡ true
+    go true e ih = let h′ : 1 + uses numberOf number rs ≡ 0 = rw e at h in absurd (omega arith)
+    go false e ih = let h′ : 0 + uses numberOf number rs ≡ 0 = rw e at h in rw e (ih (omega arith))
+
+unused-others : (number : ℕ) (sell : Bool) (m : Listing) → usesIn numberOf number m ≡ 0 → allOf (λ r. not (eqb number (r .number))) (opposite sell m) ≡ true
+unfolding usesIn
+unused-others number true m h = unused-all number (m .buys) (omega arith)
+unused-others number false m h = unused-all number (m .sells) (omega arith)
+
+-- ---- the values of a field that are used, by side, and with one more that was not
+
+uses-by : (field : Order → ℕ) (n : ℕ) (sell : Bool) (us vs : List Order) → uses field n (pick sell vs us) + uses field n (pick sell us vs) ≡ uses field n us + uses field n vs
+uses-by field n true us vs = omega arith
+uses-by field n false us vs = refl
+
+own-uses : (field : Order → ℕ) (n : ℕ) (sell : Bool) (m : Listing) → uses field n (own sell m) + uses field n (opposite sell m) ≡ uses field n (m .buys) + uses field n (m .sells)
+own-uses field n true m = omega arith
+own-uses field n false m = refl
+
+one-more : (used : List ℕ) (value : ℕ) → usedOnce used ≡ true → occurs value used ≡ 0 → (n : ℕ) → occurs n used + pick (eqb n value) 1 0 ≤ 1
+one-more used value once unused n = go (eqb n value) refl
+  where
+    go : (b : Bool) → eqb n value ≡ b → occurs n used + pick (eqb n value) 1 0 ≤ 1
+    go true e =
+        let z : occurs n used ≡ 0 = rw (eqb-true n value e) unused in
+        rw e (omega arith)
+    go false e = rw e (omega (arith, once-count used once n))
+
+module _ (x : Exchange) (k : WellFormed x) (number next : ℕ) (g : Given x number next) (o : NewOrder) (p : Passes x number o) where
   abbrev lots-swept : Swept
-  lots-swept = swept x k o p
+  lots-swept = swept x k number next g o p
 
   abbrev arrived : Order
-  arrived = remainder (takerOf x o) (limitOf (o .condition)) (o .lots)
+  arrived = remainder (takerOf x number o) (limitOf (o .condition)) (o .lots)
 
   abbrev account : ℕ
   account = placeOf (o .account)
@@ -97,12 +135,12 @@ module _ (x : Exchange) (k : WellFormed x) (o : NewOrder) (p : Passes x o) where
   holding-before a l = k .holding a place l (p .contract)
 
   opens-start : (a : ℕ) → a < length (x .accounts) →
-      held (o .sell) (holdingAt (x .accounts) a place) + restingOpens a (arrived ∷ mine) ≤ contractOf x k o p .limit
+      held (o .sell) (holdingAt (x .accounts) a place) + restingOpens a (arrived ∷ mine) ≤ contractOf x k number next g o p .limit
   unfolding takerOf remainder
   opens-start a l =
       rw (resting-cons 0 a arrived mine)
       (own-opens (eqb account a) (o .close) (o .lots) (held (o .sell) (holdingAt (x .accounts) a place)) (restingOpens a mine)
-      (contractOf x k o p .limit) (holding-before a l .opens (o .sell))
+      (contractOf x k number next g o p .limit) (holding-before a l .opens (o .sell))
       (λ e q. rw (← eqb-true account a e) (p .opens q)))
 
   closes-start : (a : ℕ) → a < length (x .accounts) → restingCloses a (arrived ∷ mine) ≤ held (not (o .sell)) (holdingAt (x .accounts) a place)
@@ -114,25 +152,25 @@ module _ (x : Exchange) (k : WellFormed x) (o : NewOrder) (p : Passes x o) where
       (λ e q. rw (← eqb-true account a e) (p .closes q)))
 
   kept-before : (a : ℕ) → a < length (x .accounts) →
-      KeptAt (contractOf x k o p .limit) place (x .accounts) (pick (o .sell) others (arrived ∷ mine)) (pick (o .sell) (arrived ∷ mine) others) a
+      KeptAt (contractOf x k number next g o p .limit) place (x .accounts) (pick (o .sell) others (arrived ∷ mine)) (pick (o .sell) (arrived ∷ mine) others) a
   kept-before a l = kept-by (o .sell) (listingOf x o) place (x .accounts) a arrived (holding-before a l) (opens-start a l) (closes-start a l)
 
   -- so the order entered keeps them, and its trades close nothing that is not held
-  swept-holdings : SweptKept (length (x .accounts)) (contractOf x k o p .limit) (limitOf (o .condition)) (takerOf x o) mine (x .accounts) (o .lots) lots-swept
+  swept-holdings : SweptKept (length (x .accounts)) (contractOf x k number next g o p .limit) (limitOf (o .condition)) (takerOf x number o) mine (x .accounts) (o .lots) lots-swept
   unfolding takerOf restWhole enter
   swept-holdings =
-      entered-either x o
-      (λ e. SweptKept (length (x .accounts)) (contractOf x k o p .limit) (limitOf (o .condition)) (takerOf x o) mine (x .accounts) (o .lots)
+      entered-either x number o
+      (λ e. SweptKept (length (x .accounts)) (contractOf x k number next g o p .limit) (limitOf (o .condition)) (takerOf x number o) mine (x .accounts) (o .lots)
       (record { trades = e .trades; rest = e .opposite }))
-      (λ e. untouched-kept (length (x .accounts)) (contractOf x k o p .limit) (limitOf (o .condition)) (takerOf x o) mine (x .accounts) (o .lots) others kept-before)
-      (λ e. swept-kept (length (x .accounts)) (contractOf x k o p .limit) (limitOf (o .condition)) (x .next) (contractOf x k o p) (takerOf x o) mine
+      (λ e. untouched-kept (length (x .accounts)) (contractOf x k number next g o p .limit) (limitOf (o .condition)) (takerOf x number o) mine (x .accounts) (o .lots) others kept-before)
+      (λ e. swept-kept (length (x .accounts)) (contractOf x k number next g o p .limit) (limitOf (o .condition)) (x .next) (x .nextstamp) (contractOf x k number next g o p) (takerOf x number o) mine
       (p .account) (mark-low (o .close))
-      (o .lots) (contractOf x k o p .last) others (x .accounts) (sides x k o p .others-orders) kept-before)
+      (o .lots) (contractOf x k number next g o p .last) others (x .accounts) (sides x k number next g o p .others-orders) kept-before)
 
   -- ---- the parts of the state after it
 
   abbrev after : Listing
-  after = listingAfter (listingOf x o) (o .sell) (enteredOf x o)
+  after = listingAfter (listingOf x o) (o .sell) (enteredOf x number o)
 
   abbrev accountsAfter : List Account
   accountsAfter = bookTrades (x .accounts) (lots-swept .trades)
@@ -142,96 +180,94 @@ module _ (x : Exchange) (k : WellFormed x) (o : NewOrder) (p : Passes x o) where
   holding-after a l =
       let s = booked-start-holding (x .accounts) (lots-swept .trades) a place in
       let q = holding-before a l in
-      rw (own-is x k o p)
-      (holding-by (o .sell) (contractAfter x k o p) (restLots (takerOf x o) (limitOf (o .condition)) (rested x k o p) mine)
+      rw (own-is x k number next g o p)
+      (holding-by (o .sell) (contractAfter x k number next g o p) (restLots (takerOf x number o) (limitOf (o .condition)) (rested x k number next g o p) mine)
       (lots-swept .rest) place accountsAfter a
       (rw (ap (λ (h : Holding). h .startlong) s) (q .startlong)) (rw (ap (λ (h : Holding). h .startshort) s) (q .startshort))
-      (fewer-by (o .sell) (length (x .accounts)) (contractOf x k o p .limit) place accountsAfter
-      (remainder (takerOf x o) (limitOf (o .condition)) (o .lots - tradedLots (lots-swept .trades)) ∷ mine)
-      (restLots (takerOf x o) (limitOf (o .condition)) (rested x k o p) mine) (lots-swept .rest) (lots-swept .rest)
-      (rested-fewer (takerOf x o) (limitOf (o .condition)) (rested x k o p) (o .lots - tradedLots (lots-swept .trades)) mine
-      (rested-left x k o p)) (λ close b. omega arith) (swept-holdings .kept) a l))
+      (fewer-by (o .sell) (length (x .accounts)) (contractOf x k number next g o p .limit) place accountsAfter
+      (remainder (takerOf x number o) (limitOf (o .condition)) (o .lots - tradedLots (lots-swept .trades)) ∷ mine)
+      (restLots (takerOf x number o) (limitOf (o .condition)) (rested x k number next g o p) mine) (lots-swept .rest) (lots-swept .rest)
+      (rested-fewer (takerOf x number o) (limitOf (o .condition)) (rested x k number next g o p) (o .lots - tradedLots (lots-swept .trades)) mine
+      (rested-left x k number next g o p)) (λ close b. omega arith) (swept-holdings .kept) a l))
 
-  -- the numbers: one more, the next, if a remainder rests
-  uses-by : (n : ℕ) (sell : Bool) (us vs : List Order) → uses numberOf n (pick sell vs us) + uses numberOf n (pick sell us vs) ≡ uses numberOf n us + uses numberOf n vs
-  uses-by n true us vs = omega arith
-  uses-by n false us vs = refl
+  -- the values of a field: one more, that of the order entered, if a remainder rests
+  module _ (field : Order → ℕ) (kept : KeptByLots field) where
+    mine-uses : (n : ℕ) → uses field n (restLots (takerOf x number o) (limitOf (o .condition)) (rested x k number next g o p) mine) ≤ pick (eqb n (field arrived)) 1 0 + uses field n mine
+    unfolding uses remainder
+    mine-uses n =
+        rw (← kept arrived (rested x k number next g o p))
+        (rested-sum (takerOf x number o) (limitOf (o .condition)) (λ r. pick (eqb n (field r)) 1 0) (rested x k number next g o p) mine)
 
-  own-uses : (n : ℕ) (sell : Bool) (m : Listing) → uses numberOf n (own sell m) + uses numberOf n (opposite sell m) ≡ uses numberOf n (m .buys) + uses numberOf n (m .sells)
-  own-uses n true m = omega arith
-  own-uses n false m = refl
+    others-uses : (n : ℕ) → uses field n (lots-swept .rest) ≤ uses field n others
+    unfolding uses restWhole enter
+    others-uses n =
+        entered-either x number o (λ e. uses field n (e .opposite) ≤ uses field n others) (λ e. omega arith)
+        (λ e. rest-sum (λ r. pick (eqb n (field r)) 1 0) (λ r m low high. rw (kept r m) (le-refl _)) (takerOf x number o) (o .lots) (contractOf x k number next g o p .last) others)
 
-  mine-uses : (n : ℕ) → uses numberOf n (restLots (takerOf x o) (limitOf (o .condition)) (rested x k o p) mine) ≤ pick (eqb n (x .next)) 1 0 + uses numberOf n mine
-  unfolding uses takerOf remainder
-  mine-uses n = rested-sum (takerOf x o) (limitOf (o .condition)) (λ r. pick (eqb n (r .number)) 1 0) (rested x k o p) mine
+    uses-after : (n : ℕ) → usesIn field n after ≤ usesIn field n (listingOf x o) + pick (eqb n (field arrived)) 1 0
+    unfolding usesIn listingAfter
+    uses-after n =
+        rw (own-is x k number next g o p)
+        (omega (
+          arith,
+          uses-by field n (o .sell) (restLots (takerOf x number o) (limitOf (o .condition)) (rested x k number next g o p) mine) (lots-swept .rest),
+          own-uses field n (o .sell) (listingOf x o),
+          mine-uses n,
+          others-uses n,
+        ))
 
-  others-uses : (n : ℕ) → uses numberOf n (lots-swept .rest) ≤ uses numberOf n others
-  unfolding uses restWhole enter
-  others-uses n =
-      entered-either x o (λ e. uses numberOf n (e .opposite) ≤ uses numberOf n others) (λ e. omega arith)
-      (λ e. rest-sum (λ r. pick (eqb n (r .number)) 1 0) (λ r m low high. omega arith) (takerOf x o) (o .lots) (contractOf x k o p .last) others)
-
-  uses-after : (n : ℕ) → usesIn numberOf n after ≤ usesIn numberOf n (listingOf x o) + pick (eqb n (x .next)) 1 0
-  unfolding usesIn listingAfter
-  uses-after n =
-      rw (own-is x k o p)
-      (omega (
-        arith,
-        uses-by n (o .sell) (restLots (takerOf x o) (limitOf (o .condition)) (rested x k o p) mine) (lots-swept .rest),
-        own-uses n
-            (o .sell) (listingOf x o),
-        mine-uses n,
-        others-uses n,
-      ))
-
-  one-more : (n : ℕ) → occurs n (allNumbers (x .listings)) + pick (eqb n (x .next)) 1 0 ≤ 1
-  unfolding listingAt
-  one-more n = go (eqb n (x .next)) refl
-    where
-      go : (b : Bool) → eqb n (x .next) ≡ b → occurs n (allNumbers (x .listings)) + pick (eqb n (x .next)) 1 0 ≤ 1
-      go true e =
-          let z : occurs n (allNumbers (x .listings)) ≡ 0 =
-          rw (eqb-true n (x .next) e) (next-number-unused (length (x .accounts)) (x .next) (x .listings) (k .listing)) in
-          rw e (omega arith)
-      go false e = rw e (omega (arith, once-count (allNumbers (x .listings)) (k .once) n))
+    once-more : usedOnce (allListed field (x .listings)) ≡ true → occurs (field arrived) (allListed field (x .listings)) ≡ 0 →
+        (n : ℕ) → occurs n (allListed field (x .listings)) + usesIn field n after ≤ 1 + usesIn field n (listingOf x o)
+    once-more once unused n = omega (arith, uses-after n, one-more (allListed field (x .listings)) (field arrived) once unused n)
 
   -- ---- the state after it
 
   abbrev afterwards : Exchange
-  afterwards = withTrades x place after (lots-swept .trades) (x .next + 1)
+  afterwards = withTrades x place after (lots-swept .trades) next (x .nextstamp + 1)
 
-  allows-here : Allows (contractOf x k o p) (after .contract)
+  allows-here : Allows (contractOf x k number next g o p) (after .contract)
   unfolding listingAfter
-  allows-here = allows-last (contractOf x k o p) _
+  allows-here = allows-last (contractOf x k number next g o p) _
+
+  -- the orders that it meets have other numbers
+  others-numbers : allOf (λ r. not (eqb number (r .number))) others ≡ true
+  unfolding listingOf listingAt
+  others-numbers =
+      unused-others number (o .sell) (listingOf x o)
+      (omega (arith, g .unused, all-uses numberOf number (x .listings), sumOf-at (usesIn numberOf number) (x .listings) place noListing (p .contract)))
 
   new-trades : allOf (tradeInRange afterwards) (lots-swept .trades) ≡ true
   unfolding takerOf listingOf restWhole enter allOf
   new-trades =
-      let listings = traded-listings x place after (lots-swept .trades) (x .next + 1) in
-      let accounts = traded-accounts x place after (lots-swept .trades) (x .next + 1) in
-      entered-either x o (λ e. allOf (tradeInRange afterwards) (e .trades) ≡ true) (λ e. refl)
-      (λ e. swept-in-range afterwards (takerOf x o) (contractOf x k o p) (omega (arith, p .contract))
-      (omega (arith, p .account)) (k .next-low) (omega arith) (mark-low (o .close)) (p .price)
-      (tick-low x k o p) (method-rounds (contractOf x k o p)) (traded-allows x place after (lots-swept .trades) (x .next + 1) (p .contract) allows-here place)
-      (o .lots) (contractOf x k o p .last) others (last-on-tick x k o p)
-      (subst (λ (n : ℕ). allOf (orderInRange n (x .next) (contractOf x k o p)) others ≡ true) (sym accounts) (sides x k o p .others-orders)))
+      let listings = traded-listings x place after (lots-swept .trades) next (x .nextstamp + 1) in
+      let accounts = traded-accounts x place after (lots-swept .trades) next (x .nextstamp + 1) in
+      entered-either x number o (λ e. allOf (tradeInRange afterwards) (e .trades) ≡ true) (λ e. refl)
+      (λ e. swept-in-range afterwards (takerOf x number o) (contractOf x k number next g o p) (omega (arith, p .contract))
+      (omega (arith, p .account)) (g .low) (g .below) (mark-low (o .close)) (p .price)
+      (tick-low x k number next g o p) (method-rounds (contractOf x k number next g o p)) (traded-allows x place after (lots-swept .trades) next (x .nextstamp + 1) (p .contract) allows-here place)
+      (x .next) (x .nextstamp) (g .later)
+      (o .lots) (contractOf x k number next g o p .last) others (last-on-tick x k number next g o p)
+      (subst (λ (n : ℕ). allOf (orderInRange n (x .next) (x .nextstamp) (contractOf x k number next g o p)) others ≡ true) (sym accounts) (sides x k number next g o p .others-orders)) others-numbers)
 
   its-trades : allOf (ofContract place) (lots-swept .trades) ≡ true
   unfolding takerOf restWhole enter allOf
   its-trades =
-      entered-either x o (λ e. allOf (ofContract place) (e .trades) ≡ true) (λ e. refl)
-      (λ e. swept-contract (takerOf x o) (o .lots) (contractOf x k o p .last) others)
+      entered-either x number o (λ e. allOf (ofContract place) (e .trades) ≡ true) (λ e. refl)
+      (λ e. swept-contract (takerOf x number o) (o .lots) (contractOf x k number next g o p .last) others)
 
-  trades-ok : TradesOk x place after (lots-swept .trades) (x .next + 1)
-  unfolding listingOf listingAt
+  trades-ok : TradesOk x place after (lots-swept .trades) next (x .nextstamp + 1)
+  unfolding listingOf listingAt takerOf remainder
   trades-ok =
       record {
         there = p .contract;
-        later = omega arith;
-        high = omega (arith, p .next);
-        listing = listing-after x k o p;
+        later = g .later;
+        high = g .high;
+        stamped = omega arith;
+        stamps-high = omega (arith, p .stamp);
+        listing = listing-after x k number next g o p;
         allows = allows-here;
-        numbers = λ n. omega (arith, uses-after n, one-more n);
+        numbers = once-more numberOf (λ r lots. refl) (k .once) (g .unused);
+        stamps = once-more stampOf (λ r lots. refl) (k .stamps-once) (given-unused stampOf (x .nextstamp) (length (x .accounts)) (x .next) (x .nextstamp) (λ c r q. q .stamp-high) (x .listings) (k .listing));
         ranges = new-trades;
         here = its-trades;
         never = swept-holdings .never;
@@ -240,40 +276,45 @@ module _ (x : Exchange) (k : WellFormed x) (o : NewOrder) (p : Passes x o) where
 
   -- ---- the counts
 
-  filled : inAuction (contractOf x k o p) ≡ false → o .lots ≤ fillableLots x o → tradedLots (lots-swept .trades) ≡ o .lots
-  unfolding takerOf fillableLots enter
-  filled a h =
-      rw (entered-elsewhere x o a)
-      (omega (arith, swept-fillable (takerOf x o) (o .lots) (contractOf x k o p .last) others (sides x k o p .others-sorted) refl))
+  -- fillable lots do not go by the number
+  fillable-is : fillable (takerOf x number o) others ≡ fillableLots x o
+  unfolding fillable takerOf fillableLots
+  fillable-is = refl
 
-  none-rested : isGoodForDay (o .time) ≡ false → rested x k o p ≡ 0
+  filled : inAuction (contractOf x k number next g o p) ≡ false → o .lots ≤ fillableLots x o → tradedLots (lots-swept .trades) ≡ o .lots
+  unfolding takerOf enter
+  filled a h =
+      rw (entered-elsewhere x number o a)
+      (omega (arith, swept-fillable (takerOf x number o) (o .lots) (contractOf x k number next g o p .last) others (sides x k number next g o p .others-sorted) refl, fillable-is))
+
+  none-rested : isGoodForDay (o .time) ≡ false → rested x k number next g o p ≡ 0
   unfolding restWhole enter restedLots
-  none-rested e = entered-either x o (λ r. r .rested ≡ 0) (λ a. absurd (true≢false (sym (p .rests a) ∙ e))) (λ a. rw e)
+  none-rested e = entered-either x number o (λ r. r .rested ≡ 0) (λ a. absurd (true≢false (sym (p .rests a) ∙ e))) (λ a. rw e)
 
   -- code 13: with 64 on its own side nothing rests
-  none-rests : maxResting ≤ length mine → rested x k o p ≡ 0
+  none-rests : maxResting ≤ length mine → rested x k number next g o p ≡ 0
   none-rests full = go (isGoodForDay (o .time)) refl
     where
-      go : (b : Bool) → isGoodForDay (o .time) ≡ b → rested x k o p ≡ 0
-      go true e = let r = p .room e full in omega (arith, rested-left x k o p, filled (r .0) (r .1))
+      go : (b : Bool) → isGoodForDay (o .time) ≡ b → rested x k number next g o p ≡ 0
+      go true e = let r = p .room e full in omega (arith, rested-left x k number next g o p, filled (r .0) (r .1))
       go false e = none-rested e
 
-  mine-length : length mine ≤ maxResting → length (restLots (takerOf x o) (limitOf (o .condition)) (rested x k o p) mine) ≤ maxResting
+  mine-length : length mine ≤ maxResting → length (restLots (takerOf x number o) (limitOf (o .condition)) (rested x k number next g o p) mine) ≤ maxResting
   mine-length h = go (leb maxResting (length mine)) refl
     where
-      go : (b : Bool) → leb maxResting (length mine) ≡ b → length (restLots (takerOf x o) (limitOf (o .condition)) (rested x k o p) mine) ≤ maxResting
-      go true e = omega (arith, rested-length (takerOf x o) (limitOf (o .condition)) (rested x k o p) mine, none-rests (leb-true _ _ e))
-      go false e = omega (arith, rested-length-one (takerOf x o) (limitOf (o .condition)) (rested x k o p) mine, leb-false maxResting (length mine) e)
+      go : (b : Bool) → leb maxResting (length mine) ≡ b → length (restLots (takerOf x number o) (limitOf (o .condition)) (rested x k number next g o p) mine) ≤ maxResting
+      go true e = omega (arith, rested-length (takerOf x number o) (limitOf (o .condition)) (rested x k number next g o p) mine, none-rests (leb-true _ _ e))
+      go false e = omega (arith, rested-length-one (takerOf x number o) (limitOf (o .condition)) (rested x k number next g o p) mine, leb-false maxResting (length mine) e)
 
   others-length : length (lots-swept .rest) ≤ length others
   unfolding restWhole enter
   others-length =
-      entered-either x o (λ e. length (e .opposite) ≤ length others) (λ e. omega arith)
-      (λ e. length-rest (takerOf x o) (o .lots) (contractOf x k o p .last) others)
+      entered-either x number o (λ e. length (e .opposite) ≤ length others) (λ e. omega arith)
+      (λ e. length-rest (takerOf x number o) (o .lots) (contractOf x k number next g o p .last) others)
 
   queue-after : ((sell : Bool) → length (own sell (listingOf x o)) ≤ maxResting) → (sell : Bool) → length (own sell after) ≤ maxResting
   unfolding listingAfter
-  queue-after h = rw (own-is x k o p) (by (o .sell) _ _ (mine-length (h (o .sell))) (omega (arith, others-length, either (o .sell))))
+  queue-after h = rw (own-is x k number next g o p) (by (o .sell) _ _ (mine-length (h (o .sell))) (omega (arith, others-length, either (o .sell))))
     where
       by : (s : Bool) (us vs : List Order) → length us ≤ maxResting → length vs ≤ maxResting → (sell : Bool) →
           length (pick sell (pick s us vs) (pick s vs us)) ≤ maxResting
@@ -286,21 +327,21 @@ module _ (x : Exchange) (k : WellFormed x) (o : NewOrder) (p : Passes x o) where
       either true = h false
       either false = h true
 
-  pub inserted-keeps : WellFormed (exchangeAfter x o (enteredOf x o))
+  pub entered-keeps : WellFormed (exchangeAfter x o (enteredOf x number o) next)
   unfolding exchangeAfter
-  inserted-keeps = traded-keeps x k place after (lots-swept .trades) (x .next + 1) trades-ok
+  entered-keeps = traded-keeps x k place after (lots-swept .trades) next (x .nextstamp + 1) trades-ok
 
-  pub inserted-counted : Counted x → Counted (exchangeAfter x o (enteredOf x o))
+  pub entered-counted : Counted x → Counted (exchangeAfter x o (enteredOf x number o) next)
   unfolding exchangeAfter listingOf
-  inserted-counted n =
-      traded-counted x place after (lots-swept .trades) (x .next + 1) (p .contract) (queue-after (λ s. n .queues place s (p .contract)))
-      (omega (arith, p .trades, trades-needed x o)) n
+  entered-counted n =
+      traded-counted x place after (lots-swept .trades) next (x .nextstamp + 1) (p .contract) (queue-after (λ s. n .queues place s (p .contract)))
+      (omega (arith, p .trades, trades-needed x number o)) n
 
 module _ (x : Exchange) (o : NewOrder) (e : firstOf (insertRefusals x o) ≡ 0) (k : WellFormed x) where
   pub insert-keeps : WellFormed (lastOf x (inserted x o .stages))
   unfolding inserted
-  insert-keeps = inserted-keeps x k o (passes x o e)
+  insert-keeps = entered-keeps x k (x .next) (x .next + 1) (next-given x k (numbered x o e)) o (passes x o e)
 
   pub insert-counted : Counted x → Counted (lastOf x (inserted x o .stages))
   unfolding inserted
-  insert-counted = inserted-counted x k o (passes x o e)
+  insert-counted = entered-counted x k (x .next) (x .next + 1) (next-given x k (numbered x o e)) o (passes x o e)

@@ -1,4 +1,4 @@
--- What an accepted insert has passed, as facts with names. Assumes nothing.
+-- What an order that is entered has passed, and the number that it has, as facts with names: an accepted insert. Assumes nothing.
 use mathlib.Core.Bool.{Bool, true, false, not, _&&_, _||_, true≢false, false≢true}
 use mathlib.Core.List.{List}
 use mathlib.Core.Path.{_≡_, refl, sym, _∙_}
@@ -8,9 +8,10 @@ use borrow.Author.Tests.{leb-true, leb-false, ltb-false, le-leb, not-false}
 use lib.Dec.{leb, ltb}
 use lib.ListN.{length}
 use Rattle.laws.specs.Choice.{pick, pick-true, pick-false, both-true, true-both, either-false}
-use Rattle.rules.specs.Answers.{firstOf, insertRefusals, isGoodForDay, isLimit, listingOf, priceRefusedBy, holdingRefused, overLimit, overHolding, fillableLots, tradesNeeded, conditionsRefused, dayWithoutLimit}
+use Rattle.rules.specs.Answers.{firstOf, insertRefusals, isGoodForDay, isLimit, listingOf, priceRefusedBy, holdingRefused, overLimit, overHolding, fillableLots, tradesNeeded, tradesRefused, numbersUsedUp, stampsUsedUp, conditionsRefused, dayWithoutLimit}
 use Rattle.rules.specs.Bounds.{within, allowedToday, numbersEnd, maxLots, maxTrades, maxResting, inAuction}
-use Rattle.rules.specs.Exchange.{Exchange, placeOf, own, holdingAt, restingOpens, restingCloses}
+use Rattle.rules.specs.Exchange.{Exchange, listingAt, placeOf, own, holdingAt, restingOpens, restingCloses}
+use Rattle.rules.specs.WellFormed.{allNumbers, numberOf}
 use Rattle.rules.specs.declared.Contract.{Contract}
 use Rattle.rules.specs.declared.Holding.{Holding}
 use Rattle.rules.specs.declared.NewOrder.{NewOrder}
@@ -18,7 +19,8 @@ use Rattle.rules.specs.declared.Order.{Order}
 use Rattle.rules.specs.declared.PriceCondition.{PriceCondition}
 use Rattle.rules.specs.declared.PriceCondition.the-variants.{Limit}
 use Rattle.invariants.proofs.Accepted.{failed, present}
-use Rattle.invariants.proofs.Clauses.{held}
+use Rattle.invariants.proofs.Clauses.{held, WellFormed}
+use Rattle.invariants.proofs.Numbers.{occurs, given-unused}
 
 abbrev pub itsHolding : Exchange → NewOrder → Holding
 itsHolding x o = holdingAt (x .accounts) (placeOf (o .account)) (placeOf (o .contract))
@@ -26,7 +28,8 @@ itsHolding x o = holdingAt (x .accounts) (placeOf (o .account)) (placeOf (o .con
 abbrev pub itsQueue : Exchange → NewOrder → List Order
 itsQueue x o = own (o .sell) (listingOf x o)
 
-pub record Passes (x : Exchange) (o : NewOrder) : Type 0 where
+-- what an order has passed that is entered with a number
+pub record Passes (x : Exchange) (number : ℕ) (o : NewOrder) : Type 0 where
   pub account : placeOf (o .account) < length (x .accounts)
   pub contract : placeOf (o .contract) < length (x .listings)
   pub lots-low : 1 ≤ o .lots
@@ -39,12 +42,32 @@ pub record Passes (x : Exchange) (o : NewOrder) : Type 0 where
   pub opens : o .close ≡ false →
       held (o .sell) (itsHolding x o) + restingOpens (placeOf (o .account)) (itsQueue x o) + o .lots ≤ listingOf x o .contract .limit
   pub closes : o .close ≡ true → restingCloses (placeOf (o .account)) (itsQueue x o) + o .lots ≤ held (not (o .sell)) (itsHolding x o)
-  pub next : x .next < numbersEnd
-  pub trades : length (x .trades) + tradesNeeded x o ≤ maxTrades
+  pub stamp : x .nextstamp < numbersEnd
+  pub trades : length (x .trades) + tradesNeeded x number o ≤ maxTrades
   pub room : isGoodForDay (o .time) ≡ true → maxResting ≤ length (itsQueue x o) →
       (inAuction (listingOf x o .contract) ≡ false) × (o .lots ≤ fillableLots x o)
 
-both-failed : (a b : Bool) → (a && b) ≡ false → a ≡ true → b ≡ false
+-- the number, which no resting order has, and the next one then
+pub record Given (x : Exchange) (number next : ℕ) : Type 0 where
+  pub low : 1 ≤ number
+  pub below : number < next
+  pub later : x .next ≤ next
+  pub high : next ≤ numbersEnd
+  pub unused : occurs number (allNumbers (x .listings)) ≡ 0
+
+-- an insert is given the next number
+pub next-given : (x : Exchange) → WellFormed x → x .next < numbersEnd → Given x (x .next) (x .next + 1)
+unfolding listingAt
+next-given x k h =
+    record {
+      low = k .next-low;
+      below = omega arith;
+      later = omega arith;
+      high = omega arith;
+      unused = given-unused numberOf (x .next) (length (x .accounts)) (x .next) (x .nextstamp) (λ c o r. r .number-high) (x .listings) (k .listing);
+    }
+
+pub both-failed : (a b : Bool) → (a && b) ≡ false → a ≡ true → b ≡ false
 both-failed true b e h = e
 both-failed false b e h = absurd (false≢true h)
 
@@ -86,17 +109,27 @@ has-room c day queue lots fillable e g l =
     (p .0, ltb-false _ _ (p .1))
 
 module _ (x : Exchange) (o : NewOrder) (e : holdingRefused x o ≡ false) where
-  open-lots : o .close ≡ false →
+  pub open-lots : o .close ≡ false →
       held (o .sell) (itsHolding x o) + restingOpens (placeOf (o .account)) (itsQueue x o) + o .lots ≤ listingOf x o .contract .limit
   unfolding holdingRefused overLimit
   open-lots q = ltb-false _ _ (sym (pick-false (o .close) _ _ q) ∙ e)
 
-  close-lots : o .close ≡ true → restingCloses (placeOf (o .account)) (itsQueue x o) + o .lots ≤ held (not (o .sell)) (itsHolding x o)
+  pub close-lots : o .close ≡ true → restingCloses (placeOf (o .account)) (itsQueue x o) + o .lots ≤ held (not (o .sell)) (itsHolding x o)
   unfolding holdingRefused overHolding
   close-lots q = rw (← other-side (o .sell) (itsHolding x o)) (ltb-false _ _ (sym (pick-true (o .close) _ _ q) ∙ e))
 
-pub passes : (x : Exchange) (o : NewOrder) → firstOf (insertRefusals x o) ≡ 0 → Passes x o
+-- 10 failed
+counters : (x : Exchange) → (numbersUsedUp x || stampsUsedUp x) ≡ false → (x .next < numbersEnd) × (x .nextstamp < numbersEnd)
+counters x e =
+    let p = either-false (numbersUsedUp x) (stampsUsedUp x) e in
+    (leb-false _ _ (p .0), leb-false _ _ (p .1))
+
+pub numbered : (x : Exchange) (o : NewOrder) → firstOf (insertRefusals x o) ≡ 0 → x .next < numbersEnd
 unfolding insertRefusals
+numbered x o e = counters x (failed (insertRefusals x o) (omega arith) e .1 .1 .1 .1 .1 .1 .1 .1 .0) .0
+
+pub passes : (x : Exchange) (o : NewOrder) → firstOf (insertRefusals x o) ≡ 0 → Passes x (x .next) o
+unfolding insertRefusals tradesRefused
 passes x o e =
     let f = failed (insertRefusals x o) (omega arith) e in
     let lots = both-true (leb 1 (o .lots)) (leb (o .lots) maxLots) (not-false (within 1 maxLots (o .lots)) (f .1 .1 .1 .0)) in
@@ -110,7 +143,7 @@ passes x o e =
       price = λ limit q. limit-allowed (listingOf x o .contract) (o .condition) (o .price) limit (f .1 .1 .1 .1 .1 .0) q;
       opens = open-lots x o (f .1 .1 .1 .1 .1 .1 .0);
       closes = close-lots x o (f .1 .1 .1 .1 .1 .1 .0);
-      next = leb-false _ _ (f .1 .1 .1 .1 .1 .1 .1 .1 .0);
+      stamp = counters x (f .1 .1 .1 .1 .1 .1 .1 .1 .0) .1;
       trades = ltb-false _ _ (f .1 .1 .1 .1 .1 .1 .1 .1 .1 .1 .0);
       room = has-room (listingOf x o .contract) (isGoodForDay (o .time)) (length (itsQueue x o)) (o .lots) (fillableLots x o) (f .1 .1 .1 .1 .1 .1 .1 .1 .1 .1 .1 .0);
     }

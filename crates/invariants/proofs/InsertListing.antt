@@ -1,4 +1,4 @@
--- The contract after an accepted insert: its last price is a tick multiple and its queues are in order. Assumes nothing.
+-- The contract after an order is entered, by an insert or by a change that loses its place: its last price is a tick multiple and its queues are in order. Assumes nothing.
 use mathlib.Core.Bool.{Bool, true, false, not, true≢false, false≢true}
 use mathlib.Core.List.{List, [], _∷_}
 use mathlib.Core.Path.{_≡_, refl, sym, _∙_}
@@ -28,7 +28,7 @@ use Rattle.rules.proofs.Rest.{rest-sorted, uncrossedFrom, entered-uncrossed}
 use Rattle.rules.proofs.Terms.{contract-terms, multiple, multiple-test}
 use Rattle.invariants.proofs.Carry.{Allows, orders-carried}
 use Rattle.invariants.proofs.Clauses.{order-ok, order-test, ListingOk, WellFormed}
-use Rattle.invariants.proofs.InsertAccepted.{Passes}
+use Rattle.invariants.proofs.InsertAccepted.{Given, Passes}
 use Rattle.invariants.proofs.InsertQueues.{SidesOk, listing-sides, sides-listing, rested-all, rested-sorted, rest-orders}
 use Rattle.invariants.proofs.Ticks.{allowed-multiple}
 
@@ -78,7 +78,7 @@ pub mark-low : (close : Bool) → mark close ≤ 1
 mark-low true = omega arith
 mark-low false = omega arith
 
-module _ (x : Exchange) (k : WellFormed x) (o : NewOrder) (p : Passes x o) where
+module _ (x : Exchange) (k : WellFormed x) (number next : ℕ) (g : Given x number next) (o : NewOrder) (p : Passes x number o) where
   abbrev pub contractOf : Contract
   contractOf = listingOf x o .contract
 
@@ -90,22 +90,22 @@ module _ (x : Exchange) (k : WellFormed x) (o : NewOrder) (p : Passes x o) where
 
   -- its trades, the opposite queue after them, and the lots that rest
   abbrev pub swept : Swept
-  swept = record { trades = enteredOf x o .trades; rest = enteredOf x o .opposite }
+  swept = record { trades = enteredOf x number o .trades; rest = enteredOf x number o .opposite }
 
   abbrev pub rested : ℕ
-  rested = enteredOf x o .rested
+  rested = enteredOf x number o .rested
 
   -- its own queue: in auction too, what rests does so at its place
-  pub own-is : enteredOf x o .own ≡ restLots (takerOf x o) (limitOf (o .condition)) rested mine
+  pub own-is : enteredOf x number o .own ≡ restLots (takerOf x number o) (limitOf (o .condition)) rested mine
   unfolding restWhole enter
-  own-is = entered-either x o (λ e. e .own ≡ restLots (takerOf x o) (limitOf (o .condition)) (e .rested) mine) (λ a. refl) (λ a. refl)
+  own-is = entered-either x number o (λ e. e .own ≡ restLots (takerOf x number o) (limitOf (o .condition)) (e .rested) mine) (λ a. refl) (λ a. refl)
 
-  pub listing-ok : ListingOk (length (x .accounts)) (x .next) (listingOf x o)
+  pub listing-ok : ListingOk (length (x .accounts)) (x .next) (x .nextstamp) (listingOf x o)
   unfolding listingOf
   listing-ok = k .listing (placeOf (o .contract)) (p .contract)
 
-  pub sides : SidesOk (length (x .accounts)) (x .next) contractOf (o .sell) mine others
-  sides = listing-sides (length (x .accounts)) (x .next) (o .sell) (listingOf x o) listing-ok
+  pub sides : SidesOk (length (x .accounts)) (x .next) (x .nextstamp) contractOf (o .sell) mine others
+  sides = listing-sides (length (x .accounts)) (x .next) (x .nextstamp) (o .sell) (listingOf x o) listing-ok
 
   pub last-on-tick : onTick (contractOf .tick) (contractOf .last) ≡ true
   last-on-tick = multiple (contractOf .tick) (contractOf .last) (last-multiple contractOf (listing-ok .contract)) .on-tick
@@ -116,10 +116,10 @@ module _ (x : Exchange) (k : WellFormed x) (o : NewOrder) (p : Passes x o) where
   trade-prices : allOf (λ t. allowedToday contractOf (t .price)) (swept .trades) ≡ true
   unfolding restWhole enter allOf takerOf
   trade-prices =
-      entered-either x o (λ e. allOf (λ t. allowedToday contractOf (t .price)) (e .trades) ≡ true) (λ a. refl)
-      (λ a. swept-allowed contractOf tick-low (takerOf x o) (method-rounds contractOf) (o .lots) (contractOf .last) others (p .price) last-on-tick
-      (allOf-imp (orderInRange (length (x .accounts)) (x .next) contractOf) (λ r. allowedToday contractOf (r .price)) others
-      (λ r h. order-ok (length (x .accounts)) (x .next) contractOf r h .price) (sides .others-orders)))
+      entered-either x number o (λ e. allOf (λ t. allowedToday contractOf (t .price)) (e .trades) ≡ true) (λ a. refl)
+      (λ a. swept-allowed contractOf tick-low (takerOf x number o) (method-rounds contractOf) (o .lots) (contractOf .last) others (p .price) last-on-tick
+      (allOf-imp (orderInRange (length (x .accounts)) (x .next) (x .nextstamp) contractOf) (λ r. allowedToday contractOf (r .price)) others
+      (λ r h. order-ok (length (x .accounts)) (x .next) (x .nextstamp) contractOf r h .price) (sides .others-orders)))
 
   abbrev pub contractAfter : Contract
   contractAfter = withLast contractOf (lastPrice (contractOf .last) (swept .trades))
@@ -131,21 +131,21 @@ module _ (x : Exchange) (k : WellFormed x) (o : NewOrder) (p : Passes x o) where
   limit-rests : 0 < rested → o .condition ≡ Limit (limitOf (o .condition))
   unfolding restWhole enter
   limit-rests =
-      entered-either x o (λ e. 0 < e .rested → o .condition ≡ Limit (limitOf (o .condition)))
+      entered-either x number o (λ e. 0 < e .rested → o .condition ≡ Limit (limitOf (o .condition)))
       (λ a some. is-limit (o .condition) (p .limited (p .rests a)))
       (λ a some. is-limit (o .condition) (p .limited (rested-day (isGoodForDay (o .time)) (o .lots) _ some)))
 
   pub rested-left : rested ≤ o .lots - tradedLots (swept .trades)
   unfolding restWhole enter
   rested-left =
-      entered-either x o (λ e. e .rested ≤ o .lots - tradedLots (e .trades)) (λ a. omega (arith, traded-nil))
+      entered-either x number o (λ e. e .rested ≤ o .lots - tradedLots (e .trades)) (λ a. omega (arith, traded-nil))
       (λ a. rested-most (isGoodForDay (o .time)) (o .lots) _)
 
   remainder-ok : 0 < rested →
-      orderInRange (length (x .accounts)) (x .next + 1) contractAfter (remainder (takerOf x o) (limitOf (o .condition)) rested) ≡ true
+      orderInRange (length (x .accounts)) next (x .nextstamp + 1) contractAfter (remainder (takerOf x number o) (limitOf (o .condition)) rested) ≡ true
   unfolding takerOf remainder
   remainder-ok some =
-      order-test (length (x .accounts)) (x .next + 1) contractAfter (remainder (takerOf x o) (limitOf (o .condition)) rested)
+      order-test (length (x .accounts)) next (x .nextstamp + 1) contractAfter (remainder (takerOf x number o) (limitOf (o .condition)) rested)
       (record {
         lots-low = some;
         lots-high = omega (arith, rested-left, p .lots-high);
@@ -153,55 +153,56 @@ module _ (x : Exchange) (k : WellFormed x) (o : NewOrder) (p : Passes x o) where
         price =
             allows-last contractOf (lastPrice (contractOf .last) (swept .trades)) (limitOf (o .condition))
             (p .price (limitOf (o .condition)) (limit-rests some));
-        number-low = k .next-low;
-        number-high = omega arith;
+        number-low = g .low;
+        number-high = g .below;
         close = mark-low (o .close);
-        stamp = refl;
+        stamp-low = k .nextstamp-low;
+        stamp-high = omega arith;
         quote = refl;
       })
 
-  carried : (queue : List Order) → allOf (orderInRange (length (x .accounts)) (x .next) contractOf) queue ≡ true →
-      allOf (orderInRange (length (x .accounts)) (x .next + 1) contractAfter) queue ≡ true
+  carried : (queue : List Order) → allOf (orderInRange (length (x .accounts)) (x .next) (x .nextstamp) contractOf) queue ≡ true →
+      allOf (orderInRange (length (x .accounts)) next (x .nextstamp + 1) contractAfter) queue ≡ true
   carried =
-      orders-carried (length (x .accounts)) (x .next) (x .next + 1) contractOf contractAfter (omega arith)
+      orders-carried (length (x .accounts)) (x .next) next (x .nextstamp) (x .nextstamp + 1) contractOf contractAfter (g .later) (omega arith)
       (allows-last contractOf (lastPrice (contractOf .last) (swept .trades)))
 
-  uncrossed-after : inAuction contractOf ≡ false → uncrossedFrom (o .sell) (restLots (takerOf x o) (limitOf (o .condition)) rested mine) (swept .rest) ≡ true
+  uncrossed-after : inAuction contractOf ≡ false → uncrossedFrom (o .sell) (restLots (takerOf x number o) (limitOf (o .condition)) rested mine) (swept .rest) ≡ true
   unfolding takerOf restWhole enter
   uncrossed-after =
-      entered-either x o
-      (λ e. inAuction contractOf ≡ false → uncrossedFrom (o .sell) (restLots (takerOf x o) (limitOf (o .condition)) (e .rested) mine) (e .opposite) ≡ true)
+      entered-either x number o
+      (λ e. inAuction contractOf ≡ false → uncrossedFrom (o .sell) (restLots (takerOf x number o) (limitOf (o .condition)) (e .rested) mine) (e .opposite) ≡ true)
       (λ a b. absurd (true≢false (sym a ∙ b)))
-      (λ a b. entered-uncrossed (takerOf x o) (o .lots) (limitOf (o .condition)) (isGoodForDay (o .time)) (contractOf .last) mine others
+      (λ a b. entered-uncrossed (takerOf x number o) (o .lots) (limitOf (o .condition)) (isGoodForDay (o .time)) (contractOf .last) mine others
       (λ g. is-limit (o .condition) (p .limited g)) (sides .others-sorted) (sides .sides-uncrossed b))
 
   left-sorted : sorted (not (o .sell)) (swept .rest) ≡ true
   unfolding restWhole enter
   left-sorted =
-      entered-either x o (λ e. sorted (not (o .sell)) (e .opposite) ≡ true) (λ a. sides .others-sorted)
-      (λ a. rest-sorted (not (o .sell)) (takerOf x o) (o .lots) (contractOf .last) others (sides .others-sorted))
+      entered-either x number o (λ e. sorted (not (o .sell)) (e .opposite) ≡ true) (λ a. sides .others-sorted)
+      (λ a. rest-sorted (not (o .sell)) (takerOf x number o) (o .lots) (contractOf .last) others (sides .others-sorted))
 
-  left-orders : allOf (orderInRange (length (x .accounts)) (x .next) contractOf) (swept .rest) ≡ true
+  left-orders : allOf (orderInRange (length (x .accounts)) (x .next) (x .nextstamp) contractOf) (swept .rest) ≡ true
   unfolding restWhole enter
   left-orders =
-      entered-either x o (λ e. allOf (orderInRange (length (x .accounts)) (x .next) contractOf) (e .opposite) ≡ true) (λ a. sides .others-orders)
-      (λ a. rest-orders (length (x .accounts)) (x .next) contractOf (takerOf x o) (o .lots) (contractOf .last) others (sides .others-orders))
+      entered-either x number o (λ e. allOf (orderInRange (length (x .accounts)) (x .next) (x .nextstamp) contractOf) (e .opposite) ≡ true) (λ a. sides .others-orders)
+      (λ a. rest-orders (length (x .accounts)) (x .next) (x .nextstamp) contractOf (takerOf x number o) (o .lots) (contractOf .last) others (sides .others-orders))
 
-  sides-after : SidesOk (length (x .accounts)) (x .next + 1) contractAfter (o .sell) (restLots (takerOf x o) (limitOf (o .condition)) rested mine) (swept .rest)
+  sides-after : SidesOk (length (x .accounts)) next (x .nextstamp + 1) contractAfter (o .sell) (restLots (takerOf x number o) (limitOf (o .condition)) rested mine) (swept .rest)
   unfolding takerOf
   sides-after =
       record {
-        mine-sorted = rested-sorted (takerOf x o) (limitOf (o .condition)) rested mine (sides .mine-sorted)
-            (allOf-imp (orderInRange (length (x .accounts)) (x .next) contractOf) (λ r. ltb (r .number) (x .next)) mine
-            (λ r h. lt-ltb (r .number) (x .next) (order-ok (length (x .accounts)) (x .next) contractOf r h .number-high)) (sides .mine-orders));
+        mine-sorted = rested-sorted (takerOf x number o) (limitOf (o .condition)) rested mine (sides .mine-sorted)
+            (allOf-imp (orderInRange (length (x .accounts)) (x .next) (x .nextstamp) contractOf) (λ r. ltb (r .stamp) (x .nextstamp)) mine
+            (λ r h. lt-ltb (r .stamp) (x .nextstamp) (order-ok (length (x .accounts)) (x .next) (x .nextstamp) contractOf r h .stamp-high)) (sides .mine-orders));
         others-sorted = left-sorted;
         sides-uncrossed = uncrossed-after;
         mine-orders =
-            rested-all (takerOf x o) (limitOf (o .condition)) _ rested mine remainder-ok
+            rested-all (takerOf x number o) (limitOf (o .condition)) _ rested mine remainder-ok
             (carried mine (sides .mine-orders));
         others-orders = carried (swept .rest) left-orders;
       }
 
-  pub listing-after : ListingOk (length (x .accounts)) (x .next + 1) (listingAfter (listingOf x o) (o .sell) (enteredOf x o))
+  pub listing-after : ListingOk (length (x .accounts)) next (x .nextstamp + 1) (listingAfter (listingOf x o) (o .sell) (enteredOf x number o))
   unfolding listingAfter
-  listing-after = rw own-is (sides-listing (length (x .accounts)) (x .next + 1) (o .sell) contractAfter _ _ contract-ok sides-after)
+  listing-after = rw own-is (sides-listing (length (x .accounts)) next (x .nextstamp + 1) (o .sell) contractAfter _ _ contract-ok sides-after)

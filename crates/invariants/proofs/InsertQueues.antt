@@ -24,20 +24,20 @@ use Rattle.invariants.proofs.SweptHoldings.{Fewer}
 
 -- ---- a listing by side
 
-other-own : (sell : Bool) (m : Listing) → own (not sell) m ≡ opposite sell m
+pub other-own : (sell : Bool) (m : Listing) → own (not sell) m ≡ opposite sell m
 other-own true m = refl
 other-own false m = refl
 
-pub record SidesOk (accounts next : ℕ) (c : Contract) (sell : Bool) (mine others : List Order) : Type 0 where
+pub record SidesOk (accounts next nextstamp : ℕ) (c : Contract) (sell : Bool) (mine others : List Order) : Type 0 where
   pub mine-sorted : sorted sell mine ≡ true
   pub others-sorted : sorted (not sell) others ≡ true
   pub sides-uncrossed : inAuction c ≡ false → uncrossedFrom sell mine others ≡ true
-  pub mine-orders : allOf (orderInRange accounts next c) mine ≡ true
-  pub others-orders : allOf (orderInRange accounts next c) others ≡ true
+  pub mine-orders : allOf (orderInRange accounts next nextstamp c) mine ≡ true
+  pub others-orders : allOf (orderInRange accounts next nextstamp c) others ≡ true
 
-module _ (accounts next : ℕ) where
-  pub listing-sides : (sell : Bool) (m : Listing) → ListingOk accounts next m →
-      SidesOk accounts next (m .contract) sell (own sell m) (opposite sell m)
+module _ (accounts next nextstamp : ℕ) where
+  pub listing-sides : (sell : Bool) (m : Listing) → ListingOk accounts next nextstamp m →
+      SidesOk accounts next nextstamp (m .contract) sell (own sell m) (opposite sell m)
   listing-sides sell m k =
       record {
         mine-sorted = k .order sell;
@@ -52,7 +52,7 @@ module _ (accounts next : ℕ) where
       by false = k .apart
 
   pub sides-listing : (sell : Bool) (c : Contract) (mine others : List Order) → contractInRange c ≡ true →
-      SidesOk accounts next c sell mine others → ListingOk accounts next (withQueues sell c mine others)
+      SidesOk accounts next nextstamp c sell mine others → ListingOk accounts next nextstamp (withQueues sell c mine others)
   sides-listing true c mine others r k =
       record {
         contract = r;
@@ -77,7 +77,7 @@ module _ (t : Taker) (price : ℕ) where
   rested-all test zero queue e h = h
   rested-all test (suc n) queue e h = restIn-all test (t .sell) (remainder t price (suc n)) queue (e (omega arith)) h
 
-  pub rested-sorted : (n : ℕ) (queue : List Order) → sorted (t .sell) queue ≡ true → allOf (λ o. ltb (o .number) (t .number)) queue ≡ true →
+  pub rested-sorted : (n : ℕ) (queue : List Order) → sorted (t .sell) queue ≡ true → allOf (λ o. ltb (o .stamp) (t .stamp)) queue ≡ true →
       sorted (t .sell) (restLots t price n queue) ≡ true
   unfolding restLots remainder
   rested-sorted zero queue s h = s
@@ -115,11 +115,11 @@ module _ (t : Taker) (price : ℕ) where
 
 -- ---- an order that traded a part of its lots stays in range
 
-pub order-fewer : (accounts next : ℕ) (c : Contract) (o : Order) (lots : ℕ) → 1 ≤ lots → lots ≤ o .lots →
-    orderInRange accounts next c o ≡ true → orderInRange accounts next c (withLots o lots) ≡ true
-order-fewer accounts next c o lots low high h =
-    let k = order-ok accounts next c o h in
-    order-test accounts next c (withLots o lots)
+pub order-fewer : (accounts next nextstamp : ℕ) (c : Contract) (o : Order) (lots : ℕ) → 1 ≤ lots → lots ≤ o .lots →
+    orderInRange accounts next nextstamp c o ≡ true → orderInRange accounts next nextstamp c (withLots o lots) ≡ true
+order-fewer accounts next nextstamp c o lots low high h =
+    let k = order-ok accounts next nextstamp c o h in
+    order-test accounts next nextstamp c (withLots o lots)
     (record {
       lots-low = low;
       lots-high = omega arith;
@@ -128,10 +128,11 @@ order-fewer accounts next c o lots low high h =
       number-low = k .number-low;
       number-high = k .number-high;
       close = k .close;
-      stamp = k .stamp;
+      stamp-low = k .stamp-low;
+      stamp-high = k .stamp-high;
       quote = k .quote;
     })
 
-pub rest-orders : (accounts next : ℕ) (c : Contract) (t : Taker) (left last : ℕ) (os : List Order) →
-    allOf (orderInRange accounts next c) os ≡ true → allOf (orderInRange accounts next c) (sweep t left last os .rest) ≡ true
-rest-orders accounts next c = rest-all (orderInRange accounts next c) (order-fewer accounts next c)
+pub rest-orders : (accounts next nextstamp : ℕ) (c : Contract) (t : Taker) (left last : ℕ) (os : List Order) →
+    allOf (orderInRange accounts next nextstamp c) os ≡ true → allOf (orderInRange accounts next nextstamp c) (sweep t left last os .rest) ≡ true
+rest-orders accounts next nextstamp c = rest-all (orderInRange accounts next nextstamp c) (order-fewer accounts next nextstamp c)

@@ -21,7 +21,9 @@ pub mod Insert
 pub mod MatchedHoldings
 pub mod MatchedTrades
 pub mod Phases
+pub mod ChangeKeeps
 pub mod Keeps
+pub mod Stamps
 pub mod MemoryRoom
 pub mod MemoryLaws
 pub mod MemoryKeeps

@@ -42,9 +42,9 @@ less-fewer n o os = cases (ltb n (o .lots)) refl
     cases true e = rw (less-part n o os (ltb-true n (o .lots) e)) (λ close a. omega arith)
     cases false e = rw (less-filled n o os (ltb-false n (o .lots) e)) (fewer-none (withLots o (o .lots - n)) os)
 
-module _ (accounts limit next : ℕ) (contract : Contract) (c price : ℕ) where
+module _ (accounts limit next nextstamp : ℕ) (contract : Contract) (c price : ℕ) where
   abbrev test : Order → Bool
-  test = orderInRange accounts next contract
+  test = orderInRange accounts next nextstamp contract
 
   module _ (l : List Account) (b : Order) (bs : List Order) (s : Order) (ss : List Order) (x : test b ≡ true) (y : test s ≡ true)
       (k : Kept accounts limit c l (b ∷ bs) (s ∷ ss)) where
@@ -56,22 +56,22 @@ module _ (accounts limit next : ℕ) (contract : Contract) (c price : ℕ) where
 
     buy-leg : legCovered l (b .account) c false (b .close) lots ≡ true
     buy-leg =
-        let p = order-ok accounts next contract b x in
-        let q = order-ok accounts next contract s y in
+        let p = order-ok accounts next nextstamp contract b x in
+        let q = order-ok accounts next nextstamp contract s y in
         buyer-covered accounts limit c l b s bs ss lots (omega arith) (omega arith) (p .close) (q .close) (p .account) (q .account) k
 
     sell-leg : legCovered (bookBuyer l trade) (s .account) c true (s .close) lots ≡ true
     unfolding tradeAt
     sell-leg =
-        let p = order-ok accounts next contract b x in
-        let q = order-ok accounts next contract s y in
+        let p = order-ok accounts next nextstamp contract b x in
+        let q = order-ok accounts next nextstamp contract s y in
         seller-covered accounts limit c l b s bs ss lots (omega arith) (omega arith) (p .close) (q .close) (p .account) (q .account) k
 
     turn-kept : Kept accounts limit c (bookTrade l trade) (lessFirst lots b bs) (lessFirst lots s ss)
     unfolding tradeAt bookTrade
     turn-kept =
-        let p = order-ok accounts next contract b x in
-        let q = order-ok accounts next contract s y in
+        let p = order-ok accounts next nextstamp contract b x in
+        let q = order-ok accounts next nextstamp contract s y in
         fewer-kept accounts limit c (bookTrade l trade) (withLots b (b .lots - lots) ∷ bs) (lessFirst lots b bs) (withLots s (s .lots - lots) ∷ ss) (lessFirst lots s ss)
         (less-fewer lots b bs) (less-fewer lots s ss)
         (trade-kept accounts limit c l b s bs ss lots (omega arith) (omega arith) (p .close) (q .close) (p .account) (q .account) k)
@@ -100,5 +100,5 @@ module _ (accounts limit next : ℕ) (contract : Contract) (c price : ℕ) where
       let n = paired b s in
       turn l b bs s ss (p .0) (q .0) k m
       (ih (bookTrade l (tradeAt c price n b s))
-      (less-kept n b bs test (order-fewer accounts next contract) x) (less-kept n s ss test (order-fewer accounts next contract) y)
+      (less-kept n b bs test (order-fewer accounts next nextstamp contract) x) (less-kept n s ss test (order-fewer accounts next nextstamp contract) y)
       (turn-kept l b bs s ss (p .0) (q .0) k)))

@@ -46,11 +46,11 @@ each-used (o ∷ os) =
 
 -- ---- in range
 
-module _ (y : Exchange) (contract : Contract) (next c price : ℕ) (buys sells : List Order)
+module _ (y : Exchange) (contract : Contract) (next nextstamp c price : ℕ) (buys sells : List Order)
     (there : c < length (y .listings)) (later : next ≤ y .next) (allowed : allowedToday (listingAt y c .contract) price ≡ true)
     (once : (n : ℕ) → uses numberOf n buys + uses numberOf n sells ≤ 1) where
   abbrev inRange : Order → Bool
-  inRange = orderInRange (length (y .accounts)) next contract
+  inRange = orderInRange (length (y .accounts)) next nextstamp contract
 
   abbrev test : List Order → Order → Bool
   test queue o = inRange o && usedIn queue o
@@ -58,7 +58,7 @@ module _ (y : Exchange) (contract : Contract) (next c price : ℕ) (buys sells :
   test-fewer : (queue : List Order) → KeptWithFewer (test queue)
   test-fewer queue o n low high h =
       let p = both-true (inRange o) (usedIn queue o) h in
-      true-both (inRange (withLots o n)) (usedIn queue o) (order-fewer (length (y .accounts)) next contract o n low high (p .0)) (p .1)
+      true-both (inRange (withLots o n)) (usedIn queue o) (order-fewer (length (y .accounts)) next nextstamp contract o n low high (p .0)) (p .1)
 
   -- two orders of which one buys and one sells have two numbers
   two-numbers : (b s : Order) → usedIn buys b ≡ true → usedIn sells s ≡ true → not (eqb (b .number) (s .number)) ≡ true
@@ -74,8 +74,8 @@ module _ (y : Exchange) (contract : Contract) (next c price : ℕ) (buys sells :
   one-trade lots b s h k some v w =
       let p = both-true (inRange b) (usedIn buys b) v in
       let q = both-true (inRange s) (usedIn sells s) w in
-      let i = order-ok (length (y .accounts)) next contract b (p .0) in
-      let j = order-ok (length (y .accounts)) next contract s (q .0) in
+      let i = order-ok (length (y .accounts)) next nextstamp contract b (p .0) in
+      let j = order-ok (length (y .accounts)) next nextstamp contract s (q .0) in
       trade-test y (tradeAt c price lots b s)
       (record {
         contract = there;
@@ -101,7 +101,7 @@ module _ (y : Exchange) (contract : Contract) (next c price : ℕ) (buys sells :
       let q = both-true (usedIn queue o) (allOf (usedIn queue) os) k in
       true-both (test queue o) (allOf (test queue) os) (true-both (inRange o) (usedIn queue o) (p .0) (q .0)) (with-used queue os (p .1) (q .1))
 
-  pub matched-in-range : allOf (orderInRange (length (y .accounts)) next contract) buys ≡ true → allOf (orderInRange (length (y .accounts)) next contract) sells ≡ true →
+  pub matched-in-range : allOf (orderInRange (length (y .accounts)) next nextstamp contract) buys ≡ true → allOf (orderInRange (length (y .accounts)) next nextstamp contract) sells ≡ true →
       allOf (tradeInRange y) (matchAt c price buys sells .trades) ≡ true
   matched-in-range h k =
       match-each c price (tradeInRange y) (test buys) (test sells) (test-fewer buys, test-fewer sells)

@@ -11,9 +11,11 @@ use lib.ListN.{length, getD, set}
 use Rattle.laws.specs.Choice.{pick, allOf, allOf-imp, both-true, true-both}
 use Rattle.laws.specs.Sums.{sumOf, sumOf-append, sumOf-set, sumOf-bound}
 use Rattle.rules.specs.Exchange.{Listing, noListing, own}
-use Rattle.rules.specs.WellFormed.{orderInRange, listed, allListed, numberOf, allNumbers, usedOnce}
+use Rattle.rules.specs.Matching.{withLots}
+use Rattle.rules.specs.WellFormed.{orderInRange, listed, allListed, usedOnce}
+use Rattle.rules.specs.declared.Contract.{Contract}
 use Rattle.rules.specs.declared.Order.{Order}
-use Rattle.invariants.proofs.Clauses.{order-ok, ListingOk}
+use Rattle.invariants.proofs.Clauses.{OrderOk, order-ok, ListingOk}
 
 -- how often a number occurs in a list, and as a field's value in a queue and in a contract's two queues
 unfoldable pub occurs : ℕ → List ℕ → ℕ
@@ -70,6 +72,10 @@ occurs-append : (n : ℕ) (xs ys : List ℕ) → occurs n (xs ++ ys) ≡ occurs 
 unfolding occurs
 occurs-append n xs ys = sumOf-append (λ k. pick (eqb n k) 1 0) xs ys
 
+-- a field that an order keeps with other lots
+abbrev pub KeptByLots : (Order → ℕ) → Type 0
+KeptByLots field = (o : Order) (lots : ℕ) → field (withLots o lots) ≡ field o
+
 module _ (field : Order → ℕ) where
   listed-uses : (n : ℕ) (queue : List Order) → occurs n (listed field queue) ≡ uses field n queue
   unfolding occurs sumOf listed uses
@@ -109,12 +115,12 @@ module _ (field : Order → ℕ) where
       λ c l. omega (arith, uses-none next (getD ms c noListing .buys) (below c l false), uses-none next (getD ms c noListing .sells) (below c l true)) in
       omega (arith, all-uses next ms, sumOf-bound (usesIn field next) 0 ms noListing none)
 
--- the next order number is no resting order's
-pub next-number-unused : (accounts next : ℕ) (ms : List Listing) → ((c : ℕ) → c < length ms → ListingOk accounts next (getD ms c noListing)) →
-    occurs next (allNumbers ms) ≡ 0
-next-number-unused accounts next ms ok =
-    next-unused numberOf next ms
+-- so the next order number is no resting order's, and the next time stamp neither
+pub given-unused : (field : Order → ℕ) (value accounts next nextstamp : ℕ) → ((c : Contract) (o : Order) → OrderOk accounts next nextstamp c o → field o < value) →
+    (ms : List Listing) → ((c : ℕ) → c < length ms → ListingOk accounts next nextstamp (getD ms c noListing)) → occurs value (allListed field ms) ≡ 0
+given-unused field value accounts next nextstamp below ms ok =
+    next-unused field value ms
     (λ c l sell.
     let m = getD ms c noListing in
-    allOf-imp (orderInRange accounts next (m .contract)) (λ o. ltb (o .number) next) (own sell m)
-    (λ o h. lt-ltb (o .number) next (order-ok accounts next (m .contract) o h .number-high)) (ok c l .orders sell))
+    allOf-imp (orderInRange accounts next nextstamp (m .contract)) (λ o. ltb (field o) value) (own sell m)
+    (λ o h. lt-ltb (field o) value (below (m .contract) o (order-ok accounts next nextstamp (m .contract) o h))) (ok c l .orders sell))

@@ -1,4 +1,4 @@
--- A step that replaces one contract's listing and nothing else: cancel, pull, change of state. Assumes nothing.
+-- A step that replaces one contract's listing and nothing else: cancel, pull, fewer lots of an order. Assumes nothing.
 use mathlib.Core.Bool.{Bool}
 use mathlib.Core.Path.{_≡_, refl, sym}
 use Prim.Native.Nat.{ℕ, _<_, _≤_}
@@ -13,14 +13,14 @@ use Rattle.rules.specs.declared.Holding.{Holding}
 use Rattle.rules.specs.declared.Order.{Order}
 use Rattle.invariants.proofs.Carry.{Allows, trades-carried}
 use Rattle.invariants.proofs.Clauses.{ListingOk, HoldingOk, WellFormed, Counted}
-use Rattle.invariants.proofs.Numbers.{usesIn, once-count, once-changed}
-use Rattle.rules.specs.WellFormed.{allNumbers, numberOf}
+use Rattle.invariants.proofs.Numbers.{KeptByLots, usesIn, once-count, once-changed}
+use Rattle.rules.specs.WellFormed.{allNumbers, allStamps, numberOf, stampOf}
 
 module _ (x : Exchange) (k : WellFormed x) (c : ℕ) (there : c < length (x .listings)) (m : Listing)
-    (ok : ListingOk (length (x .accounts)) (x .next) m)
+    (ok : ListingOk (length (x .accounts)) (x .next) (x .nextstamp) m)
     (allows : Allows (listingAt x c .contract) (m .contract))
     (holds : (a : ℕ) (h : Holding) → HoldingOk (listingAt x c) a h → HoldingOk m a h)
-    (fewer : (field : Order → ℕ) (n : ℕ) → usesIn field n m ≤ usesIn field n (listingAt x c)) where
+    (fewer : (field : Order → ℕ) → KeptByLots field → (n : ℕ) → usesIn field n m ≤ usesIn field n (listingAt x c)) where
   same-count : length (set (x .listings) c m) ≡ length (x .listings)
   same-count = length-set (x .listings) c m
 
@@ -30,12 +30,14 @@ module _ (x : Exchange) (k : WellFormed x) (c : ℕ) (there : c < length (x .lis
       record {
         next-low = k .next-low;
         next-high = k .next-high;
-        nextstamp = k .nextstamp;
+        nextstamp-low = k .nextstamp-low;
+        nextstamp-high = k .nextstamp-high;
         settlements = k .settlements;
         listing =
-            λ d l. at-set (λ (j : ℕ) (n : Listing). ListingOk (length (x .accounts)) (x .next) n) (x .listings) c m noListing there ok d
+            λ d l. at-set (λ (j : ℕ) (n : Listing). ListingOk (length (x .accounts)) (x .next) (x .nextstamp) n) (x .listings) c m noListing there ok d
             (λ n. k .listing d (rw same-count at l));
-        once = once-changed numberOf (x .listings) c m there (k .once) (λ n. omega (arith, fewer numberOf n, once-count (allNumbers (x .listings)) (k .once) n));
+        once = once-changed numberOf (x .listings) c m there (k .once) (λ n. omega (arith, fewer numberOf (λ o lots. refl) n, once-count (allNumbers (x .listings)) (k .once) n));
+        stamps-once = once-changed stampOf (x .listings) c m there (k .stamps-once) (λ n. omega (arith, fewer stampOf (λ o lots. refl) n, once-count (allStamps (x .listings)) (k .stamps-once) n));
         trades = trades-carried x (withListing x c m) (sym same-count) refl (le-refl (x .next))
             (λ d. at-set (λ (j : ℕ) (n : Listing). Allows (listingAt x j .contract) (n .contract)) (x .listings) c m noListing there allows d
             (λ n p h. h))

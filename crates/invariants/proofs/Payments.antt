@@ -61,10 +61,12 @@ module _ (x : Exchange) (k : WellFormed x) (a : ℕ) (there : a < length (x .acc
       record {
         next-low = k .next-low;
         next-high = k .next-high;
-        nextstamp = k .nextstamp;
+        nextstamp-low = k .nextstamp-low;
+        nextstamp-high = k .nextstamp-high;
         settlements = k .settlements;
         listing = λ c l. rw same-count (k .listing c l);
         once = k .once;
+        stamps-once = k .stamps-once;
         trades = trades-carried x (paid x a balance) refl (sym same-count) (le-refl (x .next)) (λ c p h. h) (x .trades) (k .trades);
         covered = never-same (startOfDay after) (startOfDay (x .accounts)) same-start (x .trades) ∙ k .covered;
         replay =

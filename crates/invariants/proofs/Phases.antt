@@ -21,7 +21,7 @@ use Rattle.rules.specs.Exchange.{Exchange, Listing, listingAt, holdingAt, noLis
 use Rattle.rules.specs.Holdings.{bookTrades}
 use Rattle.rules.specs.Kinds.{lastOf}
 use Rattle.rules.specs.Step.{withLast, withPhase, withTrades, listingMatched, exchangeMatched, phaseChanged}
-use Rattle.rules.specs.WellFormed.{allNumbers, contractInRange, orderInRange, sorted, tradeInRange, uncrossed, numberOf}
+use Rattle.rules.specs.WellFormed.{allNumbers, allStamps, contractInRange, orderInRange, sorted, tradeInRange, uncrossed, numberOf, stampOf}
 use Rattle.rules.specs.declared.Contract.{Contract}
 use Rattle.rules.specs.declared.Holding.{Holding}
 use Rattle.rules.specs.declared.Order.{Order}
@@ -39,7 +39,7 @@ use Rattle.invariants.proofs.InsertQueues.{order-fewer}
 use Rattle.invariants.proofs.Legs.{Kept}
 use Rattle.invariants.proofs.MatchedHoldings.{MatchKept, match-kept, unmatched-kept}
 use Rattle.invariants.proofs.MatchedTrades.{matched-in-range}
-use Rattle.invariants.proofs.Numbers.{all-uses, once-count, uses, usesIn}
+use Rattle.invariants.proofs.Numbers.{KeptByLots, all-uses, once-count, uses, usesIn}
 use Rattle.invariants.proofs.SweptTrades.{ofContract}
 use Rattle.invariants.proofs.Traded.{TradesOk, traded-accounts, traded-allows, traded-counted, traded-keeps, traded-listings}
 
@@ -67,7 +67,7 @@ module _ (x : Exchange) (k : WellFormed x) (c : ℕ) (there : c < length (x .lis
   before = listingAt x c
 
   abbrev inRange : Order → Bool
-  inRange = orderInRange (length (x .accounts)) (x .next) (before .contract)
+  inRange = orderInRange (length (x .accounts)) (x .next) (x .nextstamp) (before .contract)
 
   -- what a match leaves of a listing in range, and what it trades
   record MatchOk (m : Matched) : Type 0 where
@@ -75,14 +75,14 @@ module _ (x : Exchange) (k : WellFormed x) (c : ℕ) (there : c < length (x .lis
     pub apart : uncrossed (m .buys) (m .sells) ≡ true
     pub orders : (sell : Bool) → allOf inRange (left sell m) ≡ true
     pub prices : allOf (λ t. allowedToday (before .contract) (t .price)) (m .trades) ≡ true
-    pub numbers : (n : ℕ) → uses numberOf n (m .buys) + uses numberOf n (m .sells) ≤ usesIn numberOf n before
+    pub values : (field : Order → ℕ) → KeptByLots field → (n : ℕ) → uses field n (m .buys) + uses field n (m .sells) ≤ usesIn field n before
     pub ranges : (y : Exchange) → c < length (y .listings) → length (y .accounts) ≡ length (x .accounts) → x .next ≤ y .next →
         Allows (before .contract) (listingAt y c .contract) → allOf (tradeInRange y) (m .trades) ≡ true
     pub here : allOf (ofContract c) (m .trades) ≡ true
     pub holdings : MatchKept (length (x .accounts)) (before .contract .limit) c (x .accounts) m
     pub shorter : (sell : Bool) → length (left sell m) ≤ length (own sell before)
 
-  ok : ListingOk (length (x .accounts)) (x .next) before
+  ok : ListingOk (length (x .accounts)) (x .next) (x .nextstamp) before
   ok = k .listing c there
 
   kept-now : Kept (length (x .accounts)) (before .contract .limit) c (x .accounts) (before .buys) (before .sells)
@@ -99,7 +99,7 @@ module _ (x : Exchange) (k : WellFormed x) (c : ℕ) (there : c < length (x .lis
         apart = ok .apart e;
         orders = ok .orders;
         prices = refl;
-        numbers = λ n. le-refl _;
+        values = λ field kept n. le-refl _;
         ranges = λ y t s l a. refl;
         here = refl;
         holdings = unmatched-kept (length (x .accounts)) (before .contract .limit) c (x .accounts) (before .buys) (before .sells) kept-now;
@@ -118,35 +118,35 @@ module _ (x : Exchange) (k : WellFormed x) (c : ℕ) (there : c < length (x .lis
 
   have-lots : (sell : Bool) → allOf hasLots (own sell before) ≡ true
   have-lots sell =
-      allOf-imp inRange hasLots (own sell before) (λ o h. lt-ltb 0 (o .lots) (order-ok _ _ _ o h .lots-low)) (ok .orders sell)
+      allOf-imp inRange hasLots (own sell before) (λ o h. lt-ltb 0 (o .lots) (order-ok _ _ _ _ o h .lots-low)) (ok .orders sell)
 
   price-allowed : 0 < volume (before .buys) (before .sells) price → allowedToday (before .contract) price ≡ true
   price-allowed some =
       auction-price-passes (allowedToday (before .contract)) (before .contract .last) (before .buys) (before .sells) some (each false) (each true)
     where
       each : (sell : Bool) → allOf (λ o. allowedToday (before .contract) (o .price)) (own sell before) ≡ true
-      each sell = allOf-imp inRange (λ o. allowedToday (before .contract) (o .price)) (own sell before) (λ o h. order-ok _ _ _ o h .price) (ok .orders sell)
+      each sell = allOf-imp inRange (λ o. allowedToday (before .contract) (o .price)) (own sell before) (λ o h. order-ok _ _ _ _ o h .price) (ok .orders sell)
 
   once-here : (n : ℕ) → uses numberOf n (before .buys) + uses numberOf n (before .sells) ≤ 1
   unfolding usesIn listingAt
   once-here n =
       omega (arith, once-count (allNumbers (x .listings)) (k .once) n, all-uses numberOf n (x .listings), sumOf-at (usesIn numberOf n) (x .listings) c noListing there)
 
-  fewer-uses : (sell : Bool) (n : ℕ) → uses numberOf n (left sell matched) ≤ uses numberOf n (own sell before)
+  fewer-uses : (field : Order → ℕ) → KeptByLots field → (sell : Bool) (n : ℕ) → uses field n (left sell matched) ≤ uses field n (own sell before)
   unfolding uses
-  fewer-uses sell n = taken sell .1 .atmost (λ o. pick (eqb n (o .number)) 1 0) (λ o m low high. le-refl _)
+  fewer-uses field kept sell n = taken sell .1 .atmost (λ o. pick (eqb n (field o)) 1 0) (λ o m low high. rw (kept o m) (le-refl _))
 
   matched-ranges : (y : Exchange) → c < length (y .listings) → length (y .accounts) ≡ length (x .accounts) → x .next ≤ y .next →
       Allows (before .contract) (listingAt y c .contract) → allOf (tradeInRange y) (matched .trades) ≡ true
   unfolding allOf
   matched-ranges y inside same later allows =
       auction-either c (before .contract .last) (before .buys) (before .sells) (λ m. allOf (tradeInRange y) (m .trades) ≡ true) (λ z. refl)
-      (λ some. matched-in-range y (before .contract) (x .next) c price (before .buys) (before .sells) inside later
+      (λ some. matched-in-range y (before .contract) (x .next) (x .nextstamp) c price (before .buys) (before .sells) inside later
       (allows price (price-allowed some)) once-here (known-accounts false) (known-accounts true))
     where
-      known-accounts : (sell : Bool) → allOf (orderInRange (length (y .accounts)) (x .next) (before .contract)) (own sell before) ≡ true
+      known-accounts : (sell : Bool) → allOf (orderInRange (length (y .accounts)) (x .next) (x .nextstamp) (before .contract)) (own sell before) ≡ true
       known-accounts sell =
-          subst (λ (n : ℕ). allOf (orderInRange n (x .next) (before .contract)) (own sell before) ≡ true) (sym same) (ok .orders sell)
+          subst (λ (n : ℕ). allOf (orderInRange n (x .next) (x .nextstamp) (before .contract)) (own sell before) ≡ true) (sym same) (ok .orders sell)
 
   matched-ok : MatchOk matched
   unfolding allOf usesIn
@@ -155,13 +155,13 @@ module _ (x : Exchange) (k : WellFormed x) (c : ℕ) (there : c < length (x .lis
         order = λ sell. taken sell .1 .inorder;
         apart =
             auction-uncrosses c (before .contract .last) (before .buys) (before .sells) (ok .order false) (ok .order true) (have-lots false) (have-lots true);
-        orders = λ sell. taken sell .1 .kept inRange (order-fewer (length (x .accounts)) (x .next) (before .contract)) (ok .orders sell);
+        orders = λ sell. taken sell .1 .kept inRange (order-fewer (length (x .accounts)) (x .next) (x .nextstamp) (before .contract)) (ok .orders sell);
         prices =
             auction-either c (before .contract .last) (before .buys) (before .sells) (λ m. allOf (λ t. allowedToday (before .contract) (t .price)) (m .trades) ≡ true)
             (λ z. refl)
             (λ some. allOf-imp (λ t. eqb (t .price) price) (λ t. allowedToday (before .contract) (t .price)) (matchAt c price (before .buys) (before .sells) .trades)
             (λ t h. rw (eqb-true (t .price) price h) (price-allowed some)) (match-prices c price (before .buys) (before .sells)));
-        numbers = λ n. omega (arith, fewer-uses false n, fewer-uses true n);
+        values = λ field kept n. omega (arith, fewer-uses field kept false n, fewer-uses field kept true n);
         ranges = matched-ranges;
         here =
             auction-either c (before .contract .last) (before .buys) (before .sells) (λ m. allOf (ofContract c) (m .trades) ≡ true) (λ z. refl)
@@ -170,7 +170,7 @@ module _ (x : Exchange) (k : WellFormed x) (c : ℕ) (there : c < length (x .lis
             auction-either c (before .contract .last) (before .buys) (before .sells)
             (λ m. MatchKept (length (x .accounts)) (before .contract .limit) c (x .accounts) m)
             (λ z. unmatched-kept (length (x .accounts)) (before .contract .limit) c (x .accounts) (before .buys) (before .sells) kept-now)
-            (λ some. match-kept (length (x .accounts)) (before .contract .limit) (x .next) (before .contract) c price (before .buys) (before .sells) (x .accounts)
+            (λ some. match-kept (length (x .accounts)) (before .contract .limit) (x .next) (x .nextstamp) (before .contract) c price (before .buys) (before .sells) (x .accounts)
             (ok .orders false) (ok .orders true) kept-now);
         shorter = λ sell. taken sell .1 .shorter;
       }
@@ -184,7 +184,7 @@ module _ (x : Exchange) (k : WellFormed x) (c : ℕ) (there : c < length (x .lis
     abbrev after : Listing
     after = listingMatched before phase (matchOf x c)
 
-    listing-after : ListingOk (length (x .accounts)) (x .next) after
+    listing-after : ListingOk (length (x .accounts)) (x .next) (x .nextstamp) after
     unfolding listingMatched
     listing-after =
         record {
@@ -192,7 +192,7 @@ module _ (x : Exchange) (k : WellFormed x) (c : ℕ) (there : c < length (x .lis
           order = match-ok .order;
           apart = λ e. match-ok .apart;
           orders =
-              λ sell. orders-carried (length (x .accounts)) (x .next) (x .next) (before .contract) (after .contract) (le-refl (x .next))
+              λ sell. orders-carried (length (x .accounts)) (x .next) (x .next) (x .nextstamp) (x .nextstamp) (before .contract) (after .contract) (le-refl (x .next)) (le-refl (x .nextstamp))
               (allows-changed (before .contract) _ phase) (left sell (matchOf x c)) (match-ok .orders sell);
         }
 
@@ -213,23 +213,26 @@ module _ (x : Exchange) (k : WellFormed x) (c : ℕ) (there : c < length (x .lis
     unfolding listingMatched
     allows-here = allows-changed (before .contract) _ phase
 
-    uses-after : (n : ℕ) → usesIn numberOf n after ≤ usesIn numberOf n before
+    uses-after : (field : Order → ℕ) → KeptByLots field → (n : ℕ) → usesIn field n after ≤ usesIn field n before
     unfolding listingMatched usesIn
-    uses-after n = match-ok .numbers n
+    uses-after field kept n = match-ok .values field kept n
 
-    trades-ok : TradesOk x c after (matchOf x c .trades) (x .next)
+    trades-ok : TradesOk x c after (matchOf x c .trades) (x .next) (x .nextstamp)
     trades-ok =
         record {
           there = there;
           later = le-refl (x .next);
           high = k .next-high;
+          stamped = le-refl (x .nextstamp);
+          stamps-high = k .nextstamp-high;
           listing = listing-after;
           allows = allows-here;
-          numbers = λ n. omega (arith, uses-after n, once-count (allNumbers (x .listings)) (k .once) n);
+          numbers = λ n. omega (arith, uses-after numberOf (λ o lots. refl) n, once-count (allNumbers (x .listings)) (k .once) n);
+          stamps = λ n. omega (arith, uses-after stampOf (λ o lots. refl) n, once-count (allStamps (x .listings)) (k .stamps-once) n);
           ranges =
-              match-ok .ranges (withTrades x c after (matchOf x c .trades) (x .next)) (omega (arith, traded-listings x c after (matchOf x c .trades) (x .next)))
-              (traded-accounts x c after (matchOf x c .trades) (x .next)) (le-refl (x .next))
-              (traded-allows x c after (matchOf x c .trades) (x .next) there allows-here c);
+              match-ok .ranges (withTrades x c after (matchOf x c .trades) (x .next) (x .nextstamp)) (omega (arith, traded-listings x c after (matchOf x c .trades) (x .next) (x .nextstamp)))
+              (traded-accounts x c after (matchOf x c .trades) (x .next) (x .nextstamp)) (le-refl (x .next))
+              (traded-allows x c after (matchOf x c .trades) (x .next) (x .nextstamp) there allows-here c);
           here = match-ok .here;
           never = match-ok .holdings .never;
           holding = holding-after;
@@ -237,7 +240,7 @@ module _ (x : Exchange) (k : WellFormed x) (c : ℕ) (there : c < length (x .lis
 
     changed-keeps : WellFormed (exchangeMatched x c phase (matchOf x c))
     unfolding exchangeMatched
-    changed-keeps = traded-keeps x k c after (matchOf x c .trades) (x .next) trades-ok
+    changed-keeps = traded-keeps x k c after (matchOf x c .trades) (x .next) (x .nextstamp) trades-ok
 
     queue-after : Counted x → (sell : Bool) → length (own sell after) ≤ maxResting
     unfolding listingMatched
@@ -245,7 +248,7 @@ module _ (x : Exchange) (k : WellFormed x) (c : ℕ) (there : c < length (x .lis
 
     changed-counted : length (x .trades) + length (matchOf x c .trades) ≤ maxTrades → Counted x → Counted (exchangeMatched x c phase (matchOf x c))
     unfolding exchangeMatched
-    changed-counted room n = traded-counted x c after (matchOf x c .trades) (x .next) there (queue-after n) room n
+    changed-counted room n = traded-counted x c after (matchOf x c .trades) (x .next) (x .nextstamp) there (queue-after n) room n
 
 -- ---- an accepted change
 

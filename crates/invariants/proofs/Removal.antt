@@ -71,8 +71,8 @@ module _ (test : Order → Bool) where
   own-without m true = refl
   own-without m false = refl
 
-  module _ (accounts next : ℕ) (m : Listing) where
-    listing-without : ListingOk accounts next m → ListingOk accounts next (listingWithout test m)
+  module _ (accounts next nextstamp : ℕ) (m : Listing) where
+    listing-without : ListingOk accounts next nextstamp m → ListingOk accounts next nextstamp (listingWithout test m)
     listing-without k =
         record {
           contract = k .contract;
@@ -80,7 +80,7 @@ module _ (test : Order → Bool) where
           apart =
               λ e. apart-uncrossed (without test (m .buys)) (without test (m .sells))
               (without-apart (m .buys) (m .sells) (uncrossed-apart (m .buys) (m .sells) (k .order false) (k .order true) (k .apart e)));
-          orders = λ sell. rw (own-without m sell) (without-all (orderInRange accounts next (m .contract)) (own sell m) (k .orders sell));
+          orders = λ sell. rw (own-without m sell) (without-all (orderInRange accounts next nextstamp (m .contract)) (own sell m) (k .orders sell));
         }
 
   pub without-resting : (close a : ℕ) (queue : List Order) → resting close a (without test queue) ≤ resting close a queue
@@ -101,13 +101,13 @@ module _ (test : Order → Bool) where
   fewer m field n = omega (arith, without-sum (λ o. pick (eqb n (field o)) 1 0) (m .buys), without-sum (λ o. pick (eqb n (field o)) 1 0) (m .sells))
 
   module _ (x : Exchange) (c : ℕ) (there : c < length (x .listings)) (number : ℕ) where
-    removed-keeps : WellFormed x → WellFormed (lastOf x (removed x c test number .stages))
+    pub removed-keeps : WellFormed x → WellFormed (lastOf x (removed x c test number .stages))
     unfolding removed
     removed-keeps k =
-        relisted-keeps x k c there (listingWithout test (listingAt x c)) (listing-without _ _ _ (k .listing c there)) (λ p h. h)
-        (λ a h. holding-without (listingAt x c) a h) (fewer (listingAt x c))
+        relisted-keeps x k c there (listingWithout test (listingAt x c)) (listing-without _ _ _ _ (k .listing c there)) (λ p h. h)
+        (λ a h. holding-without (listingAt x c) a h) (λ field kept. fewer (listingAt x c) field)
 
-    removed-counted : Counted x → Counted (lastOf x (removed x c test number .stages))
+    pub removed-counted : Counted x → Counted (lastOf x (removed x c test number .stages))
     unfolding removed
     removed-counted n =
         relisted-counted x c there (listingWithout test (listingAt x c)) n

@@ -48,7 +48,7 @@ trades-in c test (t ∷ ts) h = go (eqb (t .contract) c) refl (trades-in c test 
     go true e ih = true-both (eqb (t .contract) c && test t) _ (true-both (eqb (t .contract) c) (test t) e (q .0)) ih
     go false e ih = ih
 
-module _ (x : Exchange) (c : ℕ) (k : ListingOk (length (x .accounts)) (x .next) (listingAt x c)) where
+module _ (x : Exchange) (c : ℕ) (k : ListingOk (length (x .accounts)) (x .next) (x .nextstamp) (listingAt x c)) where
   abbrev tick : ℕ
   tick = listingAt x c .contract .tick
 
@@ -81,9 +81,9 @@ module _ (x : Exchange) (c : ℕ) (k : ListingOk (length (x .accounts)) (x .next
   first-multiple : (sell : Bool) (o : Order) (os : List Order) → own sell (listingAt x c) ≡ o ∷ os → Multiple tick (o .price)
   unfolding allOf
   first-multiple sell o os e =
-      let test : Order → Bool = orderInRange (length (x .accounts)) (x .next) (listingAt x c .contract) in
+      let test : Order → Bool = orderInRange (length (x .accounts)) (x .next) (x .nextstamp) (listingAt x c .contract) in
       let r : allOf test (o ∷ os) ≡ true = rw e at (k .orders sell) in
-      allowed-multiple (listingAt x c .contract) (o .price) (order-ok _ _ _ o (both-true (test o) (allOf test os) r .0) .price)
+      allowed-multiple (listingAt x c .contract) (o .price) (order-ok _ _ _ _ o (both-true (test o) (allOf test os) r .0) .price)
 
   price-from : (ts : List Trade) (buys sells : List Order) → allOf ownTrade ts ≡ true → listingAt x c .buys ≡ buys → listingAt x c .sells ≡ sells →
       Multiple tick (priceFrom tick (listingAt x c .contract .reference) ts buys sells)

@@ -17,7 +17,7 @@ use Rattle.rules.specs.WellFormed.{ahead, aheadOfFirst, sorted, uncrossed}
 use Rattle.rules.specs.declared.Order.{Order}
 use Rattle.rules.proofs.Sorted.{sorted-tail}
 
--- ---- ahead: at a better price, or at the same one with a lower number
+-- ---- ahead: at a better price, or at the same one with a lower time stamp
 
 -- a price strictly better than another
 abbrev pub Better : Bool → ℕ → ℕ → Type 0
@@ -26,7 +26,7 @@ Better false price other = other < price
 
 pub data Ahead (sell : Bool) (o p : Order) : Type 0 where
   better : Better sell (o .price) (p .price) → Ahead sell o p
-  earlier : o .price ≡ p .price → o .number < p .number → Ahead sell o p
+  earlier : o .price ≡ p .price → o .stamp < p .stamp → Ahead sell o p
 
 pub worse-better : (sell : Bool) (price other : ℕ) → worse sell other price ≡ true → Better sell price other
 worse-better true price other e = ltb-true price other e
@@ -40,18 +40,18 @@ pub ahead-is : (sell : Bool) (o p : Order) → ahead sell o p ≡ true → Ahead
 unfolding ahead
 ahead-is sell o p e = go (worse sell (p .price) (o .price)) refl e
   where
-    go : (b : Bool) → worse sell (p .price) (o .price) ≡ b → (b || eqb (o .price) (p .price) && ltb (o .number) (p .number)) ≡ true → Ahead sell o p
+    go : (b : Bool) → worse sell (p .price) (o .price) ≡ b → (b || eqb (o .price) (p .price) && ltb (o .stamp) (p .stamp)) ≡ true → Ahead sell o p
     go true w h = better (worse-better sell (o .price) (p .price) w)
     go false w h =
-        let q = both-true (eqb (o .price) (p .price)) (ltb (o .number) (p .number)) h in
-        earlier (eqb-true (o .price) (p .price) (q .0)) (ltb-true (o .number) (p .number) (q .1))
+        let q = both-true (eqb (o .price) (p .price)) (ltb (o .stamp) (p .stamp)) h in
+        earlier (eqb-true (o .price) (p .price) (q .0)) (ltb-true (o .stamp) (p .stamp) (q .1))
 
 pub is-ahead : (sell : Bool) (o p : Order) → Ahead sell o p → ahead sell o p ≡ true
 unfolding ahead
 is-ahead sell o p (better h) = true-either (worse sell (p .price) (o .price)) _ (better-worse sell (o .price) (p .price) h)
 is-ahead sell o p (earlier e l) =
-    either-true (worse sell (p .price) (o .price)) (eqb (o .price) (p .price) && ltb (o .number) (p .number))
-    (true-both (eqb (o .price) (p .price)) (ltb (o .number) (p .number)) (eq-eqb (o .price) (p .price) e) (lt-ltb (o .number) (p .number) l))
+    either-true (worse sell (p .price) (o .price)) (eqb (o .price) (p .price) && ltb (o .stamp) (p .stamp))
+    (true-both (eqb (o .price) (p .price)) (ltb (o .stamp) (p .stamp)) (eq-eqb (o .price) (p .price) e) (lt-ltb (o .stamp) (p .stamp) l))
 
 better-trans : (sell : Bool) (a b c : ℕ) → Better sell a b → Better sell b c → Better sell a c
 better-trans true a b c h k = omega arith
@@ -94,8 +94,8 @@ restIn-all test sell o (p ∷ ps) e h = go (worse sell (p .price) (o .price)) (r
     go true ih = true-both (test o) (test p && allOf test ps) e h
     go false ih = true-both (test p) (allOf test (restIn sell o ps)) (q .0) ih
 
--- an order at a price that is no worse, with a lower number, is ahead
-not-worse : (sell : Bool) (p o : Order) → worse sell (p .price) (o .price) ≡ false → p .number < o .number → Ahead sell p o
+-- an order at a price that is no worse, with a lower time stamp, is ahead
+not-worse : (sell : Bool) (p o : Order) → worse sell (p .price) (o .price) ≡ false → p .stamp < o .stamp → Ahead sell p o
 not-worse true p o e l =
     ⊎-elim (λ (q : p .price ≡ o .price). earlier q l) (λ (h : p .price < o .price). better h) (eq-or-lt-of-le (ltb-false (o .price) (p .price) e))
 not-worse false p o e l =
@@ -103,14 +103,14 @@ not-worse false p o e l =
     (eq-or-lt-of-le (ltb-false (p .price) (o .price) e))
 
 pub restIn-sorted :
-    (sell : Bool) (o : Order) (os : List Order) → sorted sell os ≡ true → allOf (λ p. ltb (p .number) (o .number)) os ≡ true → sorted sell
+    (sell : Bool) (o : Order) (os : List Order) → sorted sell os ≡ true → allOf (λ p. ltb (p .stamp) (o .stamp)) os ≡ true → sorted sell
     (restIn sell o os) ≡ true
 unfolding restIn
 restIn-sorted sell o [] s n = unfold sorted aheadOfFirst in refl
 restIn-sorted sell o (p ∷ ps) s n = go (worse sell (p .price) (o .price)) refl (restIn-sorted sell o ps (sorted-tail sell p ps s) (q .1))
   where
-    q : (ltb (p .number) (o .number) ≡ true) × (allOf (λ r. ltb (r .number) (o .number)) ps ≡ true)
-    q = both-true (ltb (p .number) (o .number)) (allOf (λ r. ltb (r .number) (o .number)) ps) (unfold allOf in n)
+    q : (ltb (p .stamp) (o .stamp) ≡ true) × (allOf (λ r. ltb (r .stamp) (o .stamp)) ps ≡ true)
+    q = both-true (ltb (p .stamp) (o .stamp)) (allOf (λ r. ltb (r .stamp) (o .stamp)) ps) (unfold allOf in n)
 
     front : Ahead sell o p → sorted sell (o ∷ p ∷ ps) ≡ true
     front h = unfold sorted aheadOfFirst in true-both (ahead sell o p) (sorted sell (p ∷ ps)) (is-ahead sell o p h) s
@@ -120,7 +120,7 @@ restIn-sorted sell o (p ∷ ps) s n = go (worse sell (p .price) (o .price)) refl
     go true w ih = front (better (worse-better sell (o .price) (p .price) w))
     go false w ih =
         ahead-sorted sell p (restIn sell o ps)
-        (restIn-all (ahead sell p) sell o ps (is-ahead sell p o (not-worse sell p o w (ltb-true (p .number) (o .number) (q .0))))
+        (restIn-all (ahead sell p) sell o ps (is-ahead sell p o (not-worse sell p o w (ltb-true (p .stamp) (o .stamp) (q .0))))
         (sorted-ahead sell p ps s)) ih
 
 pub restIn-sum : (f : Order → ℕ) (sell : Bool) (o : Order) (os : List Order) → sumOf f (restIn sell o os) ≡ f o + sumOf f os

@@ -1,16 +1,16 @@
 -- The trades of a sweep are in range: accounts and contract exist, the two order numbers differ, the price is allowed today, the
 -- lots are 1 to 1,000. They leave the holdings in other contracts alone. Assumes nothing.
-use mathlib.Core.Bool.{Bool, true, false, not}
+use mathlib.Core.Bool.{Bool, true, false, not, _&&_}
 use mathlib.Core.List.{List, [], _∷_}
-use mathlib.Core.Path.{_≡_, refl, ap, _∙_}
+use mathlib.Core.Path.{_≡_, refl, sym, ap, _∙_}
 use Prim.Native.Nat.{ℕ, _<_, _≤_}
 use native.Mathlib.Omega.{arith}
-use borrow.Author.Tests.{eqb-true, eq-eqb, ne-eqb}
+use borrow.Author.Tests.{eqb-true, eqb-false, eq-eqb, ne-eqb, not-true}
 use lib.Dec.{eqb}
-use lib.ListN.{length}
-use Rattle.laws.specs.Choice.{pick, allOf, both-true, true-both}
+use lib.ListN.{length, getD}
+use Rattle.laws.specs.Choice.{pick, allOf, allOf-at, allOf-true, both-true, true-both}
 use Rattle.rules.specs.Bounds.{onTick, allowedToday}
-use Rattle.rules.specs.Exchange.{Exchange, listingAt, holdingAt}
+use Rattle.rules.specs.Exchange.{Exchange, listingAt, holdingAt, noOrder}
 use Rattle.rules.specs.Holdings.{bookTrade, bookTrades}
 use Rattle.rules.specs.Matching.{tradePrice, sweep, tradeWith}
 use Rattle.rules.specs.WellFormed.{orderInRange, tradeInRange}
@@ -32,34 +32,40 @@ one-of : (P : ℕ → Type 0) (b : Bool) (m n : ℕ) → P m → P n → P (pick
 one-of P true m n p q = p
 one-of P false m n p q = q
 
-two-numbers : (b : Bool) (m n : ℕ) → m < n → not (eqb (pick b m n) (pick b n m)) ≡ true
-two-numbers true m n h = ap not (ne-eqb m n (λ e. let z : _≡_ {A = ℕ} m n = e in omega arith))
-two-numbers false m n h = ap not (ne-eqb n m (λ e. let z : _≡_ {A = ℕ} n m = e in omega arith))
+two-numbers : (b : Bool) (m n : ℕ) → not (eqb n m) ≡ true → not (eqb (pick b m n) (pick b n m)) ≡ true
+two-numbers true m n h = ap not (ne-eqb m n (λ e. eqb-false n m (not-true (eqb n m) h) (sym e)))
+two-numbers false m n h = h
 
 module _ (y : Exchange) (t : Taker) (c : Contract)
     (there : t .contract < length (y .listings)) (here : t .account < length (y .accounts))
     (number-low : 1 ≤ t .number) (number-high : t .number < y .next) (mark : t .close ≤ 1)
     (limits : (limit : ℕ) → t .condition ≡ Limit limit → allowedToday c limit ≡ true)
     (tick-low : 1 ≤ c .tick) (rounds : RoundsTo (c .tick) (t .method))
-    (allows : Allows c (listingAt y (t .contract) .contract)) where
-  -- the orders have lower numbers
+    (allows : Allows c (listingAt y (t .contract) .contract)) (next nextstamp : ℕ) (later : next ≤ y .next) where
+  abbrev inRange : Order → Bool
+  inRange = orderInRange (length (y .accounts)) next nextstamp c
+
+  -- the orders have other numbers
   abbrev test : Order → Bool
-  test = orderInRange (length (y .accounts)) (t .number) c
+  test o = inRange o && not (eqb (t .number) (o .number))
+
+  passes : (o : Order) → test o ≡ true → (inRange o ≡ true) × (not (eqb (t .number) (o .number)) ≡ true)
+  passes o h = both-true (inRange o) (not (eqb (t .number) (o .number))) h
 
   its-price : (o : Order) (last : ℕ) → test o ≡ true → onTick (c .tick) last ≡ true →
       allowedToday c (tradePrice (t .method) (t .condition) (o .price) last) ≡ true
-  its-price o last h tick = price-allowed c tick-low (t .method) rounds (t .condition) (o .price) last limits (order-ok _ _ _ o h .price) tick
+  its-price o last h tick = price-allowed c tick-low (t .method) rounds (t .condition) (o .price) last limits (order-ok _ _ _ _ o (passes o h .0) .price) tick
 
   one-trade : (o : Order) (left last : ℕ) → 0 < left → test o ≡ true → onTick (c .tick) last ≡ true → tradeInRange y (tradeWith t o left last) ≡ true
   unfolding tradeWith
   one-trade o left last some h tick =
-      let k = order-ok (length (y .accounts)) (t .number) c o h in
+      let k = order-ok (length (y .accounts)) next nextstamp c o (passes o h .0) in
       trade-test y (tradeWith t o left last)
       (record {
         contract = there;
         buyer = one-of (λ n. n < length (y .accounts)) (t .sell) (o .account) (t .account) (k .account) here;
         seller = one-of (λ n. n < length (y .accounts)) (t .sell) (t .account) (o .account) here (k .account);
-        two = two-numbers (t .sell) (o .number) (t .number) (k .number-high);
+        two = two-numbers (t .sell) (o .number) (t .number) (passes o h .1);
         buy-low = one-of (λ n. 1 ≤ n) (t .sell) (o .number) (t .number) (k .number-low) number-low;
         buy-high = one-of (λ n. n < y .next) (t .sell) (o .number) (t .number) (omega arith) number-high;
         sell-low = one-of (λ n. 1 ≤ n) (t .sell) (t .number) (o .number) number-low (k .number-low);
@@ -71,12 +77,15 @@ module _ (y : Exchange) (t : Taker) (c : Contract)
         sellclose = one-of (λ n. n ≤ 1) (t .sell) (t .close) (o .close) mark (k .close);
       })
 
-  pub swept-in-range : (left last : ℕ) (os : List Order) → onTick (c .tick) last ≡ true → allOf test os ≡ true →
-      allOf (tradeInRange y) (sweep t left last os .trades) ≡ true
-  swept-in-range =
+  pub swept-in-range : (left last : ℕ) (os : List Order) → onTick (c .tick) last ≡ true → allOf inRange os ≡ true →
+      allOf (λ o. not (eqb (t .number) (o .number))) os ≡ true → allOf (tradeInRange y) (sweep t left last os .trades) ≡ true
+  swept-in-range left last os tick h other =
       swept-each t (tradeInRange y) test (λ last. onTick (c .tick) last ≡ true)
       (λ o left last some met h tick.
-      (one-trade o left last some h tick, allowed-facts c (tradePrice (t .method) (t .condition) (o .price) last) (its-price o last h tick) .tick))
+      (one-trade o left last some h tick, allowed-facts c (tradePrice (t .method) (t .condition) (o .price) last) (its-price o last h tick) .tick)) left last os tick
+      (allOf-true test os noOrder
+      (λ i l. true-both (inRange (getD os i noOrder)) (not (eqb (t .number) (getD os i noOrder .number))) (allOf-at inRange os i noOrder h l)
+      (allOf-at (λ o. not (eqb (t .number) (o .number))) os i noOrder other l)))
 
 -- ---- all of one contract
 

@@ -1,4 +1,4 @@
--- A step that makes trades in one contract and replaces its listing keeps a state well formed: an insert, the match of an auction.
+-- A step that makes trades in one contract and replaces its listing keeps a state well formed: an order entered, the match of an auction.
 -- Assumes nothing.
 use mathlib.Core.Bool.{Bool, true}
 use mathlib.Core.List.{List}
@@ -12,7 +12,7 @@ use Rattle.rules.specs.Bounds.{maxResting, maxTrades, numbersEnd}
 use Rattle.rules.specs.Exchange.{Exchange, Listing, listingAt, holdingAt, noListing, own}
 use Rattle.rules.specs.Holdings.{bookTrades, neverBelowZero}
 use Rattle.rules.specs.Step.{withTrades}
-use Rattle.rules.specs.WellFormed.{allNumbers, tradeInRange, numberOf}
+use Rattle.rules.specs.WellFormed.{allNumbers, allStamps, tradeInRange, numberOf, stampOf}
 use Rattle.rules.specs.declared.Trade.{Trade}
 use Rattle.rules.proofs.Holdings.{length-bookTrades, booked-balance, replay-more, never-more}
 use Rattle.invariants.proofs.Carry.{Allows, orders-carried, trades-carried}
@@ -20,33 +20,36 @@ use Rattle.invariants.proofs.Clauses.{ListingOk, HoldingOk, WellFormed,
 use Rattle.invariants.proofs.Numbers.{occurs, usesIn, once-changed}
 use Rattle.invariants.proofs.SweptTrades.{ofContract, other-holding}
 
--- what such a step owes: contract c gets listing m, the trades ts are made, and the next order number is n
-pub record TradesOk (x : Exchange) (c : ℕ) (m : Listing) (ts : List Trade) (n : ℕ) : Type 0 where
+-- what such a step owes: contract c gets listing m, the trades ts are made, the next order number is n and the next time stamp s
+pub record TradesOk (x : Exchange) (c : ℕ) (m : Listing) (ts : List Trade) (n s : ℕ) : Type 0 where
   pub there : c < length (x .listings)
   pub later : x .next ≤ n
   pub high : n ≤ numbersEnd
-  pub listing : ListingOk (length (x .accounts)) n m
+  pub stamped : x .nextstamp ≤ s
+  pub stamps-high : s ≤ numbersEnd
+  pub listing : ListingOk (length (x .accounts)) n s m
   pub allows : Allows (listingAt x c .contract) (m .contract)
   pub numbers : (number : ℕ) → occurs number (allNumbers (x .listings)) + usesIn numberOf number m ≤ 1 + usesIn numberOf number (listingAt x c)
-  pub ranges : allOf (tradeInRange (withTrades x c m ts n)) ts ≡ true
+  pub stamps : (stamp : ℕ) → occurs stamp (allStamps (x .listings)) + usesIn stampOf stamp m ≤ 1 + usesIn stampOf stamp (listingAt x c)
+  pub ranges : allOf (tradeInRange (withTrades x c m ts n s)) ts ≡ true
   pub here : allOf (ofContract c) ts ≡ true
   pub never : neverBelowZero (x .accounts) ts ≡ true
   pub holding : (a : ℕ) → a < length (x .accounts) → HoldingOk m a (holdingAt (bookTrades (x .accounts) ts) a c)
 
-module _ (x : Exchange) (c : ℕ) (m : Listing) (ts : List Trade) (n : ℕ) where
-  pub traded-listings : length (withTrades x c m ts n .listings) ≡ length (x .listings)
+module _ (x : Exchange) (c : ℕ) (m : Listing) (ts : List Trade) (n s : ℕ) where
+  pub traded-listings : length (withTrades x c m ts n s .listings) ≡ length (x .listings)
   traded-listings = length-set (x .listings) c m
 
-  pub traded-accounts : length (withTrades x c m ts n .accounts) ≡ length (x .accounts)
+  pub traded-accounts : length (withTrades x c m ts n s .accounts) ≡ length (x .accounts)
   traded-accounts = length-bookTrades (x .accounts) ts
 
   module _ (there : c < length (x .listings)) where
-    pub traded-allows : Allows (listingAt x c .contract) (m .contract) → (d : ℕ) → Allows (listingAt x d .contract) (listingAt (withTrades x c m ts n) d .contract)
+    pub traded-allows : Allows (listingAt x c .contract) (m .contract) → (d : ℕ) → Allows (listingAt x d .contract) (listingAt (withTrades x c m ts n s) d .contract)
     unfolding listingAt
     traded-allows h d =
         at-set (λ (j : ℕ) (l : Listing). Allows (listingAt x j .contract) (l .contract)) (x .listings) c m noListing there h d (λ e q k. k)
 
-    pub traded-counted : ((sell : Bool) → length (own sell m) ≤ maxResting) → length (x .trades) + length ts ≤ maxTrades → Counted x → Counted (withTrades x c m ts n)
+    pub traded-counted : ((sell : Bool) → length (own sell m) ≤ maxResting) → length (x .trades) + length ts ≤ maxTrades → Counted x → Counted (withTrades x c m ts n s)
     unfolding listingAt
     traded-counted shorter room k =
         record {
@@ -57,23 +60,23 @@ module _ (x : Exchange) (c : ℕ) (m : Listing) (ts : List Trade) (n : ℕ) wher
         }
 
 -- a listing that the step does not touch
-listing-later : (accounts next next′ : ℕ) (m : Listing) → next ≤ next′ → ListingOk accounts next m → ListingOk accounts next′ m
-listing-later accounts next next′ m later k =
+listing-later : (accounts next next′ stamp stamp′ : ℕ) (m : Listing) → next ≤ next′ → stamp ≤ stamp′ → ListingOk accounts next stamp m → ListingOk accounts next′ stamp′ m
+listing-later accounts next next′ stamp stamp′ m later stamped k =
     record {
       contract = k .contract;
       order = k .order;
       apart = k .apart;
-      orders = λ sell. orders-carried accounts next next′ (m .contract) (m .contract) later (λ p h. h) (own sell m) (k .orders sell);
+      orders = λ sell. orders-carried accounts next next′ stamp stamp′ (m .contract) (m .contract) later stamped (λ p h. h) (own sell m) (k .orders sell);
     }
 
-module _ (x : Exchange) (k : WellFormed x) (c : ℕ) (m : Listing) (ts : List Trade) (n : ℕ) (ok : TradesOk x c m ts n) where
+module _ (x : Exchange) (k : WellFormed x) (c : ℕ) (m : Listing) (ts : List Trade) (n s : ℕ) (ok : TradesOk x c m ts n s) where
   abbrev afterwards : Exchange
-  afterwards = withTrades x c m ts n
+  afterwards = withTrades x c m ts n s
 
   old-trades : allOf (tradeInRange afterwards) (x .trades) ≡ true
   old-trades =
-      trades-carried x afterwards (sym (traded-listings x c m ts n)) (sym (traded-accounts x c m ts n)) (ok .later)
-      (traded-allows x c m ts n (ok .there) (ok .allows)) (x .trades) (k .trades)
+      trades-carried x afterwards (sym (traded-listings x c m ts n s)) (sym (traded-accounts x c m ts n s)) (ok .later)
+      (traded-allows x c m ts n s (ok .there) (ok .allows)) (x .trades) (k .trades)
 
   holdings-after : (a d : ℕ) → a < length (x .accounts) → d < length (x .listings) → HoldingOk (listingAt afterwards d) a (holdingAt (bookTrades (x .accounts) ts) a d)
   unfolding listingAt
@@ -81,28 +84,30 @@ module _ (x : Exchange) (k : WellFormed x) (c : ℕ) (m : Listing) (ts : List Tr
       at-set (λ (j : ℕ) (l : Listing). HoldingOk l a (holdingAt (bookTrades (x .accounts) ts) a j)) (x .listings) c m noListing (ok .there)
       (ok .holding a la) d (λ e. rw (other-holding c (x .accounts) ts a d (ok .here) e) (k .holding a d la ld))
 
-  listings-after : (d : ℕ) → d < length (x .listings) → ListingOk (length (afterwards .accounts)) n (listingAt afterwards d)
+  listings-after : (d : ℕ) → d < length (x .listings) → ListingOk (length (afterwards .accounts)) n s (listingAt afterwards d)
   unfolding listingAt
   listings-after d l =
-      subst (λ (accounts : ℕ). ListingOk accounts n (listingAt afterwards d)) (sym (traded-accounts x c m ts n))
-      (at-set (λ (j : ℕ) (o : Listing). ListingOk (length (x .accounts)) n o) (x .listings) c m noListing (ok .there) (ok .listing) d
-      (λ e. listing-later (length (x .accounts)) (x .next) n (listingAt x d) (ok .later) (k .listing d l)))
+      subst (λ (accounts : ℕ). ListingOk accounts n s (listingAt afterwards d)) (sym (traded-accounts x c m ts n s))
+      (at-set (λ (j : ℕ) (o : Listing). ListingOk (length (x .accounts)) n s o) (x .listings) c m noListing (ok .there) (ok .listing) d
+      (λ e. listing-later (length (x .accounts)) (x .next) n (x .nextstamp) s (listingAt x d) (ok .later) (ok .stamped) (k .listing d l)))
 
-  pub traded-keeps : WellFormed (withTrades x c m ts n)
+  pub traded-keeps : WellFormed (withTrades x c m ts n s)
   unfolding listingAt
   traded-keeps =
       record {
         next-low = omega (arith, k .next-low, ok .later);
         next-high = ok .high;
-        nextstamp = k .nextstamp;
+        nextstamp-low = omega (arith, k .nextstamp-low, ok .stamped);
+        nextstamp-high = ok .stamps-high;
         settlements = k .settlements;
-        listing = λ d l. listings-after d (omega (arith, traded-listings x c m ts n));
+        listing = λ d l. listings-after d (omega (arith, traded-listings x c m ts n s));
         once = once-changed numberOf (x .listings) c m (ok .there) (k .once) (ok .numbers);
+        stamps-once = once-changed stampOf (x .listings) c m (ok .there) (k .stamps-once) (ok .stamps);
         trades =
             rw (allOf-append (tradeInRange afterwards) (x .trades) ts)
             (true-both (allOf (tradeInRange afterwards) (x .trades)) (allOf (tradeInRange afterwards) ts) old-trades (ok .ranges));
         covered = never-more (x .accounts) (x .trades) ts (k .replay) (k .covered) (ok .never);
         replay = replay-more (x .accounts) (x .trades) ts (k .replay);
-        holding = λ a d la ld. holdings-after a d (omega (arith, traded-accounts x c m ts n)) (omega (arith, traded-listings x c m ts n));
-        balance = λ a l. rw (booked-balance (x .accounts) ts a) (k .balance a (omega (arith, traded-accounts x c m ts n)));
+        holding = λ a d la ld. holdings-after a d (omega (arith, traded-accounts x c m ts n s)) (omega (arith, traded-listings x c m ts n s));
+        balance = λ a l. rw (booked-balance (x .accounts) ts a) (k .balance a (omega (arith, traded-accounts x c m ts n s)));
       }

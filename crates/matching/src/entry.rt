@@ -48,7 +48,7 @@ pub fn rest(own: &mut [u32], c: usize, count: usize, t: Taker, price: u32, lots:
         account: t.account,
         lots,
         close: t.close,
-        stamp: 0,
+        stamp: t.stamp,
         quote: 0,
     };
     queue::insert(own, c, count, t.sell, o);

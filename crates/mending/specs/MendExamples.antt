@@ -12,9 +12,9 @@ use Rattle.mending.specs.Mend.{two, four, eight, reason, kept, keptBytes
 unfoldable pub front : List ℕ
 front = (1 ∷ 0 ∷ 0 ∷ 0 ∷ replicate 20 1) ++ (1 ∷ 0 ∷ 0 ∷ 0 ∷ replicate 8 2)
 
--- the stored count is 99; the records are one of kind 9, a settlement, and two bytes
+-- the stored count is 99; the records are one of kind 10, a settlement, and two bytes
 unfoldable pub broken : List ℕ
-broken = front ++ ((99 ∷ 0 ∷ 0 ∷ 0 ∷ 9 ∷ replicate 23 0) ++ ((7 ∷ replicate 23 0) ++ (3 ∷ 1 ∷ [])))
+broken = front ++ ((99 ∷ 0 ∷ 0 ∷ 0 ∷ 10 ∷ replicate 23 0) ++ ((7 ∷ replicate 23 0) ++ (3 ∷ 1 ∷ [])))
 
 pub mended-example : mendedFile broken ≡ front ++ ((1 ∷ 0 ∷ 0 ∷ 0 ∷ []) ++ (7 ∷ replicate 23 0))
 unfolding front broken allOf zeros bits commandOf settleOf u8At u16At u32At u64At contractsIn contractPlace accountsIn accountPlace commandPlace recordFrom two four eight reason kept keptBytes dropped listFrom mendedFile

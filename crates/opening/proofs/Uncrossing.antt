@@ -122,9 +122,9 @@ module _ {s : State} {buys sells trades : List ℕ} (w : WellFormedState s buys 
   -- their orders are of accounts in use, of at most 1,000 lots
   orders-fit : (sell : Bool) → allOf (fits (s .accountcount)) (own sell (listingIn m c)) ≡ true
   orders-fit sell =
-      let inRange = orderInRange (length (x .accounts)) (x .next) (listingIn m c .contract) in
+      let inRange = orderInRange (length (x .accounts)) (x .next) (x .nextstamp) (listingIn m c .contract) in
       allOf-imp inRange (fits (s .accountcount)) (own sell (listingIn m c))
-      (λ o h. let k = order-ok (length (x .accounts)) (x .next) (listingIn m c .contract) o h in
+      (λ o h. let k = order-ok (length (x .accounts)) (x .next) (x .nextstamp) (listingIn m c .contract) o h in
       true-both (ltb (o .account) (s .accountcount)) (leb (o .lots) maxLots) (lt-ltb (o .account) (s .accountcount) (omega (arith, k .account, accounts-count m f))) (le-leb (o .lots) maxLots (k .lots-high)))
       (rw listing-is at (f .contents .listing c (rw (contracts-count m f) here) .orders sell))
 
@@ -189,11 +189,11 @@ module _ {s : State} {buys sells trades : List ℕ} (w : WellFormedState s buys 
         abbrev listing : Listing
         listing = listingMatched (listingAt x c) 1 (matchOf x c)
 
-        kept : WellFormed (withTrades x c listing (matchOf x c .trades) (x .next))
+        kept : WellFormed (withTrades x c listing (matchOf x c .trades) (x .next) (x .nextstamp))
         unfolding codeOf kindOf phaseChanged exchangeMatched
         kept = phase-keeps x contract 1 accepted (f .contents)
 
-        counted : Counted (withTrades x c listing (matchOf x c .trades) (x .next))
+        counted : Counted (withTrades x c listing (matchOf x c .trades) (x .next) (x .nextstamp))
         unfolding codeOf kindOf phaseChanged exchangeMatched
         counted = phase-counted x contract 1 accepted (f .contents) (sound m (w .formed) .counts)
 
@@ -205,7 +205,7 @@ module _ {s : State} {buys sells trades : List ℕ} (w : WellFormedState s buys 
           lies : written m (kindOf x (Phase contract 1) .effect .stages) ≡ memory (withMatch s (k - 1) r) buys′ sells′ area′
           unfolding kindOf phaseChanged exchangeMatched listingMatched exchangeOf listingIn
           lies =
-              put-traded m f c listing (matchOf x c .trades) (x .next) here kept counted
+              put-traded m f c listing (matchOf x c .trades) (x .next) (x .nextstamp) here kept counted
               ∙ rw (match-is, listing-is, is, made .booked .made, made .booked .last, made .booked .accounts, made .booked .trades, made .bought, made .sold, made .buy-queue, made .sell-queue)
 
           answer-is : done (kindOf x (Phase contract 1) .effect) .answer ≡ answerOf 0 0 (r .traded) 0

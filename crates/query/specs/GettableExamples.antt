@@ -30,7 +30,7 @@ use Rattle.query.specs.Gettable.{askRefusals, gettableNow, lotsNow, orde
 use Rattle.query.specs.declared.Reading.{Reading}
 
 order : ℕ → ℕ → ℕ → Order
-order number price lots = record { price = price; number = number; account = 0; lots = lots; close = 0; stamp = 0; quote = 0 }
+order number price lots = record { price = price; number = number; account = 0; lots = lots; close = 0; stamp = number; quote = 0 }
 
 -- one contract in a phase, its low 100 and high 120, two accounts; 3 are bid for at 109
 book : ℕ → List Order → Exchange
@@ -165,8 +165,8 @@ table =
     ∷ case (now′ (buyAt 100 1)) 0 0 1
     ∷ case (now′ (buyAt 99 1)) 7 0 0
     -- any state and any bytes: 21 before 1, 1 before 2; a kind that does not exist, a pull and an unknown flag give 1
-    ∷ case (gettableNow (memoryOf 0) (bytes 9 0 0 0)) 21 0 0
-    ∷ case (gettableNow (memoryOf 1) (bytes 9 0 0 0)) 1 0 0
+    ∷ case (gettableNow (memoryOf 0) (bytes 10 0 0 0)) 21 0 0
+    ∷ case (gettableNow (memoryOf 1) (bytes 10 0 0 0)) 1 0 0
     ∷ case (gettableNow (memoryOf 1) (bytes 5 1 0 0)) 1 0 0
     ∷ case (gettableNow (memoryOf 1) (bytes 3 0 64 0)) 1 0 0
     ∷ case (gettableNow (memoryOf 1) (bytes 3 0 0 0)) 2 0 0

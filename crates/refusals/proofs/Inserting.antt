@@ -9,7 +9,7 @@ use lib.Dec.{eqb, leb, ltb}
 use lib.ListN.{length, getD}
 use Rattle.laws.specs.Choice.{both-true, pick}
 use Rattle.rules.specs.Kinds.{codeOf, kindOf}
-use Rattle.rules.specs.Answers.{Refusal, firstOf, fillableLots, holdingRefused, insertRefusals, listingOf, mark, moneyRefused, overHolding, overLimit, takerOf, tradesNeeded}
+use Rattle.rules.specs.Answers.{Refusal, firstOf, fillableLots, holdingRefused, insertRefusals, listingOf, mark, moneyRefused, overHolding, overLimit, takerOf, tradesNeeded, tradesRefused}
 use Rattle.rules.specs.Bounds.{inAuction, maxLots, termsInRange, within, maxResting, maxTrades}
 use Rattle.rules.specs.Exchange.{Exchange, accountAt, holdingAt, noAccount, noContract, noHolding, opposite, own, placeOf, resting}
 use Rattle.rules.specs.Memory.{Memory, exchangeOf, queueIn, memory, WellFormedState, firstWord}
@@ -60,10 +60,10 @@ module _ {s : State} {buys sells trades : List ℕ} (w : WellFormedState s buys 
 
   bookPart : List Refusal
   bookPart =
-      bookRefusals (inAuction (listingOf x o .contract)) (x .next) (length (x .trades)) (length (own (o .sell) (listingOf x o))) (takerOf x o) (opposite (o .sell) (listingOf x o)) o
+      bookRefusals (inAuction (listingOf x o .contract)) (x .next) (x .nextstamp) (length (x .trades)) (length (own (o .sell) (listingOf x o))) (takerOf x (x .next) o) (opposite (o .sell) (listingOf x o)) o
 
   in-parts : codeOf x (Insert o) ≡ pick (isAbsent (o .account) (s .accountcount)) 2 (pick (isAbsent (o .contract) (s .contractcount)) 3 (firstOf (termsPart ++ (accountRefusals x o ++ bookPart))))
-  unfolding codeOf kindOf insertRefusals firstOf termsRefusals accountRefusals bookRefusals fillableLots tradesNeeded termsPart bookPart
+  unfolding codeOf kindOf insertRefusals firstOf termsRefusals accountRefusals bookRefusals fillableLots tradesRefused tradesNeeded termsPart bookPart
   in-parts = rw (no-account m f (o .account), no-contract m f (o .contract), trades-counted)
 
   terms-first : firstOf (termsPart ++ (accountRefusals x o ++ bookPart)) ≡ pick (eqb (firstOf termsPart) 0) (firstOf (accountRefusals x o ++ bookPart)) (firstOf termsPart)
@@ -94,6 +94,9 @@ module _ {s : State} {buys sells trades : List ℕ} (w : WellFormedState s buys 
       let a = place-below (o .account) (s .accountcount) e in
       let b = place-below (o .contract) (s .contractcount) g in
       record { account-low = a .0; account = a .1; contract-low = b .0; contract = b .1 }
+
+  pub recorded-high : s .tradecount ≤ maxTrades
+  recorded-high = f .trades-high
 
   -- ---- an order whose account and contract are in use; k is its contract's number as the code widens it
 
@@ -174,18 +177,18 @@ module _ {s : State} {buys sells trades : List ℕ} (w : WellFormedState s buys 
             pub opposite-room : QueueRoom area (o .contract - 1) count
             opposite-room = rw (ec, ea, is) (side-room m f c (p .contract) (not (o .sell)))
 
-            module _ {t : Taker} (er : t ≡ takerFor (s .next) (getD (s .contracts) (k - 1) noContract) (queueIn area (o .contract - 1) count) o) where
+            module _ {t : Taker} (er : t ≡ takerFor (s .next) (s .nextstamp) (getD (s .contracts) (k - 1) noContract) (queueIn area (o .contract - 1) count) o) where
               pub facing : Facing t area (k - 1) count
-              facing = rw (er, ec, ea, is) (opposite-facing m f c (p .contract) (s .next) _ o)
+              facing = rw (er, ec, ea, is) (opposite-facing m f c (p .contract) (s .next) (s .nextstamp) _ o)
 
               pub recorded-few : s .tradecount ≤ maxTrades
               recorded-few = f .trades-high
 
-              book-is : firstOf (bookRefusals (inAuction (getD (s .contracts) (k - 1) noContract)) (s .next) (s .tradecount) own₁ t (queueIn area (k - 1) count) o) ≡ firstOf bookPart
+              book-is : firstOf (bookRefusals (inAuction (getD (s .contracts) (k - 1) noContract)) (s .next) (s .nextstamp) (s .tradecount) own₁ t (queueIn area (k - 1) count) o) ≡ firstOf bookPart
               unfolding bookPart listingOf takerOf exchangeOf
               book-is =
                   rw (er, eo, ec, ea, is, trades-count m f, side-is m f c (p .contract) (o .sell), length-queue, opposite-is m f c (p .contract) (o .sell), contract-is m f c (p .contract))
 
-              pub code-book : {book : ℕ} → book ≡ firstOf (bookRefusals (inAuction (getD (s .contracts) (k - 1) noContract)) (s .next) (s .tradecount) own₁ t (queueIn area (k - 1) count) o)
+              pub code-book : {book : ℕ} → book ≡ firstOf (bookRefusals (inAuction (getD (s .contracts) (k - 1) noContract)) (s .next) (s .nextstamp) (s .tradecount) own₁ t (queueIn area (k - 1) count) o)
                   → book ≡ codeOf x (Insert o)
               code-book eb = eb ∙ book-is ∙ sym (on-to-account ∙ rw (account-first, ← ex, clear))

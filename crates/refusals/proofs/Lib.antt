@@ -3,3 +3,4 @@ pub mod Arrivals
 pub mod Conditions
 pub mod Inserting
 pub mod Sides
+pub mod Reentering

@@ -52,21 +52,21 @@ module _ (m : Memory) (f : Formed m) (c : ℕ) (h : c < m .state .contractcount)
   there : c < length (x .listings)
   there = rw (contracts-count m f) h
 
-  listing : ListingOk (length (x .accounts)) (x .next) (listingAt x c)
+  listing : ListingOk (length (x .accounts)) (x .next) (x .nextstamp) (listingAt x c)
   listing = f .contents .listing c there
 
   pub side-sorted : (side : Bool) → sorted side (queueOf side) ≡ true
   side-sorted side = rw (← side-is side) (listing .order side)
 
   -- an order meets the queue opposite it, best price first
-  pub opposite-facing : (next : ℕ) (terms : Contract) (o : NewOrder) → Facing (takerFor next terms (queueOf (not (o .sell))) o) (sideArea (not (o .sell)) (m .buys) (m .sells)) c (sideCount (not (o .sell)) (m .state) c)
-  opposite-facing next terms o = record { queue = side-room (not (o .sell)); order = side-sorted (not (o .sell)); best = refl }
+  pub opposite-facing : (number stamp : ℕ) (terms : Contract) (o : NewOrder) → Facing (takerFor number stamp terms (queueOf (not (o .sell))) o) (sideArea (not (o .sell)) (m .buys) (m .sells)) c (sideCount (not (o .sell)) (m .state) c)
+  opposite-facing number stamp terms o = record { queue = side-room (not (o .sell)); order = side-sorted (not (o .sell)); best = refl }
 
   pub side-account : (side : Bool) (i : ℕ) → i < sideCount side (m .state) c → getD (queueOf side) i noOrder .account < m .state .accountcount
   side-account side i l =
-      let all : allOf (orderInRange (length (x .accounts)) (x .next) (listingAt x c .contract)) (queueOf side) ≡ true = rw (← side-is side) (listing .orders side) in
-      let one = order-ok (length (x .accounts)) (x .next) (listingAt x c .contract) (getD (queueOf side) i noOrder)
-      (allOf-at (orderInRange (length (x .accounts)) (x .next) (listingAt x c .contract)) (queueOf side) i noOrder all (rw length-queue l)) in
+      let all : allOf (orderInRange (length (x .accounts)) (x .next) (x .nextstamp) (listingAt x c .contract)) (queueOf side) ≡ true = rw (← side-is side) (listing .orders side) in
+      let one = order-ok (length (x .accounts)) (x .next) (x .nextstamp) (listingAt x c .contract) (getD (queueOf side) i noOrder)
+      (allOf-at (orderInRange (length (x .accounts)) (x .next) (x .nextstamp) (listingAt x c .contract)) (queueOf side) i noOrder all (rw length-queue l)) in
       omega (arith, one .account, accounts-count m f)
 
   -- ---- its terms

@@ -1,5 +1,6 @@
--- An insert's refusals in the parts in which the code tries them, over plain values; the side of a contract as it lies; and the
--- order as it meets the book. Together with codes 2 and 3 the parts are the rules' list (proofs/Inserting.antt). Assumes nothing.
+-- An insert's refusals in the parts in which the code tries them, over plain values, and those of an order that is entered again; the
+-- side of a contract as it lies; and the order as it meets the book. Together with codes 2 and 3 the parts are the rules' list
+-- (proofs/Inserting.antt). Assumes nothing.
 use mathlib.Core.Bool.{Bool, true, false, not, _&&_, _||_}
 use mathlib.Core.List.{List, [], _∷_}
 use mathlib.Core.Path.{_≡_}
@@ -7,7 +8,8 @@ use Prim.Native.Nat.{ℕ, _+_, _*_, _<_, _≤_}
 use lib.Dec.{leb, ltb}
 use lib.ListN.{length, getD}
 use Rattle.laws.specs.Choice.{pick}
-use Rattle.rules.specs.Answers.{Refusal, _when_, conditionsRefused, holdingRefused, moneyRefused, isFillOrKill, isGoodForDay, mark, priceRefused, takesOrders}
+use Rattle.rules.specs.Answers.{Refusal, _when_, conditionsRefused, holdingRefused, moneyRefused, isFillOrKill, isGoodForDay, mark, priceRefused, takesOrders, stampsUsedUp}
+use Rattle.rules.specs.Answers as rules
 use Rattle.rules.specs.Bounds.{inAuction, within, maxLots, maxResting, maxTrades, numbersEnd}
 use Rattle.rules.specs.EarlyStop.{countTrades}
 use Rattle.rules.specs.Exchange.{Exchange, bestPrice, noAccount, placeOf}
@@ -62,14 +64,23 @@ tradesRefused auction recorded t queue lots = ltb maxTrades (recorded + pick auc
 abbrev pub fullRefused : Bool → ℕ → Taker → List Order → ℕ → TimeCondition → Bool
 fullRefused auction own t queue lots time = isGoodForDay time && leb maxResting own && (auction || ltb (fillable t queue) lots)
 
--- 10 to 13: whether the contract is in auction, the next number, the trades recorded, the orders on the own side, the order as it
+-- 10 to 13: whether the contract is in auction, the next number, the next time stamp, the trades recorded, the orders on the own side, the order as it
 -- meets the opposite queue
-unfoldable pub bookRefusals : Bool → ℕ → ℕ → ℕ → Taker → List Order → NewOrder → List Refusal
-bookRefusals auction next recorded own t queue o =
-    (10 when leb numbersEnd next)
+unfoldable pub bookRefusals : Bool → ℕ → ℕ → ℕ → ℕ → Taker → List Order → NewOrder → List Refusal
+bookRefusals auction next nextstamp recorded own t queue o =
+    (10 when (leb numbersEnd next || leb numbersEnd nextstamp))
     ∷ (11 when killRefused t queue (o .lots) (o .time))
     ∷ (12 when tradesRefused auction recorded t queue (o .lots))
     ∷ (13 when fullRefused auction own t queue (o .lots) (o .time))
+    ∷ []
+
+-- an order entered again with its number: 8 and 9, 10 of time stamps alone, and 12
+unfoldable pub reentryRefusals : Exchange → ℕ → NewOrder → List Refusal
+reentryRefusals x number o =
+    (8 when holdingRefused x o)
+    ∷ (9 when moneyRefused x o)
+    ∷ (10 when stampsUsedUp x)
+    ∷ (12 when rules.tradesRefused x number o)
     ∷ []
 
 -- ---- one side of a contract, as it lies
@@ -105,15 +116,16 @@ pub record OwnedBy (s : State) (o : NewOrder) (who : Account) : Type 0 where
 
 -- ---- the order as it meets the book
 
--- the order with the number it gets, in a contract with these terms, against the opposite queue
-abbrev pub takerFor : ℕ → Contract → List Order → NewOrder → Taker
-takerFor next terms queue o =
+-- the order with its number and the time stamp it gets, in a contract with these terms, against the opposite queue
+abbrev pub takerFor : ℕ → ℕ → Contract → List Order → NewOrder → Taker
+takerFor number stamp terms queue o =
     record {
       account = placeOf (o .account);
       contract = placeOf (o .contract);
       sell = o .sell;
       close = mark (o .close);
-      number = next;
+      number = number;
+      stamp = stamp;
       condition = o .condition;
       method = methodOf terms;
       best = bestPrice queue;

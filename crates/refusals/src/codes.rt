@@ -1,18 +1,19 @@
-// The code of an insert: the refusals 3 to 13 in their order. For our own crates: `code_of` asks for a well-formed state and an order
-// whose account is in use, the others for what they read of it.
-ghost use mathlib.Core.Bool.{true, _&&_};
+// The code of an insert: the refusals 3 to 13 in their order; and of an order that is entered again, which some of them test. For our
+// own crates: `code_of` and `reentry_code` ask for a well-formed state and an order whose account is in use, the others for what they
+// read of it.
+ghost use mathlib.Core.Bool.{true, _&&_, _||_};
 ghost use mathlib.Core.Path.{_≡_};
 ghost use Prim.Native.Nat.{_-_, _≤_};
-ghost use lib.Dec.{ltb};
+ghost use lib.Dec.{leb, ltb};
 ghost use lib.ListN.{getD};
 ghost use Rattle.rules.specs.Answers as answer;
-ghost use Rattle.rules.specs.Bounds.{inAuction, termsInRange, maxTrades};
+ghost use Rattle.rules.specs.Bounds.{inAuction, termsInRange, maxTrades, numbersEnd};
 ghost use Rattle.rules.specs.Exchange.{noAccount};
 ghost use Rattle.rules.specs.Matching as matching;
 ghost use Rattle.rules.specs.Kinds.{codeOf};
 ghost use Rattle.rules.specs.Memory.{exchangeOf, queueIn, memory, WellFormedState};
 ghost use Rattle.rules.specs.declared.Command.the-variants.{Insert};
-ghost use Rattle.refusals.specs.Insertion.{fieldsRefusals, termsRefusals, lotsRefused, killRefused, tradesRefused, fullRefused, accountRefusals, bookRefusals, Present, OwnedBy, QueueRoom, Facing};
+ghost use Rattle.refusals.specs.Insertion.{fieldsRefusals, termsRefusals, lotsRefused, killRefused, tradesRefused, fullRefused, accountRefusals, bookRefusals, reentryRefusals, Present, OwnedBy, QueueRoom, Facing};
 use crate::orders;
 use engine::answers;
 use rules::AUCTION;
@@ -268,6 +269,16 @@ fn full_refused(
     is_short(area, c, count, t, lots)
 }
 
+// 10: "order numbers used up", or time stamps.
+fn used_up(next: u32, nextstamp: u32) -> bool
+    ensures { λ r. ⌜ r ≡ (leb numbersEnd next || leb numbersEnd nextstamp) ⌝ }
+{
+    if rules::NUMBERS_END <= next {
+        return true;
+    }
+    rules::NUMBERS_END <= nextstamp
+}
+
 // Codes 10 to 13, 0 where none holds: the order as it meets the opposite queue, with so many orders on its own side.
 fn book_code(
     state: State,
@@ -280,12 +291,12 @@ fn book_code(
     o: NewOrder,
 ) -> u32
     requires { ⌜ Facing t (now area) c count × (state .tradecount ≤ maxTrades) ⌝ }
-    ensures { λ r. ⌜ r ≡ answer.firstOf (bookRefusals (inAuction terms) (state .next) (state .tradecount) own t (queueIn (now (area .entry)) c count) o) ⌝ }
+    ensures { λ r. ⌜ r ≡ answer.firstOf (bookRefusals (inAuction terms) (state .next) (state .nextstamp) (state .tradecount) own t (queueIn (now (area .entry)) c count) o) ⌝ }
 {
     let time = o.time;
     let lots = o.lots;
     let auction = terms.phase == AUCTION;
-    if rules::NUMBERS_END <= state.next {
+    if used_up(state.next, state.nextstamp) {
         return 10;
     }
     if kill_refused(area, c, count, t, lots, time) {
@@ -331,6 +342,40 @@ pub fn code_of<'a>(
         return account;
     }
     let area = orders::side_area(!o.sell, buys, sells);
-    let t = orders::taker_of(state.next, terms, area, count, o);
+    let t = orders::taker_of(state.next, state.nextstamp, terms, area, count, o);
     book_code(state, terms, own, area, c, count, t, o)
+}
+
+// The code of an order that is entered again with its number, 0 where no refusal holds: 8 and 9, 10 of time stamps alone, and 12.
+// `who` is the order's account.
+pub fn reentry_code<'a>(
+    state: State,
+    who: Account,
+    buys: &'a [u32],
+    sells: &'a [u32],
+    trades: &'a [u32],
+    o: NewOrder,
+    number: u32,
+) -> u32
+    requires { ⌜ WellFormedState state (now buys) (now sells) (now trades) × Present state o × (o .lots ≤ 1000) × (getD (state .accounts) (o .account - 1) noAccount ≡ who) ⌝ }
+    ensures { λ r. ⌜ r ≡ answer.firstOf (reentryRefusals (exchangeOf (memory state (now (buys .entry)) (now (sells .entry)) (now (trades .entry)))) number o) ⌝ }
+{
+    let account = account_code(state, who, buys, sells, trades, o);
+    if account != 0 {
+        return account;
+    }
+    if rules::NUMBERS_END <= state.nextstamp {
+        return 10;
+    }
+    let c = laws::wide(o.contract) - 1;
+    let contracts = state.contracts;
+    let terms = contracts[c];
+    let area = orders::side_area(!o.sell, buys, sells);
+    let count = orders::side_count(!o.sell, state, c);
+    let t = orders::taker_of(number, state.nextstamp, terms, area, count, o);
+    let auction = terms.phase == AUCTION;
+    if trades_refused(auction, state.tradecount, area, c, count, t, o.lots) {
+        return 12;
+    }
+    0
 }

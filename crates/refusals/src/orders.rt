@@ -120,10 +120,17 @@ fn method_of(terms: Contract) -> PairingMethod
     PairingMethod::FirstIn
 }
 
-// The order with the number it gets, its contract's pairing method and the best opposite price standing.
-pub fn taker_of(next: u32, terms: Contract, area: &[u32], count: usize, o: NewOrder) -> Taker
+// The order with its number and the time stamp it gets, its contract's pairing method and the best opposite price standing.
+pub fn taker_of(
+    number: u32,
+    stamp: u32,
+    terms: Contract,
+    area: &[u32],
+    count: usize,
+    o: NewOrder,
+) -> Taker
     requires { ⌜ (1 ≤ o .account) × (1 ≤ o .contract) × QueueRoom (now area) (o .contract - 1) count ⌝ }
-    ensures { λ r. ⌜ r ≡ takerFor next terms (queueIn (now (area .entry)) (o .contract - 1) count) o ⌝ }
+    ensures { λ r. ⌜ r ≡ takerFor number stamp terms (queueIn (now (area .entry)) (o .contract - 1) count) o ⌝ }
 {
     let c = laws::wide(o.contract) - 1;
     let best = best_price(area, c, count);
@@ -134,7 +141,8 @@ pub fn taker_of(next: u32, terms: Contract, area: &[u32], count: usize, o: NewOr
         contract: o.contract - 1,
         sell: o.sell,
         close: mark(o.close),
-        number: next,
+        number,
+        stamp,
         condition,
         method,
         best,

@@ -19,33 +19,33 @@ use Rattle.rules.proofs.Fillable.{traded-nil}
 
 -- ---- an insert
 
-module _ (x : Exchange) (o : NewOrder) where
+module _ (x : Exchange) (number : ℕ) (o : NewOrder) where
   -- the order at rest with all its lots, and the order entered by the sweep
   abbrev pub restedWhole : Entered
-  restedWhole = restWhole (takerOf x o) (o .lots) (limitOf (o .condition)) (own (o .sell) (listingOf x o)) (opposite (o .sell) (listingOf x o))
+  restedWhole = restWhole (takerOf x number o) (o .lots) (limitOf (o .condition)) (own (o .sell) (listingOf x o)) (opposite (o .sell) (listingOf x o))
 
   abbrev pub enteredBySweep : Entered
   enteredBySweep =
-      enter (takerOf x o) (o .lots) (limitOf (o .condition)) (isGoodForDay (o .time)) (listingOf x o .contract .last)
+      enter (takerOf x number o) (o .lots) (limitOf (o .condition)) (isGoodForDay (o .time)) (listingOf x o .contract .last)
       (own (o .sell) (listingOf x o))
       (opposite (o .sell) (listingOf x o))
 
-  pub entered-in-auction : inAuction (listingOf x o .contract) ≡ true → enteredOf x o ≡ restedWhole
+  pub entered-in-auction : inAuction (listingOf x o .contract) ≡ true → enteredOf x number o ≡ restedWhole
   unfolding enteredOf
   entered-in-auction e = pick-true (inAuction (listingOf x o .contract)) restedWhole enteredBySweep e
 
-  pub entered-elsewhere : inAuction (listingOf x o .contract) ≡ false → enteredOf x o ≡ enteredBySweep
+  pub entered-elsewhere : inAuction (listingOf x o .contract) ≡ false → enteredOf x number o ≡ enteredBySweep
   unfolding enteredOf
   entered-elsewhere e = pick-false (inAuction (listingOf x o .contract)) restedWhole enteredBySweep e
 
   -- what holds of both holds of the order entered
   pub entered-either : (P : Entered → Type 0) → (inAuction (listingOf x o .contract) ≡ true → P restedWhole)
-      → (inAuction (listingOf x o .contract) ≡ false → P enteredBySweep) → P (enteredOf x o)
+      → (inAuction (listingOf x o .contract) ≡ false → P enteredBySweep) → P (enteredOf x number o)
   unfolding enteredOf
   entered-either P = pick-either P (inAuction (listingOf x o .contract)) restedWhole enteredBySweep
 
   -- 12 counts the trades that are made
-  pub trades-needed : tradesNeeded x o ≡ length (enteredOf x o .trades)
+  pub trades-needed : tradesNeeded x number o ≡ length (enteredOf x number o .trades)
   unfolding tradesNeeded enteredOf restWhole enter
   trades-needed = cases (inAuction (listingOf x o .contract))
     where

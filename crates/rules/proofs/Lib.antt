@@ -18,3 +18,5 @@ pub mod AuctionTrades
 pub mod AuctionUncrossed
 pub mod AuctionOutcome
 pub mod AuctionSteps
+pub mod Changes
+pub mod Lessened

@@ -58,28 +58,29 @@ mark false = 0
 unfoldable pub listingOf : Exchange → NewOrder → Listing
 listingOf x o = listingAt x (placeOf (o .contract))
 
--- the order with the number it would get
-unfoldable pub takerOf : Exchange → NewOrder → Taker
-takerOf x o =
+-- the order with the number that it has, and the next time stamp: "new at insert and at each loss of place" (02, ticket 8)
+unfoldable pub takerOf : Exchange → ℕ → NewOrder → Taker
+takerOf x number o =
     record {
       account = placeOf (o .account);
       contract = placeOf (o .contract);
       sell = o .sell;
       close = mark (o .close);
-      number = x .next;
+      number = number;
+      stamp = x .nextstamp;
       condition = o .condition;
       method = methodOf (listingOf x o .contract);
       best = bestPrice (opposite (o .sell) (listingOf x o));
     }
 
 unfoldable pub fillableLots : Exchange → NewOrder → ℕ
-fillableLots x o = fillable (takerOf x o) (opposite (o .sell) (listingOf x o))
+fillableLots x o = fillable (takerOf x (x .next) o) (opposite (o .sell) (listingOf x o))
 
 -- how many trades the order would make: in auction none, since orders "rest without matching" (02, ticket 4)
-unfoldable pub tradesNeeded : Exchange → NewOrder → ℕ
-tradesNeeded x o =
+unfoldable pub tradesNeeded : Exchange → ℕ → NewOrder → ℕ
+tradesNeeded x number o =
     pick (inAuction (listingOf x o .contract)) 0
-    (length (sweep (takerOf x o) (o .lots) (listingOf x o .contract .last) (opposite (o .sell) (listingOf x o)) .trades))
+    (length (sweep (takerOf x number o) (o .lots) (listingOf x o .contract .last) (opposite (o .sell) (listingOf x o)) .trades))
 
 -- ---- the tests of an insert
 
@@ -128,6 +129,18 @@ moneyRefused x o =
     && ltZ (accountAt (x .accounts) (placeOf (o .account)) .balance)
     (pos (chargedWith x (placeOf (o .account)) (placeOf (o .contract)) (o .sell) (o .lots)))
 
+-- 10: "order numbers used up"
+abbrev pub numbersUsedUp : Exchange → Bool
+numbersUsedUp x = leb numbersEnd (x .next)
+
+-- 10: "stamps used up, for inserts too"; "Stamps end at 999,999 a day." (02, ticket 8)
+abbrev pub stampsUsedUp : Exchange → Bool
+stampsUsedUp x = leb numbersEnd (x .nextstamp)
+
+-- 12: "it would make more trades than the day has room for"
+unfoldable pub tradesRefused : Exchange → ℕ → NewOrder → Bool
+tradesRefused x number o = ltb maxTrades (length (x .trades) + tradesNeeded x number o)
+
 -- ---- the refusals of each kind, "Order: 21, 1, then .."
 
 -- "for insert 2 to 13 rising"
@@ -144,12 +157,10 @@ insertRefusals x o =
     ∷ (7 when priceRefused (listingOf x o .contract) o)
     ∷ (8 when holdingRefused x o)
     ∷ (9 when moneyRefused x o)
-    -- "order numbers used up"
-    ∷ (10 when leb numbersEnd (x .next))
+    ∷ (10 when (numbersUsedUp x || stampsUsedUp x))
     -- "fill or kill: fillable lots below lots"
     ∷ (11 when (isFillOrKill (o .time) && ltb (fillableLots x o) (o .lots)))
-    -- "it would make more trades than the day has room for"
-    ∷ (12 when ltb maxTrades (length (x .trades) + tradesNeeded x o))
+    ∷ (12 when tradesRefused x (x .next) o)
     -- "good for day, own side has 64, fillable lots below lots"; in auction "13 whenever the own side has 64" (02, ticket 4)
     ∷ (13 when (isGoodForDay (o .time) && leb maxResting (length (own (o .sell) (listingOf x o))) && (inAuction (listingOf x o .contract) || ltb (fillableLots x o) (o .lots))))
     ∷ []

@@ -119,8 +119,8 @@ abbrev pub lessFirst : ℕ → Order → List Order → List Order
 lessFirst lots o os = stays o (o .lots - lots) ++ os
 
 -- "best buy with best sell by price and number", as long as both reach the price. The queues are best price first, then lower
--- number: each is taken from its front, and nothing else is asked of its order. Every turn fills an order, so there are no more
--- turns than orders.
+-- time stamp (02, ticket 8): each is taken from its front, and nothing else is asked of its order. Every turn fills an order, so
+-- there are no more turns than orders.
 unfoldable pub matchIn : ℕ → ℕ → ℕ → List Order → List Order → Matched
 matchIn zero contract price buys sells = unmatched buys sells
 matchIn (suc turns) contract price [] sells = unmatched [] sells

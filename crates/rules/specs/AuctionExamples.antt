@@ -27,7 +27,7 @@ use Rattle.rules.specs.declared.TimeCondition.the-variants.{GoodForDay}
 use Rattle.rules.specs.declared.Trade.{Trade}
 
 order : ℕ → ℕ → ℕ → Order
-order number price lots = record { price = price; number = number; account = 0; lots = lots; close = 0; stamp = 0; quote = 0 }
+order number price lots = record { price = price; number = number; account = 0; lots = lots; close = 0; stamp = number; quote = 0 }
 
 -- 001: buys 4 at 102, 6 at 101, 5 at 100; sells 3 (or 4) at 101, 7 at 102, 6 at 103
 buys001 : List Order
@@ -78,7 +78,7 @@ sellOf m i = getD (m .trades) i noTrade .sellorder
 -- the reference 104; a trade was made before in another contract
 
 of : Order → ℕ → ℕ → Order
-of o account close = record { price = o .price; number = o .number; account = account; lots = o .lots; close = close; stamp = 0; quote = 0 }
+of o account close = record { price = o .price; number = o .number; account = account; lots = o .lots; close = close; stamp = o .stamp; quote = 0 }
 
 account : ℕ → Account
 account long = record { balance = pos 0; maker = false; holdings = record { long = long; short = 0; startlong = long; startshort = 0 } ∷ noHolding ∷ [] }
@@ -98,14 +98,14 @@ asked phase buys =
       accounts = account 3 ∷ account 0 ∷ [];
       trades = noTrade ∷ [];
       next = 3;
-      nextstamp = 1;
+      nextstamp = 3;
       settlements = 0;
     }
 
 -- the order of account 2 as it arrives
 entered : ℕ → Entered
 entered phase =
-    enteredOf (asked phase [])
+    enteredOf (asked phase []) 3
     (record { account = 2; contract = 1; sell = false; close = false; lots = 2; price = 105; condition = Limit 105; time = GoodForDay })
 
 -- the change to continuous with these buys resting
@@ -126,7 +126,7 @@ deep =
       accounts = account 0 ∷ account 0 ∷ [];
       trades = noTrade ∷ [];
       next = 4;
-      nextstamp = 1;
+      nextstamp = 4;
       settlements = 0;
     }
 

@@ -21,7 +21,8 @@ maxTrades = 1_024
 abbrev pub maxSettlements : ℕ
 maxSettlements = 250
 
--- "Order numbers: 1 to 999,999 each day": the next number is 1,000,000 when they are used up
+-- "Order numbers: 1 to 999,999 each day": the next number is 1,000,000 when they are used up. Of time stamps too: "Stamps end at
+-- 999,999 a day." (document 02, ticket 8)
 abbrev pub numbersEnd : ℕ
 numbersEnd = 1_000_000
 

@@ -9,10 +9,11 @@ use lib.ListN.{replicate}
 use Rattle.laws.specs.Choice.{all, allOf}
 use Rattle.laws.specs.Sums.{sumOf}
 use Rattle.laws.specs.Tabulate.{tabulate}
-use Rattle.rules.specs.Answers.{amountRefused, cancelRefusals, changeListed, depositRefusals, fillableLots, firstOf, insertRefusals, leavesTooLittle, liftsTooHigh, listingOf, holdingRefused, moneyRefused, noSuchOrder, numbered, ofAnother, overHolding, overLimit, phaseRefusals, priceRefusedBy, pullRefusals, removalRefused, restingOrder, settleRefusals, takerOf, tradesNeeded, withdrawRefusals, conditionsRefused, takesOrders}
+use Rattle.rules.specs.Answers.{amountRefused, cancelRefusals, changeListed, depositRefusals, fillableLots, firstOf, insertRefusals, leavesTooLittle, liftsTooHigh, listingOf, holdingRefused, moneyRefused, noSuchOrder, numbered, ofAnother, overHolding, overLimit, phaseRefusals, priceRefusedBy, pullRefusals, removalRefused, restingOrder, settleRefusals, takerOf, tradesNeeded, tradesRefused, withdrawRefusals, conditionsRefused, takesOrders}
 use Rattle.rules.specs.Bounds.{allowedToday, dayHigh, dayLow, onTick, auction, closed, continuous, noTrading, preOpen}
 use Rattle.rules.specs.Auction.{auctionMatch, bestFrom, bestOf, better, chosenPrice, lotsReaching, matchAt, matchIn, matchOf, prices, surplus, tradeAt, volume}
-use Rattle.rules.specs.Command.{bits, commandOf, insertFlags, insertOf, newOrder, phaseOf, priceCondition, settleOf, timeCondition, zeros}
+use Rattle.rules.specs.Change.{changeRefusals}
+use Rattle.rules.specs.Command.{bits, changeOf, commandOf, insertFlags, insertOf, newOrder, phaseOf, priceCondition, settleOf, timeCondition, zeros}
 use Rattle.rules.specs.Examples.{Row, _gives_, allRight}
 use Rattle.rules.specs.Exchange.{Exchange, absent, accountAt, bestPrice, holdingAt, listingAt, lotsWhere, noHolding, noTrade, resting}
 use Rattle.rules.specs.Holdings.{afterLeg, bookLeg}
@@ -37,7 +38,7 @@ contract : ℕ → Contract
 contract phase = record { multiplier = 10; tick = 2; reference = 110; band = 10; limit = 1_000; rate = 1_000; method = 0; phase = phase; last = 110 }
 
 order : ℕ → ℕ → ℕ → Order
-order number price lots = record { price = price; number = number; account = 0; lots = lots; close = 0; stamp = 0; quote = 0 }
+order number price lots = record { price = price; number = number; account = 0; lots = lots; close = 0; stamp = number; quote = 0 }
 
 rich : Account
 rich = record { balance = pos 1_100_000; maker = false; holdings = noHolding ∷ [] }
@@ -57,12 +58,17 @@ asked phase buys trades next settlements =
       accounts = rich ∷ poor ∷ [];
       trades = replicate trades noTrade;
       next = next;
-      nextstamp = 1;
+      nextstamp = next;
       settlements = settlements;
     }
 
 open′ : Exchange
 open′ = asked continuous 0 0 100 0
+
+-- that with a next time stamp
+stamps : ℕ → Exchange
+stamps nextstamp =
+    record { listings = open′ .listings; accounts = open′ .accounts; trades = []; next = 100; nextstamp = nextstamp; settlements = 0 }
 
 -- the contract in auction, a buy of 9 at 112 resting too, so many trades made: its match makes two trades
 crossed : ℕ → Exchange
@@ -72,7 +78,7 @@ crossed trades =
       accounts = rich ∷ poor ∷ [];
       trades = replicate trades noTrade;
       next = 100;
-      nextstamp = 1;
+      nextstamp = 100;
       settlements = 0;
     }
 
@@ -126,6 +132,9 @@ codes =
     ∷ (codeOf (asked continuous 0 0 1_000_000 0) (buy 2 1 999 100 (Limit 100) GoodForDay) gives 9)
     ∷ (codeOf (asked continuous 0 0 1_000_000 0) (buy 1 1 13 112 (Limit 112) FillOrKill) gives 10)
     ∷ (codeOf (asked continuous 0 0 999_999 0) (buy 1 1 12 112 (Limit 112) FillOrKill) gives 0)
+    -- time stamps too may be used up: 999,999 is the last
+    ∷ (codeOf (stamps 1_000_000) (buy 1 1 13 112 (Limit 112) FillOrKill) gives 10)
+    ∷ (codeOf (stamps 999_999) (buy 1 1 12 112 (Limit 112) FillOrKill) gives 0)
     -- fill or kill before the room for trades, that before the room in the queue
     ∷ (codeOf (asked continuous 0 1_023 100 0) (buy 1 1 13 112 (Limit 112) FillOrKill) gives 11)
     ∷ (codeOf (asked continuous 0 1_023 100 0) (buy 1 1 12 112 (Limit 112) FillOrKill) gives 12)
@@ -214,8 +223,12 @@ codes =
     ∷ (codeOf open′ (commandOf (raw 3 0 0 42 0)) gives 2)
     ∷ (codeOf open′ (commandOf (raw 7 0 0 0 1)) gives 1)
     ∷ (codeOf open′ (commandOf (raw 8 1 1 0 0)) gives 1)
+    -- a change: its flags and its amount are unused
+    ∷ (codeOf open′ (commandOf (raw 9 1 1 0 5)) gives 14)
+    ∷ (codeOf open′ (commandOf (raw 9 1 1 1 5)) gives 1)
+    ∷ (codeOf open′ (commandOf (record { kind = 9; account = 1; contract = 1; flags = 0; lots = 5; price = 0; number = 0; amount = 1 })) gives 1)
     ∷ []
 
 pub code-examples : allRight codes ≡ true
-unfolding allRight codes contract order rich poor asked open′ buy sell raw absent accountAt afterLeg all allOf allowedToday amountRefused bestPrice bits bookLeg cancelRefusals changeListed chargeOf chargedLots chargedTo codeOf commandOf dayHigh dayLow depositRefusals fillable fillableLots firstOf holdingAt insertFlags insertOf insertRefusals kindOf leavesTooLittle liftsTooHigh listingAt listingOf holdingRefused lotsWhere meets methodOf middle pairedPrice moneyRefused newOrder noSuchOrder numbered ofAnother onTick overHolding overLimit phaseOf phaseRefusals priceCondition priceRefusedBy pullRefusals removalRefused resting restingOrder settleOf settleRefusals stays sumOf sweep tabulate takerOf timeCondition tradePrice tradeWith tradesNeeded withdrawRefusals zeros crossed auctionMatch bestFrom bestOf better chosenPrice conditionsRefused lotsReaching matchAt matchIn matchOf prices surplus takesOrders tradeAt volume
+unfolding allRight codes contract order rich poor asked open′ stamps buy sell raw absent accountAt afterLeg all allOf allowedToday amountRefused bestPrice bits bookLeg cancelRefusals changeListed changeOf changeRefusals chargeOf chargedLots chargedTo codeOf commandOf dayHigh dayLow depositRefusals fillable fillableLots firstOf holdingAt insertFlags insertOf insertRefusals kindOf leavesTooLittle liftsTooHigh listingAt listingOf holdingRefused lotsWhere meets methodOf middle pairedPrice moneyRefused newOrder noSuchOrder numbered ofAnother onTick overHolding overLimit phaseOf phaseRefusals priceCondition priceRefusedBy pullRefusals removalRefused resting restingOrder settleOf settleRefusals stays sumOf sweep tabulate takerOf timeCondition tradePrice tradeWith tradesNeeded tradesRefused withdrawRefusals zeros crossed auctionMatch bestFrom bestOf better chosenPrice conditionsRefused lotsReaching matchAt matchIn matchOf prices surplus takesOrders tradeAt volume
 code-examples = refl

@@ -117,7 +117,7 @@ sound file =
     && all (contractSound file) (contractsIn file)
     && all (accountSound file) (accountsIn file)
 
--- "Its run opens in pre-open, with no orders, trades, holdings or settlements."
+-- "Its run opens in pre-open, with no orders, trades, holdings or settlements." Order numbers and time stamps begin with 1.
 unfoldable pub openingListing : List ℕ → ℕ → Listing
 openingListing file c = record { contract = contractFrom file (contractPlace c); buys = []; sells = [] }
 

@@ -31,14 +31,14 @@ down (negsuc n) = suc n
 
 -- an order and a trade of which only price and lots matter, a limit buy of which only the price does
 order : ℕ → ℕ → Order
-order price lots = record { price = price; number = 1; account = 0; lots = lots; close = 0; stamp = 0; quote = 0 }
+order price lots = record { price = price; number = 1; account = 0; lots = lots; close = 0; stamp = 1; quote = 0 }
 
 trade : ℕ → ℕ → Trade
 trade lots price =
     record { contract = 0; price = price; lots = lots; buyorder = 1; sellorder = 2; buyer = 0; seller = 1; buyclose = 0; sellclose = 0 }
 
 limitBuy : ℕ → Taker
-limitBuy price = record { account = 0; contract = 0; sell = false; close = 0; number = 3; condition = Limit price; method = Middle; best = 110 }
+limitBuy price = record { account = 0; contract = 0; sell = false; close = 0; number = 3; stamp = 3; condition = Limit price; method = Middle; best = 110 }
 
 sells : List Order
 sells = order 110 7 ∷ order 111 5 ∷ []

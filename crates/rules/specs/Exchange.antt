@@ -23,7 +23,7 @@ pub record Listing : Type 0 where
 
 -- "The state keeps, for each account and each contract, long and short holdings at the start of the day and now;
 -- balances; queues; the day's trades; each contract's state, reference and last price; the next order number; the count of
--- settlements."
+-- settlements." Since ticket 8 of document 02 the next time stamp too.
 pub record Exchange : Type 0 where
   pub listings : List Listing
   pub accounts : List Account

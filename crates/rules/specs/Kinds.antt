@@ -8,6 +8,7 @@ use lib.Dec.{eqb}
 use Rattle.laws.specs.Choice.{pick}
 use Rattle.rules.specs.Answers.{Refusal, _when_, firstOf, depositRefusals, withdrawRefusals, insertRefusals, cancelRefusals, pullRefusals, phaseRefusals, settleRefusals}
 use Rattle.rules.specs.Auction.{matchOf}
+use Rattle.rules.specs.Change.{asked, changeRefusals, changed, changeTrades}
 use Rattle.rules.specs.Command.{phaseKnown}
 use Rattle.rules.specs.Exchange.{Exchange, placeOf}
 use Rattle.rules.specs.Settlement.{settlementPrice}
@@ -15,7 +16,7 @@ use Rattle.rules.specs.Step.{Effect, answerOf, deposited, withdrawn, ent
 use Rattle.rules.specs.declared.Answer.{Answer}
 use Rattle.rules.specs.declared.Trade.{Trade}
 use Rattle.rules.specs.declared.Command.{Command}
-use Rattle.rules.specs.declared.Command.the-variants.{Malformed, Deposit, Withdraw, Insert, Cancel, Pull, Phase, Settle}
+use Rattle.rules.specs.declared.Command.the-variants.{Malformed, Deposit, Withdraw, Insert, Cancel, Pull, Phase, Settle, Change}
 
 -- what moves money: an account is paid an amount, or pays it; trades are made; all is settled, at a price for each contract
 pub data Move : Type 0 where
@@ -61,7 +62,7 @@ kindOf x (Insert o) =
     record {
       refusals = insertRefusals x o;
       effect = inserted x o;
-      moves = makes (enteredOf x o .trades);
+      moves = makes (enteredOf x (x .next) o .trades);
     }
 -- 4 cancel
 kindOf x (Cancel account contract operator number) =
@@ -90,6 +91,13 @@ kindOf x Settle =
       refusals = settleRefusals x;
       effect = settledAll x;
       moves = settles (settlementPrice x);
+    }
+-- 9 change
+kindOf x (Change account contract number lots price) =
+    record {
+      refusals = changeRefusals x (asked account contract number lots price);
+      effect = changed x (asked account contract number lots price);
+      moves = makes (changeTrades x (asked account contract number lots price));
     }
 
 -- ---- the step of a well-formed state

@@ -2,6 +2,7 @@ pub mod Bounds
 pub mod Exchange
 pub mod Holdings
 pub mod WellFormed
+pub mod Change
 pub mod Command
 pub mod Matching
 pub mod EarlyStop
@@ -18,6 +19,7 @@ pub mod DayFile
 pub mod Lines
 pub mod Examples
 pub mod CodeExamples
+pub mod ChangeExamples
 pub mod Condition3Examples
 pub mod MarginExamples
 pub mod MatchingExamples

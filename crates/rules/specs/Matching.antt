@@ -91,8 +91,8 @@ abbrev pub afterTrade : Trade → List Order → Swept → Swept
 afterTrade tr kept s = record { trades = tr ∷ s .trades; rest = kept ++ s .rest }
 
 -- "Taken by price, then number, each trades the smaller remainder. The sweep stops at the first order that is no
--- counterpart, or when the lots are used up." "An account may meet its own order". The queue is best price first, then lower number; each trade's price is the
--- last price of the next.
+-- counterpart, or when the lots are used up." "An account may meet its own order". The queue is best price first, then lower time
+-- stamp (02, ticket 8): it is taken from its front. Each trade's price is the last price of the next.
 unfoldable pub sweep : Taker → ℕ → ℕ → List Order → Swept
 sweep t left last [] = untouched []
 sweep t left last (o ∷ os) =
@@ -125,10 +125,10 @@ pub record Entered : Type 0 where
   pub own : List Order
   pub opposite : List Order
 
--- the order that rests, at its limit
+-- the order that rests, at its limit, with its time stamp
 unfoldable pub remainder : Taker → ℕ → ℕ → Order
 remainder t price lots =
-    record { price = price; number = t .number; account = t .account; lots = lots; close = t .close; stamp = 0; quote = 0 }
+    record { price = price; number = t .number; account = t .account; lots = lots; close = t .close; stamp = t .stamp; quote = 0 }
 
 unfoldable pub restLots : Taker → ℕ → ℕ → List Order → List Order
 restLots t price zero queue = queue

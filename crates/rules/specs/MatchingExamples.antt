@@ -16,14 +16,14 @@ use Rattle.rules.specs.declared.PriceCondition.the-variants.{Limit, Mark
 use Rattle.rules.specs.declared.Taker.{Taker}
 
 order : ℕ → ℕ → ℕ → Order
-order number price lots = record { price = price; number = number; account = 1; lots = lots; close = 0; stamp = 0; quote = 0 }
+order number price lots = record { price = price; number = number; account = 1; lots = lots; close = 0; stamp = number; quote = 0 }
 
 -- sells 7 at 110, 5 at 111, 4 at 112
 sells : List Order
 sells = order 1 110 7 ∷ order 2 111 5 ∷ order 3 112 4 ∷ []
 
 buyer : PriceCondition → Taker
-buyer condition = record { account = 0; contract = 0; sell = false; close = 0; number = 9; condition = condition; method = Middle; best = 110 }
+buyer condition = record { account = 0; contract = 0; sell = false; close = 0; number = 9; stamp = 9; condition = condition; method = Middle; best = 110 }
 
 -- a buy of so many lots, the last price 109
 swept : PriceCondition → ℕ → Swept

@@ -174,7 +174,7 @@ settledContract c price =
 unfoldable pub settledListing : Exchange → ℕ → Listing
 settledListing x c = record { contract = settledContract (listingAt x c .contract) (settlementPrice x c); buys = []; sells = [] }
 
--- "trades and order numbers start afresh"
+-- "trades and order numbers start afresh", and time stamps, "given in turn from 1 each day" (02, ticket 8)
 unfoldable pub settled : Exchange → Exchange
 settled x =
     record {

@@ -57,14 +57,14 @@ withPhase c phase =
     record { multiplier = c .multiplier; tick = c .tick; reference = c .reference; band = c .band; limit = c .limit; rate = c .rate; method = c .method; phase = phase; last = c .last }
 
 -- a contract's listing replaced, and trades made: booked on the accounts, and recorded behind those of the day
-abbrev pub withTrades : Exchange → ℕ → Listing → List Trade → ℕ → Exchange
-withTrades x c l trades next =
+abbrev pub withTrades : Exchange → ℕ → Listing → List Trade → ℕ → ℕ → Exchange
+withTrades x c l trades next nextstamp =
     record {
       listings = set (x .listings) c l;
       accounts = bookTrades (x .accounts) trades;
       trades = x .trades ++ trades;
       next = next;
-      nextstamp = x .nextstamp;
+      nextstamp = nextstamp;
       settlements = x .settlements;
     }
 
@@ -96,11 +96,11 @@ limitOf Market = 0
 limitOf Best = 0
 
 -- "In auction, limit good-for-day orders rest without matching" (02, ticket 4)
-unfoldable pub enteredOf : Exchange → NewOrder → Entered
-enteredOf x o =
+unfoldable pub enteredOf : Exchange → ℕ → NewOrder → Entered
+enteredOf x number o =
     pick (inAuction (listingOf x o .contract))
-    (restWhole (takerOf x o) (o .lots) (limitOf (o .condition)) (own (o .sell) (listingOf x o)) (opposite (o .sell) (listingOf x o)))
-    (enter (takerOf x o) (o .lots) (limitOf (o .condition)) (isGoodForDay (o .time)) (listingOf x o .contract .last)
+    (restWhole (takerOf x number o) (o .lots) (limitOf (o .condition)) (own (o .sell) (listingOf x o)) (opposite (o .sell) (listingOf x o)))
+    (enter (takerOf x number o) (o .lots) (limitOf (o .condition)) (isGoodForDay (o .time)) (listingOf x o .contract .last)
     (own (o .sell) (listingOf x o))
     (opposite (o .sell) (listingOf x o)))
 
@@ -108,13 +108,16 @@ enteredOf x o =
 unfoldable pub listingAfter : Listing → Bool → Entered → Listing
 listingAfter l sell e = withQueues sell (withLast (l .contract) (lastPrice (l .contract .last) (e .trades))) (e .own) (e .opposite)
 
--- "given to accepted orders in turn over all contracts": the next number is one more
-unfoldable pub exchangeAfter : Exchange → NewOrder → Entered → Exchange
-exchangeAfter x o e = withTrades x (placeOf (o .contract)) (listingAfter (listingOf x o) (o .sell) e) (e .trades) (x .next + 1)
+-- the state with an order entered: a time stamp is taken, and the next order number is `next`
+unfoldable pub exchangeAfter : Exchange → NewOrder → Entered → ℕ → Exchange
+exchangeAfter x o e next =
+    withTrades x (placeOf (o .contract)) (listingAfter (listingOf x o) (o .sell) e) (e .trades) next (x .nextstamp + 1)
 
+-- "given to accepted orders in turn over all contracts": the next number is one more
 unfoldable pub inserted : Exchange → NewOrder → Effect
 inserted x o =
-    accepted (x .next) (tradedLots (enteredOf x o .trades)) (enteredOf x o .rested) (exchangeAfter x o (enteredOf x o))
+    accepted (x .next) (tradedLots (enteredOf x (x .next) o .trades)) (enteredOf x (x .next) o .rested)
+    (exchangeAfter x o (enteredOf x (x .next) o) (x .next + 1))
 
 -- ---- cancel and pull
 
@@ -157,7 +160,7 @@ listingMatched l phase m =
     }
 
 unfoldable pub exchangeMatched : Exchange → ℕ → ℕ → Matched → Exchange
-exchangeMatched x c phase m = withTrades x c (listingMatched (listingAt x c) phase m) (m .trades) (x .next)
+exchangeMatched x c phase m = withTrades x c (listingMatched (listingAt x c) phase m) (m .trades) (x .next) (x .nextstamp)
 
 -- its trades "appear after the state command's C line, whose traded field is their lots" (02, ticket 4): none but the match's
 unfoldable pub phaseChanged : Exchange → ℕ → ℕ → Effect

@@ -17,7 +17,8 @@ use Rattle.rules.specs.declared.Order.{Order}
 use Rattle.rules.specs.declared.Trade.{Trade}
 
 -- ---- "counts, numbers, parameters and prices keep the ranges above, the next order number 1 to 1,000,000; references and
--- last prices are tick multiples"; the next time stamp too is "1 to 1,000,000" (02, ticket 8)
+-- last prices are tick multiples"; the next time stamp too, since "Stamps end at 999,999 a day."
+-- (02, ticket 8)
 
 unfoldable pub contractInRange : Contract → Bool
 contractInRange c = termsInRange c && leb (c .phase) maxPhase && tickMultiple (c .tick) (c .last)
@@ -25,11 +26,11 @@ contractInRange c = termsInRange c && leb (c .phase) maxPhase && tickMultiple (c
 unfoldable pub countersInRange : Exchange → Bool
 countersInRange x = within 1 numbersEnd (x .next) && within 1 numbersEnd (x .nextstamp) && leb (x .settlements) maxSettlements
 
--- ---- "each queue is sorted best price first, then lower order number; the two are uncrossed (best buy below best sell)", but
--- in auction "the book may be crossed" (02, ticket 4)
+-- ---- "each queue is sorted best price first", then lower time stamp: "queues .. go by price, then stamp, in the well-formed rule
+-- too" (02, ticket 8); "the two are uncrossed (best buy below best sell)", but in auction "the book may be crossed" (02, ticket 4)
 
 unfoldable pub ahead : Bool → Order → Order → Bool
-ahead sell o p = worse sell (p .price) (o .price) || eqb (o .price) (p .price) && ltb (o .number) (p .number)
+ahead sell o p = worse sell (p .price) (o .price) || eqb (o .price) (p .price) && ltb (o .stamp) (p .stamp)
 
 unfoldable pub aheadOfFirst : Bool → Order → List Order → Bool
 aheadOfFirst sell o [] = true
@@ -45,28 +46,29 @@ uncrossed (b ∷ bs) [] = true
 uncrossed (b ∷ bs) (s ∷ ss) = ltb (b .price) (s .price)
 
 -- ---- "resting orders have 1 to 1,000 lots, an existing account, a price allowed today, and a number below the next, used
--- once over all queues"
+-- once over all queues", and a time stamp, "given in turn from 1 .., used once, below the next" (02, ticket 8)
 
-unfoldable pub orderInRange : ℕ → ℕ → Contract → Order → Bool
-orderInRange accounts next c o =
+unfoldable pub orderInRange : ℕ → ℕ → ℕ → Contract → Order → Bool
+orderInRange accounts next nextstamp c o =
     within 1 maxLots (o .lots)
     && ltb (o .account) accounts
     && allowedToday c (o .price)
     && leb 1 (o .number)
     && ltb (o .number) next
     && leb (o .close) 1
-    -- no order has a time stamp or a quote mark yet (decision 34)
-    && eqb (o .stamp) 0
+    && leb 1 (o .stamp)
+    && ltb (o .stamp) nextstamp
+    -- no order has a quote mark yet (decision 34)
     && eqb (o .quote) 0
 
-unfoldable pub listingInRange : ℕ → ℕ → Listing → Bool
-listingInRange accounts next l =
+unfoldable pub listingInRange : ℕ → ℕ → ℕ → Listing → Bool
+listingInRange accounts next nextstamp l =
     contractInRange (l .contract)
     && sorted false (l .buys)
     && sorted true (l .sells)
     && (inAuction (l .contract) || uncrossed (l .buys) (l .sells))
-    && allOf (orderInRange accounts next (l .contract)) (l .buys)
-    && allOf (orderInRange accounts next (l .contract)) (l .sells)
+    && allOf (orderInRange accounts next nextstamp (l .contract)) (l .buys)
+    && allOf (orderInRange accounts next nextstamp (l .contract)) (l .sells)
 
 -- a field of each order of a queue, and of all queues
 unfoldable pub listed : (Order → ℕ) → List Order → List ℕ
@@ -85,6 +87,12 @@ numbers os = listed numberOf os
 
 abbrev pub allNumbers : List Listing → List ℕ
 allNumbers ls = allListed numberOf ls
+
+abbrev pub stampOf : Order → ℕ
+stampOf o = o .stamp
+
+abbrev pub allStamps : List Listing → List ℕ
+allStamps ls = allListed stampOf ls
 
 unfoldable pub usedOnce : List ℕ → Bool
 usedOnce [] = true
@@ -140,8 +148,9 @@ balanceInRange settlements a = leb (natAbs (a .balance)) (maxBalance + settlemen
 unfoldable pub wellFormedContents : Exchange → Bool
 wellFormedContents x =
     countersInRange x
-    && allOf (listingInRange (length (x .accounts)) (x .next)) (x .listings)
+    && allOf (listingInRange (length (x .accounts)) (x .next) (x .nextstamp)) (x .listings)
     && usedOnce (allNumbers (x .listings))
+    && usedOnce (allStamps (x .listings))
     && allOf (tradeInRange x) (x .trades)
     && replays x
     && all (holdingsInRange x) (length (x .accounts))

@@ -25,7 +25,11 @@ contract : ℕ → ℕ → Contract
 contract phase last = record { multiplier = 10; tick = 2; reference = 110; band = 10; limit = 10; rate = 1_000; method = 0; phase = phase; last = last }
 
 order : ℕ → ℕ → ℕ → ℕ → Order
-order number price lots close = record { price = price; number = number; account = 0; lots = lots; close = close; stamp = 0; quote = 0 }
+order number price lots close = record { price = price; number = number; account = 0; lots = lots; close = close; stamp = number; quote = 0 }
+
+-- a buy of 4 at 108 with a number and another time stamp
+stamped : ℕ → ℕ → Order
+stamped number stamp = record { price = 108; number = number; account = 0; lots = 4; close = 0; stamp = stamp; quote = 0 }
 
 -- account 2 buys 3 of account 1, both to open
 trade : ℕ → ℕ → ℕ → Trade
@@ -44,7 +48,7 @@ asked phase last buys sells trades short next balance =
       accounts = account balance 2 short 2 0 ∷ account (pos 0) 3 2 0 2 ∷ [];
       trades = trades;
       next = next;
-      nextstamp = 1;
+      nextstamp = next;
       settlements = 1;
     }
 
@@ -72,7 +76,7 @@ table =
     ∷ (test 111 buys sells trades 3 8 (pos 0) gives 0)
     ∷ (test 110 [] [] trades 3 0 (pos 0) gives 0)
     ∷ (test 110 buys sells trades 3 7 (pos 0) gives 0)
-    -- a queue out of order, by price and by number; a crossed book
+    -- a queue out of order, by price and by time stamp; a crossed book
     ∷ (test 110 (order 6 106 1 1 ∷ order 3 108 4 0 ∷ []) sells trades 3 8 (pos 0) gives 0)
     ∷ (test 110 (order 4 108 4 0 ∷ order 3 108 4 0 ∷ []) sells trades 3 8 (pos 0) gives 0)
     ∷ (test 110 (order 3 110 4 0 ∷ []) sells trades 3 8 (pos 0) gives 0)
@@ -88,6 +92,10 @@ table =
     ∷ (test 110 buys (order 5 122 1 0 ∷ []) trades 3 8 (pos 0) gives 0)
     ∷ (test 110 (order 3 108 1 2 ∷ []) sells trades 3 8 (pos 0) gives 0)
     ∷ (test 110 (order 5 108 1 0 ∷ []) sells trades 3 8 (pos 0) gives 0)
+    -- sorted by time stamp, whatever the numbers, and by number alone; a stamp used twice, over two queues
+    ∷ (test 110 (stamped 4 3 ∷ stamped 3 4 ∷ []) sells trades 3 8 (pos 0) gives 1)
+    ∷ (test 110 (stamped 3 4 ∷ stamped 4 3 ∷ []) sells trades 3 8 (pos 0) gives 0)
+    ∷ (test 110 (stamped 3 5 ∷ []) sells trades 3 8 (pos 0) gives 0)
     -- a trade at a price past the band, of no lots, of one order with itself
     ∷ (test 110 buys sells (trade 122 3 2 ∷ []) 3 8 (pos 0) gives 0)
     ∷ (test 110 buys sells (trade 110 3 2 ∷ trade 110 0 2 ∷ []) 3 8 (pos 0) gives 0)
@@ -104,7 +112,7 @@ table =
     ∷ []
 
 pub well-formed-examples : allRight table ≡ true
-unfolding allRight table contract order trade account asked buys sells trades test testIn all allOf sumOf accountAt afterLeg ahead aheadOfFirst allListed allowedToday balanceInRange bookLeg bookTrade bookTrades contractInRange countersInRange dayHigh dayLow holdingAt holdingInRange holdingsInRange legCovered listingAt listingInRange lotsWhere neverBelowZero listed onTick orderInRange replays resting sameHoldings sameLots sorted startOfDay termsInRange tickMultiple tradeInRange uncrossed usedOnce wellFormedContents
+unfolding allRight table contract order stamped trade account asked buys sells trades test testIn all allOf sumOf accountAt afterLeg ahead aheadOfFirst allListed allowedToday balanceInRange bookLeg bookTrade bookTrades contractInRange countersInRange dayHigh dayLow holdingAt holdingInRange holdingsInRange legCovered listingAt listingInRange lotsWhere neverBelowZero listed onTick orderInRange replays resting sameHoldings sameLots sorted startOfDay termsInRange tickMultiple tradeInRange uncrossed usedOnce wellFormedContents
 well-formed-examples = refl
 
 -- ---- counts and room, on a state as it lies, and the replay of closes
@@ -138,13 +146,17 @@ replayed lots =
       accounts = account (pos 0) 0 3 2 3 ∷ account (pos 0) lots 0 0 0 ∷ [];
       trades = record { contract = 0; price = 110; lots = lots; buyorder = 1; sellorder = 2; buyer = 1; seller = 0; buyclose = 0; sellclose = 1 } ∷ [];
       next = 3;
-      nextstamp = 1;
+      nextstamp = 3;
       settlements = 0;
     }
 
--- an order that is in range but for a time stamp and a quote mark
+-- an order that is in range but for its time stamp and its quote mark
 marked : ℕ → ℕ → Order
 marked stamp quote = record { price = 110; number = 1; account = 0; lots = 1; close = 0; stamp = stamp; quote = quote }
+
+-- a state of which only the two counters matter
+counting : ℕ → ℕ → Exchange
+counting next nextstamp = record { listings = []; accounts = []; trades = []; next = next; nextstamp = nextstamp; settlements = 0 }
 
 pub laid : List Row
 laid =
@@ -157,12 +169,18 @@ laid =
     -- a close of what is held, and of one lot more: the short lots do not cover it
     ∷ (mark (replays (replayed 2)) gives 1)
     ∷ (mark (replays (replayed 3)) gives 0)
-    -- no order has a time stamp or a quote mark yet
-    ∷ (mark (orderInRange 2 8 (contract continuous 110) (marked 0 0)) gives 1)
-    ∷ (mark (orderInRange 2 8 (contract continuous 110) (marked 1 0)) gives 0)
-    ∷ (mark (orderInRange 2 8 (contract continuous 110) (marked 0 1)) gives 0)
+    -- a time stamp from 1 and below the next one, whatever the next number; no order has a quote mark yet
+    ∷ (mark (orderInRange 2 9 8 (contract continuous 110) (marked 7 0)) gives 1)
+    ∷ (mark (orderInRange 2 9 8 (contract continuous 110) (marked 8 0)) gives 0)
+    ∷ (mark (orderInRange 2 9 8 (contract continuous 110) (marked 0 0)) gives 0)
+    ∷ (mark (orderInRange 2 9 8 (contract continuous 110) (marked 7 1)) gives 0)
+    -- the next number and the next time stamp are each 1 to 1,000,000
+    ∷ (mark (countersInRange (counting 1_000_000 1_000_000)) gives 1)
+    ∷ (mark (countersInRange (counting 1_000_001 1)) gives 0)
+    ∷ (mark (countersInRange (counting 1 1_000_001)) gives 0)
+    ∷ (mark (countersInRange (counting 1 0)) gives 0)
     ∷ []
 
 pub laid-examples : allRight laid ≡ true
-unfolding allRight laid contract account counted lying replayed marked all sumOf accountAt afterLeg allowedToday bookLeg bookTrade bookTrades countsInRange dayHigh dayLow hasRoom holdingAt legCovered neverBelowZero onTick orderInRange replays sameHoldings sameLots startOfDay
+unfolding allRight laid contract account counted lying replayed marked counting all sumOf accountAt afterLeg allowedToday bookLeg bookTrade bookTrades countersInRange countsInRange dayHigh dayLow hasRoom holdingAt legCovered neverBelowZero onTick orderInRange replays sameHoldings sameLots startOfDay
 laid-examples = refl

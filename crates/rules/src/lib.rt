@@ -37,8 +37,10 @@ pub const QUEUE_STRIDE: usize = MAX_RESTING * ORDER_STRIDE;
 
 pub const TRADE_STRIDE: usize = 9;
 
-// The word of an order that holds its number.
+// The words of an order that hold its number and its time stamp.
 pub const NUMBER_WORD: usize = 1;
+
+pub const STAMP_WORD: usize = 5;
 
 // A contract's terms for the day, with the number of its pairing method, its phase (the paper's contract state) and its last
 // price. Rate and method are as wide as in the day file: four contracts then take 128 bytes, which a compiler still copies in
@@ -81,8 +83,8 @@ pub struct Account {
     pub maker: bool,
 }
 
-// A resting order: its remaining lots, the account's place, 1 for a close and 0 for an open. `stamp` is its time stamp and
-// `quote` its quote mark; no rule gives an order either yet, so both are 0 (decision 34).
+// A resting order: its remaining lots, the account's place, 1 for a close and 0 for an open, its time stamp. `quote` is its quote
+// mark; no rule gives an order one yet, so it is 0 (decision 34).
 pub struct Order {
     pub price: u32,
     pub number: u32,
@@ -109,7 +111,7 @@ pub struct Trade {
 
 // All of the state that does not lie in lent areas. The areas hold the queues and the day's trades, the counts here say
 // how many of each are in use: orders by contract, contracts, accounts, trades of the day. `next` is the next order number,
-// `nextstamp` the next time stamp, of which no rule gives any yet (decision 34).
+// `nextstamp` the next time stamp.
 pub struct State {
     pub contracts: [Contract; MAX_CONTRACTS],
     pub accounts: [Account; MAX_ACCOUNTS],
@@ -195,16 +197,24 @@ pub enum Command {
         phase: u32,
     },
     Settle,
+    Change {
+        account: u32,
+        contract: u32,
+        number: u32,
+        lots: u32,
+        price: u32,
+    },
 }
 
-// An accepted order as it meets the book: account and contract by place, its number, its contract's pairing method, and the
-// best opposite price standing on its arrival (0 where the opposite side is empty).
+// An accepted order as it meets the book: account and contract by place, its number, the time stamp that it gets, its contract's
+// pairing method, and the best opposite price standing on its arrival (0 where the opposite side is empty).
 pub struct Taker {
     pub account: u32,
     pub contract: u32,
     pub sell: bool,
     pub close: u32,
     pub number: u32,
+    pub stamp: u32,
     pub condition: PriceCondition,
     pub method: PairingMethod,
     pub best: u32,

@@ -9,6 +9,9 @@ use rules::State;
 // The words of a record, one for each of its fields in the order in which they are declared.
 pub const ORDER_WORDS: usize = rules::ORDER_STRIDE;
 
+// The place of the stamp among an order's words.
+const STAMP_FIELD: usize = 5;
+
 pub const TRADE_WORDS: usize = rules::TRADE_STRIDE;
 
 pub const ANSWER_WORDS: usize = 4;
@@ -60,7 +63,7 @@ fn filling() -> State {
     let account = Account {
         balance: -4611686018427387904,
         holdings: [holding; 4],
-        maker: false,
+        maker: true,
     };
     let contract = Contract {
         multiplier: 2779096485,
@@ -87,7 +90,7 @@ fn filling() -> State {
     }
 }
 
-// "0 counts: contracts, accounts, trades, next order number, next time stamp, settlements"
+// "0 counts: contracts, accounts, trades, next order number, next stamp, settlements"
 fn with_counts(state: State, v: [u64; 16]) -> State {
     let mut s = state;
     s.contractcount = reading::size(v[0]);
@@ -154,14 +157,15 @@ fn with_queues(state: State, v: [u64; 16]) -> State {
     s
 }
 
-// "4 balance: place of the account, balance (may be negative)"
-fn with_balance(state: State, v: [u64; 16]) -> State {
+// "4 account: place, balance (may be negative), maker mark"
+fn with_account(state: State, v: [u64; 16]) -> State {
     let place = reading::size(v[0]);
     let balance = reading::signed(v[1]);
     let mut s = state;
     if place < 32 {
         let mut account = s.accounts[place];
         account.balance = balance;
+        account.maker = v[2] == 1;
         s.accounts[place] = account;
     }
     s
@@ -195,15 +199,23 @@ fn value(v: [u64; 16], k: usize) -> u64 {
     0
 }
 
-fn word_of(first: u32, field: usize, risen: u32) -> u32 {
+// The fields that are higher in each further record: the second, and of orders the stamp too.
+fn rises(width: usize, field: usize) -> bool {
     if field == 1 {
+        return true;
+    }
+    width == ORDER_WORDS && field == STAMP_FIELD
+}
+
+fn word_of(first: u32, width: usize, field: usize, risen: u32) -> u32 {
+    if rises(width, field) {
         return std::num::wrapping_add_u32(first, risen);
     }
     first
 }
 
-// "first place in the area, count, step, the fields of the first record; the second field of each further record is higher by the
-// step"
+// "first place in the area, count, step, the fields of the first record; of further records the second field, and of orders the
+// stamp, are higher by the step"
 fn put_records(area: &mut [u32], base: usize, width: usize, v: [u64; 16]) {
     let step = reading::word(v[2]);
     let mut at = reading::sum(base, reading::times(reading::size(v[0]), width));
@@ -212,7 +224,7 @@ fn put_records(area: &mut [u32], base: usize, width: usize, v: [u64; 16]) {
     let mut risen: u32 = 0;
     while at < end {
         let first = reading::word(value(v, reading::sum(3, field)));
-        reading::put_word(area, at, word_of(first, field, risen));
+        reading::put_word(area, at, word_of(first, width, field, risen));
         field = reading::sum(field, 1);
         if field >= width {
             field = 0;
@@ -231,7 +243,7 @@ fn numbers_of(kind: u64) -> usize
         1 => 8,
         2 => 10,
         3 => 3,
-        4 => 2,
+        4 => 3,
         5 => 6,
         6 => 3 + ORDER_WORDS,
         7 => 3 + ORDER_WORDS,
@@ -245,7 +257,7 @@ fn edited_state(state: State, kind: u64, v: [u64; 16]) -> State {
         0 => with_counts(state, v),
         2 => with_contract(state, v),
         3 => with_queues(state, v),
-        4 => with_balance(state, v),
+        4 => with_account(state, v),
         5 => with_holding(state, v),
         _ => state,
     }

@@ -41,54 +41,65 @@ returns-3 : tie.Need-returns-3
 returns-3 c =
     fails (contents-chain _ _ _ _ (fit (c .before .before .before .before .before .before .before .before .before))) 2 (refused (c .before .used-once .ensures) (c .if3 .taken))
 
-trades-in-range-requires : tie.Need-trades-in-range-requires
-trades-in-range-requires c κs =
-    let p = c .before .before .before .before .before .before .before .before .before .before .pre in
-    ((counts-ok _ (p .0) .contracts-high, terms-tested _ _ _ _ (p .0) (p .1) (passed (c .before .before .before .before .listings-in-range .ensures) (c .before .before .before .if2 .left))), trades-words _ _ _ _ (p .0) (p .1))
+used-once-requires-2 : tie.Need-used-once-requires-2
+used-once-requires-2 c κs =
+    (ready _ _ _ _ (c .before .before .before .before .before .before .before .before .before .pre .0) (c .before .before .before .before .before .before .before .before .before .pre .1), omega arith)
 
 returns-4 : tie.Need-returns-4
 returns-4 c =
-    fails (contents-chain _ _ _ _ (fit (c .before .before .before .before .before .before .before .before .before .before .before .before))) 3 (refused (c .before .trades-in-range .ensures) (c .if4 .taken))
+    fails (contents-chain _ _ _ _ (fit (c .before .before .before .before .before .before .before .before .before .before .before))) 3 (refused (c .before .used-once2 .ensures) (c .if4 .taken))
 
-holdings-in-range-requires : tie.Need-holdings-in-range-requires
-holdings-in-range-requires c κs =
-    ready _ _ _ _ (c .before .before .before .before .before .before .before .before .before .before .before .before .pre .0) (c .before .before .before .before .before .before .before .before .before .before .before .before .pre .1)
+trades-in-range-requires : tie.Need-trades-in-range-requires
+trades-in-range-requires c κs =
+    let p = c .before .before .before .before .before .before .before .before .before .before .before .before .pre in
+    ((counts-ok _ (p .0) .contracts-high, terms-tested _ _ _ _ (p .0) (p .1) (passed (c .before .before .before .before .before .before .listings-in-range .ensures) (c .before .before .before .before .before .if2 .left))), trades-words _ _ _ _ (p .0) (p .1))
 
 returns-5 : tie.Need-returns-5
 returns-5 c =
-    fails (contents-chain _ _ _ _ (fit (c .before .before .before .before .before .before .before .before .before .before .before .before .before .before))) 5 (refused (c .before .holdings-in-range .ensures) (c .if5 .taken))
+    fails (contents-chain _ _ _ _ (fit (c .before .before .before .before .before .before .before .before .before .before .before .before .before .before))) 4 (refused (c .before .trades-in-range .ensures) (c .if5 .taken))
 
-replays-requires : tie.Need-replays-requires
-replays-requires c κs =
-    let p = c .before .before .before .before .before .before .before .before .before .before .before .before .before .before .before .pre in
-    let k = counts-ok _ (p .0) in (
-      (k .contracts-high, k .accounts-high, k .trades, trades-words _ _ _ _ (p .0) (p .1)),
-      (
-        trades-tested _ _ _ _ (p .0) (p .1) (passed (c .before .before .before .before .trades-in-range .ensures) (c .before .before .before .if4 .left)),
-        starts-tested _ _ _ _ (p .0) (p .1) (passed (c .before .before .before .before .before .before .before .before .before .listings-in-range .ensures) (c .before .before .before .before .before .before .before .before .if2 .left)) (passed (c .before .before .holdings-in-range .ensures) (c .before .if5 .left)),
-      ),
-    )
+holdings-in-range-requires : tie.Need-holdings-in-range-requires
+holdings-in-range-requires c κs =
+    ready _ _ _ _ (c .before .before .before .before .before .before .before .before .before .before .before .before .before .before .pre .0) (c .before .before .before .before .before .before .before .before .before .before .before .before .before .before .pre .1)
 
 returns-6 : tie.Need-returns-6
 returns-6 c =
-    fails (contents-chain _ _ _ _ (fit (c .before .before .before .before .before .before .before .before .before .before .before .before .before .before .before .before .before))) 4 (refused (c .before .replays .ensures) (c .if6 .taken))
+    fails (contents-chain _ _ _ _ (fit (c .before .before .before .before .before .before .before .before .before .before .before .before .before .before .before .before))) 6 (refused (c .before .holdings-in-range .ensures) (c .if6 .taken))
 
-balances-in-range-requires : tie.Need-balances-in-range-requires
-balances-in-range-requires c κs =
-    (counts-ok _ (c .before .before .before .before .before .before .before .before .before .before .before .before .before .before .before .before .before .pre .0) .accounts-high, few-settlements _ _ _ _ (c .before .before .before .before .before .before .before .before .before .before .before .before .before .before .before .before .before .pre .0) (c .before .before .before .before .before .before .before .before .before .before .before .before .before .before .before .before .before .pre .1) (passed (c .before .before .before .before .before .before .before .before .before .before .before .before .before .counters-in-range .ensures) (c .before .before .before .before .before .before .before .before .before .before .before .before .if1 .left)))
+replays-requires : tie.Need-replays-requires
+replays-requires c κs =
+    let p = c .before .before .before .before .before .before .before .before .before .before .before .before .before .before .before .before .before .pre in
+    let k = counts-ok _ (p .0) in (
+      (k .contracts-high, k .accounts-high, k .trades, trades-words _ _ _ _ (p .0) (p .1)),
+      (
+        trades-tested _ _ _ _ (p .0) (p .1) (passed (c .before .before .before .before .trades-in-range .ensures) (c .before .before .before .if5 .left)),
+        starts-tested _ _ _ _ (p .0) (p .1) (passed (c .before .before .before .before .before .before .before .before .before .before .before .listings-in-range .ensures) (c .before .before .before .before .before .before .before .before .before .before .if2 .left)) (passed (c .before .before .holdings-in-range .ensures) (c .before .if6 .left)),
+      ),
+    )
 
 returns-7 : tie.Need-returns-7
 returns-7 c =
+    fails (contents-chain _ _ _ _ (fit (c .before .before .before .before .before .before .before .before .before .before .before .before .before .before .before .before .before .before .before))) 5 (refused (c .before .replays .ensures) (c .if7 .taken))
+
+balances-in-range-requires : tie.Need-balances-in-range-requires
+balances-in-range-requires c κs =
+    (counts-ok _ (c .before .before .before .before .before .before .before .before .before .before .before .before .before .before .before .before .before .before .before .pre .0) .accounts-high, few-settlements _ _ _ _ (c .before .before .before .before .before .before .before .before .before .before .before .before .before .before .before .before .before .before .before .pre .0) (c .before .before .before .before .before .before .before .before .before .before .before .before .before .before .before .before .before .before .before .pre .1) (passed (c .before .before .before .before .before .before .before .before .before .before .before .before .before .before .before .counters-in-range .ensures) (c .before .before .before .before .before .before .before .before .before .before .before .before .before .before .if1 .left)))
+
+returns-8 : tie.Need-returns-8
+returns-8 c =
     c .balances-in-range .ensures
-    ∙ last (contents-chain _ _ _ _ (fit (c .before .before .before .before .before .before .before .before .before .before .before .before .before .before .before .before .before .before))) (
-      passed (c .before .before .before .before .before .before .before .before .before .before .before .before .before .before .counters-in-range .ensures) (c .before .before .before .before .before .before .before .before .before .before .before .before .before .if1 .left),
+    ∙ last (contents-chain _ _ _ _ (fit (c .before .before .before .before .before .before .before .before .before .before .before .before .before .before .before .before .before .before .before .before))) (
+      passed (c .before .before .before .before .before .before .before .before .before .before .before .before .before .before .before .before .counters-in-range .ensures) (c .before .before .before .before .before .before .before .before .before .before .before .before .before .before .before .if1 .left),
       (
-        passed (c .before .before .before .before .before .before .before .before .before .before .before .before .listings-in-range .ensures) (c .before .before .before .before .before .before .before .before .before .before .before .if2 .left),
+        passed (c .before .before .before .before .before .before .before .before .before .before .before .before .before .before .listings-in-range .ensures) (c .before .before .before .before .before .before .before .before .before .before .before .before .before .if2 .left),
         (
-          passed (c .before .before .before .before .before .before .before .before .before .before .used-once .ensures) (c .before .before .before .before .before .before .before .before .before .if3 .left),
+          passed (c .before .before .before .before .before .before .before .before .before .before .before .before .used-once .ensures) (c .before .before .before .before .before .before .before .before .before .before .before .if3 .left),
           (
-            passed (c .before .before .before .before .before .before .before .trades-in-range .ensures) (c .before .before .before .before .before .before .if4 .left),
-            (passed (c .before .before .replays .ensures) (c .before .if6 .left), (passed (c .before .before .before .before .before .holdings-in-range .ensures) (c .before .before .before .before .if5 .left), tt)),
+            passed (c .before .before .before .before .before .before .before .before .before .before .used-once2 .ensures) (c .before .before .before .before .before .before .before .before .before .if4 .left),
+            (
+              passed (c .before .before .before .before .before .before .before .trades-in-range .ensures) (c .before .before .before .before .before .before .if5 .left),
+              (passed (c .before .before .replays .ensures) (c .before .if7 .left), (passed (c .before .before .before .before .before .holdings-in-range .ensures) (c .before .before .before .before .if6 .left), tt)),
+            ),
           ),
         ),
       ),
@@ -104,11 +115,13 @@ contents-are-well-formed-spec =
     returns-2
     used-once-requires
     returns-3
-    trades-in-range-requires
+    used-once-requires-2
     returns-4
-    holdings-in-range-requires
+    trades-in-range-requires
     returns-5
-    replays-requires
+    holdings-in-range-requires
     returns-6
+    replays-requires
+    returns-7
     balances-in-range-requires
-    returns-7)
+    returns-8)

@@ -26,6 +26,9 @@ phase-of-requires c κs = search needs
 settle-of-requires : tie.Need-settle-of-requires
 settle-of-requires c κs = search needs
 
+change-of-requires : tie.Need-change-of-requires
+change-of-requires c κs = search needs
+
 returns : tie.Need-returns
 unfolding commandOf
 returns c = rw (c .deposit-of .ensures, c .before .match .keys1)
@@ -56,9 +59,14 @@ returns-7 c = rw (c .settle-of .ensures, c .before .match .keys7)
 
 returns-8 : tie.Need-returns-8
 unfolding commandOf
-returns-8 c =
+returns-8 c = rw (c .change-of .ensures, c .before .match .keys8)
+
+returns-9 : tie.Need-returns-9
+unfolding commandOf
+returns-9 c =
     let rest = c .match .rest in
     simp (
+      ne-eqb _ _ (rest .0 .0 .0 .0 .0 .0 .0 .1),
       ne-eqb _ _ (rest .0 .0 .0 .0 .0 .0 .1),
       ne-eqb _ _ (rest .0 .0 .0 .0 .0 .1),
       ne-eqb _ _ (rest .0 .0 .0 .0 .1),
@@ -79,6 +87,7 @@ command-of-spec =
     pull-of-requires
     phase-of-requires
     settle-of-requires
+    change-of-requires
     returns
     returns-2
     returns-3
@@ -86,4 +95,5 @@ command-of-spec =
     returns-5
     returns-6
     returns-7
-    returns-8)
+    returns-8
+    returns-9)

@@ -34,7 +34,7 @@ contract-in-range-requires c κs = search needs
 returns : tie.Need-returns
 unfolding listingIn
 returns c =
-    fails (listing-chain _ _ _) 0 (refused (c .before .contract-in-range .ensures) (c .if1 .taken))
+    fails (listing-chain _ _ _ _) 0 (refused (c .before .contract-in-range .ensures) (c .if1 .taken))
 
 is-sorted-requires : tie.Need-is-sorted-requires
 is-sorted-requires c κs =
@@ -42,7 +42,7 @@ is-sorted-requires c κs =
 
 returns-2 : tie.Need-returns-2
 unfolding listingIn
-returns-2 c = fails (listing-chain _ _ _) 1 (refused (c .before .is-sorted .ensures) (c .if2 .taken))
+returns-2 c = fails (listing-chain _ _ _ _) 1 (refused (c .before .is-sorted .ensures) (c .if2 .taken))
 
 is-sorted-requires-2 : tie.Need-is-sorted-requires-2
 is-sorted-requires-2 c κs =
@@ -50,7 +50,7 @@ is-sorted-requires-2 c κs =
 
 returns-3 : tie.Need-returns-3
 unfolding listingIn
-returns-3 c = fails (listing-chain _ _ _) 2 (refused (c .before .is-sorted2 .ensures) (c .if3 .taken))
+returns-3 c = fails (listing-chain _ _ _ _) 2 (refused (c .before .is-sorted2 .ensures) (c .if3 .taken))
 
 is-apart-requires : tie.Need-is-apart-requires
 is-apart-requires c κs =
@@ -58,7 +58,7 @@ is-apart-requires c κs =
 
 returns-4 : tie.Need-returns-4
 unfolding listingIn
-returns-4 c = fails (listing-chain _ _ _) 3 (refused (c .before .is-apart .ensures) (c .if4 .taken))
+returns-4 c = fails (listing-chain _ _ _ _) 3 (refused (c .before .is-apart .ensures) (c .if4 .taken))
 
 orders-in-range-requires : tie.Need-orders-in-range-requires
 orders-in-range-requires c κs =
@@ -67,7 +67,7 @@ orders-in-range-requires c κs =
 returns-5 : tie.Need-returns-5
 unfolding listingIn
 returns-5 c =
-    fails (listing-chain _ _ _) 4 (refused (c .before .orders-in-range .ensures) (c .if5 .taken))
+    fails (listing-chain _ _ _ _) 4 (refused (c .before .orders-in-range .ensures) (c .if5 .taken))
 
 orders-in-range-requires-2 : tie.Need-orders-in-range-requires-2
 orders-in-range-requires-2 c κs =
@@ -77,7 +77,7 @@ returns-6 : tie.Need-returns-6
 unfolding listingIn
 returns-6 c =
     c .orders-in-range2 .ensures
-    ∙ last (listing-chain _ _ _) (
+    ∙ last (listing-chain _ _ _ _) (
       passed (c .before .before .before .before .before .before .before .before .before .before .contract-in-range .ensures) (c .before .before .before .before .before .before .before .before .before .if1 .left),
       (
         passed (c .before .before .before .before .before .before .before .before .is-sorted .ensures) (c .before .before .before .before .before .before .before .if2 .left),

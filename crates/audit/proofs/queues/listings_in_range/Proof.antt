@@ -13,7 +13,7 @@ use Rattle.audit.proofs.queues.listings_in_range.Tie as tie
 
 abbrev Inv-loop : tie.InvT-loop
 Inv-loop state buys sells contracts c₀ c =
-    (c ≤ contracts) × (all (λ c. listingInRange (state .accountcount) (state .next) (listing state buys sells c)) c ≡ true)
+    (c ≤ contracts) × (all (λ c. listingInRange (state .accountcount) (state .next) (state .nextstamp) (listing state buys sells c)) c ≡ true)
 
 abbrev μ-loop : tie.MeasureT-loop
 μ-loop state buys sells contracts c₀ c = contracts - c

@@ -1,6 +1,6 @@
 -- `audit::queues::order_in_range` meets its contract: the tests in the definition's order. Assumes nothing.
 use borrow.Author.Needs.{needs}
-use borrow.Author.Tests.{eq-eqb, ne-eqb, le-leb, le-ltb, lt-leb, lt-ltb}
+use borrow.Author.Tests.{le-leb, le-ltb, lt-leb, lt-ltb}
 use Rattle.audit.proofs.Chains.{fails, last, passed, place-in, place-past, refused}
 use Rattle.audit.proofs.Clauses.{order-chain}
 use Rattle.audit.proofs.queues.order_in_range.Statement.{statement}
@@ -10,42 +10,45 @@ within-requires : tie.Need-within-requires
 within-requires c κs = search needs
 
 returns : tie.Need-returns
-returns c = fails (order-chain _ _ _ _) 0 (refused (c .before .within .ensures) (c .if1 .taken))
+returns c = fails (order-chain _ _ _ _ _) 0 (refused (c .before .within .ensures) (c .if1 .taken))
 
 wide-requires : tie.Need-wide-requires
 wide-requires c κs = search needs
 
 returns-2 : tie.Need-returns-2
-returns-2 c = fails (order-chain _ _ _ _) 1 (place-past (c .before .wide .ensures) (c .if2 .taken))
+returns-2 c = fails (order-chain _ _ _ _ _) 1 (place-past (c .before .wide .ensures) (c .if2 .taken))
 
 allowed-today-requires : tie.Need-allowed-today-requires
 allowed-today-requires c κs = search needs
 
 returns-3 : tie.Need-returns-3
 returns-3 c =
-    fails (order-chain _ _ _ _) 2 (refused (c .before .allowed-today .ensures) (c .if3 .taken))
+    fails (order-chain _ _ _ _ _) 2 (refused (c .before .allowed-today .ensures) (c .if3 .taken))
 
 returns-4 : tie.Need-returns-4
-returns-4 c = fails (order-chain _ _ _ _) 3 (lt-leb _ _ (c .if4 .taken))
+returns-4 c = fails (order-chain _ _ _ _ _) 3 (lt-leb _ _ (c .if4 .taken))
 
 returns-5 : tie.Need-returns-5
-returns-5 c = fails (order-chain _ _ _ _) 4 (le-ltb _ _ (c .if5 .taken))
+returns-5 c = fails (order-chain _ _ _ _ _) 4 (le-ltb _ _ (c .if5 .taken))
 
 returns-6 : tie.Need-returns-6
-returns-6 c = fails (order-chain _ _ _ _) 5 (lt-leb _ _ (c .if6 .taken))
+returns-6 c = fails (order-chain _ _ _ _ _) 5 (lt-leb _ _ (c .if6 .taken))
 
 returns-7 : tie.Need-returns-7
-returns-7 c = fails (order-chain _ _ _ _) 6 (ne-eqb _ _ (c .if7 .taken))
+returns-7 c = fails (order-chain _ _ _ _ _) 6 (lt-leb _ _ (c .if7 .taken))
 
 returns-8 : tie.Need-returns-8
-returns-8 c =
-    last (order-chain _ _ _ _) (
-      passed (c .before .before .before .before .before .before .before .before .before .before .before .before .before .before .within .ensures) (c .before .before .before .before .before .before .before .before .before .before .before .before .before .if1 .left),
+returns-8 c = fails (order-chain _ _ _ _ _) 7 (le-ltb _ _ (c .if8 .taken))
+
+returns-9 : tie.Need-returns-9
+returns-9 c =
+    last (order-chain _ _ _ _ _) (
+      passed (c .before .before .before .before .before .before .before .before .before .before .before .before .before .before .before .before .within .ensures) (c .before .before .before .before .before .before .before .before .before .before .before .before .before .before .before .if1 .left),
       (
-        place-in (c .before .before .before .before .before .before .before .before .before .before .before .before .wide .ensures) (c .before .before .before .before .before .before .before .before .before .before .before .if2 .left),
+        place-in (c .before .before .before .before .before .before .before .before .before .before .before .before .before .before .wide .ensures) (c .before .before .before .before .before .before .before .before .before .before .before .before .before .if2 .left),
         (
-          passed (c .before .before .before .before .before .before .before .before .before .before .allowed-today .ensures) (c .before .before .before .before .before .before .before .before .before .if3 .left),
-          (le-leb _ _ (c .before .before .before .before .before .before .before .if4 .left), (lt-ltb _ _ (c .before .before .before .before .before .if5 .left), (le-leb _ _ (c .before .before .before .if6 .left), (eq-eqb _ _ (c .before .if7 .left), tt)))),
+          passed (c .before .before .before .before .before .before .before .before .before .before .before .before .allowed-today .ensures) (c .before .before .before .before .before .before .before .before .before .before .before .if3 .left),
+          (le-leb _ _ (c .before .before .before .before .before .before .before .before .before .if4 .left), (lt-ltb _ _ (c .before .before .before .before .before .before .before .if5 .left), (le-leb _ _ (c .before .before .before .before .before .if6 .left), (le-leb _ _ (c .before .before .before .if7 .left), (lt-ltb _ _ (c .before .if8 .left), tt))))),
         ),
       ),
     )
@@ -64,4 +67,5 @@ order-in-range-spec =
     returns-5
     returns-6
     returns-7
-    returns-8)
+    returns-8
+    returns-9)

@@ -12,11 +12,11 @@ use Rattle.audit.proofs.queues.orders_in_range.Statement.{statement}
 use Rattle.audit.proofs.queues.orders_in_range.Tie as tie
 
 abbrev Inv-loop : tie.InvT-loop
-Inv-loop area c count accounts next contract i₀ i =
-    (i ≤ count) × Each (allOf (orderInRange accounts next contract) (queueIn area c count)) (orderInRange accounts next contract) (queueIn area c count) i
+Inv-loop area c count accounts next nextstamp contract i₀ i =
+    (i ≤ count) × Each (allOf (orderInRange accounts next nextstamp contract) (queueIn area c count)) (orderInRange accounts next nextstamp contract) (queueIn area c count) i
 
 abbrev μ-loop : tie.MeasureT-loop
-μ-loop area c count accounts next contract i₀ i = count - i
+μ-loop area c count accounts next nextstamp contract i₀ i = count - i
 
 loop-holds : tie.Need-loop-holds Inv-loop μ-loop
 loop-holds c = (omega arith, record { rest = refl })

@@ -1,6 +1,5 @@
 -- `codes::book_code` meets its contract: the tests in the order of the list. Assumes nothing.
 use mathlib.Core.Path.{_≡_}
-use borrow.Author.Tests.{le-leb, lt-leb}
 use borrow.Author.Needs.{needs}
 use Rattle.rules.specs.Answers.{firstOf}
 use Rattle.rules.specs.Bounds.{inAuction}
@@ -9,9 +8,12 @@ use Rattle.refusals.specs.Insertion.{bookRefusals, fullRefused, killRefu
 use Rattle.refusals.proofs.codes.book_code.Statement.{statement}
 use Rattle.refusals.proofs.codes.book_code.Tie as tie
 
+used-up-requires : tie.Need-used-up-requires
+used-up-requires c κs = search needs
+
 returns : tie.Need-returns
 unfolding firstOf bookRefusals
-returns c = rw (le-leb _ _ (c .if1 .taken))
+returns c = rw (← c .before .used-up .ensures, c .if1 .taken)
 
 kill-refused-requires : tie.Need-kill-refused-requires
 kill-refused-requires c κs = search needs
@@ -21,14 +23,14 @@ unfolding firstOf bookRefusals
 returns-2 c =
     let o : NewOrder = c .before .before .before .before .before .before .args .o in
     let e : c .before .kill-refused .result ≡ killRefused _ _ (o .lots) (o .time) = c .before .kill-refused .ensures in
-    rw (lt-leb _ _ (c .before .before .if1 .left), ← e, c .if2 .taken)
+    rw (← c .before .before .before .used-up .ensures, c .before .before .if1 .left, ← e, c .if2 .taken)
 
 trades-refused-requires : tie.Need-trades-refused-requires
 trades-refused-requires c κs = search needs
 
 returns-3 : tie.Need-returns-3
 unfolding firstOf bookRefusals
-returns-3 c = rw (lt-leb _ _ (c .before .before .before .before .if1 .left), ← c .before .before .before .kill-refused .ensures, c .before .before .if2 .left, ← c .before .trades-refused .ensures, c .if3 .taken)
+returns-3 c = rw (← c .before .before .before .before .before .used-up .ensures, c .before .before .before .before .if1 .left, ← c .before .before .before .kill-refused .ensures, c .before .before .if2 .left, ← c .before .trades-refused .ensures, c .if3 .taken)
 
 full-refused-requires : tie.Need-full-refused-requires
 full-refused-requires c κs = search needs
@@ -39,16 +41,17 @@ returns-4 c =
     let start = c .before .before .before .before .before .before .before .before .before .before in
     let o : NewOrder = start .args .o in
     let e : c .before .full-refused .result ≡ fullRefused (inAuction (start .args .terms)) (start .args .own) _ _ (o .lots) (o .time) = c .before .full-refused .ensures in
-    rw (lt-leb _ _ (c .before .before .before .before .before .before .if1 .left), ← c .before .before .before .before .before .kill-refused .ensures, c .before .before .before .before .if2 .left, ← c .before .before .before .trades-refused .ensures, c .before .before .if3 .left, ← e, c .if4 .taken)
+    rw (← c .before .before .before .before .before .before .before .used-up .ensures, c .before .before .before .before .before .before .if1 .left, ← c .before .before .before .before .before .kill-refused .ensures, c .before .before .before .before .if2 .left, ← c .before .before .before .trades-refused .ensures, c .before .before .if3 .left, ← e, c .if4 .taken)
 
 returns-5 : tie.Need-returns-5
 unfolding firstOf bookRefusals
-returns-5 c = rw (lt-leb _ _ (c .before .before .before .before .before .before .if1 .left), ← c .before .before .before .before .before .kill-refused .ensures, c .before .before .before .before .if2 .left, ← c .before .before .before .trades-refused .ensures, c .before .before .if3 .left, ← c .before .full-refused .ensures, c .if4 .left)
+returns-5 c = rw (← c .before .before .before .before .before .before .before .used-up .ensures, c .before .before .before .before .before .before .if1 .left, ← c .before .before .before .before .before .kill-refused .ensures, c .before .before .before .before .if2 .left, ← c .before .before .before .trades-refused .ensures, c .before .before .if3 .left, ← c .before .full-refused .ensures, c .if4 .left)
 
 pub book-code-spec : {M : Type 1} → statement M
 book-code-spec =
     tie.close
     (tie.spec
+    used-up-requires
     returns
     kill-refused-requires
     returns-2

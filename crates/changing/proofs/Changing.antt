@@ -1,0 +1,631 @@
+-- A change of a resting order: the code's tests are the rules' refusals, and each of the four ways of an accepted one leaves what the
+-- rules say. Assumes nothing.
+use mathlib.Core.Bool.{Bool, true, false, not, _&&_}
+use mathlib.Core.List.{List, [], _∷_, _++_}
+use mathlib.Core.Path.{_≡_, refl, sym, ap, subst, _∙_}
+use Prim.Native.Nat.{ℕ, _+_, _-_, _<_, _≤_}
+use native.Mathlib.Omega.{arith}
+use borrow.Author.Tests.{eqb-true, eq-eqb, leb-false, ltb-false, ne-eqb, not-false}
+use lib.Dec.{eqb, ltb}
+use lib.ListN.{length, getD, set, length-set}
+use lib.Seq.{getD-set-same, set-getD}
+use Rattle.laws.specs.Choice.{pick}
+use Rattle.areas.specs.Lists.{removeAt}
+use Rattle.areas.proofs.Lists.{length-removeAt}
+use Rattle.rules.specs.Answers as rules
+use Rattle.rules.specs.Answers.{Refusal, _when_, cancelRefusals, firstOf, listingOf, noSuchOrder, numbered, ofAnother, removalRefused, restingOrder, stampsUsedUp}
+use Rattle.rules.specs.Bounds.{allowedToday, continuous, maxLots, maxResting, numbersEnd, termsInRange}
+use Rattle.rules.specs.Change.{Asked, arriving, asked, changeRefusals, changed, gone, isSell, lessened, listingFor, listingLessened, losesPlace, oldOrder, placeKept, placeLost, reentered, unchanged}
+use Rattle.rules.specs.Exchange.{Exchange, absent, listingAt, noAccount, noContract, noOrder, own, placeOf}
+use Rattle.rules.specs.Kinds.{codeOf, decide, done, kindOf, lastOf, step}
+use Rattle.rules.specs.Matching.{Entered, tradedLots}
+use Rattle.rules.specs.Memory.{Declared, Memory, Responded, WellFormedState, exchangeOf, firstWord, listingIn, memory, orderStride, put, putQueue, queueIn, stepIn, written}
+use Rattle.rules.specs.Places.{indexOf}
+use Rattle.rules.specs.Step.{Effect, answerOf, cancelled, enteredOf, exchangeAfter, hasNumber, listingAfter, removed, withListing, without}
+use Rattle.rules.specs.WellFormed.{numbers, usedOnce}
+use Rattle.rules.specs.declared.Account.{Account}
+use Rattle.rules.specs.declared.Command.{Command}
+use Rattle.rules.specs.declared.Command.the-variants.{Cancel, Change}
+use Rattle.rules.specs.declared.NewOrder.{NewOrder}
+use Rattle.rules.specs.declared.Order.{Order}
+use Rattle.rules.specs.declared.State.{State}
+use Rattle.rules.proofs.Codecs.{length-putQueue, length-queue, put-queue}
+use Rattle.rules.proofs.Lessened.{less-length}
+use Rattle.rules.proofs.Queue.{length-without, numbered-append-found, numbered-append-none, numbered-found, without-none, without-number}
+use Rattle.rules.proofs.Stages.{Each}
+use Rattle.invariants.proofs.Accepted.{Failed, failed}
+use Rattle.invariants.proofs.ChangeKeeps.{change-counted, change-keeps}
+use Rattle.invariants.proofs.Clauses.{Counted, WellFormed, well-formed-test}
+use Rattle.invariants.proofs.MemoryKeeps.{sound, step-in-keeps, step-in-read}
+use Rattle.engine.specs.Outcome.{OutcomeIs, acceptedWith, isAbsent, refusedWith, withCountsIn}
+use Rattle.engine.specs.Removal.{removalCode}
+use Rattle.engine.specs.declared.answers.Outcome.{Outcome}
+use Rattle.engine.proofs.Formed.{Formed, formed, listing-at, no-account, no-contract}
+use Rattle.engine.proofs.Outcomes.{acceptance, refusal}
+use Rattle.engine.proofs.Puts.{put-queues}
+use Rattle.engine.proofs.Refusals.{first-append}
+use Rattle.engine.proofs.Removals.{apart, in-continuous, side-few, side-once, side-room}
+use Rattle.engine.proofs.Tests.{place-below}
+use Rattle.engine.proofs.Traded.{few-after}
+use Rattle.refusals.specs.Insertion.{Present, reentryRefusals, sideArea, sideCount}
+use Rattle.refusals.proofs.Sides.{contract-terms}
+use Rattle.insertion.specs.Arrival.{Enterable, enteredIn}
+use Rattle.changing.specs.Resting.{Changeable, RestingIs, arrivingFor, lessenedIn, loses, orderRefusals, putBackIn, stateRefusals}
+use Rattle.changing.specs.declared.Resting.{Resting}
+use Rattle.changing.proofs.Finding.{lessened-none, lessened-one, missing-of, restored}
+
+-- "2, 3, 4"
+abbrev codes : Bool → Bool → Bool → ℕ
+codes two three four = pick two 2 (pick three 3 (pick four 4 0))
+
+module _ {s : State} {buys sells trades : List ℕ} (w : WellFormedState s buys sells trades) (account contract number lots price : ℕ) where
+  abbrev m : Memory
+  m = memory s buys sells trades
+
+  abbrev x : Exchange
+  x = exchangeOf m
+
+  f : Formed m
+  f = formed w
+
+  abbrev k : Asked
+  k = asked account contract number lots price
+
+  abbrev c : ℕ
+  c = placeOf contract
+
+  abbrev command : Command
+  command = Change account contract number lots price
+
+  abbrev bought : List Order
+  bought = queueIn buys c (getD (s .buys) c 0)
+
+  abbrev sold : List Order
+  sold = queueIn sells c (getD (s .sells) c 0)
+
+  pub few-contracts : s .contractcount ≤ 4
+  few-contracts = f .contracts-high
+
+  -- ---- the list in its parts
+
+  abbrev resting : List Order
+  resting = restingOrder (listingFor x k) number
+
+  abbrev statePart : List Refusal
+  statePart =
+      (2 when absent account (x .accounts))
+      ∷ (3 when absent contract (x .listings))
+      ∷ (4 when not (eqb (listingFor x k .contract .phase) continuous))
+      ∷ []
+
+  abbrev orderPart : List Refusal
+  orderPart =
+      (14 when noSuchOrder resting)
+      ∷ (15 when ofAnother (placeOf account) resting)
+      ∷ (5 when ltb maxLots lots)
+      ∷ (7 when (not (eqb lots 0) && not (allowedToday (listingFor x k .contract) price)))
+      ∷ []
+
+  abbrev lostPart : List Refusal
+  lostPart =
+      (8 when (losesPlace x k && rules.holdingRefused (gone x k) (arriving x k)))
+      ∷ (9 when (losesPlace x k && rules.moneyRefused (gone x k) (arriving x k)))
+      ∷ (10 when (losesPlace x k && stampsUsedUp x))
+      ∷ (12 when (losesPlace x k && rules.tradesRefused (gone x k) number (arriving x k)))
+      ∷ []
+
+  in-parts : codeOf x command ≡ pick (eqb (firstOf statePart) 0) (firstOf (orderPart ++ lostPart)) (firstOf statePart)
+  unfolding codeOf kindOf changeRefusals
+  in-parts = first-append statePart (orderPart ++ lostPart) (omega arith)
+
+  order-first : firstOf (orderPart ++ lostPart) ≡ pick (eqb (firstOf orderPart) 0) (firstOf lostPart) (firstOf orderPart)
+  order-first = first-append orderPart lostPart (omega arith)
+
+  -- 2, 3 and 4
+  state-is : firstOf statePart ≡ firstOf (stateRefusals s account contract)
+  unfolding firstOf listingIn
+  state-is = rw (no-account m f account, no-contract m f contract) (go (isAbsent contract (s .contractcount)) refl)
+    where
+      go : (b : Bool) → isAbsent contract (s .contractcount) ≡ b
+          → codes (isAbsent account (s .accountcount)) b (not (eqb (listingFor x k .contract .phase) continuous))
+          ≡ codes (isAbsent account (s .accountcount)) b (not (eqb (getD (s .contracts) c noContract .phase) continuous))
+      go true e = refl
+      go false e = rw (listing-at m f c (place-below contract (s .contractcount) e .1))
+
+  pub refused-early : {code : ℕ} {o : Outcome} → code ≡ firstOf (stateRefusals s account contract) → (code ≡ 0 → ⊥) → o ≡ refusedWith s code
+      → OutcomeIs (stepIn m command) o buys sells trades
+  refused-early {code} e h a = refusal s buys sells trades command code (omega arith) (in-parts ∙ rw (state-is, ← e, ne-eqb code 0 h)) a
+
+  -- ---- in continuous, the account and the contract in use
+
+  module _ (st : firstOf (stateRefusals s account contract) ≡ 0) where
+    tests : Failed (stateRefusals s account contract)
+    tests = failed (stateRefusals s account contract) (omega arith) st
+
+    here : c < s .contractcount
+    here = place-below contract (s .contractcount) (tests .1 .0) .1
+
+    pub contract-low : 1 ≤ contract
+    contract-low = place-below contract (s .contractcount) (tests .1 .0) .0
+
+    pub account-low : 1 ≤ account
+    account-low = place-below account (s .accountcount) (tests .0) .0
+
+    account-here : placeOf account < s .accountcount
+    account-here = place-below account (s .accountcount) (tests .0) .1
+
+    -- j and n are the account's and the contract's number as the code widens them
+    pub account-fits : {j : ℕ} → j ≡ account → j - 1 < 32
+    account-fits e = omega (arith, account-here, f .accounts-high)
+
+    pub contract-fits : {n : ℕ} → n ≡ contract → n - 1 < 4
+    contract-fits e = omega (arith, here, f .contracts-high)
+
+    pub terms-ok : {n : ℕ} → n ≡ contract → termsInRange (getD (s .contracts) (n - 1) noContract) ≡ true
+    terms-ok e = rw e (contract-terms m f c here)
+
+    phase-is : getD (s .contracts) c noContract .phase ≡ 1
+    phase-is = eqb-true _ _ (not-false _ (tests .1 .1 .0))
+
+    -- a cancel passes its first tests too
+    none : removalCode s account contract false ≡ 0
+    unfolding removalCode firstOf
+    none = rw (tests .0, tests .1 .0, ← in-continuous (getD (s .contracts) c noContract) false phase-is)
+
+    pub rooms : {n : ℕ} → n ≡ contract → {bids offers : ℕ} → bids ≡ getD (s .buys) (n - 1) 0 → offers ≡ getD (s .sells) (n - 1) 0
+        → (firstWord (n - 1) bids ≤ length buys) × (firstWord (n - 1) offers ≤ length sells)
+    rooms e eb es = rw (eb, es) (side-room w account contract false none e false, side-room w account contract false none e true)
+
+    listing-is : listingFor x k ≡ listingIn m c
+    listing-is = listing-at m f c here
+
+    resting-is : resting ≡ numbered number (bought ++ sold)
+    unfolding restingOrder listingIn
+    resting-is = rw listing-is
+
+    -- ---- 14, 15, 5 and 7, of the order found
+
+    module _ {r : Resting} (rs : RestingIs number bought sold r) where
+      order-is : firstOf orderPart ≡ firstOf (orderRefusals (getD (s .contracts) c noContract) (placeOf account) r lots price)
+      unfolding firstOf ofAnother noSuchOrder listingIn
+      order-is = go (r .found) refl
+        where
+          go : (b : Bool) → r .found ≡ b → firstOf orderPart ≡ firstOf (orderRefusals (getD (s .contracts) c noContract) (placeOf account) r lots price)
+          go false e =
+              let no : noSuchOrder resting ≡ true = ap noSuchOrder resting-is ∙ sym (rs .found) ∙ ap not e in
+              rw (no, e)
+          go true e =
+              let one : resting ≡ r .order ∷ [] = resting-is ∙ rs .order e in
+              rw (one, e, listing-is)
+
+    -- n is the contract's number as the code widens it
+    module _ {n : ℕ} (is : n ≡ contract) {bids offers : ℕ} (eb : bids ≡ getD (s .buys) (n - 1) 0) (es : offers ≡ getD (s .sells) (n - 1) 0) {r : Resting}
+        (rs : RestingIs number (queueIn buys (n - 1) bids) (queueIn sells (n - 1) offers) r) {code : ℕ}
+        (ec : code ≡ firstOf (orderRefusals (getD (s .contracts) (n - 1) noContract) (account - 1) r lots price)) where
+      found-here : RestingIs number bought sold r
+      found-here = rw (eb, es, is) at rs
+
+      pub order-refused : (code ≡ 0 → ⊥) → {o : Outcome} → o ≡ refusedWith s code → OutcomeIs (stepIn m command) o buys sells trades
+      order-refused h a =
+          refusal s buys sells trades command code (omega arith) (in-parts ∙ rw (state-is, st, order-first, order-is found-here, ← (rw is at ec), ne-eqb code 0 h)) a
+
+      pub changeable : code ≡ 0 → Changeable s buys sells account contract number lots price r
+      changeable e = record { state = st; resting = found-here; order = sym (rw is at ec) ∙ e }
+
+  -- ---- none of these holds
+
+  module _ {r : Resting} (g : Changeable s buys sells account contract number lots price r) where
+    abbrev st′ : firstOf (stateRefusals s account contract) ≡ 0
+    st′ = g .state
+
+    its : Failed (orderRefusals (getD (s .contracts) c noContract) (placeOf account) r lots price)
+    its = failed (orderRefusals (getD (s .contracts) c noContract) (placeOf account) r lots price) (omega arith) (g .order)
+
+    found : r .found ≡ true
+    found = not-false (r .found) (its .0)
+
+    few-lots : lots ≤ 1_000
+    few-lots = ltb-false _ _ (its .1 .1 .0)
+
+    one-resting : resting ≡ r .order ∷ []
+    one-resting = resting-is st′ ∙ g .resting .order found
+
+    old-is : oldOrder x k ≡ r .order
+    unfolding oldOrder
+    old-is = rw one-resting
+
+    sell-is : isSell x k ≡ r .sell
+    unfolding isSell listingIn
+    sell-is = rw (listing-is st′) (sym (g .resting .sell found))
+
+    arriving-is : arriving x k ≡ arrivingFor account contract r lots price
+    unfolding arriving
+    arriving-is = rw (sell-is, old-is)
+
+    loses-is : losesPlace x k ≡ (not (eqb lots 0) && loses (r .order) lots price)
+    unfolding losesPlace
+    loses-is = rw old-is
+
+    code-is : codeOf x command ≡ firstOf lostPart
+    code-is = in-parts ∙ rw (state-is, st′, order-first, order-is st′ (g .resting), g .order)
+
+    kept-code : losesPlace x k ≡ false → codeOf x command ≡ 0
+    unfolding firstOf
+    kept-code e = code-is ∙ rw e
+
+    lost-code : losesPlace x k ≡ true → codeOf x command ≡ firstOf (reentryRefusals (gone x k) number (arriving x k))
+    unfolding firstOf reentryRefusals gone
+    lost-code e = code-is ∙ rw e
+
+    -- ---- where it rests: its own queue has it once, the other has it not
+
+    abbrev area : Bool → List ℕ
+    area side = sideArea side buys sells
+
+    abbrev count : Bool → ℕ
+    count side = sideCount side s c
+
+    abbrev queue : Bool → List Order
+    queue side = queueIn (area side) c (count side)
+
+    room : (side : Bool) → firstWord c (count side) ≤ length (area side)
+    room = side-room w account contract false (none st′) refl
+
+    few : (side : Bool) → count side ≤ maxResting
+    few = side-few w account contract false (none st′) refl
+
+    once : (side : Bool) → usedOnce (numbers (queue side)) ≡ true
+    once = side-once w account contract false (none st′) refl
+
+    mine : (side : Bool) → r .sell ≡ side → (r .place ≡ indexOf number (queue side)) × (r .place < count side)
+    mine true e =
+        (rw e at (g .resting .place found), omega (arith, length-queue sells c (count true), ap (λ (b : Bool). length (pick b sold bought)) e, g .resting .within found))
+    mine false e =
+        (rw e at (g .resting .place found), omega (arith, length-queue buys c (count false), ap (λ (b : Bool). length (pick b sold bought)) e, g .resting .within found))
+
+    mine-in : (side : Bool) → r .sell ≡ side → indexOf number (queue side) < length (queue side)
+    mine-in side e = omega (arith, mine side e .0, mine side e .1, length-queue (area side) c (count side))
+
+    other : (side : Bool) → r .sell ≡ side → indexOf number (queue (not side)) ≡ length (queue (not side))
+    other true e = missing-of number bought (sym (g .resting .sell found) ∙ e)
+    other false e = apart w account contract false (none st′) refl number (mine-in false e)
+
+    place-in : r .place < count (r .sell)
+    place-in = mine (r .sell) refl .1
+
+    order-there : (side : Bool) → r .sell ≡ side → getD (queue side) (r .place) noOrder ≡ r .order
+    order-there side e = rw (mine side e .0) (sym (its-order side e))
+      where
+        first-of : (o p : Order) → o ∷ [] ≡ p ∷ [] → o ≡ p
+        first-of o p q = ap (λ (l : List Order). getD l 0 noOrder) q
+
+        its-order : (side : Bool) → r .sell ≡ side → r .order ≡ getD (queue side) (indexOf number (queue side)) noOrder
+        its-order false e = first-of _ _ (sym (g .resting .order found) ∙ numbered-append-found number bought sold (mine-in false e))
+        its-order true e = first-of _ _ (sym (g .resting .order found) ∙ numbered-append-none number bought sold (other true e) ∙ numbered-found number sold (mine-in true e))
+
+    -- ---- a cancel of it would be accepted
+
+    removal-passes : removalRefused (listingAt x c .contract) false ≡ false
+    unfolding listingIn
+    removal-passes = rw (listing-is st′) (sym (in-continuous (getD (s .contracts) c noContract) false (phase-is st′)))
+
+    cancel-code : codeOf x (Cancel account contract false number) ≡ 0
+    unfolding codeOf kindOf cancelRefusals firstOf ofAnother noSuchOrder
+    cancel-code = rw (no-account m f account, tests st′ .0, no-contract m f contract, tests st′ .1 .0, removal-passes, one-resting, its .1 .0)
+
+    gone-is : stepIn m (Cancel account contract false number) .memory ≡ put m (gone x k)
+    unfolding stepIn decide kindOf cancelled removed gone
+    gone-is = rw cancel-code
+
+    gone-step : step x (Cancel account contract false number) ≡ gone x k
+    unfolding step decide kindOf cancelled removed gone
+    gone-step = rw cancel-code
+
+    -- "Zero lots removes the order"
+    zero-same : lots ≡ 0 → stepIn m (Cancel account contract false number) ≡ stepIn m command
+    unfolding stepIn decide kindOf changed
+    zero-same e = rw (cancel-code, kept-code (loses-is ∙ rw (eq-eqb lots 0 e)), eq-eqb lots 0 e)
+
+    pub zero-changed : lots ≡ 0 → {o : Outcome} {buys′ sells′ : List ℕ} → OutcomeIs (stepIn m (Cancel account contract false number)) o buys′ sells′ trades
+        → OutcomeIs (stepIn m command) o buys′ sells′ trades
+    zero-changed e {o} {buys′} {sells′} h = subst (λ (q : Responded). OutcomeIs q o buys′ sells′ trades) (zero-same e) h
+
+    module _ (some : lots ≡ 0 → ⊥) where
+      none-zero : eqb lots 0 ≡ false
+      none-zero = ne-eqb lots 0 some
+
+      -- ---- the place kept
+
+      module _ (keeps : loses (r .order) lots price ≡ false) where
+        kept : losesPlace x k ≡ false
+        kept = loses-is ∙ rw (none-zero, keeps)
+
+        -- "Equal lots and price change nothing."
+        equal-is : lots ≡ r .order .lots → changed x k ≡ unchanged x k
+        unfolding changed
+        equal-is e =
+            let same : eqb lots (oldOrder x k .lots) ≡ true = rw old-is (eq-eqb lots (r .order .lots) e) in
+            rw (none-zero, kept, same)
+
+        pub equal-changed : lots ≡ r .order .lots → {o : Outcome} → o ≡ acceptedWith s number 0 lots → OutcomeIs (stepIn m command) o buys sells trades
+        unfolding kindOf unchanged
+        equal-changed e a =
+            acceptance s buys sells trades command (kept-code kept) (ap (λ (t : Effect). done t .answer) (equal-is e)) (ap (λ (t : Effect). written m (t .stages)) (equal-is e)) a
+
+        -- "fewer lots keep the place in the queue"
+        fewer-is : (lots ≡ r .order .lots → ⊥) → changed x k ≡ placeKept x k
+        unfolding changed
+        fewer-is h =
+            let apart′ : eqb lots (oldOrder x k .lots) ≡ false = rw old-is (ne-eqb lots (r .order .lots) h) in
+            rw (none-zero, kept, apart′)
+
+        less-own : (side : Bool) → r .sell ≡ side → putQueue (area side) c (count side) (lessened number lots (queue side)) ≡ lessenedIn (area side) c (count side) (r .place) lots
+        less-own side e = rw (lessened-one number lots (queue side) (once side) (mine-in side e), ← mine side e .0)
+
+        less-other : (side : Bool) → r .sell ≡ side → putQueue (area (not side)) c (count (not side)) (lessened number lots (queue (not side))) ≡ area (not side)
+        less-other side e = rw (lessened-none number lots (queue (not side)) (other side e)) (put-queue (area (not side)) c (count (not side)) (room (not side)))
+
+        less-buys : (side : Bool) → r .sell ≡ side → putQueue buys c (count false) (lessened number lots bought) ≡ pick side buys (lessenedIn buys c (count side) (r .place) lots)
+        less-buys true e = less-other true e
+        less-buys false e = less-own false e
+
+        less-sells : (side : Bool) → r .sell ≡ side → putQueue sells c (count true) (lessened number lots sold) ≡ pick side (lessenedIn sells c (count side) (r .place) lots) sells
+        less-sells true e = less-own true e
+        less-sells false e = less-other false e
+
+        less-few : (side : Bool) → length (lessened number lots (queue side)) ≤ maxResting
+        less-few side = omega (arith, less-length number lots (queue side), length-queue (area side) c (count side), few side)
+
+        less-lies : put m (withListing x c (listingLessened k (listingFor x k)))
+            ≡ memory s (pick (r .sell) buys (lessenedIn buys c (count (r .sell)) (r .place) lots)) (pick (r .sell) (lessenedIn sells c (count (r .sell)) (r .place) lots) sells) trades
+        unfolding listingIn
+        less-lies =
+            rw (listing-is st′)
+            (put-queues m f c (here st′) (lessened number lots bought) (lessened number lots sold) (less-few false) (less-few true)
+            ∙ rw (
+              less-length number lots bought,
+              less-length number lots sold,
+              length-queue buys c (count false),
+              length-queue sells c (count true),
+              set-getD (s .buys) c 0,
+              set-getD (s .sells) c 0,
+              less-buys (r .sell) refl,
+              less-sells (r .sell) refl,
+            ))
+
+        -- n is the contract's number as the code widens it
+        pub can-lessen : {n : ℕ} → n ≡ contract → {count₁ : ℕ} → count₁ ≡ sideCount (r .sell) s (n - 1)
+            → (r .place < count₁) × (firstWord (n - 1) count₁ ≤ length (sideArea (r .sell) buys sells))
+        can-lessen is ec = rw (ec, is) (place-in, room (r .sell))
+
+        pub fewer-changed : (lots ≡ r .order .lots → ⊥) → {n : ℕ} → n ≡ contract → {count₁ : ℕ} → count₁ ≡ sideCount (r .sell) s (n - 1) → {buys′ sells′ : List ℕ}
+            → buys′ ≡ pick (r .sell) buys (lessenedIn buys (n - 1) count₁ (r .place) lots) → sells′ ≡ pick (r .sell) (lessenedIn sells (n - 1) count₁ (r .place) lots) sells
+            → {o : Outcome} → o ≡ acceptedWith s number 0 lots → OutcomeIs (stepIn m command) o buys′ sells′ trades
+        unfolding kindOf placeKept
+        fewer-changed h is ec eb es a =
+            rw (eb, es, ec, is)
+            (acceptance s buys sells trades command (kept-code kept) (ap (λ (t : Effect). done t .answer) (fewer-is h))
+            (ap (λ (t : Effect). written m (t .stages)) (fewer-is h) ∙ less-lies) a)
+
+      -- ---- the place lost: t, buys′ and sells′ are what the cancel left
+
+      module _ (lost : loses (r .order) lots price ≡ true) {t : Outcome} {buys′ sells′ : List ℕ}
+          (taken : OutcomeIs (stepIn m (Cancel account contract false number)) t buys′ sells′ trades) where
+        loss : losesPlace x k ≡ true
+        loss = loses-is ∙ rw (none-zero, lost)
+
+        abbrev m′ : Memory
+        m′ = memory (t .state) buys′ sells′ trades
+
+        lies : m′ ≡ put m (gone x k)
+        lies = taken .memory ∙ gone-is
+
+        read : exchangeOf m′ ≡ gone x k
+        read = ap exchangeOf (taken .memory) ∙ step-in-read m (w .formed) (Cancel account contract false number) ∙ gone-step
+
+        abbrev left : Bool → List Order
+        left side = without (hasNumber number) (queue side)
+
+        left-few : (side : Bool) → length (left side) ≤ maxResting
+        left-few side = omega (arith, length-without (hasNumber number) (queue side), length-queue (area side) c (count side), few side)
+
+        gone-lies : put m (gone x k)
+            ≡ memory (withCountsIn s (set (s .buys) c (length (left false))) (set (s .sells) c (length (left true)))) (putQueue buys c (count false) (left false)) (putQueue sells c (count true) (left true)) trades
+        unfolding gone listingIn
+        gone-lies = rw (listing-is st′) (put-queues m f c (here st′) (left false) (left true) (left-few false) (left-few true))
+
+        gone-state : t .state ≡ withCountsIn s (set (s .buys) c (length (left false))) (set (s .sells) c (length (left true)))
+        gone-state = ap (λ (n : Memory). n .state) (lies ∙ gone-lies)
+
+        gone-buys : buys′ ≡ putQueue buys c (count false) (left false)
+        gone-buys = ap (λ (n : Memory). n .buys) (lies ∙ gone-lies)
+
+        gone-sells : sells′ ≡ putQueue sells c (count true) (left true)
+        gone-sells = ap (λ (n : Memory). n .sells) (lies ∙ gone-lies)
+
+        gone-declared : Declared (t .state)
+        gone-declared =
+            let d = w .declared in
+            rw gone-state
+            (record {
+              contracts = d .contracts;
+              accounts = d .accounts;
+              buys = length-set (s .buys) c (length (left false)) ∙ d .buys;
+              sells = length-set (s .sells) c (length (left true)) ∙ d .sells;
+              holdings = d .holdings;
+            })
+
+        pub gone-formed : WellFormedState (t .state) buys′ sells′ trades
+        gone-formed = record { declared = gone-declared; formed = rw (taken .memory) (step-in-keeps m (w .formed) (Cancel account contract false number)) }
+
+        -- the order as it arrives again
+        module _ {o : NewOrder} (eo : o ≡ arrivingFor account contract r lots price) where
+          its-order : o ≡ arriving x k
+          its-order = eo ∙ sym arriving-is
+
+          pub gone-present : Present (t .state) o
+          gone-present =
+              rw (eo, gone-state)
+              (record { account-low = account-low st′; account = account-here st′; contract-low = contract-low st′; contract = here st′ })
+
+          pub gone-lots : o .lots ≤ 1_000
+          gone-lots = rw eo few-lots
+
+          -- j is the account's number as the code widens it
+          pub gone-owner : {j : ℕ} → j ≡ account → {who : Account} → who ≡ getD (s .accounts) (j - 1) noAccount → getD (t .state .accounts) (o .account - 1) noAccount ≡ who
+          gone-owner e ew = rw (ew, e, eo, gone-state)
+
+          module _ {code : ℕ} (ec : code ≡ firstOf (reentryRefusals (exchangeOf m′) number o)) where
+            changed-code : codeOf x command ≡ code
+            changed-code = lost-code loss ∙ sym (ec ∙ rw (its-order, read))
+
+            -- ---- refused: the order is put back, n being the contract's number as the code widens it
+
+            module _ (refused : code ≡ 0 → ⊥) {n : ℕ} (is : n ≡ contract) {count₁ : ℕ} (en : count₁ ≡ sideCount (r .sell) (t .state) (n - 1)) where
+              out-of : (side : Bool) → r .sell ≡ side → left side ≡ removeAt (r .place) (queue side)
+              out-of side e = without-number number (queue side) (once side) (mine-in side e) ∙ rw (mine side e .0)
+
+              out-length : (side : Bool) → r .sell ≡ side → length (left side) ≡ count side - 1
+              out-length side e =
+                  rw (out-of side e, length-removeAt (r .place) (queue side) (omega (arith, mine side e .1, length-queue (area side) c (count side))), length-queue (area side) c (count side))
+
+              kept-other : (side : Bool) → r .sell ≡ side → putQueue (area (not side)) c (count (not side)) (left (not side)) ≡ area (not side)
+              kept-other side e = rw (without-none (hasNumber number) (queue (not side)) (other side e)) (put-queue (area (not side)) c (count (not side)) (room (not side)))
+
+              counts-in : c < length (s .buys)
+              counts-in = omega (arith, w .declared .buys, here st′, f .contracts-high)
+
+              counts-in-sells : c < length (s .sells)
+              counts-in-sells = omega (arith, w .declared .sells, here st′, f .contracts-high)
+
+              count-is : (side : Bool) → r .sell ≡ side → sideCount side (t .state) c ≡ count side - 1
+              count-is true e = rw gone-state (getD-set-same (s .sells) c (length (left true)) 0 counts-in-sells ∙ out-length true e)
+              count-is false e = rw gone-state (getD-set-same (s .buys) c (length (left false)) 0 counts-in ∙ out-length false e)
+
+              less-one : count₁ ≡ count (r .sell) - 1
+              less-one = en ∙ rw is (count-is (r .sell) refl)
+
+              wide : (side : Bool) → length (sideArea side buys′ sells′) ≡ length (area side)
+              wide true = ap length gone-sells ∙ length-putQueue sells c (count true) (left true) (few true) (left-few true) (omega (arith, f .sells-room, here st′))
+              wide false = ap length gone-buys ∙ length-putQueue buys c (count false) (left false) (few false) (left-few false) (omega (arith, f .buys-room, here st′))
+
+              pub can-put-back : (r .place ≤ count₁) × (firstWord (n - 1) count₁ + orderStride ≤ length (sideArea (r .sell) buys′ sells′))
+              can-put-back = rw is (omega (arith, less-one, place-in), omega (arith, less-one, place-in, wide (r .sell), room (r .sell)))
+
+              back-buys : (side : Bool) → r .sell ≡ side → {b : List ℕ} → b ≡ pick side buys′ (putBackIn buys′ c count₁ (r .place) (r .order)) → b ≡ buys
+              back-buys true e q = q ∙ gone-buys ∙ kept-other true e
+              back-buys false e q =
+                  restored buys c (count false) (r .place) (r .order) (mine false e .1) (room false) (order-there false e)
+                  (gone-buys ∙ rw (out-of false e)) (less-one ∙ rw e) q
+
+              back-sells : (side : Bool) → r .sell ≡ side → {b : List ℕ} → b ≡ pick side (putBackIn sells′ c count₁ (r .place) (r .order)) sells′ → b ≡ sells
+              back-sells true e q =
+                  restored sells c (count true) (r .place) (r .order) (mine true e .1) (room true) (order-there true e)
+                  (gone-sells ∙ rw (out-of true e)) (less-one ∙ rw e) q
+              back-sells false e q = q ∙ gone-sells ∙ kept-other false e
+
+              pub buys-back : {b : List ℕ} → b ≡ pick (r .sell) buys′ (putBackIn buys′ (n - 1) count₁ (r .place) (r .order)) → b ≡ buys
+              buys-back eb = back-buys (r .sell) refl (rw is at eb)
+
+              pub sells-back : {b : List ℕ} → b ≡ pick (r .sell) (putBackIn sells′ (n - 1) count₁ (r .place) (r .order)) sells′ → b ≡ sells
+              sells-back eb = back-sells (r .sell) refl (rw is at eb)
+
+              pub lost-refused : {b d : List ℕ} → b ≡ buys → d ≡ sells → {q : Outcome} → q ≡ refusedWith s code → OutcomeIs (stepIn m command) q b d trades
+              lost-refused eb ed a = rw (eb, ed) (refusal s buys sells trades command code (omega arith) changed-code a)
+
+            -- ---- accepted: it is entered
+
+            module _ (clear : code ≡ 0) where
+              zero-code : codeOf x command ≡ 0
+              zero-code = changed-code ∙ clear
+
+              next-is : t .state .next ≡ s .next
+              next-is = rw gone-state
+
+              lost-is : changed x k ≡ placeLost x k
+              unfolding changed
+              lost-is = rw (none-zero, loss)
+
+              refusals-zero : firstOf (changeRefusals x k) ≡ 0
+              unfolding codeOf kindOf
+              refusals-zero = zero-code
+
+              abbrev after : Exchange
+              after = exchangeAfter (gone x k) (arriving x k) (reentered x k) (x .next)
+
+              after-keeps : WellFormed after
+              unfolding placeLost
+              after-keeps =
+                  subst (λ (v : Effect). WellFormed (lastOf x (v .stages))) lost-is (change-keeps x (f .contents) k refusals-zero (sound m (w .formed) .counts))
+
+              after-counted : Counted after
+              unfolding placeLost
+              after-counted = subst (λ (v : Effect). Each Counted (v .stages)) lost-is (change-counted x (f .contents) k refusals-zero (sound m (w .formed) .counts)) .1 .0
+
+              reentry : Failed (reentryRefusals (exchangeOf m′) number o)
+              unfolding reentryRefusals
+              reentry = failed (reentryRefusals (exchangeOf m′) number o) (omega arith) (sym ec ∙ clear)
+
+              x-next : x .next ≡ s .next
+              unfolding exchangeOf
+              x-next = refl
+
+              same-after : exchangeAfter (exchangeOf m′) o (enteredOf (exchangeOf m′) number o) (t .state .next) ≡ after
+              unfolding reentered
+              same-after =
+                  ap (λ (v : NewOrder). exchangeAfter (exchangeOf m′) v (enteredOf (exchangeOf m′) number v) (t .state .next)) its-order
+                  ∙ ap (λ (y : Exchange). exchangeAfter y (arriving x k) (enteredOf y number (arriving x k)) (t .state .next)) read
+                  ∙ ap (λ (n : ℕ). exchangeAfter (gone x k) (arriving x k) (enteredOf (gone x k) number (arriving x k)) n) (next-is ∙ sym x-next)
+
+              -- what it leaves is well formed
+              entered-keeps : WellFormed (exchangeAfter (exchangeOf m′) o (enteredOf (exchangeOf m′) number o) (t .state .next))
+              entered-keeps = subst WellFormed (sym same-after) after-keeps
+
+              entered-counted : Counted (exchangeAfter (exchangeOf m′) o (enteredOf (exchangeOf m′) number o) (t .state .next))
+              entered-counted = subst Counted (sym same-after) after-counted
+
+              entered-few : (side : Bool) → length (own side (listingAfter (listingOf (exchangeOf m′) o) (o .sell) (enteredOf (exchangeOf m′) number o))) ≤ maxResting
+              unfolding exchangeAfter
+              entered-few side =
+                  few-after m′ (formed gone-formed) (placeOf (o .contract)) _ _ (t .state .next) (exchangeOf m′ .nextstamp + 1) (gone-present .contract) entered-keeps entered-counted side
+
+              stamp-left : t .state .nextstamp < numbersEnd
+              unfolding reentryRefusals exchangeOf
+              stamp-left = leb-false _ _ (reentry .1 .1 .0)
+
+              trades-room : rules.tradesRefused (exchangeOf m′) number o ≡ false
+              unfolding reentryRefusals
+              trades-room = reentry .1 .1 .1 .0
+
+              pub lost-enterable : Enterable (t .state) buys′ sells′ trades o number (t .state .next)
+              lost-enterable =
+                  record {
+                    present = gone-present;
+                    lots = gone-lots;
+                    stamp = stamp-left;
+                    room = trades-room;
+                    few = entered-few;
+                    leaves = well-formed-test _ entered-keeps;
+                  }
+
+              same-entered : enteredOf (exchangeOf m′) number o ≡ reentered x k
+              unfolding reentered
+              same-entered = rw its-order (ap (λ (y : Exchange). enteredOf y number (arriving x k)) read)
+
+              response : stepIn m command
+                  ≡ record { answer = answerOf 0 number (tradedLots (reentered x k .trades)) (reentered x k .rested); memory = put (put m (gone x k)) after }
+              unfolding stepIn decide kindOf placeLost
+              response = rw (zero-code, lost-is)
+
+              same-response : enteredIn m′ o number (t .state .next) ≡ stepIn m command
+              same-response =
+                  ap (λ (e : Entered). record {
+                    answer = answerOf 0 number (tradedLots (e .trades)) (e .rested);
+                    memory = put m′ (exchangeAfter (exchangeOf m′) o (enteredOf (exchangeOf m′) number o) (t .state .next));
+                  }) same-entered
+                  ∙ ap (λ (y : Exchange). record { answer = answerOf 0 number (tradedLots (reentered x k .trades)) (reentered x k .rested); memory = put m′ y }) same-after
+                  ∙ ap (λ (v : Memory). record { answer = answerOf 0 number (tradedLots (reentered x k .trades)) (reentered x k .rested); memory = put v after }) lies
+                  ∙ sym response
+
+              pub lost-changed : {q : Outcome} {b d e : List ℕ} → OutcomeIs (enteredIn m′ o number (t .state .next)) q b d e → OutcomeIs (stepIn m command) q b d e
+              lost-changed {q} {b} {d} {e} h = subst (λ (v : Responded). OutcomeIs v q b d e) same-response h

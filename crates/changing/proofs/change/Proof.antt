@@ -1,0 +1,192 @@
+-- `changing::change` meets its contract: each return by its law in Changing.antt. Assumes nothing.
+use mathlib.Core.Path.{sym, _∙_}
+use native.Mathlib.Omega.{arith}
+use Rattle.changing.proofs.Changing.{account-low, can-lessen, changeable, contract-fits, contract-low, equal-changed, few-contracts, fewer-changed, order-refused, refused-early, rooms, terms-ok, zero-changed}
+use borrow.Author.Needs.{needs}
+use Rattle.changing.proofs.change.Statement.{statement}
+use Rattle.changing.proofs.change.Tie as tie
+
+state-code-requires : tie.Need-state-code-requires
+state-code-requires c κs =
+    let start = c .before .before .before in
+    few-contracts (start .pre) (start .args .account) (start .args .contract) (start .args .number) (start .args .lots) (start .args .price)
+
+refused-requires : tie.Need-refused-requires
+refused-requires c κs = search needs
+
+returns : tie.Need-returns
+returns c =
+    let start = c .before .before .before .before .before .before in
+    refused-early (start .pre) (start .args .account) (start .args .contract) (start .args .number) (start .args .lots) (start .args .price) (c .before .before .state-code .ensures) (c .before .if1 .taken) (c .refused .ensures)
+
+wide-requires : tie.Need-wide-requires
+wide-requires c κs = search needs
+
+sub-c : tie.Need-sub-c
+sub-c c =
+    let start = c .before .before .before .before .before .before in
+    omega (arith, c .wide .ensures, contract-low (start .pre) (start .args .account) (start .args .contract) (start .args .number) (start .args .lots) (start .args .price) (sym (c .before .before .state-code .ensures) ∙ c .before .if1 .left))
+
+mul-terms : tie.Need-mul-terms
+mul-terms c = search needs
+
+array-copy-out-terms : tie.Need-array-copy-out-terms
+array-copy-out-terms c =
+    let start = c .before .before .before .before .before .before .before in
+    contract-fits (start .pre) (start .args .account) (start .args .contract) (start .args .number) (start .args .lots) (start .args .price) (sym (c .before .before .before .state-code .ensures) ∙ c .before .before .if1 .left) (c .before .wide .ensures)
+
+side-count-requires : tie.Need-side-count-requires
+side-count-requires c κs =
+    let start = c .before .before .before .before .before .before .before .before in
+    contract-fits (start .pre) (start .args .account) (start .args .contract) (start .args .number) (start .args .lots) (start .args .price) (sym (c .before .before .before .before .state-code .ensures) ∙ c .before .before .before .if1 .left) (c .before .before .wide .ensures)
+
+side-count-requires-2 : tie.Need-side-count-requires-2
+side-count-requires-2 c κs =
+    let start = c .before .before .before .before .before .before .before .before .before in
+    contract-fits (start .pre) (start .args .account) (start .args .contract) (start .args .number) (start .args .lots) (start .args .price) (sym (c .before .before .before .before .before .state-code .ensures) ∙ c .before .before .before .before .if1 .left) (c .before .before .before .wide .ensures)
+
+resting-order-requires : tie.Need-resting-order-requires
+resting-order-requires c κs =
+    let start = c .before .before .before .before .before .before .before .before .before .before .before .before in
+    rooms (start .pre) (start .args .account) (start .args .contract) (start .args .number) (start .args .lots) (start .args .price) (sym (c .before .before .before .before .before .before .before .before .state-code .ensures) ∙ c .before .before .before .before .before .before .before .if1 .left) (c .before .before .before .before .before .before .wide .ensures) (c .before .before .before .side-count .ensures) (c .before .before .side-count2 .ensures)
+
+sub-order-code : tie.Need-sub-order-code
+sub-order-code c =
+    let start = c .before .before .before .before .before .before .before .before .before .before .before .before .before in
+    account-low (start .pre) (start .args .account) (start .args .contract) (start .args .number) (start .args .lots) (start .args .price) (sym (c .before .before .before .before .before .before .before .before .before .state-code .ensures) ∙ c .before .before .before .before .before .before .before .before .if1 .left)
+
+order-code-requires : tie.Need-order-code-requires
+order-code-requires c κs =
+    let start = c .before .before .before .before .before .before .before .before .before .before .before .before .before in
+    terms-ok (start .pre) (start .args .account) (start .args .contract) (start .args .number) (start .args .lots) (start .args .price) (sym (c .before .before .before .before .before .before .before .before .before .state-code .ensures) ∙ c .before .before .before .before .before .before .before .before .if1 .left) (c .before .before .before .before .before .before .before .wide .ensures)
+
+refused-requires-2 : tie.Need-refused-requires-2
+refused-requires-2 c κs = search needs
+
+same-length : tie.Need-same-length
+same-length c = search needs
+
+same-length-2 : tie.Need-same-length-2
+same-length-2 c = search needs
+
+returns-2 : tie.Need-returns-2
+returns-2 c =
+    let start = c .before .before .before .before .before .before .before .before .before .before .before .before .before .before .before .before in
+    order-refused (start .pre) (start .args .account) (start .args .contract) (start .args .number) (start .args .lots) (start .args .price) (sym (c .before .before .before .before .before .before .before .before .before .before .before .before .state-code .ensures) ∙ c .before .before .before .before .before .before .before .before .before .before .before .if1 .left) (c .before .before .before .before .before .before .before .before .before .before .wide .ensures) (c .before .before .before .before .before .before .before .side-count .ensures) (c .before .before .before .before .before .before .side-count2 .ensures) (c .before .before .before .resting-order .ensures) (c .before .before .order-code .ensures) (c .before .if2 .taken) (c .refused2 .ensures)
+
+cancel-requires : tie.Need-cancel-requires
+cancel-requires c κs = search needs
+
+same-length-3 : tie.Need-same-length-3
+same-length-3 c = search needs
+
+same-length-4 : tie.Need-same-length-4
+same-length-4 c = search needs
+
+same-length-5 : tie.Need-same-length-5
+same-length-5 c = search needs
+
+returns-3 : tie.Need-returns-3
+returns-3 c =
+    let start = c .before .before .before .before .before .before .before .before .before .before .before .before .before .before .before .before .before .before .before .before .before .before .before .before in
+    zero-changed (start .pre) (start .args .account) (start .args .contract) (start .args .number) (start .args .lots) (start .args .price) (changeable (start .pre) (start .args .account) (start .args .contract) (start .args .number) (start .args .lots) (start .args .price) (sym (c .before .before .before .before .before .before .before .before .before .before .before .before .before .before .before .before .before .before .before .before .state-code .ensures) ∙ c .before .before .before .before .before .before .before .before .before .before .before .before .before .before .before .before .before .before .before .if1 .left) (c .before .before .before .before .before .before .before .before .before .before .before .before .before .before .before .before .before .before .wide .ensures) (c .before .before .before .before .before .before .before .before .before .before .before .before .before .before .before .side-count .ensures) (c .before .before .before .before .before .before .before .before .before .before .before .before .before .before .side-count2 .ensures) (c .before .before .before .before .before .before .before .before .before .before .before .resting-order .ensures) (c .before .before .before .before .before .before .before .before .before .before .order-code .ensures) (c .before .before .before .before .before .before .before .before .before .if2 .left)) (c .before .before .before .before .before .before .before .before .if3 .taken) (c .before .before .before .before .cancel .ensures)
+
+loses-place-requires : tie.Need-loses-place-requires
+loses-place-requires c κs = search needs
+
+lose-place-requires : tie.Need-lose-place-requires
+lose-place-requires c κs =
+    let start = c .before .before .before .before .before .before .before .before .before .before .before .before .before .before .before .before .before .before .before .before .before .before in
+    (start .pre, (changeable (start .pre) (start .args .account) (start .args .contract) (start .args .number) (start .args .lots) (start .args .price) (sym (c .before .before .before .before .before .before .before .before .before .before .before .before .before .before .before .before .before .before .state-code .ensures) ∙ c .before .before .before .before .before .before .before .before .before .before .before .before .before .before .before .before .before .if1 .left) (c .before .before .before .before .before .before .before .before .before .before .before .before .before .before .before .before .wide .ensures) (c .before .before .before .before .before .before .before .before .before .before .before .before .before .side-count .ensures) (c .before .before .before .before .before .before .before .before .before .before .before .before .side-count2 .ensures) (c .before .before .before .before .before .before .before .before .before .resting-order .ensures) (c .before .before .before .before .before .before .before .before .order-code .ensures) (c .before .before .before .before .before .before .before .if2 .left)), c .before .before .before .before .before .before .if3 .left, sym (c .before .before .before .before .loses-place .ensures) ∙ c .before .before .before .if4 .taken)
+
+same-length-6 : tie.Need-same-length-6
+same-length-6 c = search needs
+
+same-length-7 : tie.Need-same-length-7
+same-length-7 c = search needs
+
+same-length-8 : tie.Need-same-length-8
+same-length-8 c = search needs
+
+returns-4 : tie.Need-returns-4
+returns-4 c = search needs
+
+accepted-requires : tie.Need-accepted-requires
+accepted-requires c κs = search needs
+
+same-length-9 : tie.Need-same-length-9
+same-length-9 c = search needs
+
+same-length-10 : tie.Need-same-length-10
+same-length-10 c = search needs
+
+returns-5 : tie.Need-returns-5
+returns-5 c =
+    let start = c .before .before .before .before .before .before .before .before .before .before .before .before .before .before .before .before .before .before .before .before .before .before in
+    equal-changed (start .pre) (start .args .account) (start .args .contract) (start .args .number) (start .args .lots) (start .args .price) (changeable (start .pre) (start .args .account) (start .args .contract) (start .args .number) (start .args .lots) (start .args .price) (sym (c .before .before .before .before .before .before .before .before .before .before .before .before .before .before .before .before .before .before .state-code .ensures) ∙ c .before .before .before .before .before .before .before .before .before .before .before .before .before .before .before .before .before .if1 .left) (c .before .before .before .before .before .before .before .before .before .before .before .before .before .before .before .before .wide .ensures) (c .before .before .before .before .before .before .before .before .before .before .before .before .before .side-count .ensures) (c .before .before .before .before .before .before .before .before .before .before .before .before .side-count2 .ensures) (c .before .before .before .before .before .before .before .before .before .resting-order .ensures) (c .before .before .before .before .before .before .before .before .order-code .ensures) (c .before .before .before .before .before .before .before .if2 .left)) (c .before .before .before .before .before .before .if3 .left) (sym (c .before .before .before .before .loses-place .ensures) ∙ c .before .before .before .if4 .left) (c .before .if5 .taken) (c .accepted .ensures)
+
+side-count-requires-3 : tie.Need-side-count-requires-3
+side-count-requires-3 c κs =
+    let start = c .before .before .before .before .before .before .before .before .before .before .before .before .before .before .before .before .before .before .before .before .before in
+    contract-fits (start .pre) (start .args .account) (start .args .contract) (start .args .number) (start .args .lots) (start .args .price) (sym (c .before .before .before .before .before .before .before .before .before .before .before .before .before .before .before .before .before .state-code .ensures) ∙ c .before .before .before .before .before .before .before .before .before .before .before .before .before .before .before .before .if1 .left) (c .before .before .before .before .before .before .before .before .before .before .before .before .before .before .before .wide .ensures)
+
+lessen-requires : tie.Need-lessen-requires
+lessen-requires c κs =
+    let start = c .before .before .before .before .before .before .before .before .before .before .before .before .before .before .before .before .before .before .before .before .before .before .before .before in
+    can-lessen (start .pre) (start .args .account) (start .args .contract) (start .args .number) (start .args .lots) (start .args .price) (changeable (start .pre) (start .args .account) (start .args .contract) (start .args .number) (start .args .lots) (start .args .price) (sym (c .before .before .before .before .before .before .before .before .before .before .before .before .before .before .before .before .before .before .before .before .state-code .ensures) ∙ c .before .before .before .before .before .before .before .before .before .before .before .before .before .before .before .before .before .before .before .if1 .left) (c .before .before .before .before .before .before .before .before .before .before .before .before .before .before .before .before .before .before .wide .ensures) (c .before .before .before .before .before .before .before .before .before .before .before .before .before .before .before .side-count .ensures) (c .before .before .before .before .before .before .before .before .before .before .before .before .before .before .side-count2 .ensures) (c .before .before .before .before .before .before .before .before .before .before .before .resting-order .ensures) (c .before .before .before .before .before .before .before .before .before .before .order-code .ensures) (c .before .before .before .before .before .before .before .before .before .if2 .left)) (c .before .before .before .before .before .before .before .before .if3 .left) (sym (c .before .before .before .before .before .before .loses-place .ensures) ∙ c .before .before .before .before .before .if4 .left) (c .before .before .before .before .before .before .before .before .before .before .before .before .before .before .before .before .before .before .wide .ensures) (c .before .before .side-count3 .ensures)
+
+accepted-requires-2 : tie.Need-accepted-requires-2
+accepted-requires-2 c κs = search needs
+
+same-length-11 : tie.Need-same-length-11
+same-length-11 c = search needs
+
+same-length-12 : tie.Need-same-length-12
+same-length-12 c = search needs
+
+returns-6 : tie.Need-returns-6
+returns-6 c =
+    let start = c .before .before .before .before .before .before .before .before .before .before .before .before .before .before .before .before .before .before .before .before .before .before .before .before .before .before .before .before .before .before in
+    fewer-changed (start .pre) (start .args .account) (start .args .contract) (start .args .number) (start .args .lots) (start .args .price) (changeable (start .pre) (start .args .account) (start .args .contract) (start .args .number) (start .args .lots) (start .args .price) (sym (c .before .before .before .before .before .before .before .before .before .before .before .before .before .before .before .before .before .before .before .before .before .before .before .before .before .before .state-code .ensures) ∙ c .before .before .before .before .before .before .before .before .before .before .before .before .before .before .before .before .before .before .before .before .before .before .before .before .before .if1 .left) (c .before .before .before .before .before .before .before .before .before .before .before .before .before .before .before .before .before .before .before .before .before .before .before .before .wide .ensures) (c .before .before .before .before .before .before .before .before .before .before .before .before .before .before .before .before .before .before .before .before .before .side-count .ensures) (c .before .before .before .before .before .before .before .before .before .before .before .before .before .before .before .before .before .before .before .before .side-count2 .ensures) (c .before .before .before .before .before .before .before .before .before .before .before .before .before .before .before .before .before .resting-order .ensures) (c .before .before .before .before .before .before .before .before .before .before .before .before .before .before .before .before .order-code .ensures) (c .before .before .before .before .before .before .before .before .before .before .before .before .before .before .before .if2 .left)) (c .before .before .before .before .before .before .before .before .before .before .before .before .before .before .if3 .left) (sym (c .before .before .before .before .before .before .before .before .before .before .before .before .loses-place .ensures) ∙ c .before .before .before .before .before .before .before .before .before .before .before .if4 .left) (c .before .before .before .before .before .before .before .before .before .if5 .left) (c .before .before .before .before .before .before .before .before .before .before .before .before .before .before .before .before .before .before .before .before .before .before .before .before .wide .ensures) (c .before .before .before .before .before .before .before .before .side-count3 .ensures) (c .before .before .before .before .before .lessen .ensures .0) (c .before .before .before .before .before .lessen .ensures .1) (c .accepted2 .ensures)
+
+pub change-spec : {M : Type 1} → statement M
+change-spec =
+    tie.close
+    (tie.spec
+    state-code-requires
+    refused-requires
+    returns
+    wide-requires
+    sub-c
+    mul-terms
+    array-copy-out-terms
+    side-count-requires
+    side-count-requires-2
+    resting-order-requires
+    sub-order-code
+    order-code-requires
+    refused-requires-2
+    same-length
+    same-length-2
+    returns-2
+    cancel-requires
+    same-length-3
+    same-length-4
+    same-length-5
+    returns-3
+    loses-place-requires
+    lose-place-requires
+    same-length-6
+    same-length-7
+    same-length-8
+    returns-4
+    accepted-requires
+    same-length-9
+    same-length-10
+    returns-5
+    side-count-requires-3
+    lessen-requires
+    accepted-requires-2
+    same-length-11
+    same-length-12
+    returns-6)

@@ -1,0 +1,119 @@
+-- `changing::lose_place` meets its contract: refused, the order is where it was; accepted, it is entered. Assumes nothing.
+use mathlib.Core.Path.{refl, ap}
+use lib.ListN.{length}
+use native.Mathlib.Omega.{arith}
+use Rattle.changing.proofs.Changing.{account-fits, account-low, buys-back, can-put-back, contract-fits, contract-low, gone-formed, gone-lots, gone-owner, gone-present, lost-changed, lost-enterable, lost-refused, sells-back}
+use borrow.Author.Needs.{needs}
+use Rattle.changing.proofs.lose_place.Statement.{statement}
+use Rattle.changing.proofs.lose_place.Tie as tie
+
+wide-requires : tie.Need-wide-requires
+wide-requires c κs = search needs
+
+sub-c : tie.Need-sub-c
+sub-c c =
+    let start = c .before .before .before .before in
+    omega (arith, c .wide .ensures, contract-low (start .pre .0) (start .args .account) (start .args .contract) (start .args .number) (start .args .lots) (start .args .price) (start .pre .1 .state))
+
+wide-requires-2 : tie.Need-wide-requires-2
+wide-requires-2 c κs = search needs
+
+sub-a : tie.Need-sub-a
+sub-a c =
+    let start = c .before .before .before .before .before in
+    omega (arith, c .wide2 .ensures, account-low (start .pre .0) (start .args .account) (start .args .contract) (start .args .number) (start .args .lots) (start .args .price) (start .pre .1 .state))
+
+mul-who : tie.Need-mul-who
+mul-who c = search needs
+
+element-copy-out-who : tie.Need-element-copy-out-who
+element-copy-out-who c =
+    let start = c .before .before .before .before .before in
+    account-fits (start .pre .0) (start .args .account) (start .args .contract) (start .args .number) (start .args .lots) (start .args .price) (start .pre .1 .state) (c .wide2 .ensures)
+
+arriving-requires : tie.Need-arriving-requires
+arriving-requires c κs = search needs
+
+cancel-requires : tie.Need-cancel-requires
+cancel-requires c κs = search needs
+
+reentry-code-requires : tie.Need-reentry-code-requires
+reentry-code-requires c κs =
+    let start = c .before .before .before .before .before .before .before .before .before .before .before .before .before .before .before .before .before .before .before in
+    (gone-formed (start .pre .0) (start .args .account) (start .args .contract) (start .args .number) (start .args .lots) (start .args .price) (start .pre .1) (start .pre .2) (start .pre .3) (c .before .before .before .before .before .before .before .before .cancel .ensures), gone-present (start .pre .0) (start .args .account) (start .args .contract) (start .args .number) (start .args .lots) (start .args .price) (start .pre .1) (start .pre .2) (start .pre .3) (c .before .before .before .before .before .before .before .before .cancel .ensures) (c .before .before .before .before .before .before .before .before .before .before .before .before .arriving .ensures), gone-lots (start .pre .0) (start .args .account) (start .args .contract) (start .args .number) (start .args .lots) (start .args .price) (start .pre .1) (start .pre .2) (start .pre .3) (c .before .before .before .before .before .before .before .before .cancel .ensures) (c .before .before .before .before .before .before .before .before .before .before .before .before .arriving .ensures), gone-owner (start .pre .0) (start .args .account) (start .args .contract) (start .args .number) (start .args .lots) (start .args .price) (start .pre .1) (start .pre .2) (start .pre .3) (c .before .before .before .before .before .before .before .before .cancel .ensures) (c .before .before .before .before .before .before .before .before .before .before .before .before .arriving .ensures) (c .before .before .before .before .before .before .before .before .before .before .before .before .before .before .wide2 .ensures) refl)
+
+side-count-requires : tie.Need-side-count-requires
+side-count-requires c κs =
+    let start = c .before .before .before .before .before .before .before .before .before .before .before .before .before .before .before .before .before .before .before .before .before in
+    contract-fits (start .pre .0) (start .args .account) (start .args .contract) (start .args .number) (start .args .lots) (start .args .price) (start .pre .1 .state) (c .before .before .before .before .before .before .before .before .before .before .before .before .before .before .before .before .before .wide .ensures)
+
+put-back-requires : tie.Need-put-back-requires
+put-back-requires c κs =
+    let start = c .before .before .before .before .before .before .before .before .before .before .before .before .before .before .before .before .before .before .before .before .before .before .before .before in
+    can-put-back (start .pre .0) (start .args .account) (start .args .contract) (start .args .number) (start .args .lots) (start .args .price) (start .pre .1) (start .pre .2) (start .pre .3) (c .before .before .before .before .before .before .before .before .before .before .before .before .before .cancel .ensures) (c .before .before .before .before .before .before .before .before .before .before .before .before .before .before .before .before .before .arriving .ensures) (c .before .before .before .before .reentry-code .ensures) (c .before .before .before .if1 .taken) (c .before .before .before .before .before .before .before .before .before .before .before .before .before .before .before .before .before .before .before .before .wide .ensures) (c .before .before .side-count .ensures)
+
+refused-requires : tie.Need-refused-requires
+refused-requires c κs = search needs
+
+same-length : tie.Need-same-length
+same-length c =
+    let start = c .before .before .before .before .before .before .before .before .before .before .before .before .before .before .before .before .before .before .before .before .before .before .before .before .before .before .before .before .before .before in
+    ap length (buys-back (start .pre .0) (start .args .account) (start .args .contract) (start .args .number) (start .args .lots) (start .args .price) (start .pre .1) (start .pre .2) (start .pre .3) (c .before .before .before .before .before .before .before .before .before .before .before .before .before .before .before .before .before .before .before .cancel .ensures) (c .before .before .before .before .before .before .before .before .before .before .before .before .before .before .before .before .before .before .before .before .before .before .before .arriving .ensures) (c .before .before .before .before .before .before .before .before .before .before .reentry-code .ensures) (c .before .before .before .before .before .before .before .before .before .if1 .taken) (c .before .before .before .before .before .before .before .before .before .before .before .before .before .before .before .before .before .before .before .before .before .before .before .before .before .before .wide .ensures) (c .before .before .before .before .before .before .before .before .side-count .ensures) (c .before .before .before .before .before .put-back .ensures .0))
+
+same-length-2 : tie.Need-same-length-2
+same-length-2 c =
+    let start = c .before .before .before .before .before .before .before .before .before .before .before .before .before .before .before .before .before .before .before .before .before .before .before .before .before .before .before .before .before .before in
+    ap length (sells-back (start .pre .0) (start .args .account) (start .args .contract) (start .args .number) (start .args .lots) (start .args .price) (start .pre .1) (start .pre .2) (start .pre .3) (c .before .before .before .before .before .before .before .before .before .before .before .before .before .before .before .before .before .before .before .cancel .ensures) (c .before .before .before .before .before .before .before .before .before .before .before .before .before .before .before .before .before .before .before .before .before .before .before .arriving .ensures) (c .before .before .before .before .before .before .before .before .before .before .reentry-code .ensures) (c .before .before .before .before .before .before .before .before .before .if1 .taken) (c .before .before .before .before .before .before .before .before .before .before .before .before .before .before .before .before .before .before .before .before .before .before .before .before .before .before .wide .ensures) (c .before .before .before .before .before .before .before .before .side-count .ensures) (c .before .before .before .before .before .put-back .ensures .1))
+
+same-length-3 : tie.Need-same-length-3
+same-length-3 c = search needs
+
+returns : tie.Need-returns
+returns c =
+    let start = c .before .before .before .before .before .before .before .before .before .before .before .before .before .before .before .before .before .before .before .before .before .before .before .before .before .before .before .before .before .before in
+    lost-refused (start .pre .0) (start .args .account) (start .args .contract) (start .args .number) (start .args .lots) (start .args .price) (start .pre .1) (start .pre .2) (start .pre .3) (c .before .before .before .before .before .before .before .before .before .before .before .before .before .before .before .before .before .before .before .cancel .ensures) (c .before .before .before .before .before .before .before .before .before .before .before .before .before .before .before .before .before .before .before .before .before .before .before .arriving .ensures) (c .before .before .before .before .before .before .before .before .before .before .reentry-code .ensures) (c .before .before .before .before .before .before .before .before .before .if1 .taken) (c .before .before .before .before .before .before .before .before .before .before .before .before .before .before .before .before .before .before .before .before .before .before .before .before .before .before .wide .ensures) (c .before .before .before .before .before .before .before .before .side-count .ensures) (buys-back (start .pre .0) (start .args .account) (start .args .contract) (start .args .number) (start .args .lots) (start .args .price) (start .pre .1) (start .pre .2) (start .pre .3) (c .before .before .before .before .before .before .before .before .before .before .before .before .before .before .before .before .before .before .before .cancel .ensures) (c .before .before .before .before .before .before .before .before .before .before .before .before .before .before .before .before .before .before .before .before .before .before .before .arriving .ensures) (c .before .before .before .before .before .before .before .before .before .before .reentry-code .ensures) (c .before .before .before .before .before .before .before .before .before .if1 .taken) (c .before .before .before .before .before .before .before .before .before .before .before .before .before .before .before .before .before .before .before .before .before .before .before .before .before .before .wide .ensures) (c .before .before .before .before .before .before .before .before .side-count .ensures) (c .before .before .before .before .before .put-back .ensures .0)) (sells-back (start .pre .0) (start .args .account) (start .args .contract) (start .args .number) (start .args .lots) (start .args .price) (start .pre .1) (start .pre .2) (start .pre .3) (c .before .before .before .before .before .before .before .before .before .before .before .before .before .before .before .before .before .before .before .cancel .ensures) (c .before .before .before .before .before .before .before .before .before .before .before .before .before .before .before .before .before .before .before .before .before .before .before .arriving .ensures) (c .before .before .before .before .before .before .before .before .before .before .reentry-code .ensures) (c .before .before .before .before .before .before .before .before .before .if1 .taken) (c .before .before .before .before .before .before .before .before .before .before .before .before .before .before .before .before .before .before .before .before .before .before .before .before .before .before .wide .ensures) (c .before .before .before .before .before .before .before .before .side-count .ensures) (c .before .before .before .before .before .put-back .ensures .1)) (c .refused .ensures)
+
+enter-order-requires : tie.Need-enter-order-requires
+enter-order-requires c κs =
+    let start = c .before .before .before .before .before .before .before .before .before .before .before .before .before .before .before .before .before .before .before .before .before .before .before .before in
+    (gone-formed (start .pre .0) (start .args .account) (start .args .contract) (start .args .number) (start .args .lots) (start .args .price) (start .pre .1) (start .pre .2) (start .pre .3) (c .before .before .before .before .before .before .before .before .before .before .before .before .before .cancel .ensures), lost-enterable (start .pre .0) (start .args .account) (start .args .contract) (start .args .number) (start .args .lots) (start .args .price) (start .pre .1) (start .pre .2) (start .pre .3) (c .before .before .before .before .before .before .before .before .before .before .before .before .before .cancel .ensures) (c .before .before .before .before .before .before .before .before .before .before .before .before .before .before .before .before .before .arriving .ensures) (c .before .before .before .before .reentry-code .ensures) (c .before .before .before .if1 .left))
+
+same-length-4 : tie.Need-same-length-4
+same-length-4 c = search needs
+
+same-length-5 : tie.Need-same-length-5
+same-length-5 c = search needs
+
+same-length-6 : tie.Need-same-length-6
+same-length-6 c = search needs
+
+returns-2 : tie.Need-returns-2
+returns-2 c =
+    let start = c .before .before .before .before .before .before .before .before .before .before .before .before .before .before .before .before .before .before .before .before .before .before .before .before .before .before .before .before .before .before .before in
+    lost-changed (start .pre .0) (start .args .account) (start .args .contract) (start .args .number) (start .args .lots) (start .args .price) (start .pre .1) (start .pre .2) (start .pre .3) (c .before .before .before .before .before .before .before .before .before .before .before .before .before .before .before .before .before .before .before .before .cancel .ensures) (c .before .before .before .before .before .before .before .before .before .before .before .before .before .before .before .before .before .before .before .before .before .before .before .before .arriving .ensures) (c .before .before .before .before .before .before .before .before .before .before .before .reentry-code .ensures) (c .before .before .before .before .before .before .before .before .before .before .if1 .left) (c .before .before .before .before .before .before .enter-order .ensures)
+
+pub lose-place-spec : {M : Type 1} → statement M
+lose-place-spec =
+    tie.close
+    (tie.spec
+    wide-requires
+    sub-c
+    wide-requires-2
+    sub-a
+    mul-who
+    element-copy-out-who
+    arriving-requires
+    cancel-requires
+    reentry-code-requires
+    side-count-requires
+    put-back-requires
+    refused-requires
+    same-length
+    same-length-2
+    same-length-3
+    returns
+    enter-order-requires
+    same-length-4
+    same-length-5
+    same-length-6
+    returns-2)

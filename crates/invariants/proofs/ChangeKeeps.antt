@@ -1,0 +1,401 @@
+-- An accepted change of a resting order keeps a state well formed. Where the place is lost the order is gone, and its number is then no
+-- resting order's, so that it is entered as an insert's is; 13 cannot occur, since its own side has one order fewer. Where the place is
+-- kept that order has fewer lots. Assumes nothing.
+use mathlib.Core.Bool.{Bool, true, false, not, _&&_, _||_, true≢false, false≢true}
+use mathlib.Core.List.{List, [], _∷_, _++_}
+use mathlib.Core.Path.{_≡_, refl, sym, ap, subst}
+use Prim.Native.Nat.{ℕ, _+_, _<_, _≤_}
+use native.Mathlib.Nat.{le-refl}
+use native.Mathlib.Omega.{arith}
+use borrow.Author.Tests.{eqb-true, eqb-false, eq-eqb, ne-eqb, leb-false, ltb-false, le-leb, not-false, not-true}
+use lib.Dec.{leb, ltb, eqb}
+use lib.ListN.{length, getD, set, length-set}
+use lib.Seq.{getD-set-same}
+use Rattle.laws.specs.Choice.{pick, allOf, allOf-append, both-true, true-both, either-false}
+use Rattle.laws.specs.Sums.{sumOf, sumOf-append, sumOf-at, sumOf-set}
+use Rattle.rules.specs.Answers.{firstOf, holdingRefused, listingOf, noSuchOrder, numbered, restingOrder, stampsUsedUp, tradesRefused}
+use Rattle.rules.specs.Bounds.{allowedToday, maxLots, maxResting, numbersEnd}
+use Rattle.rules.specs.Change.{Asked, arriving, changeRefusals, changed, gone, isSell, lessened, listingFor, listingLessened, losesPlace, oldOrder, placeKept, placeLost, reentered, unchanged}
+use Rattle.rules.specs.Exchange.{Exchange, Listing, listingAt, noListing, noOrder, own, placeOf, lotsWhere, resting}
+use Rattle.rules.specs.Kinds.{lastOf}
+use Rattle.rules.specs.Step.{cancelled, exchangeAfter, hasNumber, limitOf, listingWithout, removed, withListing, without}
+use Rattle.rules.specs.WellFormed.{allNumbers, numberOf, orderInRange}
+use Rattle.rules.specs.declared.Holding.{Holding}
+use Rattle.rules.specs.declared.Order.{Order}
+use Rattle.rules.proofs.Changes.{changed-either}
+use Rattle.rules.proofs.Lessened.{fits, less-all, less-length, less-sorted, less-sum, less-uncrossed, same-sum}
+use Rattle.rules.proofs.Stages.{Each}
+use Rattle.invariants.proofs.Accepted.{Failed, failed, present}
+use Rattle.invariants.proofs.Clauses.{ListingOk, HoldingOk, WellFormed, Counted, order-ok}
+use Rattle.invariants.proofs.Insert.{entered-counted, entered-keeps}
+use Rattle.invariants.proofs.InsertAccepted.{Given, Passes, both-failed, close-lots, open-lots}
+use Rattle.invariants.proofs.InsertQueues.{order-fewer}
+use Rattle.invariants.proofs.Numbers.{KeptByLots, all-uses, occurs, once-count, uses, usesIn}
+use Rattle.invariants.proofs.OneListing.{relisted-counted, relisted-keeps}
+use Rattle.invariants.proofs.Removal.{removed-counted, removed-keeps}
+
+-- ---- the order with a number
+
+module _ (n : ℕ) where
+  -- it passes what every order passes, and has the number
+  found : (test : Order → Bool) (os : List Order) → allOf test os ≡ true → noSuchOrder (numbered n os) ≡ false →
+      (test (getD (numbered n os) 0 noOrder) ≡ true) × (getD (numbered n os) 0 noOrder .number ≡ n)
+  unfolding noSuchOrder numbered allOf
+  found test [] h e = absurd (true≢false e)
+  found test (o ∷ os) h e = go (eqb (o .number) n) refl (found test os (q .1)) e
+    where
+      q : (test o ≡ true) × (allOf test os ≡ true)
+      q = both-true (test o) (allOf test os) h
+
+      go : (b : Bool) → eqb (o .number) n ≡ b →
+          (noSuchOrder (numbered n os) ≡ false → (test (getD (numbered n os) 0 noOrder) ≡ true) × (getD (numbered n os) 0 noOrder .number ≡ n)) →
+          noSuchOrder (pick b (o ∷ []) (numbered n os)) ≡ false →
+          (test (getD (pick b (o ∷ []) (numbered n os)) 0 noOrder) ≡ true) × (getD (pick b (o ∷ []) (numbered n os)) 0 noOrder .number ≡ n)
+      go true k ih f = (q .0, eqb-true (o .number) n k)
+      go false k ih f = ih f
+
+  -- a sell where it is not among the buys
+  behind : (os ps : List Order) → noSuchOrder (numbered n (os ++ ps)) ≡ false → noSuchOrder (numbered n os) ≡ true → noSuchOrder (numbered n ps) ≡ false
+  unfolding noSuchOrder numbered
+  behind [] ps e f = e
+  behind (o ∷ os) ps e f = go (eqb (o .number) n) (behind os ps) e f
+    where
+      go : (b : Bool) → (noSuchOrder (numbered n (os ++ ps)) ≡ false → noSuchOrder (numbered n os) ≡ true → noSuchOrder (numbered n ps) ≡ false) →
+          noSuchOrder (pick b (o ∷ []) (numbered n (os ++ ps))) ≡ false → noSuchOrder (pick b (o ∷ []) (numbered n os)) ≡ true → noSuchOrder (numbered n ps) ≡ false
+      go true ih e f = absurd (false≢true f)
+      go false ih e f = ih e f
+
+  flip : (o : Order) (b : Bool) → eqb (o .number) n ≡ b → eqb n (o .number) ≡ b
+  flip o true e = eq-eqb n (o .number) (sym (eqb-true (o .number) n e))
+  flip o false e = ne-eqb n (o .number) (λ k. eqb-false (o .number) n e (sym k))
+
+  -- so its number is used there
+  found-used : (os : List Order) → noSuchOrder (numbered n os) ≡ false → 1 ≤ uses numberOf n os
+  unfolding noSuchOrder numbered uses sumOf
+  found-used [] e = absurd (true≢false e)
+  found-used (o ∷ os) e = go (eqb (o .number) n) refl (found-used os) e
+    where
+      go : (b : Bool) → eqb (o .number) n ≡ b → (noSuchOrder (numbered n os) ≡ false → 1 ≤ uses numberOf n os) →
+          noSuchOrder (pick b (o ∷ []) (numbered n os)) ≡ false → 1 ≤ pick (eqb n (o .number)) 1 0 + uses numberOf n os
+      go true k ih f = rw (flip o true k) (omega arith)
+      go false k ih f = rw (flip o false k) (omega (arith, ih f))
+
+  -- and no more when it is gone, where the queue is shorter by as many orders as had it
+  without-unused : (os : List Order) → uses numberOf n (without (hasNumber n) os) ≡ 0
+  unfolding without uses sumOf
+  without-unused [] = refl
+  without-unused (o ∷ os) = go (eqb (o .number) n) refl (without-unused os)
+    where
+      go : (b : Bool) → eqb (o .number) n ≡ b → uses numberOf n (without (hasNumber n) os) ≡ 0 →
+          uses numberOf n (pick b (without (hasNumber n) os) (o ∷ without (hasNumber n) os)) ≡ 0
+      go true k ih = ih
+      go false k ih = rw (flip o false k) (omega (arith, ih))
+
+  without-shorter : (os : List Order) → length (without (hasNumber n) os) + uses numberOf n os ≡ length os
+  unfolding without uses sumOf
+  without-shorter [] = refl
+  without-shorter (o ∷ os) = go (eqb (o .number) n) refl (without-shorter os)
+    where
+      go : (b : Bool) → eqb (o .number) n ≡ b → length (without (hasNumber n) os) + uses numberOf n os ≡ length os →
+          length (pick b (without (hasNumber n) os) (o ∷ without (hasNumber n) os)) + (pick (eqb n (o .number)) 1 0 + uses numberOf n os) ≡ length (o ∷ os)
+      go true k ih = rw (flip o true k) (omega (arith, ih))
+      go false k ih = rw (flip o false k) (omega (arith, ih))
+
+  -- used once, it is the only order with its number: what it has, every order with that number has
+  unused-fits : (lots : ℕ) (os : List Order) → uses numberOf n os ≡ 0 → allOf (fits n lots) os ≡ true
+  unfolding uses sumOf allOf
+  unused-fits lots [] h = refl
+  unused-fits lots (o ∷ os) h = go (eqb (o .number) n) refl (unused-fits lots os)
+    where
+      go : (b : Bool) → eqb (o .number) n ≡ b → (uses numberOf n os ≡ 0 → allOf (fits n lots) os ≡ true) → (pick b (leb lots (o .lots)) true && allOf (fits n lots) os) ≡ true
+      go true k ih = let h′ : 1 + uses numberOf n os ≡ 0 = rw (flip o true k) at h in absurd (omega arith)
+      go false k ih = let h′ : 0 + uses numberOf n os ≡ 0 = rw (flip o false k) at h in ih (omega arith)
+
+  found-fits : (lots : ℕ) (os : List Order) → uses numberOf n os ≤ 1 → lots ≤ getD (numbered n os) 0 noOrder .lots → allOf (fits n lots) os ≡ true
+  unfolding uses sumOf allOf numbered
+  found-fits lots [] h l = refl
+  found-fits lots (o ∷ os) h l = go (eqb (o .number) n) refl (found-fits lots os) l
+    where
+      go : (b : Bool) → eqb (o .number) n ≡ b → (uses numberOf n os ≤ 1 → lots ≤ getD (numbered n os) 0 noOrder .lots → allOf (fits n lots) os ≡ true) →
+          lots ≤ getD (pick b (o ∷ []) (numbered n os)) 0 noOrder .lots → (pick b (leb lots (o .lots)) true && allOf (fits n lots) os) ≡ true
+      go true k ih l =
+          let h′ : 1 + uses numberOf n os ≤ 1 = rw (flip o true k) at h in
+          true-both (leb lots (o .lots)) (allOf (fits n lots) os) (le-leb lots (o .lots) l) (unused-fits lots os (omega arith))
+      go false k ih l = let h′ : 0 + uses numberOf n os ≤ 1 = rw (flip o false k) at h in ih (omega arith) l
+
+module _ (x : Exchange) (w : WellFormed x) (k : Asked) (e : firstOf (changeRefusals x k) ≡ 0) where
+  abbrev place : ℕ
+  place = placeOf (k .contract)
+
+  abbrev number : ℕ
+  number = k .number
+
+  abbrev listing : Listing
+  listing = listingFor x k
+
+  -- ---- what it has passed
+
+  tests : Failed (changeRefusals x k)
+  unfolding changeRefusals
+  tests = failed (changeRefusals x k) (omega arith) e
+
+  account-there : placeOf (k .account) < length (x .accounts)
+  unfolding changeRefusals
+  account-there = present (k .account) (x .accounts) (tests .0)
+
+  there : place < length (x .listings)
+  unfolding changeRefusals
+  there = present (k .contract) (x .listings) (tests .1 .0)
+
+  rests : noSuchOrder (numbered number (listing .buys ++ listing .sells)) ≡ false
+  unfolding changeRefusals restingOrder
+  rests = tests .1 .1 .1 .0
+
+  lots-high : k .lots ≤ maxLots
+  unfolding changeRefusals
+  lots-high = ltb-false _ _ (tests .1 .1 .1 .1 .1 .0)
+
+  price-allowed : eqb (k .lots) 0 ≡ false → allowedToday (listing .contract) (k .price) ≡ true
+  unfolding changeRefusals
+  price-allowed some =
+      not-false (allowedToday (listing .contract) (k .price))
+      (both-failed (not (eqb (k .lots) 0)) (not (allowedToday (listing .contract) (k .price))) (tests .1 .1 .1 .1 .1 .1 .0) (ap not some))
+
+  -- ---- the order as it rests
+
+  ok : ListingOk (length (x .accounts)) (x .next) (x .nextstamp) listing
+  ok = w .listing place there
+
+  abbrev inRange : Order → Bool
+  inRange = orderInRange (length (x .accounts)) (x .next) (x .nextstamp) (listing .contract)
+
+  all-in-range : allOf inRange (listing .buys ++ listing .sells) ≡ true
+  all-in-range =
+      rw (allOf-append inRange (listing .buys) (listing .sells)) (true-both (allOf inRange (listing .buys)) (allOf inRange (listing .sells)) (ok .orders false) (ok .orders true))
+
+  -- its number is one that was given
+  its-number : (1 ≤ number) × (number < x .next)
+  its-number =
+      let f = found number inRange (listing .buys ++ listing .sells) all-in-range rests in
+      let r = order-ok (length (x .accounts)) (x .next) (x .nextstamp) (listing .contract) _ (f .0) in
+      (omega (arith, f .1, r .number-low), omega (arith, f .1, r .number-high))
+
+  -- it rests on its side
+  mine-used : 1 ≤ uses numberOf number (own (isSell x k) listing)
+  unfolding isSell
+  mine-used = go (noSuchOrder (numbered number (listing .buys))) refl
+    where
+      go : (b : Bool) → noSuchOrder (numbered number (listing .buys)) ≡ b → 1 ≤ uses numberOf number (own b listing)
+      go true q = found-used number (listing .sells) (behind number (listing .buys) (listing .sells) rests q)
+      go false q = found-used number (listing .buys) q
+
+  own-used : (b : Bool) → uses numberOf number (own b listing) ≤ usesIn numberOf number listing
+  unfolding usesIn
+  own-used true = omega arith
+  own-used false = omega arith
+
+  used-once : usesIn numberOf number listing ≤ occurs number (allNumbers (x .listings))
+  unfolding listingAt
+  used-once = omega (arith, all-uses numberOf number (x .listings), sumOf-at (usesIn numberOf number) (x .listings) place noListing there)
+
+  -- ---- the order gone
+
+  abbrev left : Listing
+  left = listingWithout (hasNumber number) listing
+
+  gone-keeps : WellFormed (gone x k)
+  unfolding gone removed
+  gone-keeps = removed-keeps (hasNumber number) x place there number w
+
+  gone-counted : Counted x → Counted (gone x k)
+  unfolding gone removed
+  gone-counted = removed-counted (hasNumber number) x place there number
+
+  gone-listing : listingOf (gone x k) (arriving x k) ≡ left
+  unfolding gone arriving listingOf listingAt
+  gone-listing = getD-set-same (x .listings) place left noListing there
+
+  left-unused : usesIn numberOf number left ≡ 0
+  unfolding usesIn
+  left-unused = omega (arith, without-unused number (listing .buys), without-unused number (listing .sells))
+
+  number-unused : occurs number (allNumbers (gone x k .listings)) ≡ 0
+  unfolding gone listingAt
+  number-unused =
+      omega (
+        arith,
+        all-uses numberOf number (set (x .listings) place left),
+        all-uses numberOf number (x .listings),
+        sumOf-set (usesIn numberOf number) (x .listings) place left noListing there,
+        left-unused,
+        once-count (allNumbers (x .listings)) (w .once) number,
+        mine-used,
+        own-used (isSell x k),
+      )
+
+  given : Given (gone x k) number (x .next)
+  unfolding gone
+  given = record { low = its-number .0; below = its-number .1; later = le-refl (x .next); high = w .next-high; unused = number-unused }
+
+  -- ---- the place lost
+
+  module _ (lost : losesPlace x k ≡ true) where
+    some : eqb (k .lots) 0 ≡ false
+    unfolding losesPlace
+    some = not-true (eqb (k .lots) 0) (both-true (not (eqb (k .lots) 0)) _ lost .0)
+
+    holding-passed : holdingRefused (gone x k) (arriving x k) ≡ false
+    unfolding changeRefusals
+    holding-passed = both-failed (losesPlace x k) (holdingRefused (gone x k) (arriving x k)) (tests .1 .1 .1 .1 .1 .1 .1 .0) lost
+
+    stamps-left : x .nextstamp < numbersEnd
+    unfolding changeRefusals
+    stamps-left = leb-false _ _ (both-failed (losesPlace x k) (stampsUsedUp x) (tests .1 .1 .1 .1 .1 .1 .1 .1 .1 .0) lost)
+
+    trades-passed : tradesRefused (gone x k) number (arriving x k) ≡ false
+    unfolding changeRefusals
+    trades-passed = both-failed (losesPlace x k) (tradesRefused (gone x k) number (arriving x k)) (tests .1 .1 .1 .1 .1 .1 .1 .1 .1 .1 .0) lost
+
+    mine-left : (b : Bool) → own b left ≡ without (hasNumber number) (own b listing)
+    mine-left true = refl
+    mine-left false = refl
+
+    -- 13 CANNOT OCCUR: its own side has one order fewer
+    pub has-room : Counted x → length (own (isSell x k) (listingOf (gone x k) (arriving x k))) < maxResting
+    has-room n =
+        rw (gone-listing, mine-left (isSell x k))
+        (omega (arith, without-shorter number (own (isSell x k) listing), mine-used, n .queues place (isSell x k) there))
+
+    its-price : allowedToday (listingOf (gone x k) (arriving x k) .contract) (k .price) ≡ true
+    its-price = rw gone-listing (price-allowed some)
+
+    passes : Counted x → Passes (gone x k) number (arriving x k)
+    unfolding gone arriving tradesRefused
+    passes n =
+        record {
+          account = account-there;
+          contract = rw (length-set (x .listings) place left) there;
+          lots-low = omega (arith, eqb-false (k .lots) 0 some);
+          lots-high = lots-high;
+          limited = λ g. refl;
+          rests = λ a. refl;
+          price = λ limit q. subst (λ (p : ℕ). allowedToday (listingOf (gone x k) (arriving x k) .contract) p ≡ true) (ap limitOf q) its-price;
+          opens = open-lots (gone x k) (arriving x k) holding-passed;
+          closes = close-lots (gone x k) (arriving x k) holding-passed;
+          stamp = stamps-left;
+          trades = ltb-false _ _ trades-passed;
+          room = λ g full. absurd (omega (arith, has-room n, full));
+        }
+
+    lost-keeps : Counted x → WellFormed (exchangeAfter (gone x k) (arriving x k) (reentered x k) (x .next))
+    unfolding reentered
+    lost-keeps n = entered-keeps (gone x k) gone-keeps number (x .next) given (arriving x k) (passes n)
+
+    lost-counted : Counted x → Counted (exchangeAfter (gone x k) (arriving x k) (reentered x k) (x .next))
+    unfolding reentered
+    lost-counted n = entered-counted (gone x k) gone-keeps number (x .next) given (arriving x k) (passes n) (gone-counted n)
+
+  -- ---- the place kept
+
+  module _ (some : eqb (k .lots) 0 ≡ false) (kept : losesPlace x k ≡ false) where
+    fewer-lots : k .lots ≤ oldOrder x k .lots
+    unfolding losesPlace
+    fewer-lots =
+        ltb-false _ _ (either-false (ltb (oldOrder x k .lots) (k .lots)) (not (eqb (k .price) (oldOrder x k .price)))
+        (both-failed (not (eqb (k .lots) 0)) (ltb (oldOrder x k .lots) (k .lots) || not (eqb (k .price) (oldOrder x k .price))) kept (ap not some)) .0)
+
+    some-lots : 1 ≤ k .lots
+    some-lots = omega (arith, eqb-false (k .lots) 0 some)
+
+    both-fit : allOf (fits number (k .lots)) (listing .buys ++ listing .sells) ≡ true
+    unfolding oldOrder restingOrder uses usesIn
+    both-fit =
+        found-fits number (k .lots) (listing .buys ++ listing .sells)
+        (omega (
+          arith,
+          sumOf-append (λ o. pick (eqb number (o .number)) 1 0) (listing .buys) (listing .sells),
+          used-once,
+          once-count (allNumbers (x .listings)) (w .once) number,
+        ))
+        fewer-lots
+
+    fit : (b : Bool) → allOf (fits number (k .lots)) (own b listing) ≡ true
+    fit b = by b (both-true _ _ (rw (allOf-append (fits number (k .lots)) (listing .buys) (listing .sells)) at both-fit))
+      where
+        by : (b : Bool) → (allOf (fits number (k .lots)) (listing .buys) ≡ true) × (allOf (fits number (k .lots)) (listing .sells) ≡ true) →
+            allOf (fits number (k .lots)) (own b listing) ≡ true
+        by true p = p .1
+        by false p = p .0
+
+    abbrev less : Listing
+    less = listingLessened k listing
+
+    own-less : (b : Bool) → own b less ≡ lessened number (k .lots) (own b listing)
+    own-less true = refl
+    own-less false = refl
+
+    listing-less : ListingOk (length (x .accounts)) (x .next) (x .nextstamp) less
+    listing-less =
+        record {
+          contract = ok .contract;
+          order = λ b. rw (own-less b, less-sorted number (k .lots) b (own b listing)) (ok .order b);
+          apart = λ q. rw (less-uncrossed number (k .lots) (listing .buys) (listing .sells)) (ok .apart q);
+          orders =
+              λ b. rw (own-less b)
+              (less-all number (k .lots) some-lots inRange (order-fewer (length (x .accounts)) (x .next) (x .nextstamp) (listing .contract)) (own b listing) (fit b) (ok .orders b));
+        }
+
+    less-resting : (close a : ℕ) (b : Bool) → resting close a (own b less) ≤ resting close a (own b listing)
+    unfolding resting lotsWhere
+    less-resting close a b =
+        rw (own-less b)
+        (less-sum number (k .lots) some-lots (λ o. pick (eqb (o .account) a && eqb (o .close) close) (o .lots) 0) (λ o m low high. fewer (eqb (o .account) a && eqb (o .close) close) m (o .lots) high)
+        (own b listing) (fit b))
+      where
+        fewer : (b : Bool) (m n : ℕ) → m ≤ n → pick b m 0 ≤ pick b n 0
+        fewer true m n h = h
+        fewer false m n h = omega arith
+
+    holding-less : (a : ℕ) (h : Holding) → HoldingOk listing a h → HoldingOk less a h
+    holding-less a h q =
+        record {
+          startlong = q .startlong;
+          startshort = q .startshort;
+          opens = λ b. omega (arith, less-resting 0 a b, q .opens b);
+          closes = λ b. omega (arith, less-resting 1 a b, q .closes b);
+        }
+
+    less-uses : (field : Order → ℕ) → KeptByLots field → (n : ℕ) → usesIn field n less ≤ usesIn field n listing
+    unfolding usesIn uses
+    less-uses field same n =
+        omega (
+          arith,
+          same-sum number (k .lots) (λ o. pick (eqb n (field o)) 1 0) (λ o. ap (λ (v : ℕ). pick (eqb n v) 1 0) (same o (k .lots))) (listing .buys),
+          same-sum number (k .lots) (λ o. pick (eqb n (field o)) 1 0) (λ o. ap (λ (v : ℕ). pick (eqb n v) 1 0) (same o (k .lots))) (listing .sells),
+        )
+
+    kept-keeps : WellFormed (withListing x place less)
+    kept-keeps = relisted-keeps x w place there less listing-less (λ p h. h) holding-less less-uses
+
+    kept-counted : Counted x → Counted (withListing x place less)
+    kept-counted n = relisted-counted x place there less n (λ b. rw (own-less b, less-length number (k .lots) (own b listing)) (le-refl _))
+
+  -- ---- all four
+
+  pub change-keeps : Counted x → WellFormed (lastOf x (changed x k .stages))
+  unfolding cancelled placeLost unchanged placeKept
+  change-keeps n =
+      changed-either x k (λ ts f. WellFormed (lastOf x (f .stages)))
+      (λ q. removed-keeps (hasNumber number) x place there number w)
+      (λ q. lost-keeps q n)
+      (λ q r. w)
+      (λ q r s. kept-keeps q r)
+
+  pub change-counted : Counted x → Each Counted (changed x k .stages)
+  unfolding cancelled removed placeLost unchanged placeKept
+  change-counted n =
+      changed-either x k (λ ts f. Each Counted (f .stages))
+      (λ q. (removed-counted (hasNumber number) x place there number n, tt))
+      (λ q. (gone-counted n, (lost-counted q n, tt)))
+      (λ q r. tt)
+      (λ q r s. (kept-counted q r n, tt))

@@ -1,0 +1,125 @@
+-- Changing a resting order (document 02, ticket 8; 001, 4.1.2.3). Assumes nothing.
+use mathlib.Core.Bool.{Bool, not, _&&_, _||_}
+use mathlib.Core.List.{List, [], _∷_}
+use Prim.Native.Nat.{ℕ}
+use lib.Dec.{ltb, eqb}
+use lib.ListN.{getD}
+use Rattle.laws.specs.Choice.{pick}
+use Rattle.rules.specs.Answers.{Refusal, _when_, numbered, restingOrder, noSuchOrder, ofAnother, holdingRefused, moneyRefused, stampsUsedUp, tradesRefused}
+use Rattle.rules.specs.Bounds.{allowedToday, continuous, maxLots}
+use Rattle.rules.specs.Exchange.{Exchange, Listing, listingAt, absent, placeOf, noOrder}
+use Rattle.rules.specs.Matching.{Entered, tradedLots, withLots}
+use Rattle.rules.specs.Step.{Effect, accepted, withListing, listingWithout, hasNumber, cancelled, enteredOf, exchangeAfter}
+use Rattle.rules.specs.declared.NewOrder.{NewOrder}
+use Rattle.rules.specs.declared.Order.{Order}
+use Rattle.rules.specs.declared.PriceCondition.the-variants.{Limit}
+use Rattle.rules.specs.declared.TimeCondition.the-variants.{GoodForDay}
+use Rattle.rules.specs.declared.Trade.{Trade}
+
+-- "account, contract, order number, the new remaining lots and the price"
+pub record Asked : Type 0 where
+  pub account : ℕ
+  pub contract : ℕ
+  pub number : ℕ
+  pub lots : ℕ
+  pub price : ℕ
+
+abbrev pub asked : ℕ → ℕ → ℕ → ℕ → ℕ → Asked
+asked account contract number lots price =
+    record { account = account; contract = contract; number = number; lots = lots; price = price }
+
+-- the contract's listing, the order as it rests, and its side: a sell where it is not among the buys
+abbrev pub listingFor : Exchange → Asked → Listing
+listingFor x k = listingAt x (placeOf (k .contract))
+
+unfoldable pub oldOrder : Exchange → Asked → Order
+oldOrder x k = getD (restingOrder (listingFor x k) (k .number)) 0 noOrder
+
+unfoldable pub isSell : Exchange → Asked → Bool
+isSell x k = noSuchOrder (numbered (k .number) (listingFor x k .buys))
+
+-- "fewer lots keep the place in the queue; more lots or another price lose it"; zero lots are no loss of place but a removal
+unfoldable pub losesPlace : Exchange → Asked → Bool
+losesPlace x k = not (eqb (k .lots) 0) && (ltb (oldOrder x k .lots) (k .lots) || not (eqb (k .price) (oldOrder x k .price)))
+
+-- "as though the old order were gone"
+unfoldable pub gone : Exchange → Asked → Exchange
+gone x k = withListing x (placeOf (k .contract)) (listingWithout (hasNumber (k .number)) (listingFor x k))
+
+-- "then matched at once": it arrives as a good-for-day limit order of its account, on its side, to open or close as before
+unfoldable pub arriving : Exchange → Asked → NewOrder
+arriving x k =
+    record {
+      account = k .account;
+      contract = k .contract;
+      sell = isSell x k;
+      close = eqb (oldOrder x k .close) 1;
+      lots = k .lots;
+      price = k .price;
+      condition = Limit (k .price);
+      time = GoodForDay;
+    }
+
+-- "The number stays."
+unfoldable pub reentered : Exchange → Asked → Entered
+reentered x k = enteredOf (gone x k) (k .number) (arriving x k)
+
+-- ---- "Refusals: 21, 1, 2, 3, 4, 14, 15; then, unless lots are zero, 5 and 7 as for insert, and where the place is lost 8, 9, 10
+-- (stamps used up ..) and 12. 13 never occurs here."
+
+unfoldable pub changeRefusals : Exchange → Asked → List Refusal
+changeRefusals x k =
+    (2 when absent (k .account) (x .accounts))
+    ∷ (3 when absent (k .contract) (x .listings))
+    -- "in continuous only"
+    ∷ (4 when not (eqb (listingFor x k .contract .phase) continuous))
+    ∷ (14 when noSuchOrder (restingOrder (listingFor x k) (k .number)))
+    ∷ (15 when ofAnother (placeOf (k .account)) (restingOrder (listingFor x k) (k .number)))
+    -- "lots outside 1 to 1,000", zero aside
+    ∷ (5 when ltb maxLots (k .lots))
+    ∷ (7 when (not (eqb (k .lots) 0) && not (allowedToday (listingFor x k .contract) (k .price))))
+    -- "A change that loses its place is tested as though the old order were gone"
+    ∷ (8 when (losesPlace x k && holdingRefused (gone x k) (arriving x k)))
+    ∷ (9 when (losesPlace x k && moneyRefused (gone x k) (arriving x k)))
+    ∷ (10 when (losesPlace x k && stampsUsedUp x))
+    ∷ (12 when (losesPlace x k && tradesRefused (gone x k) (k .number) (arriving x k)))
+    ∷ []
+
+-- ---- "The answer gives the number, lots traded, and lots now resting (removed, for zero lots)."
+
+-- the place lost: the order gone, then entered with its number and the next time stamp
+unfoldable pub placeLost : Exchange → Asked → Effect
+placeLost x k =
+    record {
+      number = k .number;
+      traded = tradedLots (reentered x k .trades);
+      lots = reentered x k .rested;
+      stages = gone x k ∷ exchangeAfter (gone x k) (arriving x k) (reentered x k) (x .next) ∷ [];
+    }
+
+-- "Equal lots and price change nothing."
+unfoldable pub unchanged : Exchange → Asked → Effect
+unchanged x k = record { number = k .number; traded = 0; lots = k .lots; stages = [] }
+
+-- fewer lots at the same price: that order's lots alone
+unfoldable pub lessened : ℕ → ℕ → List Order → List Order
+lessened number lots [] = []
+lessened number lots (o ∷ os) = pick (hasNumber number o) (withLots o lots) o ∷ lessened number lots os
+
+abbrev pub listingLessened : Asked → Listing → Listing
+listingLessened k l =
+    record { contract = l .contract; buys = lessened (k .number) (k .lots) (l .buys); sells = lessened (k .number) (k .lots) (l .sells) }
+
+unfoldable pub placeKept : Exchange → Asked → Effect
+placeKept x k = accepted (k .number) 0 (k .lots) (withListing x (placeOf (k .contract)) (listingLessened k (listingFor x k)))
+
+-- "Zero lots removes the order, its price not looked at."
+unfoldable pub changed : Exchange → Asked → Effect
+changed x k =
+    pick (eqb (k .lots) 0) (cancelled x (placeOf (k .contract)) (k .number))
+    (pick (losesPlace x k) (placeLost x k)
+    (pick (eqb (k .lots) (oldOrder x k .lots)) (unchanged x k) (placeKept x k)))
+
+-- the trades that it makes
+unfoldable pub changeTrades : Exchange → Asked → List Trade
+changeTrades x k = pick (losesPlace x k) (reentered x k .trades) []
