@@ -8,6 +8,9 @@ SAMPLES = TOP / "samples"
 CRATE = TOP / "crates" / "daytests"
 DATA = CRATE / "data"
 
+# The files that `daytests` prints to a descriptor that takes no bytes: a sound one and a broken one.
+UNWRITABLE = ("paper-example.day", "broken-empty.day")
+
 
 def made_files():
     """The content of every file that is made, by its path."""
@@ -18,6 +21,12 @@ def made_files():
         files[DATA / name] = path.read_bytes()
         names += name + "\n"
         wanted += name.encode() + b"\n" + (b"X 20\n" if is_broken else path.with_suffix(".out").read_bytes())
+    name = "broken-largest-file-one-byte-more.day"
+    files[DATA / name] = (SAMPLES / "largest-file.day").read_bytes() + b"\0"
+    names += name + "\n"
+    wanted += name.encode() + b"\nX 20\n"
+    for name in UNWRITABLE:
+        wanted += b"not written: " + name.encode() + b"\n"
     files[DATA / "list"] = names.encode()
     files[CRATE / "stdout"] = wanted
     return files

@@ -2,63 +2,22 @@
 -- and a closed lot gains from its pair's price to its own what it gains from there to the settlement price and from the
 -- settlement price to its own. So the total speaks of no pair: it is what the legs sold for less what they cost, with the net
 -- holding at the settlement price at the end and at the reference at the start. Assumes nothing.
-use mathlib.Core.Bool.{Bool, true, false, not}
+use mathlib.Core.Bool.{Bool, true, false}
 use mathlib.Core.List.{List, [], _∷_, _++_}
 use mathlib.Core.Path.{_≡_, refl, sym, ap, ap₂, _∙_}
-use Prim.Native.Nat.{ℕ, zero, suc, _*_, _<_}
+use Prim.Native.Nat.{ℕ, zero, suc, _*_}
 use native.Mathlib.Omega.{arith}
-use borrow.Author.Tests.{eqb-true, ne-eqb}
-use lib.Dec.{eqb}
-use lib.IntN.{ℤ, pos, negℤ, _+ℤ_, _-ℤ_, _*ℤ_, +ℤ-assoc, +ℤ-idl, +ℤ-idr}
+use lib.IntN.{ℤ, pos, negℤ, _+ℤ_, _-ℤ_, _*ℤ_, +ℤ-assoc}
 use lib.ListN.{length, getD, replicate}
-use Rattle.laws.specs.Choice.{pick, both, all, all-true}
+use Rattle.laws.specs.Choice.{pick}
 use Rattle.laws.specs.Ring.{split, d-eq, d-inj, ring, *ℤ-add}
-use Rattle.laws.specs.Sums.{sumTo, sumTo-ext, sumTo-add, sumTo-at, sumTo-first}
+use Rattle.laws.specs.Sums.{sumTo, sumTo-ext, sumTo-add, sumTo-first}
 use Rattle.rules.specs.Exchange.{Exchange, listingAt, holdingAt}
 use Rattle.rules.specs.Settlement.{Leg, leg, legs, dayOf, holdingGain, settlementPrice, closingProfit, holdingProfit}
-use Rattle.rules.specs.WellFormed.{wellFormedContents}
 use Rattle.accounting.specs.Article32.{flow, net}
-use Rattle.accounting.specs.Pairing.{Side, long, short, opens, closes, Lot, noLot, lotsOfLegs, openLots, closedLots, Pairing, gained, closingBy, unpaired, holdingBy, heldAtStart, openOf, closedOf, PairsDay, dayClosing, dayHolding, pairedClosing, pairedHolding, SameDayProfit}
+use Rattle.accounting.specs.Pairing.{Side, long, short, opens, closes, Lot, noLot, lotsOfLegs, openLots, closedLots, Pairing, gained, closingBy, holdingBy, heldAtStart, openOf, closedOf, PairsDay, dayClosing, dayHolding, pairedClosing, pairedHolding, SameDayProfit}
 use Rattle.accounting.proofs.DayProfit.{day-profit}
-use Rattle.accounting.proofs.Facts.{facts}
-use Rattle.accounting.proofs.Replay.{day-covered}
-
--- ---- numbers below k sent to different numbers below n: f over those met, and over the others, is f over all
-
-module _ (n : ℕ) (of : ℕ → ℕ) (f : ℕ → ℤ) where
-  -- f of the numbers that the first k are not sent to
-  others : ℕ → ℕ → ℤ
-  others k j = pick (unpaired of k j) (f j) (pos 0)
-
-  one-more : (k : ℕ) → of k < n → ((i : ℕ) → i < k → of i ≡ of k → ⊥) → sumTo n (others k) ≡ sumTo n (others (suc k)) +ℤ f (of k)
-  unfolding others unpaired all
-  one-more k l apart =
-      sumTo-ext n (others k) (λ j. others (suc k) j +ℤ pick (eqb (of k) j) (f (of k)) (pos 0)) (λ j b. by j (eqb (of k) j) refl)
-      ∙ sumTo-add n (others (suc k)) (λ j. pick (eqb (of k) j) (f (of k)) (pos 0))
-      ∙ ap (λ (z : ℤ). sumTo n (others (suc k)) +ℤ z) (sumTo-at n (of k) (f (of k)) l)
-    where
-      free : (j : ℕ) → of k ≡ j → all (λ i. not (eqb (of i) j)) k ≡ true
-      free j e = all-true (λ i. not (eqb (of i) j)) k (λ i b. rw (ne-eqb (of i) j (λ q. apart i b (q ∙ sym e))))
-
-      kept : (t : Bool) (z : ℤ) → pick t z (pos 0) ≡ pick (both t true) z (pos 0) +ℤ pos 0
-      kept true z = sym (+ℤ-idr z)
-      kept false z = refl
-
-      by : (j : ℕ) (t : Bool) → eqb (of k) j ≡ t → others k j ≡ others (suc k) j +ℤ pick (eqb (of k) j) (f (of k)) (pos 0)
-      by j true e = rw (e, free j (eqb-true (of k) j e), eqb-true (of k) j e) (sym (+ℤ-idl (f j)))
-      by j false e = rw e (kept (all (λ i. not (eqb (of i) j)) k) (f j))
-
-  met-and-others : (k : ℕ) → ((i : ℕ) → i < k → of i < n) → ((i j : ℕ) → i < k → j < k → of i ≡ of j → i ≡ j) →
-      sumTo k (λ i. f (of i)) +ℤ sumTo n (λ j. pick (unpaired of k j) (f j) (pos 0)) ≡ sumTo n f
-  unfolding others unpaired all sumTo
-  met-and-others zero m o = +ℤ-idl (sumTo n f)
-  met-and-others (suc k) m o =
-      regroup (sumTo k (λ i. f (of i))) (f (of k)) (sumTo n (others (suc k))) (sumTo n (others k))
-      (one-more k (m k (omega arith)) (λ i b e. let q = o i k (omega arith) (omega arith) e in omega arith))
-      ∙ met-and-others k (λ i b. m i (omega arith)) (λ i j b d. o i j (omega arith) (omega arith))
-    where
-      regroup : (s x u v : ℤ) → v ≡ u +ℤ x → s +ℤ x +ℤ u ≡ s +ℤ v
-      regroup s x u v e = rw e (rw (split s, split x, split u) (simp ring (d-eq _ _ _ _ (omega arith))))
+use Rattle.accounting.proofs.Paired.{met-and-others, paired-covered}
 
 -- ---- one side
 
@@ -221,9 +180,9 @@ module _ (reference s heldLong heldShort : ℕ) (ls : List Leg) (of : Side → �
             d-inj _ _ _ _ (simp ring at (rw (split a, split b, split c, split d, split f, split n) at w)),
           ))))
 
--- ---- in a well-formed state
+-- ---- in any state, well formed or not: where there is a pairing, each close finds its lots
 
-module _ (x : Exchange) (w : wellFormedContents x ≡ true) (a : ℕ) where
+module _ (x : Exchange) (a : ℕ) where
   -- ANY PAIRING, SAME DAY PROFIT: in one contract, before the multiplier
   pub any-pairing : (c : ℕ) (of : Side → ℕ → ℕ) → PairsDay x a c of →
       dayClosing x a c of +ℤ dayHolding x a c of ≡ dayOf x a c .closing +ℤ holdingGain (settlementPrice x c) (dayOf x a c)
@@ -233,7 +192,7 @@ module _ (x : Exchange) (w : wellFormedContents x ≡ true) (a : ℕ) where
       (holdingAt (x .accounts) a c .startlong) (holdingAt (x .accounts) a c .startshort) (legs a c (x .trades)) of (m long) (m short)
       ∙ sym (day-profit (listingAt x c .contract .reference) (settlementPrice x c)
       (holdingAt (x .accounts) a c .startlong) (holdingAt (x .accounts) a c .startshort) (legs a c (x .trades))
-      (day-covered x (facts x w .replay) a c))
+      (paired-covered (listingAt x c .contract .reference) _ _ (legs a c (x .trades)) of (m long) (m short)))
 
   -- and of the account, over all contracts, with any pairing of each
   pub any-pairing-profit : SameDayProfit x a

@@ -359,7 +359,7 @@ module _ (x : Exchange) (w : wellFormedContents x ≡ true) (a c : ℕ) where
   pub first-in-holding : dayHolding x a c inOrder ≡ holdingGain (settlementPrice x c) (dayOf x a c)
   first-in-holding =
       same (dayClosing x a c inOrder) (dayHolding x a c inOrder) (dayOf x a c .closing) (holdingGain (settlementPrice x c) (dayOf x a c))
-      first-in-closing (any-pairing x w a c inOrder first-in-pairs)
+      first-in-closing (any-pairing x a c inOrder first-in-pairs)
     where
       same : (p q u v : ℤ) → p ≡ u → p +ℤ q ≡ u +ℤ v → q ≡ v
       same p q u v e f =

@@ -4,6 +4,7 @@ pub mod Booking
 pub mod Replay
 pub mod Facts
 pub mod Identity
+pub mod Paired
 pub mod AnyPairing
 pub mod FirstIn
 pub mod Reach

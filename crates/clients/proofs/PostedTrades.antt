@@ -1,23 +1,25 @@
 -- The day's trades with clients in the account's place, as a loop writes them into their area. Assumes nothing.
-use mathlib.Core.Bool.{Bool, true, false, not, _&&_, _||_, false≢true}
-use mathlib.Core.List.{List, [], _∷_, _++_, map}
+use mathlib.Core.Bool.{Bool, true, false, not, _&&_, _||_}
+use mathlib.Core.List.{List, [], _∷_, _++_, map, append-nil}
 use mathlib.Core.Path.{_≡_, refl, sym, ap, ap₂, _∙_}
 use Prim.Native.Nat.{ℕ, _+_, _*_, _<_, _≤_}
 use native.Mathlib.Omega.{arith}
 use borrow.Author.Tests.{lt-ltb}
 use lib.Dec.{eqb, ltb}
-use lib.ListN.{length, getD, drop, length-append, length-map, List·getD-append}
+use lib.ListN.{length, getD, take, drop, length-append, length-map, take-append-drop, List·getD-append}
 use lib.Seq.{getD-append-seam}
-use Rattle.laws.specs.Choice.{pick, allOf, allOf-append, allOf-stop}
+use Rattle.laws.specs.Choice.{pick, pick-true, allOf, allOf-append, allOf-stop, both-true}
 use Rattle.areas.specs.Records.{store}
-use Rattle.areas.proofs.Records.{store-append, store-nil, length-store}
+use Rattle.areas.proofs.Records.{store-append, store-nil, length-store, take-records}
 use Rattle.rules.specs.Exchange.{noTrade}
 use Rattle.rules.specs.Memory.{recordedTrades, tradeFrom, tradeWords, tradeStride}
 use Rattle.rules.specs.declared.Trade.{Trade}
 use Rattle.rules.proofs.Codecs.{trade-codec, length-trades, trades-none, trade-at}
 use Rattle.dayprofit.proofs.Trading.{more-trades}
-use Rattle.clients.specs.Parts.{clientTrades, PostingIs}
+use Rattle.audit.proofs.TestedTrades.{next-trade}
+use Rattle.clients.specs.Parts.{before, clientTrades, PostingIs}
 use Rattle.clients.specs.Clients.{isPosted, clientPlace, clientTrade, tradePosted, isClient, legsIn, legCount, total}
+use Rattle.clients.specs.declared.posting.Posting.{Posting}
 use Rattle.clients.proofs.Posted.{posted-place}
 use Rattle.clients.proofs.Rows.{total-more, total-ext}
 
@@ -57,6 +59,24 @@ map-more : (f : Trade → Trade) (ts : List Trade) (t : Trade) → map f (ts ++ 
 map-more f [] t = refl
 map-more f (x ∷ ts) t = ap (λ (us : List Trade). f x ∷ us) (map-more f ts t)
 
+-- ---- the trades before the first that fails a test
+
+module _ (p : Trade → Bool) where
+  before-all : (ts : List Trade) → allOf p ts ≡ true → before p ts ≡ ts
+  unfolding before allOf
+  before-all [] h = refl
+  before-all (t ∷ ts) h = let b = both-true (p t) (allOf p ts) h in rw (b .0) (ap (λ (us : List Trade). t ∷ us) (before-all ts (b .1)))
+
+  before-append : (ts us : List Trade) → allOf p ts ≡ true → before p (ts ++ us) ≡ ts ++ before p us
+  unfolding before allOf
+  before-append [] us h = refl
+  before-append (t ∷ ts) us h = let b = both-true (p t) (allOf p ts) h in rw (b .0) (ap (λ (vs : List Trade). t ∷ vs) (before-append ts us (b .1)))
+
+-- the first i trades of those recorded
+first-trades : (area : List ℕ) (count i : ℕ) → i < count → take i (recordedTrades area count) ≡ recordedTrades area i
+unfolding recordedTrades
+first-trades area count i h = take-records trade-codec area 0 count i (omega arith)
+
 -- ---- the loop: the first i trades are written
 
 module _ (a clients : ℕ) (postings trades : List ℕ) (count : ℕ) (area₀ : List ℕ) where
@@ -84,10 +104,20 @@ module _ (a clients : ℕ) (postings trades : List ℕ) (count : ℕ) (area₀ :
       }
 
   module _ (i legs : ℕ) (area : List ℕ) (l : i < count) (g : Going i legs area) (t : Trade) (e : t ≡ tradeFrom (drop (tradeStride * i) trades)) where
-    pub not-posted : tradePosted a clients postings t ≡ false → false ≡ allOf (tradePosted a clients postings) (recordedTrades trades count)
+    pub not-posted : tradePosted a clients postings t ≡ false → PostingIs a clients postings trades count area₀ (record { all = false; legs = 0 }) area
+    unfolding before
     not-posted f =
-        sym (allOf-stop (tradePosted a clients postings) (recordedTrades trades count) i noTrade (rw (length-trades trades count) l)
-        (ap (tradePosted a clients postings) (trade-at trades count i l ∙ sym e) ∙ f))
+        let p : Trade → Bool = tradePosted a clients postings in
+        let day : List Trade = recordedTrades trades count in
+        let front : before p day ≡ recordedTrades trades i =
+        ap (before p) (sym (take-append-drop i day) ∙ ap₂ (λ (xs ys : List Trade). xs ++ ys) (first-trades trades count i l) (next-trade trades count i l e))
+        ∙ before-append p (recordedTrades trades i) (t ∷ drop (i + 1) day) (g .all)
+        ∙ rw f (append-nil (recordedTrades trades i)) in
+        record {
+          all = sym (allOf-stop p day i noTrade (rw (length-trades trades count) l) (ap p (trade-at trades count i l ∙ sym e) ∙ f));
+          content = g .content ∙ ap (λ (ts : List Trade). store tradeWords area₀ 0 (map (clientTrade a clients postings) ts)) (sym front);
+          legs = refl;
+        }
 
     module _ (u : Trade) (w : u ≡ clientTrade a clients postings t) where
       one-more : clientTrades a clients postings trades (i + 1) ≡ clientTrades a clients postings trades i ++ (u ∷ [])
@@ -118,16 +148,27 @@ module _ (a clients : ℕ) (postings trades : List ℕ) (count : ℕ) (area₀ :
                 ∙ rw (g .all, p);
           }
 
-  pub not-all : (area : List ℕ) → false ≡ allOf (tradePosted a clients postings) (recordedTrades trades count)
-      → PostingIs a clients postings trades count area₀ (record { all = false; legs = 0 }) area
-  not-all area e = record { all = e; content = λ t. absurd (false≢true t); legs = λ t. absurd (false≢true t) }
-
   pub all-posted : (i legs : ℕ) (area : List ℕ) → count ≤ i → Going i legs area
       → PostingIs a clients postings trades count area₀ (record { all = true; legs = legs }) area
   all-posted i legs area h g =
       let e : i ≡ count = omega (arith, g .within) in
+      let p : Trade → Bool = tradePosted a clients postings in
+      let every : allOf p (recordedTrades trades count) ≡ true = ap (λ (n : ℕ). allOf p (recordedTrades trades n)) (sym e) ∙ g .all in
       record {
-        all = sym (ap (λ (n : ℕ). allOf (tradePosted a clients postings) (recordedTrades trades n)) (sym e) ∙ g .all);
-        content = λ t. g .content ∙ ap (λ (n : ℕ). store tradeWords area₀ 0 (clientTrades a clients postings trades n)) e;
-        legs = λ t. g .counted ∙ ap (λ (n : ℕ). legCount (clientTrades a clients postings trades n)) e;
+        all = sym every;
+        content = g .content
+            ∙ ap (λ (n : ℕ). store tradeWords area₀ 0 (clientTrades a clients postings trades n)) e
+            ∙ ap (λ (ts : List Trade). store tradeWords area₀ 0 (map (clientTrade a clients postings) ts)) (sym (before-all p (recordedTrades trades count) every));
+        legs = g .counted ∙ ap (λ (n : ℕ). legCount (clientTrades a clients postings trades n)) e;
       }
+
+-- what a call that found all posted leaves
+module _ {a clients : ℕ} {postings trades : List ℕ} {count : ℕ} {area : List ℕ} {r : Posting} {area′ : List ℕ} (q : PostingIs a clients postings trades count area r area′) (t : r .all ≡ true) where
+  pub posted-content : area′ ≡ store tradeWords area 0 (clientTrades a clients postings trades count)
+  posted-content =
+      q .content
+      ∙ ap (λ (ts : List Trade). store tradeWords area 0 (map (clientTrade a clients postings) ts))
+      (before-all (tradePosted a clients postings) (recordedTrades trades count) (sym (q .all) ∙ t))
+
+  pub posted-legs : r .legs ≡ legCount (clientTrades a clients postings trades count)
+  posted-legs = q .legs ∙ pick-true (r .all) (legCount (clientTrades a clients postings trades count)) 0 t

@@ -1,10 +1,10 @@
 -- What the functions of this crate ask for and give back, for their contracts. Assumes nothing.
-use mathlib.Core.Bool.{true}
-use mathlib.Core.List.{List, [], map}
+use mathlib.Core.Bool.{Bool, true}
+use mathlib.Core.List.{List, [], _∷_, map}
 use mathlib.Core.Path.{_≡_}
 use Prim.Native.Nat.{ℕ, _*_, _<_, _≤_}
 use lib.ListN.{length, getD}
-use Rattle.laws.specs.Choice.{allOf}
+use Rattle.laws.specs.Choice.{pick, allOf}
 use Rattle.areas.specs.Records.{store}
 use Rattle.rules.specs.Bounds.{maxTrades}
 use Rattle.rules.specs.Exchange.{holdingAt, noTrade}
@@ -25,11 +25,18 @@ clientsWith count starts = record { count = count; starts = starts; postings = [
 abbrev pub clientTrades : ℕ → ℕ → List ℕ → List ℕ → ℕ → List Trade
 clientTrades a clients postings trades count = map (clientTrade a clients postings) (recordedTrades trades count)
 
--- whether all are posted; where they are, the trades in their area and the number of clients' legs
+-- the trades before the first that fails a test, all of them where none does
+unfoldable pub before : (Trade → Bool) → List Trade → List Trade
+before p [] = []
+before p (t ∷ ts) = pick (p t) (t ∷ before p ts) []
+
+-- Whether all are posted; in the area the trades up to the first that is not, with clients in the account's place; the number of
+-- clients' legs, 0 where not all are posted
 pub record PostingIs (a clients : ℕ) (postings trades : List ℕ) (count : ℕ) (area : List ℕ) (r : Posting) (area′ : List ℕ) : Type 0 where
   pub all : r .all ≡ allOf (tradePosted a clients postings) (recordedTrades trades count)
-  pub content : r .all ≡ true → area′ ≡ store tradeWords area 0 (clientTrades a clients postings trades count)
-  pub legs : r .all ≡ true → r .legs ≡ legCount (clientTrades a clients postings trades count)
+  pub content :
+      area′ ≡ store tradeWords area 0 (map (clientTrade a clients postings) (before (tradePosted a clients postings) (recordedTrades trades count)))
+  pub legs : r .legs ≡ pick (r .all) (legCount (clientTrades a clients postings trades count)) 0
 
 -- accounts as they stood at the start of the day, and trades among the first 17 of them: 16 clients and the others
 pub record Replayable (accounts : List Account) (contracts : ℕ) (area : List ℕ) (count : ℕ) : Type 0 where
@@ -40,6 +47,9 @@ pub record Replayable (accounts : List Account) (contracts : ℕ) (area : List �
   pub starts : (k c : ℕ) → k < 17 → c < contracts → (holdingAt accounts k c .startlong ≤ 100_000) × (holdingAt accounts k c .startshort ≤ 100_000)
   pub start : accounts ≡ startOfDay accounts
 
+-- Whether no close is of more than is held; all accounts after the trades, or those given where one is. Of the clients and the
+-- contracts in use that is the rules' replay.
 pub record ReplayIs (accounts : List Account) (contracts : ℕ) (area : List ℕ) (count : ℕ) (r : Held) : Type 0 where
   pub covered : r .covered ≡ neverBelowZero (startOfDay (used contracts 17 accounts)) (recordedTrades area count)
+  pub accounts-are : r .accounts ≡ pick (r .covered) (bookTrades accounts (recordedTrades area count)) accounts
   pub held : r .covered ≡ true → used contracts 17 (r .accounts) ≡ bookTrades (startOfDay (used contracts 17 accounts)) (recordedTrades area count)

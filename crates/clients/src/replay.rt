@@ -8,7 +8,7 @@ ghost use Rattle.clients.specs.Parts.{Replayable, ReplayIs};
 use book::trades;
 use rules::Account;
 
-// What the clients hold afterwards, and whether each close found its lots.
+// What the clients hold afterwards, and whether each close found its lots; where one did not, the accounts are those given.
 pub struct Held {
     pub accounts: [Account; rules::MAX_ACCOUNTS],
     pub covered: bool,
@@ -46,7 +46,7 @@ pub fn replay(
         let buyer = laws::wide(t.buyer);
         if !is_covered(held[buyer], c, false, t.buyclose, t.lots) {
             return Held {
-                accounts: held,
+                accounts,
                 covered: false,
             };
         }
@@ -54,7 +54,7 @@ pub fn replay(
         let seller = laws::wide(t.seller);
         if !is_covered(held[seller], c, true, t.sellclose, t.lots) {
             return Held {
-                accounts: held,
+                accounts,
                 covered: false,
             };
         }

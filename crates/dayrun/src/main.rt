@@ -3,10 +3,10 @@ use libc::STDIN_FILENO;
 use libc::STDOUT_FILENO;
 
 fn main() {
-    // One byte more than the largest sound file, so that a longer one is seen to be too long without being read to its end.
-    let mut file = [0u8; 48349];
-    let n = io::read_full(STDIN_FILENO, &mut file);
-    if !runner::day::print_file(STDOUT_FILENO, &file[..n]) {
+    let mut file = [0u8; runner::reading::READ_MOST];
+    let n = runner::reading::read_file(STDIN_FILENO, &mut file);
+    let printed = runner::day::print_file(STDOUT_FILENO, &file[..n]);
+    if !printed.whole {
         os::fail(b"write");
     }
 }

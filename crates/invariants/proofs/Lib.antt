@@ -27,5 +27,6 @@ pub mod Stamps
 pub mod MemoryRoom
 pub mod MemoryLaws
 pub mod MemoryKeeps
+pub mod RoomBeyond
 pub mod Opening
 pub mod Condition3

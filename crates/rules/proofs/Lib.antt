@@ -4,6 +4,7 @@ pub mod Queue
 pub mod Sorted
 pub mod Fillable
 pub mod Prices
+pub mod Between
 pub mod Holdings
 pub mod Rest
 pub mod InUse

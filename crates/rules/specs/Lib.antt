@@ -5,6 +5,7 @@ pub mod WellFormed
 pub mod Change
 pub mod Command
 pub mod Matching
+pub mod Between
 pub mod EarlyStop
 pub mod Places
 pub mod Margin
@@ -28,3 +29,4 @@ pub mod MethodExamples
 pub mod ProfitExamples
 pub mod WellFormedExamples
 pub mod PaperDay
+pub mod FillOrKillExamples

@@ -1,5 +1,6 @@
 pub mod Opened
 pub mod Playing
+pub mod ReadEnough
 pub mod Recorded
 pub mod Responded
 pub mod Tables

@@ -4,9 +4,10 @@ use mathlib.Core.Bool.{true, false, true≢false}
 use mathlib.Core.List.{List, [], _++_}
 use mathlib.Core.Path.{_≡_, refl, sym, ap, _∙_, subst⁻¹}
 use Prim.Native.Nat.{ℕ, _+_, _≤_}
+use native.Mathlib.Nat.{le-refl}
 use native.Mathlib.Omega.{arith}
-use lib.ListN.{length, take, drop}
-use lib.Seq.{take-append-seam, take-length, length-slice}
+use lib.ListN.{length, take, drop, length-append}
+use lib.Seq.{take-append-seam, take-length, length-slice, length-take-le}
 use Rattle.areas.specs.Lists.{over}
 use Rattle.lines.specs.Written.{Written}
 use Rattle.rules.specs.Condition3.{run}
@@ -19,7 +20,7 @@ use Rattle.accounting.proofs.Runs.{run-append}
 use Rattle.invariants.proofs.Condition3.{money-left}
 use Rattle.invariants.proofs.MemoryKeeps.{run-keeps}
 use Rattle.exchange.proofs.Runs.{run-declared}
-use Rattle.runner.specs.Day.{Ready, DayIs, openingOf, linesTo}
+use Rattle.runner.specs.Day.{Ready, DayIs, PrintedIs, openingOf, linesTo}
 use Rattle.runner.specs.Parts.{part, Playable, PlayedIs}
 use Rattle.runner.specs.Turns.{commandMost}
 use Rattle.runner.specs.declared.play.Played.{Played}
@@ -50,6 +51,17 @@ all-is-output file h = rw (h, one-part file)
 pub broken-is-output : (file : List ℕ) → sound file ≡ false → {most end : ℕ} {before after : List ℕ} → Written most before 0 brokenLine after end → output file ≡ take end after
 unfolding output
 broken-is-output file h w = rw h (sym (front w))
+
+-- what was written of a broken file's line: all of it, or nothing is told
+pub broken-printed : (file : List ℕ) → sound file ≡ false → {most end : ℕ} {before after : List ℕ} → Written most before 0 brokenLine after end
+    → PrintedIs file (record { bytes = end; whole = true })
+unfolding output
+broken-printed file h {end = end} w =
+    let e : end ≡ length (output file) = rw h (w .ends ∙ omega arith) in
+    record { front = omega arith; all = λ q. e }
+
+pub nothing-printed : (file : List ℕ) → PrintedIs file (record { bytes = 0; whole = false })
+nothing-printed file = record { front = omega arith; all = λ q. absurd (true≢false (sym q)) }
 
 -- ---- a day
 
@@ -102,21 +114,42 @@ module _ (file : List ℕ) {buys sells trades : List ℕ} (ready : Ready file bu
         ∙ ap (λ (l : List ℕ). linesTo file k ++ l)
         (ap (λ (v : Memory). runLines (k + 1) (exchangeOf v) (part file k (p .next))) (sym e) ∙ sym (front (is .lines)))
 
-    -- the two ways out
-    pub stopped : DayIs file buys sells trades (record { state = s; played = k; whole = false }) (memory s buys′ sells′ trades′)
-    stopped =
+    -- so many bytes are what the first k commands print
+    pub more-bytes : {bytes : ℕ} → bytes ≡ length (linesTo file k) → {before after : List ℕ} {p : Played} {m′ : Memory} → PlayedIs file k (memory s buys′ sells′ trades′) before p m′ after
+        → bytes + p .end ≡ length (linesTo file (p .next))
+    more-bytes q {after = after} {p = p} is =
+        let short : length (take (p .end) after) ≡ p .end = length-take-le (p .end) after (omega (arith, is .lines .inside, is .lines .kept)) in
+        omega (arith, ap length (part-written is), length-append (linesTo file k) (take (p .end) after))
+
+    pub front-bytes : {bytes : ℕ} → bytes ≡ length (linesTo file k) → bytes ≤ length (output file)
+    front-bytes q =
+        omega (
+          arith,
+          ap length (sym (all-is-output file (ready .whole)) ∙ lines-parts k (commandsIn file) l (le-refl _)),
+          length-append (linesTo file k) (runLines (k + 1) (exchangeOf (run m₀ (part file 0 k))) (part file k (commandsIn file))),
+        )
+
+    -- the two ways out: a write failed behind the bytes told, or all were written
+    pub stopped : {bytes : ℕ} → bytes ≤ length (output file)
+        → DayIs file buys sells trades (record { state = s; played = k; bytes = bytes; whole = false }) (memory s buys′ sells′ trades′)
+    stopped q =
         record {
           within = l;
           all = λ q. absurd (true≢false (sym q));
+          front = q;
+          all-bytes = λ q. absurd (true≢false (sym q));
           memory = e;
           money = money-left m₀ (opens-formed file ready .declared) (part file 0 k) _ e .from-nothing (opens-empty file ready);
         }
 
-    pub whole-day : commandsIn file ≤ k → DayIs file buys sells trades (record { state = s; played = k; whole = true }) (memory s buys′ sells′ trades′)
-    whole-day d =
+    pub whole-day : {bytes : ℕ} → bytes ≡ length (linesTo file k) → commandsIn file ≤ k
+        → DayIs file buys sells trades (record { state = s; played = k; bytes = bytes; whole = true }) (memory s buys′ sells′ trades′)
+    whole-day q d =
         record {
           within = l;
           all = λ q. ap (part file 0) at-end ∙ one-part file;
+          front = front-bytes q;
+          all-bytes = λ t. q ∙ ap (λ (n : ℕ). length (linesTo file n)) at-end ∙ ap length (all-is-output file (ready .whole));
           memory = e;
           money = money-left m₀ (opens-formed file ready .declared) (part file 0 k) _ e .from-nothing (opens-empty file ready);
         }

@@ -1,4 +1,5 @@
-// A whole day printed to a file descriptor, part by part.
+// A whole day printed to a file descriptor, part by part. No promise can tell what a write does with its bytes; what is promised is
+// which bytes are handed to it, and of how many it was told that they were written.
 ghost use mathlib.Core.Path.{_≡_};
 ghost use mathlib.Core.Bool.{false};
 ghost use mathlib.Core.List.{_++_};
@@ -7,17 +8,25 @@ ghost use lib.ListN.{length, take};
 ghost use Rattle.rules.specs.DayFile.{sound};
 ghost use Rattle.rules.specs.Lines.{output};
 ghost use Rattle.rules.specs.Memory.{memory};
-ghost use Rattle.runner.specs.Day.{Ready, DayIs, linesTo};
+ghost use Rattle.runner.specs.Day.{Ready, DayIs, PrintedIs, linesTo};
 use crate::play::play;
 use dayfile::file;
 use dayfile::opening::opening_state;
 use lines::line::put_broken;
 use rules::State;
 
-// The state at the end, how many commands were played, and whether all that they printed was written.
+// The state at the end, how many commands were played, how many bytes of the output were handed to writes that told all was
+// written, and whether these are all.
 pub struct Day {
     pub state: State,
     pub played: usize,
+    pub bytes: usize,
+    pub whole: bool,
+}
+
+// How many bytes of a file's output were handed to writes that told all was written, and whether these are all.
+pub struct Printed {
+    pub bytes: usize,
     pub whole: bool,
 }
 
@@ -54,6 +63,7 @@ pub fn print_day(
     let mut out = [0u8; BUFFER];
     let mut state = opening_state(file);
     let mut k: usize = 0;
+    let mut bytes: usize = 0;
     while k < n {
         let p = play(file, k, state, buys, sells, trades, &mut out);
         let next = p.next;
@@ -64,28 +74,44 @@ pub fn print_day(
             return Day {
                 state,
                 played: k,
+                bytes,
                 whole: false,
             };
         }
+        bytes += p.end;
     }
     Day {
         state,
         played: k,
+        bytes,
         whole: true,
     }
 }
 
 // "A broken file prints `X 20`."
-fn print_broken(fd: i32, file: &[u8]) -> bool
+fn print_broken(fd: i32, file: &[u8]) -> Printed
     requires { ⌜ sound (now file) ≡ false ⌝ }
+    ensures { λ r. ⌜ PrintedIs (now (file .entry)) r ⌝ }
 {
     let mut out = [0u8; 23];
     let end = put_broken(&mut out, 0);
-    write_output(fd, file, &out, end)
+    if !write_output(fd, file, &out, end) {
+        return Printed {
+            bytes: 0,
+            whole: false,
+        };
+    }
+    Printed {
+        bytes: end,
+        whole: true,
+    }
 }
 
-// The day's lines, or `X 20` for a file that is not sound. Answers whether all of it was written.
-pub fn print_file(fd: i32, file: &[u8]) -> bool {
+// The day's lines, or `X 20` for a file that is not sound. A call for users: it answers on anything. Where a write fails the rules
+// leave open, and so how many bytes were written by then.
+pub fn print_file(fd: i32, file: &[u8]) -> Printed
+    ensures { λ r. ⌜ PrintedIs (now (file .entry)) r ⌝ }
+{
     if !file::sound(file) {
         return print_broken(fd, file);
     }
@@ -93,5 +119,8 @@ pub fn print_file(fd: i32, file: &[u8]) -> bool {
     let mut sells = [0u32; rules::QUEUE_STRIDE * rules::MAX_CONTRACTS];
     let mut trades = [0u32; rules::TRADE_STRIDE * rules::MAX_TRADES];
     let day = print_day(fd, file, &mut buys, &mut sells, &mut trades);
-    day.whole
+    Printed {
+        bytes: day.bytes,
+        whole: day.whole,
+    }
 }

@@ -2,4 +2,5 @@
 pub mod day;
 pub mod play;
 pub mod printing;
+pub mod reading;
 pub mod turn;

@@ -7,20 +7,17 @@ use Prim.Native.Nat.{ℕ}
 use native.Mathlib.Omega.{arith}
 use borrow.Author.Tests.{ltb-false}
 use lib.Dec.{ltb}
-use lib.IntN.{_+ℤ_}
 use Rattle.laws.specs.Choice.{either-false}
-use Rattle.laws.specs.Sums.{sumTo}
 use Rattle.rules.specs.Answers.{_when_}
 use Rattle.rules.specs.Exchange.{Exchange, placeOf}
 use Rattle.rules.specs.Memory.{Memory, exchangeOf, wellFormedMemory}
-use Rattle.rules.specs.Settlement.{closingProfit, holdingProfit}
 use Rattle.rules.proofs.InUse.{contracts-in-use}
 use Rattle.accounting.proofs.Facts.{facts}
 use Rattle.invariants.proofs.Accepted.{Failed, failed}
 use Rattle.invariants.proofs.MemoryRoom.{memory-ok}
-use Rattle.clients.specs.Clients.{Clients, clientExchange}
+use Rattle.clients.specs.Clients.{Clients}
 use Rattle.clients.proofs.AddUp.{Granted, clients-add-up}
-use Rattle.statements.specs.Statement.{brokerRefusals, statementCode}
+use Rattle.statements.specs.Statement.{AddsUp, brokerRefusals, statementCode}
 
 -- for every statement that is not refused
 module _ (m : Memory) (account : ℕ) (b : Clients) (room : ℕ) (e : statementCode m account b room ≡ 0) where
@@ -49,9 +46,7 @@ module _ (m : Memory) (account : ℕ) (b : Clients) (room : ℕ) (e : statementC
         covered = yes _ (tests .1 .1 .1 .1 .0);
       }
 
-  pub statement-adds-up :
-      sumTo (b .count) (λ k. closingProfit (clientExchange day (placeOf account) b) k +ℤ holdingProfit (clientExchange day (placeOf account) b) k)
-      ≡ closingProfit day (placeOf account) +ℤ holdingProfit day (placeOf account)
+  pub statement-adds-up : AddsUp day (placeOf account) b
   statement-adds-up =
       let k = memory-ok m granted-formed in
       clients-add-up day (facts day (k .contents) .replay) (rw (contracts-in-use m) (k .counts .contracts-high)) (placeOf account) b granted

@@ -20,6 +20,7 @@ use Rattle.statements.specs.Parts.{AnswerIs, Postable, PostedIs, broker,
 use Rattle.clients.specs.Clients.{Clients, clientExchange, startLong, startShort, startsAddUp, total}
 use Rattle.statements.specs.Statement.{StatementIs, brokerRefusals, statementCode}
 use Rattle.statements.specs.declared.Statement.{Statement}
+use Rattle.statements.proofs.Paid.{statement-adds-up}
 use Rattle.statements.proofs.Answering.{code-here, code-later, refused-is}
 
 module _ (m : Memory) (account : ℕ) (b : Clients) (out : List ℕ) where
@@ -31,7 +32,13 @@ module _ (m : Memory) (account : ℕ) (b : Clients) (out : List ℕ) where
 
   answered : (code : ℕ) → code ≡ statementCode m account b (length out) → (r : Statement) (out′ : List ℕ) → AnswerIs code y (b .count) out r out′
       → StatementIs m account b out r out′
-  answered code e r out′ a = record { code = a .code-is ∙ e; length-is = a .length-is; out-is = a .out-is }
+  answered code e r out′ a =
+      record {
+        code = a .code-is ∙ e;
+        length-is = a .length-is;
+        out-is = a .out-is;
+        adds-up = λ z. statement-adds-up m account b (length out) (sym (a .code-is ∙ e) ∙ z);
+      }
 
   -- a refusal by its code
   refused-by : (k : ℕ) → statementCode m account b (length out) ≡ k → eqb k 0 ≡ false → (r : Statement) → r ≡ refusedWith k → StatementIs m account b out r out

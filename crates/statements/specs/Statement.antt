@@ -5,9 +5,10 @@ use mathlib.Core.List.{List, [], _∷_, _++_}
 use mathlib.Core.Path.{_≡_}
 use Prim.Native.Nat.{ℕ, _+_, _-_, _*_}
 use lib.Dec.{eqb, ltb}
-use lib.IntN.{ℤ, pos, negsuc}
+use lib.IntN.{ℤ, pos, negsuc, _+ℤ_}
 use lib.ListN.{length, getD}
 use Rattle.laws.specs.Choice.{pick, allOf}
+use Rattle.laws.specs.Sums.{sumTo}
 use Rattle.areas.specs.Lists.{over}
 use Rattle.rules.specs.Answers.{Refusal, firstOf, _when_}
 use Rattle.rules.specs.Exchange.{Exchange, absent, holdingAt, noTrade, placeOf}
@@ -87,7 +88,14 @@ statementCode m account b room = firstOf ((21 when not (wellFormedMemory m)) ∷
 abbrev pub statement : Memory → ℕ → Clients → List ℕ
 statement m account b = statementOf (clientExchange (exchangeOf m) (placeOf account) b) (b .count)
 
+-- "The sum of client closing and holding profit together equals the account's day profit": of the profits that a statement tells and
+-- those that a settlement now would pay
+abbrev pub AddsUp : Exchange → ℕ → Clients → Type 0
+AddsUp x a b =
+    sumTo (b .count) (λ k. closingProfit (clientExchange x a b) k +ℤ holdingProfit (clientExchange x a b) k) ≡ closingProfit x a +ℤ holdingProfit x a
+
 pub record StatementIs (m : Memory) (account : ℕ) (b : Clients) (out : List ℕ) (r : Statement) (out′ : List ℕ) : Type 0 where
   pub code : r .code ≡ statementCode m account b (length out)
   pub length-is : r .length ≡ pick (eqb (r .code) 0) (length (statement m account b)) 0
   pub out-is : out′ ≡ pick (eqb (r .code) 0) (over out 0 (statement m account b)) out
+  pub adds-up : r .code ≡ 0 → AddsUp (exchangeOf m) (placeOf account) b

@@ -14,11 +14,13 @@ use Rattle.laws.specs.Choice.{all, allOf}
 use Rattle.laws.specs.Sums.{sumOf, sumTo}
 use Rattle.laws.specs.Tabulate.{tabulate}
 use Rattle.rules.specs.Answers.{firstOf}
-use Rattle.rules.specs.Exchange.{Exchange, absent, accountAt, holdingAt, listingAt, noHolding}
-use Rattle.rules.specs.Holdings.{afterLeg, bookLeg, bookTrade, bookTrades, legCovered, neverBelowZero, startOfDay}
+use Rattle.rules.specs.Bounds.{allowedToday, dayHigh, dayLow, onTick, termsInRange, tickMultiple}
+use Rattle.rules.specs.Exchange.{Exchange, absent, accountAt, holdingAt, listingAt, lotsWhere, resting}
+use Rattle.rules.specs.Holdings.{afterLeg, bookLeg, bookTrade, bookTrades, legCovered, neverBelowZero, sameHoldings, sameLots, startOfDay}
 use Rattle.rules.specs.Matching.{tradedLots}
 use Rattle.rules.specs.Memory.{Memory, countsInRange, hasRoom, wellFormedMemory}
 use Rattle.rules.specs.Settlement.{afterDayLeg, afterLegs, closingProfit, dayOf, dayStart, firstLots, gain, holdingGain, holdingProfit, legs, only, otherLots, priceFrom, settlementPrice, tradedValue, tradesIn, weightedPrice}
+use Rattle.rules.specs.WellFormed.{ahead, aheadOfFirst, allListed, balanceInRange, contractInRange, countersInRange, holdingInRange, holdingsInRange, listed, listingInRange, orderInRange, replays, sorted, tradeInRange, uncrossed, usedOnce, wellFormedContents}
 use Rattle.rules.specs.declared.Trade.{Trade}
 use Rattle.mending.specs.Mend.{two, four, eight}
 use Rattle.clients.specs.Clients.{Clients, clientAccount, clientExchange, clientPlace, clientTrade, holdingsNow, inRow, isPosted, legCount, legsIn, neverClosesMore, posted, postedTo, startsAddUp, total, tradePosted}
@@ -38,17 +40,17 @@ trade price lots buyorder sellorder buyer seller buyclose sellclose =
       sellclose = sellclose;
     }
 
--- a day with these trades, and so many long lots of account 2 at its start
-unfoldable pub dayWith : ℕ → List Trade → Exchange
-dayWith startlong trades =
+-- a day with these trades: account 1 is short so many lots now, account 2 was long so many at its start and is so many now
+unfoldable pub dayWith : ℕ → ℕ → ℕ → List Trade → Exchange
+dayWith short startlong long trades =
     record {
       listings = record {
         contract = record { multiplier = 10; tick = 1; reference = 100; band = 10; limit = 1_000; rate = 1_000; method = 0; phase = 1; last = 103 };
         buys = [];
         sells = [];
       } ∷ [];
-      accounts = record { balance = pos 0; maker = false; holdings = noHolding ∷ [] }
-          ∷ record { balance = pos 0; maker = false; holdings = record { long = 0; short = 0; startlong = startlong; startshort = 0 } ∷ [] }
+      accounts = record { balance = pos 0; maker = false; holdings = record { long = 0; short = short; startlong = 0; startshort = 0 } ∷ [] }
+          ∷ record { balance = pos 0; maker = false; holdings = record { long = long; short = 0; startlong = startlong; startshort = 0 } ∷ [] }
           ∷ [];
       trades = trades;
       next = 7;
@@ -57,7 +59,7 @@ dayWith startlong trades =
     }
 
 unfoldable pub day : Exchange
-day = dayWith 5 (trade 102 4 2 1 1 0 0 0 ∷ trade 104 2 4 3 0 1 1 1 ∷ trade 103 1 5 6 1 1 0 1 ∷ [])
+day = dayWith 2 5 7 (trade 102 4 2 1 1 0 0 0 ∷ trade 104 2 4 3 0 1 1 1 ∷ trade 103 1 5 6 1 1 0 1 ∷ [])
 
 -- long lots of client 1 and of client 2 at the start of the day, in contract 1
 unfoldable pub starts : ℕ → ℕ → List ℕ
@@ -138,9 +140,15 @@ shortDay =
         buys = [];
         sells = [];
       } ∷ [];
-      accounts = record { balance = pos 0; maker = false; holdings = noHolding ∷ noHolding ∷ [] }
-          ∷ record { balance = pos 0; maker = false; holdings = noHolding ∷ record { long = 0; short = 3; startlong = 0; startshort = 6 } ∷ [] }
-          ∷ [];
+      accounts = record {
+        balance = pos 0;
+        maker = false;
+        holdings = record { long = 2; short = 0; startlong = 0; startshort = 0 } ∷ record { long = 0; short = 3; startlong = 0; startshort = 0 } ∷ [];
+      } ∷ record {
+        balance = pos 0;
+        maker = false;
+        holdings = record { long = 0; short = 2; startlong = 0; startshort = 0 } ∷ record { long = 0; short = 3; startlong = 0; startshort = 6 } ∷ [];
+      } ∷ [];
       trades = inSecond (trade 54 3 1 2 1 0 1 0) ∷ trade 101 2 3 4 0 1 0 0 ∷ [];
       next = 5;
       nextstamp = 1;
@@ -169,6 +177,13 @@ pub second-example : statementOf (clientExchange shortDay 1 (shorts 4 2)) 2
     ∷ [])
 unfolding shortDay inSecond shorts below trade word together sumOf sumTo tabulate listingAt accountAt holdingAt tradedLots afterLeg bookLeg bookTrade bookTrades startOfDay afterDayLeg afterLegs closingProfit dayOf dayStart firstLots gain holdingGain holdingProfit legs only otherLots priceFrom settlementPrice tradedValue tradesIn weightedPrice two four eight clientAccount clientExchange clientPlace clientTrade holdingBytes holdingsBytes holdingsNow inRow isPosted legBytes legCount legsIn posted postedTo profitBytes profitsBytes statementOf total tradeBytes tradesBytes unsigned
 second-example = refl
+
+-- ---- the days are well formed: what the accounts hold now is the replay of the day's trades, so that a statement of them is due
+
+pub well-formed-days : (wellFormedContents day ≡ true) × (wellFormedContents shortDay ≡ true) × (wellFormedContents (dayWith 0 0 0 []) ≡ true)
+    × (wellFormedContents (dayWith 0 1 1 []) ≡ true)
+unfolding day dayWith shortDay inSecond trade all allOf sumOf accountAt afterLeg ahead aheadOfFirst allListed allowedToday balanceInRange bookLeg bookTrade bookTrades contractInRange countersInRange dayHigh dayLow holdingAt holdingInRange holdingsInRange legCovered listed listingAt listingInRange lotsWhere neverBelowZero onTick orderInRange replays resting sameHoldings sameLots sorted startOfDay termsInRange tickMultiple tradeInRange uncrossed usedOnce wellFormedContents
+well-formed-days = (refl, refl, refl, refl)
 
 -- ---- refusals: a day, an account's number, clients, room, and the code they must get; the statement above is 124 bytes long
 
@@ -209,8 +224,8 @@ cases =
     -- "29 output area too short"
     ∷ case day 2 broker 123 29
     -- no clients: of an account without lots and trades
-    ∷ case (dayWith 0 []) 2 (with′ 0 0 0 []) 12 0
-    ∷ case (dayWith 1 []) 2 (with′ 0 0 0 []) 12 25
+    ∷ case (dayWith 0 0 0 []) 2 (with′ 0 0 0 []) 12 0
+    ∷ case (dayWith 0 1 1 []) 2 (with′ 0 0 0 []) 12 25
     -- the second day: it is 108 bytes long; short lots of contract 2 that do not add up; client 1 buys 3 to close and is short 2
     ∷ case shortDay 2 (shorts 4 2) 108 0
     ∷ case shortDay 2 (shorts 4 2) 107 29

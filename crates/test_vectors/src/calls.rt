@@ -129,7 +129,7 @@ fn bundle(
     let mut bytes = [0u8; 2500];
     let given = reading::bytes(file, at, &mut bytes);
     let commands = reading::first_bytes(&bytes, given.length);
-    let receipt = baskets::basket::submit(state, buys, sells, trades, commands, answers);
+    let receipt = baskets::basket::submit_bytes(state, buys, sells, trades, commands, answers);
     let told = reading::number(file, given.next);
     let after = receipt.state;
     Ran {

@@ -1,43 +1,49 @@
 -- `basket::answer_all` meets its contract: the first k commands leave the rules' run of them, and their answers stand in the
 -- area. Assumes nothing.
 use mathlib.Core.Path.{_≡_, refl, _∙_}
-use Prim.Native.Nat.{_-_, _≤_}
+use Prim.Native.Nat.{_-_, _<_, _≤_}
 use native.Mathlib.Omega.{arith}
 use borrow.Author.Needs.{needs}
-use lib.ListN.{length}
+use lib.ListN.{length, take}
+use Rattle.laws.specs.Lists.{unmapped}
 use Rattle.rules.specs.Condition3.{run}
 use Rattle.rules.specs.Memory.{memory}
-use Rattle.exchange.specs.Run.{firstCommands}
-use Rattle.exchange.proofs.Runs.{none-ran, one-turn, running}
-use Rattle.baskets.proofs.Answering.{all-answered, answered, none-answered, one-answered}
+use Rattle.baskets.proofs.Answering.{all-answered, answered, none-answered, none-ran, one-answered, one-ran, stays-formed}
 use Rattle.baskets.proofs.basket.answer_all.Statement.{statement}
 use Rattle.baskets.proofs.basket.answer_all.Tie as tie
 use Rattle.baskets.proofs.basket.answer_all.Reads as reads
 use Rattle.baskets.proofs.basket.answer_all.Lts as lts
 use Rattle.baskets.proofs.answers.put_answer.Reads as put-answer-reads
-use Rattle.exchange.proofs.step.step_at.Reads as step-at-reads
+use Rattle.exchange.proofs.step.step.Reads as step-reads
 
 abbrev Inv-loop : tie.InvT-loop
-Inv-loop buys₀ sells₀ trades₀ bytes n answers₀ current₀ k₀ buys sells trades answers current k =
-    (k ≤ n)
-    × ((memory current buys sells trades ≡ run (memory current₀ buys₀ sells₀ trades₀) (firstCommands bytes k))
-    × ((answers ≡ answered (memory current₀ buys₀ sells₀ trades₀) bytes answers₀ k)
+Inv-loop buys₀ sells₀ trades₀ count answers₀ commands current₀ k₀ buys sells trades answers current k =
+    (k ≤ count)
+    × ((memory current buys sells trades ≡ run (memory current₀ buys₀ sells₀ trades₀) (take k commands))
+    × ((answers ≡ answered (memory current₀ buys₀ sells₀ trades₀) commands answers₀ k)
     × ((length buys ≡ length buys₀) × ((length sells ≡ length sells₀) × ((length trades ≡ length trades₀) × (length answers ≡ length answers₀))))))
 
 abbrev μ-loop : tie.MeasureT-loop
-μ-loop buys₀ sells₀ trades₀ bytes n answers₀ current₀ k₀ buys sells trades answers current k = n - k
+μ-loop buys₀ sells₀ trades₀ count answers₀ commands current₀ k₀ buys sells trades answers current k = count - k
+
+-- the array's places are those of its type
+hundred : (c : tie.Start Inv-loop μ-loop) → length (c .args .t5) ≡ 100
+hundred c = search (needs, unmapped)
 
 loop-holds : tie.Need-loop-holds Inv-loop μ-loop
-loop-holds c = (omega arith, (none-ran _ _, (none-answered _ _ _, (refl, (refl, (refl, refl))))))
+loop-holds c = (omega arith, (none-ran _ (c .before .before .before .before .args .t5), (none-answered _ _ _, (refl, (refl, (refl, refl))))))
 
-mul-step-at : tie.Need-mul-step-at Inv-loop μ-loop
-mul-step-at c = omega (arith, c .before .before .before .before .before .before .before .before .before .before .pre .1)
+mul-command : tie.Need-mul-command Inv-loop μ-loop
+mul-command c = search needs
 
-step-at-requires : tie.Need-step-at-requires Inv-loop μ-loop
-step-at-requires c κs = (running _ (c .before .before .before .before .before .before .before .before .before .before .pre .0 .declared) _ (c .before .before .before .before .before .before .before .before .before .before .pre .0 .formed) _ (c .before .before .before .before .loop .inv .1 .0), omega (arith, c .before .before .before .before .before .before .before .before .before .before .pre .1))
+array-copy-out-command : tie.Need-array-copy-out-command Inv-loop μ-loop
+array-copy-out-command c = omega (arith, c .before .before .before .before .before .before .pre .1)
+
+step-requires : tie.Need-step-requires Inv-loop μ-loop
+step-requires c κs = stays-formed _ (c .before .before .before .before .before .before .before .before .before .before .pre .0 .declared) (c .before .before .before .before .before .before .before .before .before .before .pre .0 .formed) _ (c .before .before .before .before .before .loop .inv .1 .0)
 
 put-answer-requires : tie.Need-put-answer-requires Inv-loop μ-loop
-put-answer-requires c κs = omega (arith, c .before .before .before .before .before .before .before .before .before .before .before .before .before .before .before .before .before .before .before .pre .1, c .before .before .before .before .before .before .before .before .before .before .before .before .before .loop .inv)
+put-answer-requires c κs = omega (arith, c .before .before .before .before .before .before .before .before .before .before .before .before .before .before .before .before .before .before .before .pre .2, c .before .before .before .before .before .before .before .before .before .before .before .before .before .before .loop .inv)
 
 add-k : tie.Need-add-k Inv-loop μ-loop
 add-k c = record { fits = omega (arith, c .before .before .before .before .before .before .before .before .before .before .before .before .before .before .before .before .before .before .before .before .before .before .before .fits, c .before .before .before .before .before .before .before .before .before .before .before .before .before .before .before .before .before .before .before .before .before .before .before .pre .1) }
@@ -46,25 +52,27 @@ loop-less : tie.Need-loop-less Inv-loop μ-loop
 loop-less c = omega arith
 
 loop-again : tie.Need-loop-again Inv-loop μ-loop
-loop-again c = (
-  omega arith,
-  (
-    one-turn _ (c .before .before .before .before .before .before .before .before .before .before .before .before .before .before .before .before .before .before .before .before .before .before .before .pre .0 .declared) _ (c .before .before .before .before .before .before .before .before .before .before .before .before .before .before .before .before .before .before .before .before .before .before .before .pre .0 .formed) _ (c .before .before .before .before .before .before .before .before .before .before .before .before .before .before .before .before .before .loop .inv .1 .0) (c .before .before .before .before .before .before .before .before .before .before .before .before .step-at .ensures .memory),
-    (
-      one-answered _ _ _ (c .before .before .before .before .before .before .before .before .before .before .before .before .before .before .before .before .before .before .before .before .before .before .before .pre .0 .formed) _ (c .before .before .before .before .before .before .before .before .before .before .before .before .before .before .before .before .before .loop .inv .1 .0) (c .before .before .before .before .before .before .before .before .before .before .before .before .step-at .ensures .answer) (c .before .before .before .before .before .before .before .before .before .before .before .before .before .before .before .before .before .loop .inv .1 .1 .0) (c .before .before .before .put-answer .ensures),
+loop-again c =
+    let e : length (c .before .before .before .before .before .before .before .before .before .before .before .before .before .before .before .before .before .before .before .before .before .before .before .args .t5) ≡ 100 = hundred (c .before .before .before .before .before .before .before .before .before .before .before .before .before .before .before .before .before .before .before .before .before .before .before) in
+    let h : c .before .before .before .before .before .before .before .before .before .before .before .before .before .before .before .before .before .before .loop .k < length (c .before .before .before .before .before .before .before .before .before .before .before .before .before .before .before .before .before .before .before .before .before .before .before .args .t5) = omega (arith, c .before .before .before .before .before .before .before .before .before .before .before .before .before .before .before .before .before .before .before .before .before .before .before .pre .1, c .before .before .before .before .before .before .before .before .before .before .before .before .before .before .before .before .before .loop-test .taken) in (
+      omega arith,
       (
-        c .before .before .before .before .before .before .before .before .before .before .before .before .step-at .kept .1 .0 ∙ c .before .before .before .before .before .before .before .before .before .before .before .before .before .before .before .before .before .loop .inv .1 .1 .1 .0,
+        one-ran _ _ (c .before .before .before .before .before .before .before .before .before .before .before .before .before .before .before .before .before .before .before .before .before .before .before .pre .0 .formed) _ h (c .before .before .before .before .before .before .before .before .before .before .before .before .before .before .before .before .before .before .loop .inv .1 .0) (c .before .before .before .before .before .before .before .before .before .before .before .before .step .ensures .memory),
         (
-          c .before .before .before .before .before .before .before .before .before .before .before .before .step-at .kept .1 .1 .0 ∙ c .before .before .before .before .before .before .before .before .before .before .before .before .before .before .before .before .before .loop .inv .1 .1 .1 .1 .0,
+          one-answered _ _ _ (c .before .before .before .before .before .before .before .before .before .before .before .before .before .before .before .before .before .before .before .before .before .before .before .pre .0 .formed) _ h (c .before .before .before .before .before .before .before .before .before .before .before .before .before .before .before .before .before .before .loop .inv .1 .0) (c .before .before .before .before .before .before .before .before .before .before .before .before .step .ensures .answer) (c .before .before .before .before .before .before .before .before .before .before .before .before .before .before .before .before .before .before .loop .inv .1 .1 .0) (c .before .before .before .put-answer .ensures),
           (
-            c .before .before .before .before .before .before .before .before .before .before .before .before .step-at .kept .1 .1 .1 .0 ∙ c .before .before .before .before .before .before .before .before .before .before .before .before .before .before .before .before .before .loop .inv .1 .1 .1 .1 .1 .0,
-            c .before .before .before .put-answer .kept .0 ∙ c .before .before .before .before .before .before .before .before .before .before .before .before .before .before .before .before .before .loop .inv .1 .1 .1 .1 .1 .1,
+            c .before .before .before .before .before .before .before .before .before .before .before .before .step .kept .1 .0 ∙ c .before .before .before .before .before .before .before .before .before .before .before .before .before .before .before .before .before .before .loop .inv .1 .1 .1 .0,
+            (
+              c .before .before .before .before .before .before .before .before .before .before .before .before .step .kept .1 .1 .0 ∙ c .before .before .before .before .before .before .before .before .before .before .before .before .before .before .before .before .before .before .loop .inv .1 .1 .1 .1 .0,
+              (
+                c .before .before .before .before .before .before .before .before .before .before .before .before .step .kept .1 .1 .1 .0 ∙ c .before .before .before .before .before .before .before .before .before .before .before .before .before .before .before .before .before .before .loop .inv .1 .1 .1 .1 .1 .0,
+                c .before .before .before .put-answer .kept .0 ∙ c .before .before .before .before .before .before .before .before .before .before .before .before .before .before .before .before .before .before .loop .inv .1 .1 .1 .1 .1 .1,
+              ),
+            ),
           ),
         ),
       ),
-    ),
-  ),
-)
+    )
 
 same-length : tie.Need-same-length Inv-loop μ-loop
 same-length c = search needs
@@ -79,7 +87,9 @@ same-length-4 : tie.Need-same-length-4 Inv-loop μ-loop
 same-length-4 c = search needs
 
 returns : tie.Need-returns Inv-loop μ-loop
-returns c = all-answered _ _ _ (omega arith) (c .before .loop .inv .1 .0) (c .before .loop .inv .1 .1 .0)
+returns c =
+    let e : c .before .loop .k ≡ c .before .before .before .before .before .before .args .count = omega arith in
+    all-answered _ _ _ e (c .before .loop .inv .1 .0) (c .before .loop .inv .1 .1 .0)
 
 pub answer-all-spec : {M : Type 1} → statement M
 answer-all-spec =
@@ -88,8 +98,9 @@ answer-all-spec =
     Inv-loop
     μ-loop
     loop-holds
-    mul-step-at
-    step-at-requires
+    mul-command
+    array-copy-out-command
+    step-requires
     put-answer-requires
     add-k
     loop-less

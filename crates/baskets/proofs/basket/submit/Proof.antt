@@ -1,11 +1,8 @@
 -- `basket::submit` meets its contract: code 21 by the audit, 22 by the counts, all else by `answer_all`. Assumes nothing.
 use mathlib.Core.Path.{refl, sym, _∙_}
-use native.Mathlib.Nat.{div-mul-le-self}
 use native.Mathlib.Omega.{arith}
 use borrow.Author.Needs.{needs}
 use borrow.Author.Tests.{not-true, not-false}
-use denote.Ref.{now}
-use lib.ListN.{length}
 use Rattle.engine.proofs.Declared.{declared}
 use Rattle.baskets.proofs.Bundles.{ill-formed, too-many, no-room, all-carried}
 use Rattle.baskets.proofs.basket.submit.Statement.{statement}
@@ -28,7 +25,7 @@ same-length-3 : tie.Need-same-length-3
 same-length-3 c = search needs
 
 returns : tie.Need-returns
-returns c = ill-formed _ (declared (c .before .before .before .before .before .before .before .before .before .before .good .0)) _ _ (sym (c .before .well-formed .ensures) ∙ not-true (c .before .well-formed .result) (c .if1 .taken)) refl
+returns c = ill-formed _ (declared (c .before .before .before .before .before .before .before .before .before .good .0)) _ _ _ (sym (c .before .well-formed .ensures) ∙ not-true (c .before .well-formed .result) (c .if1 .taken)) refl
 
 same-length-4 : tie.Need-same-length-4
 same-length-4 c = search needs
@@ -40,7 +37,7 @@ same-length-6 : tie.Need-same-length-6
 same-length-6 c = search needs
 
 returns-2 : tie.Need-returns-2
-returns-2 c = too-many _ (declared (c .before .before .before .before .before .before .before .before .before .before .before .good .0)) _ _ (sym (c .before .before .well-formed .ensures) ∙ not-false (c .before .before .well-formed .result) (c .before .if1 .left)) (omega arith) refl
+returns-2 c = too-many _ (declared (c .before .before .before .before .before .before .before .before .before .before .good .0)) _ _ _ (sym (c .before .before .well-formed .ensures) ∙ not-false (c .before .before .well-formed .result) (c .before .if1 .left)) (omega arith) refl
 
 mul-if3 : tie.Need-mul-if3
 mul-if3 c = search needs
@@ -55,10 +52,10 @@ same-length-9 : tie.Need-same-length-9
 same-length-9 c = search needs
 
 returns-3 : tie.Need-returns-3
-returns-3 c = no-room _ (declared (c .before .before .before .before .before .before .before .before .before .before .before .before .good .0)) _ _ (sym (c .before .before .before .well-formed .ensures) ∙ not-false (c .before .before .before .well-formed .result) (c .before .before .if1 .left)) (omega arith) (omega arith) refl
+returns-3 c = no-room _ (declared (c .before .before .before .before .before .before .before .before .before .before .before .good .0)) _ _ _ (sym (c .before .before .before .well-formed .ensures) ∙ not-false (c .before .before .before .well-formed .result) (c .before .before .if1 .left)) (omega arith) (omega arith) refl
 
 answer-all-requires : tie.Need-answer-all-requires
-answer-all-requires c κs = (record { declared = declared (c .before .before .before .before .before .before .before .before .before .before .before .before .before .before .before .before .good .0); formed = sym (c .before .before .before .before .before .before .before .well-formed .ensures) ∙ not-false (c .before .before .before .before .before .before .before .well-formed .result) (c .before .before .before .before .before .before .if1 .left) }, omega (arith, div-mul-le-self (length (now (c .before .before .before .before .before .before .before .before .before .before .before .before .before .before .before .before .args .bytes))) 24), omega arith)
+answer-all-requires c κs = (record { declared = declared (c .before .before .before .before .before .before .before .before .before .before .before .before .before .before .before .good .0); formed = sym (c .before .before .before .before .before .before .before .well-formed .ensures) ∙ not-false (c .before .before .before .before .before .before .before .well-formed .result) (c .before .before .before .before .before .before .if1 .left) }, omega arith, omega arith)
 
 same-length-10 : tie.Need-same-length-10
 same-length-10 c = search needs
@@ -73,7 +70,7 @@ same-length-13 : tie.Need-same-length-13
 same-length-13 c = search needs
 
 returns-4 : tie.Need-returns-4
-returns-4 c = all-carried _ (declared (c .before .before .before .before .before .before .before .before .before .before .before .before .before .before .before .before .before .before .before .before .before .before .before .before .before .good .0)) _ _ (sym (c .before .before .before .before .before .before .before .before .before .before .before .before .before .before .before .before .well-formed .ensures) ∙ not-false (c .before .before .before .before .before .before .before .before .before .before .before .before .before .before .before .before .well-formed .result) (c .before .before .before .before .before .before .before .before .before .before .before .before .before .before .before .if1 .left)) (omega arith) (omega arith) refl (c .before .before .before .before .before .before .before .before .answer-all .ensures .0) (c .before .before .before .before .before .before .before .before .answer-all .ensures .1)
+returns-4 c = all-carried _ (declared (c .before .before .before .before .before .before .before .before .before .before .before .before .before .before .before .before .before .before .before .before .before .before .before .before .good .0)) _ _ _ (sym (c .before .before .before .before .before .before .before .before .before .before .before .before .before .before .before .before .well-formed .ensures) ∙ not-false (c .before .before .before .before .before .before .before .before .before .before .before .before .before .before .before .before .well-formed .result) (c .before .before .before .before .before .before .before .before .before .before .before .before .before .before .before .if1 .left)) (omega arith) (omega arith) refl (c .before .before .before .before .before .before .before .before .answer-all .ensures .0) (c .before .before .before .before .before .before .before .before .answer-all .ensures .1)
 
 pub submit-spec : {M : Type 1} → statement M
 submit-spec =

@@ -4,7 +4,7 @@ use Prim.Native.Nat.{_-_}
 use native.Mathlib.Omega.{arith}
 use borrow.Author.Needs.{needs}
 use Rattle.audit.proofs.Chains.{passed, refused}
-use Rattle.clients.proofs.PostedTrades.{Going, going-first, going-more, not-posted, trade-posted, not-all, all-posted}
+use Rattle.clients.proofs.PostedTrades.{Going, going-first, going-more, not-posted, trade-posted, all-posted}
 use Rattle.clients.proofs.posting.post_trades.Statement.{statement}
 use Rattle.clients.proofs.posting.post_trades.Tie as tie
 use Rattle.clients.proofs.posting.post_trades.Reads as reads
@@ -37,7 +37,7 @@ same-length : tie.Need-same-length Inv-loop μ-loop
 same-length c = c .before .before .before .before .before .loop .inv .long
 
 returns : tie.Need-returns Inv-loop μ-loop
-returns c = not-all _ _ _ _ _ _ _ (not-posted _ _ _ _ _ _ _ _ _ (c .before .before .before .before .loop-test .taken) (c .before .before .before .before .before .loop .inv) _ (c .before .before .before .trade-at .ensures) (sym (trade-posted _ _ _ (c .before .before .before .before .before .before .before .before .before .pre .0) _ _ (c .before .before .client-trade .ensures)) ∙ refused (c .before .is-posted .ensures) (c .if1 .taken)))
+returns c = not-posted _ _ _ _ _ _ _ _ _ (c .before .before .before .before .loop-test .taken) (c .before .before .before .before .before .loop .inv) _ (c .before .before .before .trade-at .ensures) (sym (trade-posted _ _ _ (c .before .before .before .before .before .before .before .before .before .pre .0) _ _ (c .before .before .client-trade .ensures)) ∙ refused (c .before .is-posted .ensures) (c .if1 .taken))
 
 put-trade-requires : tie.Need-put-trade-requires Inv-loop μ-loop
 put-trade-requires c κs = omega (arith, c .before .before .before .before .before .before .before .before .before .before .pre .3, c .before .before .before .before .before .before .loop .inv .long)

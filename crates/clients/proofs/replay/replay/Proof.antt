@@ -1,4 +1,5 @@
 -- `replay::replay` meets its contract. What the loop keeps is `Going`, as in the replay that tests a state. Assumes nothing.
+use mathlib.Core.Path.{refl}
 use Prim.Native.Nat.{_-_, _<_}
 use native.Mathlib.Omega.{arith}
 use borrow.Author.Needs.{needs}
@@ -6,20 +7,23 @@ use lib.ListN.{set}
 use Rattle.laws.specs.Lists.{unmapped}
 use Rattle.audit.specs.Parts.{Booked}
 use Rattle.audit.proofs.Chains.{passed, refused}
-use Rattle.audit.proofs.Replaying.{Bought, Going, buyer-booked, buyer-fits, going-first, seller-booked, seller-fits, trade-read}
-use Rattle.clients.proofs.Replaying.{buyer-below, seller-below, all-covered}
+use Rattle.audit.proofs.Replaying.{Bought, buyer-booked, buyer-fits, going-first, seller-booked, seller-fits, trade-read}
+use Rattle.clients.proofs.Replaying.{Booking, buyer-below, seller-below, trade-booked, all-covered}
 use Rattle.clients.proofs.replay.replay.Statement.{statement}
 use Rattle.clients.proofs.replay.replay.Tie as tie
 
 abbrev Inv-loop : tie.InvT-loop
-Inv-loop contracts area count held₀ i₀ held i = Going held₀ contracts 17 area count held i
+Inv-loop accounts contracts area count held₀ i₀ held i = Booking held₀ contracts area count held i
 
 abbrev μ-loop : tie.MeasureT-loop
-μ-loop contracts area count held₀ i₀ held i = count - i
+μ-loop accounts contracts area count held₀ i₀ held i = count - i
 
 loop-holds : tie.Need-loop-holds Inv-loop μ-loop
 loop-holds c =
-    going-first (omega arith) (c .before .pre .trades) (search (needs, unmapped)) (c .before .pre .start) (c .before .pre .starts)
+    record {
+      going = going-first (omega arith) (c .before .pre .trades) (search (needs, unmapped)) (c .before .pre .start) (c .before .pre .starts);
+      whole = refl;
+    }
 
 trade-at-requires : tie.Need-trade-at-requires Inv-loop μ-loop
 trade-at-requires c κs = omega (arith, c .before .before .before .pre .room, c .loop-test .taken)
@@ -51,7 +55,7 @@ is-covered-requires c κs = contract (c .before .before)
 
 returns : tie.Need-returns Inv-loop μ-loop
 returns c =
-    buyer-below (c .before .before .before .before .before .before .before .loop .inv) (c .before .before .before .before .before .before .loop-test .taken) (c .before .before .before .before .before .trade-at .ensures) (trade (c .before .before .before .before .before)) (c .before .before .before .wide2 .ensures) (c .before .before .before .before .wide .ensures) (refused (c .before .is-covered .ensures) (c .if1 .taken))
+    buyer-below (c .before .before .before .before .before .before .before .loop .inv .going) (c .before .before .before .before .before .before .loop-test .taken) (c .before .before .before .before .before .trade-at .ensures) (trade (c .before .before .before .before .before)) (c .before .before .before .wide2 .ensures) (c .before .before .before .before .wide .ensures) (refused (c .before .is-covered .ensures) (c .if1 .taken))
 
 mul-book-leg : tie.Need-mul-book-leg Inv-loop μ-loop
 mul-book-leg c = omega (arith, buyer (c .before .before .before))
@@ -61,7 +65,7 @@ array-copy-out-book-leg c = buyer (c .before .before .before)
 
 book-leg-requires : tie.Need-book-leg-requires Inv-loop μ-loop
 book-leg-requires c κs =
-    (contract (c .before .before .before .before .before), trade (c .before .before .before .before .before .before) .lots, buyer-fits (c .before .before .before .before .before .before .before .before .loop .inv) (c .before .before .before .before .before .before .before .loop-test .taken) (c .before .before .before .before .before .before .trade-at .ensures) (trade (c .before .before .before .before .before .before)) (c .before .before .before .before .wide2 .ensures) (c .before .before .before .before .before .wide .ensures))
+    (contract (c .before .before .before .before .before), trade (c .before .before .before .before .before .before) .lots, buyer-fits (c .before .before .before .before .before .before .before .before .loop .inv .going) (c .before .before .before .before .before .before .before .loop-test .taken) (c .before .before .before .before .before .before .trade-at .ensures) (trade (c .before .before .before .before .before .before)) (c .before .before .before .before .wide2 .ensures) (c .before .before .before .before .before .wide .ensures))
 
 mul-held : tie.Need-mul-held Inv-loop μ-loop
 mul-held c = omega (arith, buyer (c .before .before .before .before .before))
@@ -80,7 +84,7 @@ bought : (c : tie.After-book-leg Inv-loop μ-loop)
     → let a = c .before .before .before .before .before .before .before .before .before .before .before .args in
     Bought (a .accounts) (a .contracts) 17 (a .area .now) (a .count) (set (c .before .before .before .before .before .before .before .before .before .loop .held) (c .before .before .before .before .before .wide2 .result) (c .book-leg .result)) (c .before .before .before .before .before .before .before .before .before .loop .i) (c .before .before .before .before .before .before .before .trade-at .result)
 bought c =
-    buyer-booked (c .before .before .before .before .before .before .before .before .before .loop .inv) (c .before .before .before .before .before .before .before .before .loop-test .taken) (c .before .before .before .before .before .before .before .trade-at .ensures) (trade (c .before .before .before .before .before .before .before)) (c .before .before .before .before .before .wide2 .ensures) (c .before .before .before .before .before .before .wide .ensures)
+    buyer-booked (c .before .before .before .before .before .before .before .before .before .loop .inv .going) (c .before .before .before .before .before .before .before .before .loop-test .taken) (c .before .before .before .before .before .before .before .trade-at .ensures) (trade (c .before .before .before .before .before .before .before)) (c .before .before .before .before .before .wide2 .ensures) (c .before .before .before .before .before .before .wide .ensures)
     (passed (c .before .before .before .is-covered .ensures) (c .before .before .if1 .left)) (c .book-leg .ensures)
 
 mul-is-covered-2 : tie.Need-mul-is-covered-2 Inv-loop μ-loop
@@ -122,7 +126,10 @@ loop-less c =
 
 loop-again : tie.Need-loop-again Inv-loop μ-loop
 loop-again c =
-    seller-booked (bought (c .before .before .before .before .before .before)) (c .before .before .before .before .before .wide3 .ensures) (c .before .before .before .before .before .before .before .before .before .before .before .before .wide .ensures) (passed (c .before .before .before .is-covered2 .ensures) (c .before .before .if2 .left)) (c .book-leg2 .ensures)
+    record {
+      going = seller-booked (bought (c .before .before .before .before .before .before)) (c .before .before .before .before .before .wide3 .ensures) (c .before .before .before .before .before .before .before .before .before .before .before .before .wide .ensures) (passed (c .before .before .before .is-covered2 .ensures) (c .before .before .if2 .left)) (c .book-leg2 .ensures);
+      whole = trade-booked (c .before .before .before .before .before .before .before .before .before .before .before .before .before .before .before .loop .inv) (c .before .before .before .before .before .before .before .before .before .before .before .before .before .before .loop-test .taken) (c .before .before .before .before .before .before .before .before .before .before .before .before .before .trade-at .ensures) (c .before .before .before .before .before .before .before .before .before .before .before .wide2 .ensures) (c .before .before .before .before .before .wide3 .ensures) (c .before .before .before .before .before .before .before .before .before .before .before .before .wide .ensures) (c .before .before .before .before .before .before .book-leg .ensures) (c .book-leg2 .ensures);
+    }
 
 returns-3 : tie.Need-returns-3 Inv-loop μ-loop
 returns-3 c = all-covered (c .before .loop .inv) (c .loop-test .left)

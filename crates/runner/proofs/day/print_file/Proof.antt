@@ -1,4 +1,4 @@
--- `day::print_file` is safe and ends: a file that passed the test is sound, and the areas have the room. Assumes nothing.
+-- `day::print_file` meets its contract: a file that passed the test is sound, and the areas have the room. Assumes nothing.
 use mathlib.Core.Path.{sym, _∙_}
 use native.Mathlib.Omega.{arith}
 use borrow.Author.Needs.{needs}
@@ -34,7 +34,7 @@ print-day-requires c κs =
     }
 
 returns-2 : tie.Need-returns-2
-returns-2 c = search needs
+returns-2 c = record { front = c .before .before .before .print-day .ensures .front; all = c .before .before .before .print-day .ensures .all-bytes }
 
 pub print-file-spec : {M : Type 1} → statement M
 print-file-spec =

@@ -1,0 +1,38 @@
+-- A SOUND FILE HAS AT MOST 48,348 BYTES, so one byte more is room enough to tell. Assumes nothing.
+use mathlib.Core.Bool.{Bool, true, false}
+use mathlib.Core.List.{List}
+use mathlib.Core.Path.{_≡_, refl, sym, ap, _∙_}
+use Prim.Native.Nat.{ℕ, _<_, _≤_}
+use native.Mathlib.Omega.{arith}
+use borrow.Author.Tests.{leb-true, leb-false}
+use lib.Dec.{leb}
+use lib.ListN.{length, take}
+use lib.Seq.{take-all, length-take-le}
+use Rattle.rules.specs.DayFile.{sound}
+use Rattle.rules.specs.Lines.{brokenLine, output}
+use Rattle.dayfile.proofs.Places.{sound-layout}
+use Rattle.runner.specs.Reading.{Enough, ReadIs}
+
+too-long : (file : List ℕ) → 48_348 < length file → sound file ≡ false
+too-long file h = by (sound file) refl
+  where
+    by : (t : Bool) → sound file ≡ t → sound file ≡ false
+    by true e = let l = sound-layout file e in absurd (omega arith)
+    by false e = e
+
+broken-prints : (file : List ℕ) → sound file ≡ false → output file ≡ brokenLine
+unfolding output
+broken-prints file e = rw e
+
+pub enough : (room : ℕ) → 48_348 < room → Enough room
+enough room h input = by (leb (length input) room) refl
+  where
+    by : (t : Bool) → leb (length input) room ≡ t → output (take room input) ≡ output input
+    by true e = ap output (take-all room input (leb-true (length input) room e))
+    by false e =
+        let l = leb-false (length input) room e in
+        broken-prints (take room input) (too-long (take room input) (omega (arith, length-take-le room input (omega arith))))
+        ∙ sym (broken-prints input (too-long input (omega arith)))
+
+pub read-is : {bytes : List ℕ} {read : ℕ} → read ≤ length bytes → 48_348 < length bytes → ReadIs bytes read
+read-is {bytes} {read} h k = record { within = h; front = sym (length-take-le read bytes h); enough = enough (length bytes) k }
