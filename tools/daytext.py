@@ -64,7 +64,7 @@ import textfiles
 from bounds import MOST_COMMANDS
 from words import Words, Wrong
 
-BITS_8, BITS_16, BITS_32, BITS_64 = (2**bits - 1 for bits in (8, 16, 32, 64))
+BITS_8, BITS_16, BITS_32, BITS_63, BITS_64 = (2**bits - 1 for bits in (8, 16, 32, 63, 64))
 
 # "20: day file broken: count, length or value out of range"
 BROKEN_CODE = 20

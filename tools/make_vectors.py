@@ -3,6 +3,7 @@
 it must write. The cases are chosen by hand (`model/cases_*.py`), what must come out is the model's.
 
     tools/make_vectors.py                  makes the files
+    tools/make_vectors.py random SEED N TO a file of N random saved states, whole and damaged, read and written
     tools/make_vectors.py names FILE       the cases of a file by number, to find one that the program says differs
 """
 
@@ -19,7 +20,7 @@ sys.path.insert(0, str(TOP / "tools" / "model"))
 import vectors  # noqa: E402
 
 # A file for each module of cases.
-NAMES = ("well-formed", "command", "change", "auction", "bundle", "question", "statement", "side", "mending", "day-file")
+NAMES = ("well-formed", "command", "change", "auction", "bundle", "question", "statement", "side", "mending", "day-file", "saved")
 
 
 # The program reads a file into an area of so many bytes: cases that need more stand in several files.
@@ -57,6 +58,12 @@ def files_present():
 
 
 def main():
+    if sys.argv[1:2] == ["random"]:
+        import cases_saved
+
+        seed, count, to = sys.argv[2:5]
+        Path(to).write_bytes(vectors.vector_file(list(cases_saved.random_cases(int(seed), int(count)))))
+        return
     if sys.argv[1:2] == ["names"]:
         for number, case in enumerate(cases_of(sys.argv[2]), 1):
             print(f"{number} {case.call}: {case.name}: {case.expected}")

@@ -64,6 +64,12 @@ def rest(state, side, contract, *orders):
     return state
 
 
+def makers(state, *accounts):
+    for account in accounts:
+        state.makers[account - 1] = 1
+    return state
+
+
 def change_order(state, side, contract, place, **fields):
     contents = state.orders[side].contents
     at = MOST_RESTING * (contract - 1) + place

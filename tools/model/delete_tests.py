@@ -25,11 +25,11 @@ import make_vectors  # noqa: E402
 import tables  # noqa: E402
 
 # The modules of the rules, each after those that it imports; the last is not edited, it runs the calls.
-RULES = ("bounds", "dayfile", "model", "memory", "baskets", "question", "mending", "statements")
+RULES = ("bounds", "dayfile", "model", "memory", "baskets", "question", "mending", "statements", "saved")
 MODULES = (*RULES, "vectors")
 
 # What states no rule: the model's checks of itself, what the generator and the tools call, and the filling of room.
-NO_RULE = ("Condition3", "run", "free_balance", "write", "insert_flags", "FILLING", "FILLED_CONTRACT", "FILLED_COUNT")
+NO_RULE = ("Condition3", "run", "run_from", "free_balance", "write", "insert_flags", "FILLING", "FILLED_CONTRACT", "FILLED_COUNT")
 
 # Longer samples take too long to be run for each edit.
 LARGEST_SAMPLE = 3_000

@@ -12,6 +12,7 @@ import sys
 
 import dayfile
 import model
+import saved
 from bounds import (
     MOST_COMMANDS,
     MOST_LOTS,
@@ -961,6 +962,35 @@ FILES = {
     broken_file: 24,
     torn_file: 5,
 }
+
+
+# --- Saved states (document 02, ticket 10) ---
+
+
+def saved_state(rng):
+    """The bytes of a state after the last settlement of a random day, or of its opening."""
+    day = dayfile.sections(rng.choice((quiet_file, trading_file, changes_file))(rng))
+    state = model.opening_state(day)
+    written = saved.state_bytes(state)
+    for command in day.commands:
+        if model.carry_out(state, command).settlement:
+            written = saved.state_bytes(state)
+    return written
+
+
+def damaged_state(rng, file):
+    """A saved state cut anywhere, with bytes added, with a byte changed, or with four bytes at an edge of some range."""
+    place = rng.randrange(len(file))
+    edge = rng.choice((0, 1, 2, 3, 5, 33, 250, 251, 1_000, 1_001, 100_000, 100_001, 10**6, 10**6 + 1, 2**31, 2**32 - 1))
+    return rng.choice(
+        (
+            file[:place],
+            file + rng.randbytes(rng.randint(1, 30)),
+            file[:place] + bytes([file[place] ^ 1 << rng.randrange(8)]) + file[place + 1 :],
+            file[:place] + rng.randbytes(1) + file[place + 1 :],
+            (file[: place - place % 4] + edge.to_bytes(4, "little") + file[place - place % 4 + 4 :])[: len(file)],
+        )
+    )
 
 
 if __name__ == "__main__":

@@ -1,5 +1,6 @@
 #!/usr/bin/env python3
-"""Makes the sample day files and their expected outputs again from the sample texts, and the broken files."""
+"""Makes the sample day files and their expected outputs again from the sample texts, and the broken files; of the lesson
+over two days the state between them too."""
 
 import sys
 from pathlib import Path
@@ -9,6 +10,8 @@ sys.path.insert(0, str(Path(__file__).resolve().parents[1]))
 import dayfile
 import daytext
 import model
+import saved
+import statetext
 from broken import broken_files
 
 SAMPLES = Path(__file__).resolve().parents[2] / "samples"
@@ -21,14 +24,30 @@ def made_files():
         file = daytext.pack(text.read_text())
         files[text.with_suffix(".day")] = file
         files[text.with_suffix(".out")] = model.run(file)
+    files.update(continued_files(SAMPLES / "continued"))
     example = dayfile.read(files[SAMPLES / "paper-example.day"])
     for name, file in broken_files(example).items():
         files[SAMPLES / "broken" / f"{name}.day"] = file
     return files
 
 
+def continued_files(folder):
+    """The first day, the state that it leaves, and what the second prints."""
+    first = daytext.pack((folder / "first-day.txt").read_text())
+    second = statetext.read_continued((folder / "second-day.txt").read_text())
+    return {
+        folder / "first-day.day": first,
+        folder / "first-day.out": model.run(first),
+        folder / "first-day.state": saved.state_bytes(statetext.state_after(first)),
+        folder / "second-day.out": statetext.output_of(second),
+    }
+
+
+MADE = ("*.day", "*.out", "broken/*", "continued/*.day", "continued/*.out", "continued/*.state")
+
+
 def files_present():
-    return {path for pattern in ("*.day", "*.out", "broken/*") for path in SAMPLES.glob(pattern)}
+    return {path for pattern in MADE for path in SAMPLES.glob(pattern)}
 
 
 def main():

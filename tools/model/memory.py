@@ -140,6 +140,7 @@ def in_use(memory):
         next_order_number=memory.next,
         next_stamp=memory.next_stamp,
         settlements=memory.settlements,
+        makers=frozenset(number for number, place in enumerate(accounts, 1) if memory.makers[place]),
         room_for_orders={side: room_of(area) for side, area in memory.orders.items()},
         room_for_trades=room_of(memory.trades),
     )

@@ -100,10 +100,30 @@ class State:
     next_order_number: int = 1
     next_stamp: int = 1
     settlements: int = 0
+    # The accounts with the mark of a maker, at which no rule looks yet.
+    makers: frozenset = frozenset()
     room_for_orders: dict = field(
         default_factory=lambda: {side: MOST_CONTRACTS * MOST_RESTING for side in dayfile.SIDES}
     )
     room_for_trades: int = MOST_TRADES
+
+
+# The same state, of which changes of one do not reach the other.
+def copied(state):
+    contracts = {
+        number: replace(
+            contract, queues={side: [replace(order) for order in queue] for side, queue in contract.queues.items()}
+        )
+        for number, contract in state.contracts.items()
+    }
+    return replace(
+        state,
+        contracts=contracts,
+        balances=dict(state.balances),
+        holdings_at_start=dict(state.holdings_at_start),
+        holdings=dict(state.holdings),
+        trades=list(state.trades),
+    )
 
 
 # "Its run opens in pre-open, with no orders, trades, holdings or settlements."
@@ -1061,9 +1081,25 @@ class Condition3:
     """The books that condition 3 compares the balances with, kept from the commands and their answers alone."""
 
     # "Opening money is the balance in that state."
+    # "Condition 3, for a loaded run, now starts from the loaded balance less the loaded net holding at the loaded
+    # reference, times multiplier [...]. Its net holding starts from the loaded one, its money total from the loaded
+    # balances." (document 02, ticket 10) Where nothing is held it is the same.
     def __init__(self, state):
-        self.money = dict(state.balances)
-        self.net_holding = Counter()
+        self.net_holding = Counter(
+            {
+                (account, number): state.holdings[account, number, "long"] - state.holdings[account, number, "short"]
+                for account in state.balances
+                for number in state.contracts
+            }
+        )
+        self.money = {
+            account: balance
+            - sum(
+                self.net_holding[account, number] * contract.reference * contract.multiplier
+                for number, contract in state.contracts.items()
+            )
+            for account, balance in state.balances.items()
+        }
         self.total = sum(state.balances.values())
 
     def enter(self, state, command, given):
@@ -1116,17 +1152,22 @@ class Condition3:
 
 # `watch` is shown the state and each command before the command is carried out.
 def run(file, watch=lambda state, command: None):
-    """The whole output for a day file. Asserts on the way what the paper promises of every run."""
+    """The whole output for a day file."""
     # "A broken file prints `X 20`."
     try:
         day = dayfile.read(file)
     except dayfile.Broken:
         return b"X 20\n"
 
-    state = opening_state(day)
+    return run_from(opening_state(day), day.commands, watch)
+
+
+# Commands carried out from a state in which nothing has traded today.
+def run_from(state, commands, watch=lambda state, command: None):
+    """The output for them. Asserts on the way what the paper promises of every run."""
     books = Condition3(state)
     lines = []
-    for number, command in enumerate(day.commands, 1):
+    for number, command in enumerate(commands, 1):
         watch(state, command)
         given = answer(state, command)
         assert given.code != 21, "the state that the last command left is well formed"

@@ -50,6 +50,8 @@ records of contracts and accounts those of `memory.py`.
     7 mending       bytes, bytes that the areas for the file and    code, bytes of the file, bytes of the list
                     for the list have
     8 day file      bytes                                           1 where they are a sound day file, or 0
+    9 write         bytes that the area has                         code, bytes
+    10 read         bytes                                           code
 """
 
 from dataclasses import dataclass
@@ -59,6 +61,7 @@ import dayfile
 import memory
 import mending
 import question
+import saved
 import statements
 from memory import Memory
 
@@ -378,6 +381,38 @@ class DayFile:
         return number(verdict)
 
 
+class Write:
+    number = 9
+
+    def run(state, length):
+        return saved.write_state(state, length)
+
+    def verdict(answer):
+        return answer.code
+
+    def arguments(length):
+        return number(length)
+
+    def answer(written):
+        return number(written.code) + byte_parts(written.bytes)
+
+
+class Read:
+    number = 10
+
+    def run(state, file):
+        return saved.read_state(state, file)
+
+    def verdict(answer):
+        return answer
+
+    def arguments(file):
+        return byte_parts(file)
+
+    def answer(code):
+        return number(code)
+
+
 CALLS = {
     "well-formed": WellFormed,
     "command": OneCommand,
@@ -387,4 +422,6 @@ CALLS = {
     "side": Side,
     "mending": Mending,
     "day file": DayFile,
+    "write": Write,
+    "read": Read,
 }

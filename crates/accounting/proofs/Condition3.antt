@@ -67,7 +67,7 @@ module _ (m : Memory) (o : Loaded m) (s : Sound (exchangeOf m)) where
       netOf c a = netIn m a c
 
   -- the cash is the balance without the net holding at the reference
-  loaded-cash : (a : ℕ) → a < accountsOf m → cash (contractsOf m) (booksOf (exchangeOf m)) a ≡ balanceIn m a -ℤ loadedWorth m a
+  pub loaded-cash : (a : ℕ) → a < accountsOf m → cash (contractsOf m) (booksOf (exchangeOf m)) a ≡ balanceIn m a -ℤ loadedWorth m a
   unfolding booksOf loadedWorth
   loaded-cash a l =
       other-part (balanceIn m a) (cash (contractsOf m) (booksOf (exchangeOf m)) a) (loadedWorth m a)

@@ -90,17 +90,17 @@ wide-putAccounts n (x ∷ as′) (room ∷ rooms) f g (suc a) l =
     wide-putAccounts n as′ rooms (λ i k. f (suc i) (omega arith)) (λ i k. g (suc i) (omega arith)) a (le-of-suc-le-suc l)
 
 -- a state that the arrays have places for
-record Fits (x : Exchange) : Type 0 where
-  listings : length (x .listings) ≤ maxContracts
-  accounts : length (x .accounts) ≤ maxAccounts
-  holdings : (a : ℕ) → a < length (x .accounts) → length (accountAt (x .accounts) a .holdings) ≤ maxContracts
+pub record Fits (x : Exchange) : Type 0 where
+  pub listings : length (x .listings) ≤ maxContracts
+  pub accounts : length (x .accounts) ≤ maxAccounts
+  pub holdings : (a : ℕ) → a < length (x .accounts) → length (accountAt (x .accounts) a .holdings) ≤ maxContracts
 
 module _ (m : Memory) (d : Declared (m .state)) (x : Exchange) (f : Fits x) where
   array-kept : {A : Type 0} (g : Listing → A) (room : List A) → length room ≡ maxContracts → length (putFirst (map g (x .listings)) room) ≡ maxContracts
   array-kept g room e =
       length-putFirst (map g (x .listings)) room (omega (arith, length-map (x .listings) g, f .listings)) ∙ e
 
-  put-declared : Declared (put m x .state)
+  pub put-declared : Declared (put m x .state)
   unfolding put putState accountAt
   put-declared = record {
     contracts = array-kept (λ l. l .contract) (m .state .contracts) (d .contracts);

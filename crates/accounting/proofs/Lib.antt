@@ -18,3 +18,4 @@ pub mod EachKind
 pub mod Declared
 pub mod Runs
 pub mod Condition3
+pub mod Joined

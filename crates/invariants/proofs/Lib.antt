@@ -30,3 +30,4 @@ pub mod MemoryKeeps
 pub mod RoomBeyond
 pub mod Opening
 pub mod Condition3
+pub mod SameInUse

@@ -9,7 +9,7 @@ use rules::State;
 
 mod broker;
 mod profits;
-mod writing;
+pub mod writing;
 
 // 0, or the code that refuses, and how many bytes are written.
 pub struct Statement {

@@ -1,5 +1,5 @@
-// The statement's bytes written into a lent area. Each call gives the place after what it wrote. For this crate: each requires room for
-// its bytes.
+// The statement's bytes written into a lent area. Each call gives the place after what it wrote. For the crates of this repository: each
+// requires room for its bytes.
 ghost use mathlib.Core.List.{[]};
 ghost use mathlib.Core.Path.{_≡_};
 ghost use Prim.Native.Nat.{ℕ, _+_, _*_, _<_, _≤_};
@@ -119,14 +119,15 @@ fn put_account(out: &mut [u8], at: usize, a: Account, contracts: usize) -> usize
     next
 }
 
-fn put_holdings(
+// The holdings of so many accounts, by account then contract.
+pub fn put_holdings(
     out: &mut [u8],
     at: usize,
     accounts: [Account; rules::MAX_ACCOUNTS],
     clients: usize,
     contracts: usize,
 ) -> usize
-    requires { ⌜ (clients ≤ 16) × (contracts ≤ 4) × (at + length (accountsBytes accounts clients contracts) ≤ length (now out)) ⌝ }
+    requires { ⌜ (clients ≤ 32) × (contracts ≤ 4) × (at + length (accountsBytes accounts clients contracts) ≤ length (now out)) ⌝ }
     ensures { λ r. ⌜ Written (length (accountsBytes accounts clients contracts)) (now (out .entry)) at (accountsBytes accounts clients contracts) (now (out .exit)) r ⌝ }
 {
     let mut next = at;
@@ -140,7 +141,7 @@ fn put_holdings(
 }
 
 // A signed number as its eight bytes hold it.
-fn unsigned(x: i64) -> u64
+pub fn unsigned(x: i64) -> u64
     ensures { λ r. ⌜ r ≡ statement.unsigned x ⌝ }
 {
     let size = magnitude(x);

@@ -9,6 +9,7 @@ use exchange::settling::Report;
 use mending::mend::Mended;
 use rules::Answer;
 use rules::State;
+use saving::Saved;
 use statements::Statement;
 
 // Whether a call answered as told, and where the vector goes on.
@@ -317,6 +318,73 @@ fn mend_file(file: &[u8], at: usize) -> Checked {
     }
 }
 
+// A state's file in an area cut to its length.
+fn saved(
+    state: State,
+    buys: &[u32],
+    sells: &[u32],
+    trades: &[u32],
+    out: &mut [u8],
+    length: usize,
+) -> Saved {
+    if length > out.len() {
+        return Saved { code: 0, length: 0 };
+    }
+    saving::write_state(state, buys, sells, trades, &mut out[0..length])
+}
+
+// "the area's length, the code, the bytes written"
+fn save_state(
+    file: &[u8],
+    at: usize,
+    state: State,
+    buys: &[u32],
+    sells: &[u32],
+    trades: &[u32],
+) -> Checked {
+    let asked = reading::numbers(file, at, 2);
+    let v = asked.values;
+    let mut out = [0u8; 2100];
+    reading::fill_bytes(&mut out);
+    let mut wanted = [0u8; 2100];
+    reading::fill_bytes(&mut wanted);
+    let told = reading::bytes(file, asked.next, &mut wanted);
+    let found = saved(state, buys, sells, trades, &mut out, reading::size(v[0]));
+    Checked {
+        same: found.code == reading::word(v[1])
+            && found.length == told.length
+            && comparing::same_bytes(&out, &wanted),
+        next: told.next,
+    }
+}
+
+// "the file's bytes, the code"; the state that is left is told behind them
+fn load_state(
+    file: &[u8],
+    at: usize,
+    state: State,
+    buys: &[u32],
+    sells: &[u32],
+    trades: &[u32],
+) -> Ran {
+    let mut source = [0u8; 2100];
+    let given = reading::bytes(file, at, &mut source);
+    let told = reading::number(file, given.next);
+    let found = saving::read_state(
+        reading::first_bytes(&source, given.length),
+        state,
+        buys,
+        sells,
+        trades,
+    );
+    let left = found.state;
+    Ran {
+        state: left,
+        same: found.code == reading::word(told.value),
+        next: told.next,
+    }
+}
+
 fn day_file(file: &[u8], at: usize) -> Checked {
     let mut source = [0u8; 50000];
     let given = reading::bytes(file, at, &mut source);
@@ -346,6 +414,7 @@ fn read_only<'a>(
         6 => side(file, at, buys, sells, all),
         7 => mend_file(file, at),
         8 => day_file(file, at),
+        9 => save_state(file, at, state, buys, sells, trades),
         _ => Checked {
             same: false,
             next: at,
@@ -388,6 +457,9 @@ fn run_call(
     }
     if call == 3 {
         return bundle(file, at, state, buys, sells, trades, answers);
+    }
+    if call == 10 {
+        return load_state(file, at, state, buys, sells, trades);
     }
     run_read_only(file, at, call, state, buys, sells, trades, all)
 }

@@ -30,7 +30,7 @@ put-u32-requires-2 : tie.Need-put-u32-requires-2
 put-u32-requires-2 c κs = room-third _ _ _ _ _ _ _ (c .before .before .before .before .before .before .before .before .before .before .before .pre .room) (c .before .before .before .before .before .before .before .put-u32 .ensures) (c .before .before .before .put-trades .ensures)
 
 put-holdings-requires : tie.Need-put-holdings-requires
-put-holdings-requires c κs = (c .before .before .before .before .before .before .before .before .before .before .before .before .before .before .before .pre .few-clients, c .before .before .before .before .before .before .before .before .before .before .before .before .before .before .before .pre .few-contracts, room-fourth _ _ _ _ _ _ _ (c .before .before .before .before .before .before .before .before .before .before .before .before .before .before .before .pre .room) (c .before .before .before .before .before .before .before .before .before .before .before .put-u32 .ensures) (c .before .before .before .before .before .before .before .put-trades .ensures) (c .before .before .before .put-u322 .ensures))
+put-holdings-requires c κs = (omega (arith, c .before .before .before .before .before .before .before .before .before .before .before .before .before .before .before .pre .few-clients), c .before .before .before .before .before .before .before .before .before .before .before .before .before .before .before .pre .few-contracts, room-fourth _ _ _ _ _ _ _ (c .before .before .before .before .before .before .before .before .before .before .before .before .before .before .before .pre .room) (c .before .before .before .before .before .before .before .before .before .before .before .put-u32 .ensures) (c .before .before .before .before .before .before .before .put-trades .ensures) (c .before .before .before .put-u322 .ensures))
 
 cast-put-u32-3 : tie.Need-cast-put-u32-3
 cast-put-u32-3 c = search needs

@@ -1,0 +1,194 @@
+-- "writing what was read gives the same bytes", and what was read can be written. Assumes nothing.
+use mathlib.Core.Bool.{Bool, true}
+use mathlib.Core.List.{List, [], _∷_, _++_, map}
+use mathlib.Core.Path.{_≡_, refl, sym, ap, ap₂, _∙_}
+use Prim.Native.Nat.{ℕ, suc, _+_, _*_, _≤_}
+use native.Mathlib.Omega.{arith}
+use lib.Dec.{eqb}
+use lib.ListN.{length, take, drop, length-drop, take-append-drop}
+use lib.Seq.{take-all}
+use borrow.Author.Tests.{eq-eqb, eqb-true}
+use Rattle.laws.specs.Choice.{all, allOf, both-true}
+use Rattle.laws.specs.Chains.{passed}
+use Rattle.areas.specs.Records.{encode, records}
+use Rattle.rules.specs.Bounds.{maxAccounts, maxContracts, within}
+use Rattle.rules.specs.DayFile.{u32At, contractFrom, contractsIn}
+use Rattle.rules.specs.WellFormed.{wellFormedContents}
+use Rattle.rules.specs.declared.Holding.{Holding}
+use Rattle.mending.specs.Mend.{four}
+use Rattle.statements.specs.Statement.{holdingBytes, section}
+use Rattle.saved.specs.Saved.{accountPlace, accountsIn, allEqual, asleep, contractPlace, countsRight, loadedFrom, markSound, rowPlace, savedBytes, savedContract, savedSound, settlementsPlace, shaped, writable}
+use Rattle.saved.proofs.Fields.{Entry, entry, entryBytes, entryOf, holding, listing, listingBytes, listingFrom}
+use Rattle.saved.proofs.Lists.{accounts-are, accountsOf, entries-again, entriesOf, listings-are, listingsOf, marks-are, rows-again, rowsOf, savedRow}
+use Rattle.saved.proofs.Numbers.{Bytes, four-forth, parts}
+use Rattle.saved.proofs.Reading.{entries-encoded, rows-encoded}
+use Rattle.saved.proofs.Rows.{Field, length-records, records-all, records-forth, row}
+use Rattle.saved.proofs.Savable.{Savable, allOf-map}
+
+-- ---- what the shape of a file says
+
+pub record Shape (bs : List ℕ) : Type 0 where
+  pub contracts : within 1 maxContracts (contractsIn bs) ≡ true
+  pub accounts : within 1 maxAccounts (accountsIn bs) ≡ true
+  pub ends : length bs ≡ settlementsPlace (contractsIn bs) (accountsIn bs) + 4
+  pub holdings : u32At bs (accountPlace (contractsIn bs) (accountsIn bs)) ≡ accountsIn bs * contractsIn bs
+  pub one : u32At bs (rowPlace (contractsIn bs) (accountsIn bs) (accountsIn bs)) ≡ 1
+
+pub shape : (bs : List ℕ) → shaped bs ≡ true → Shape bs
+unfolding shaped countsRight
+shape bs h =
+    let c = contractsIn bs in
+    let a = accountsIn bs in
+    let p = passed (within 1 maxContracts c) (within 1 maxAccounts a ∷ eqb (length bs) (settlementsPlace c a + 4) ∷ countsRight bs ∷ []) h in
+    let q = both-true (eqb (u32At bs (accountPlace c a)) (a * c)) (eqb (u32At bs (rowPlace c a a)) 1) (p .1 .1 .1) in
+    record {
+      contracts = p .0;
+      accounts = p .1 .0;
+      ends = eqb-true (length bs) (settlementsPlace c a + 4) (p .1 .1 .0);
+      holdings = eqb-true (u32At bs (accountPlace c a)) (a * c) (q .0);
+      one = eqb-true (u32At bs (rowPlace c a a)) 1 (q .1);
+    }
+
+pub record Sound (bs : List ℕ) : Type 0 where
+  pub shape-is : Shape bs
+  pub marks : all (markSound bs) (accountsIn bs) ≡ true
+  pub formed : wellFormedContents (loadedFrom bs) ≡ true
+
+pub sound-parts : (bs : List ℕ) → savedSound bs ≡ true → Sound bs
+unfolding savedSound
+sound-parts bs h =
+    let p = passed (shaped bs) (all (markSound bs) (accountsIn bs) ∷ wellFormedContents (loadedFrom bs) ∷ []) h in
+    record { shape-is = shape bs (p .0); marks = p .1 .0; formed = p .1 .1 }
+
+-- ---- a section is written as it was read
+
+section-forth : {A : Type 0} {W : ℕ} {fit : A → Bool} {words : A → List ℕ} {first : List ℕ → A} (F : Field A W fit words first)
+    (bs : List ℕ) (at n count : ℕ) → Bytes bs → count ≡ u32At bs at → at + (4 + W * n) ≤ length bs
+    → section count (encode words (records W first bs (at + 4) n)) ≡ take (4 + W * n) (drop at bs)
+section-forth {W = W} F bs at n count b e h =
+    rw (e, four-forth bs b at (omega arith), records-forth F bs (at + 4) n b (omega arith)) (parts at 4 (W * n) bs)
+
+-- ---- a loaded state has the file's records
+
+length-accounts : (es : List Entry) (rows : List (List Holding)) → length es ≡ length rows → length (accountsOf es rows) ≡ length es
+unfolding accountsOf
+length-accounts [] rows e = refl
+length-accounts (o ∷ es) [] e = absurd (omega arith)
+length-accounts (o ∷ es) (r ∷ rows) e = ap suc (length-accounts es rows (omega arith))
+
+still : (xs : List ℕ) → asleep (listingFrom xs) ≡ true
+unfolding asleep savedContract contractFrom
+still xs = refl
+
+as-many : (n : ℕ) (xs : List ℕ) → eqb (length (savedRow n xs)) n ≡ true
+as-many n xs = eq-eqb (length (savedRow n xs)) n (length-records holding xs 0 n)
+
+module _ (bs : List ℕ) where
+  abbrev c : ℕ
+  c = contractsIn bs
+
+  abbrev a : ℕ
+  a = accountsIn bs
+
+  same-lengths : length (entriesOf bs) ≡ length (rowsOf bs)
+  same-lengths = length-records entry bs (contractPlace c + 4) a ∙ sym (length-records (row holding c) bs (accountPlace c a + 4) a)
+
+  pub loaded-contracts : length (loadedFrom bs .listings) ≡ c
+  loaded-contracts = ap length (listings-are bs) ∙ length-records listing bs 4 c
+
+  pub loaded-accounts : length (loadedFrom bs .accounts) ≡ a
+  loaded-accounts =
+      ap length (accounts-are bs) ∙ length-accounts (entriesOf bs) (rowsOf bs) same-lengths ∙ length-records entry bs (contractPlace c + 4) a
+
+  loaded-entries : all (markSound bs) a ≡ true → map entryOf (loadedFrom bs .accounts) ≡ entriesOf bs
+  loaded-entries m =
+      ap (map entryOf) (accounts-are bs) ∙ entries-again (entriesOf bs) (rowsOf bs) same-lengths (marks-are bs ∙ m)
+
+  loaded-rows : map (λ o. o .holdings) (loadedFrom bs .accounts) ≡ rowsOf bs
+  loaded-rows = ap (map (λ o. o .holdings)) (accounts-are bs) ∙ rows-again (entriesOf bs) (rowsOf bs) same-lengths
+
+  loaded-settlements : loadedFrom bs .settlements ≡ u32At bs (settlementsPlace c a)
+  unfolding loadedFrom
+  loaded-settlements = refl
+
+  pub loaded-start : (length (loadedFrom bs .trades) ≡ 0) × ((loadedFrom bs .next ≡ 1) × (loadedFrom bs .nextstamp ≡ 1))
+  unfolding loadedFrom
+  loaded-start = (refl, (refl, refl))
+
+  -- ---- the bytes again
+
+  module _ (b : Bytes bs) (s : Shape bs) where
+    contracts-forth : section c (encode listingBytes (listingsOf bs)) ≡ take (contractPlace c) bs
+    unfolding contractsIn
+    contracts-forth = section-forth listing bs 0 c c b refl (omega (arith, s .ends))
+
+    accounts-forth : section a (encode entryBytes (entriesOf bs)) ≡ take (4 + 9 * a) (drop (contractPlace c) bs)
+    unfolding accountsIn
+    accounts-forth = section-forth entry bs (contractPlace c) a a b refl (omega (arith, s .ends))
+
+    holdings-forth : section (a * c) (encode (λ r. encode holdingBytes r) (rowsOf bs)) ≡ take (4 + 8 * c * a) (drop (accountPlace c a) bs)
+    holdings-forth = section-forth (row holding c) bs (accountPlace c a) a (a * c) b (sym (s .holdings)) (omega (arith, s .ends))
+
+    last-forth : section 1 (four (u32At bs (settlementsPlace c a))) ≡ take 8 (drop (rowPlace c a a) bs)
+    last-forth =
+        let at = rowPlace c a a in
+        ap (λ (k : ℕ). section k (four (u32At bs (at + 4)))) (sym (s .one))
+        ∙ rw (four-forth bs b at (omega (arith, s .ends)), four-forth bs b (at + 4) (omega (arith, s .ends))) (parts at 4 4 bs)
+
+    whole : section c (encode listingBytes (listingsOf bs))
+        ++ (section a (encode entryBytes (entriesOf bs))
+        ++ (section (a * c) (encode (λ r. encode holdingBytes r) (rowsOf bs)) ++ section 1 (four (u32At bs (settlementsPlace c a)))))
+        ≡ bs
+    whole =
+        let e : accountPlace c a ≡ contractPlace c + (4 + 9 * a) = omega arith in
+        let f : rowPlace c a a ≡ contractPlace c + (4 + 9 * a) + (4 + 8 * c * a) = omega arith in
+        ap₂ (λ (k l : List ℕ). k ++ l) contracts-forth
+        (ap₂ (λ (k l : List ℕ). k ++ l) accounts-forth
+        (ap₂ (λ (k l : List ℕ). k ++ l) (holdings-forth ∙ ap (λ (n : ℕ). take (4 + 8 * c * a) (drop n bs)) e)
+        (last-forth ∙ ap (λ (n : ℕ). take 8 (drop n bs)) f)))
+        ∙ rw (
+          parts (contractPlace c + (4 + 9 * a)) (4 + 8 * c * a) 8 bs,
+          parts (contractPlace c) (4 + 9 * a) (4 + 8 * c * a + 8) bs,
+          take-all (4 + 9 * a + (4 + 8 * c * a + 8)) (drop (contractPlace c) bs) (omega (arith, s .ends, length-drop (contractPlace c) bs)),
+        )
+        (take-append-drop (contractPlace c) bs)
+
+    pub write-again : all (markSound bs) a ≡ true → savedBytes (loadedFrom bs) ≡ bs
+    unfolding savedBytes
+    write-again m =
+        rw (
+          entries-encoded (loadedFrom bs .accounts),
+          rows-encoded (loadedFrom bs .accounts),
+          loaded-contracts,
+          loaded-accounts,
+          listings-are bs,
+          loaded-entries m,
+          loaded-rows,
+          loaded-settlements,
+        ) whole
+
+  -- ---- a sound file's state is one that can be saved
+
+  pub loaded-asleep : allOf asleep (loadedFrom bs .listings) ≡ true
+  loaded-asleep = ap (allOf asleep) (listings-are bs) ∙ records-all 24 listingFrom asleep still bs 4 c
+
+  pub loaded-places : allOf (λ o. eqb (length (o .holdings)) (length (loadedFrom bs .listings))) (loadedFrom bs .accounts) ≡ true
+  loaded-places =
+      rw loaded-contracts
+      (sym (allOf-map (λ r. eqb (length r) c) (λ o. o .holdings) (loadedFrom bs .accounts))
+      ∙ rw loaded-rows (records-all (8 * c) (savedRow c) (λ r. eqb (length r) c) (as-many c) bs (accountPlace c a + 4) a))
+
+  pub loaded-writable : allEqual (loadedFrom bs) ≡ true → writable (loadedFrom bs) ≡ true
+  unfolding writable
+  loaded-writable h = rw (loaded-asleep, h, loaded-start .0, loaded-start .1 .0, loaded-start .1 .1)
+
+  pub loaded-savable : savedSound bs ≡ true → allEqual (loadedFrom bs) ≡ true → Savable (loadedFrom bs)
+  loaded-savable h e =
+      let p = sound-parts bs h in
+      record {
+        contracts = rw loaded-contracts (p .shape-is .contracts);
+        accounts = rw loaded-accounts (p .shape-is .accounts);
+        places = loaded-places;
+        formed = p .formed;
+        ready = loaded-writable e;
+      }

@@ -1,0 +1,11 @@
+pub mod Again
+pub mod Continued
+pub mod Fields
+pub mod Lists
+pub mod Loaded
+pub mod Numbers
+pub mod Opened
+pub mod Promises
+pub mod Reading
+pub mod Rows
+pub mod Savable

@@ -1,0 +1,141 @@
+-- The state that a file gives, by lists of records: its contracts, its accounts' entries, their rows of holdings. Assumes nothing.
+use mathlib.Core.Bool.{Bool, true, false}
+use mathlib.Core.List.{List, [], _∷_, map}
+use mathlib.Core.Path.{_≡_, refl, sym, ap, ap₂, _∙_}
+use Prim.Native.Nat.{ℕ, zero, suc, _+_, _*_, _≤_}
+use native.Mathlib.Nat.{zero-add}
+use native.Mathlib.Omega.{arith}
+use lib.Dec.{leb, eqb}
+use lib.ListN.{length, getD, drop}
+use lib.Seq.{drop-drop}
+use borrow.Author.Tests.{leb-true}
+use Rattle.laws.specs.Choice.{all, all-ext, allOf, allOf-all, both-true, pick}
+use Rattle.laws.specs.Tabulate.{tabulate, tabulate-ext, getD-tabulate, length-tabulate}
+use Rattle.areas.specs.Records.{records}
+use Rattle.rules.specs.DayFile.{u8At, u64At, contractsIn}
+use Rattle.rules.specs.Exchange.{Listing}
+use Rattle.rules.specs.declared.Account.{Account}
+use Rattle.rules.specs.declared.Holding.{Holding}
+use Rattle.saved.specs.Saved.{accountPlace, accountsIn, contractPlace, loadedAccount, loadedFrom, loadedListing, markSound, rowPlace, savedAccount, savedHolding, signedOf}
+use Rattle.saved.proofs.Fields.{Entry, contract-at, entry-at, entryOf, holding-at, holdingFrom, listingFrom, savedEntry}
+use Rattle.saved.proofs.Rows.{records-table}
+
+-- ---- an account of its entry and its row
+
+abbrev pub accountOf : Entry → List Holding → Account
+accountOf e row = record { balance = e .balance; maker = eqb (e .mark) 1; holdings = row }
+
+unfoldable pub accountsOf : List Entry → List (List Holding) → List Account
+accountsOf [] rows = []
+accountsOf (e ∷ es) [] = []
+accountsOf (e ∷ es) (r ∷ rows) = accountOf e r ∷ accountsOf es rows
+
+accounts-table : (n : ℕ) (f : ℕ → Entry) (g : ℕ → List Holding) → tabulate n (λ i. accountOf (f i) (g i)) ≡ accountsOf (tabulate n f) (tabulate n g)
+unfolding tabulate accountsOf
+accounts-table zero f g = refl
+accounts-table (suc n) f g = ap (λ (l : List Account). accountOf (f 0) (g 0) ∷ l) (accounts-table n (λ i. f (suc i)) (λ i. g (suc i)))
+
+-- entries and rows make the accounts they came from
+pub accounts-again : (accounts : List Account) → accountsOf (map entryOf accounts) (map (λ a. a .holdings) accounts) ≡ accounts
+unfolding accountsOf
+accounts-again [] = refl
+accounts-again (a ∷ accounts) = ap₂ (λ (o : Account) (l : List Account). o ∷ l) (account-again (a .maker)) (accounts-again accounts)
+  where
+    account-again : (m : Bool) → _≡_ {A = Account}
+        (record { balance = a .balance; maker = eqb (pick m 1 0) 1; holdings = a .holdings }) (record { balance = a .balance; maker = m; holdings = a .holdings })
+    account-again true = refl
+    account-again false = refl
+
+-- and the accounts made of them have them, where the marks are 0 or 1
+abbrev pub marked : Entry → Bool
+marked e = leb (e .mark) 1
+
+mark-again : (n : ℕ) → n ≤ 1 → pick (eqb n 1) 1 0 ≡ n
+mark-again zero h = refl
+mark-again (suc zero) h = refl
+mark-again (suc (suc n)) h = absurd (omega arith)
+
+pub entries-again : (es : List Entry) (rows : List (List Holding)) → length es ≡ length rows → allOf marked es ≡ true
+    → map entryOf (accountsOf es rows) ≡ es
+unfolding accountsOf allOf
+entries-again [] rows e h = refl
+entries-again (o ∷ es) [] e h = absurd (omega arith)
+entries-again (o ∷ es) (r ∷ rows) e h =
+    let p = both-true (marked o) (allOf marked es) h in
+    rw (entries-again es rows (omega arith) (p .1), mark-again (o .mark) (leb-true (o .mark) 1 (p .0)))
+
+pub rows-again : (es : List Entry) (rows : List (List Holding)) → length es ≡ length rows → map (λ a. a .holdings) (accountsOf es rows) ≡ rows
+unfolding accountsOf
+rows-again [] [] e = refl
+rows-again [] (r ∷ rows) e = absurd (omega arith)
+rows-again (o ∷ es) [] e = absurd (omega arith)
+rows-again (o ∷ es) (r ∷ rows) e = ap (λ (l : List (List Holding)). r ∷ l) (rows-again es rows (omega arith))
+
+-- ---- the file's lists
+
+pub allOf-table : {A : Type 0} (p : A → Bool) (n : ℕ) (f : ℕ → A) → allOf p (tabulate n f) ≡ all (λ i. p (f i)) n
+allOf-table p n f =
+    allOf-all p (tabulate n f) (f 0)
+    ∙ ap (all (λ i. p (getD (tabulate n f) i (f 0)))) (length-tabulate n f)
+    ∙ all-ext (λ i. p (getD (tabulate n f) i (f 0))) (λ i. p (f i)) n (λ i l. ap p (getD-tabulate n i f (f 0) l))
+
+abbrev pub savedRow : ℕ → List ℕ → List Holding
+savedRow contracts xs = records 8 holdingFrom xs 0 contracts
+
+module _ (bs : List ℕ) where
+  abbrev c : ℕ
+  c = contractsIn bs
+
+  abbrev a : ℕ
+  a = accountsIn bs
+
+  abbrev pub listingsOf : List Listing
+  listingsOf = records 24 listingFrom bs 4 c
+
+  abbrev pub entriesOf : List Entry
+  entriesOf = records 9 savedEntry bs (contractPlace c + 4) a
+
+  abbrev pub rowsOf : List (List Holding)
+  rowsOf = records (8 * c) (savedRow c) bs (accountPlace c a + 4) a
+
+  pub listings-are : loadedFrom bs .listings ≡ listingsOf
+  unfolding loadedFrom loadedListing
+  listings-are =
+      sym (records-table 24 listingFrom bs 4 c
+      ∙ tabulate-ext c (λ i. listingFrom (drop (4 + 24 * i) bs)) (loadedListing bs)
+      (λ i. ap (λ k. record { contract = k; buys = []; sells = [] }) (contract-at bs (4 + 24 * i))))
+
+  entry-is : (i : ℕ) → savedEntry (drop (contractPlace c + 4 + 9 * i) bs)
+      ≡ record { balance = signedOf (u64At bs (accountPlace c i)); mark = u8At bs (accountPlace c i + 8) }
+  entry-is i = entry-at bs (accountPlace c i)
+
+  row-is : (i : ℕ) → savedRow c (drop (rowPlace c a i) bs) ≡ tabulate c (λ k. savedHolding bs (rowPlace c a i + 8 * k))
+  row-is i =
+      records-table 8 holdingFrom (drop (rowPlace c a i) bs) 0 c
+      ∙ tabulate-ext c _ (λ k. savedHolding bs (rowPlace c a i + 8 * k)) (λ k. at k)
+    where
+      at : (k : ℕ) → holdingFrom (drop (0 + 8 * k) (drop (rowPlace c a i) bs)) ≡ savedHolding bs (rowPlace c a i + 8 * k)
+      at k =
+          ap holdingFrom (ap (λ (n : ℕ). drop n (drop (rowPlace c a i) bs)) (zero-add (8 * k)) ∙ drop-drop (8 * k) (rowPlace c a i) bs)
+          ∙ holding-at bs (rowPlace c a i + 8 * k)
+
+  pub accounts-are : loadedFrom bs .accounts ≡ accountsOf entriesOf rowsOf
+  unfolding loadedFrom loadedAccount savedAccount
+  accounts-are =
+      tabulate-ext a (loadedAccount bs) (λ i. accountOf (entryHere i) (rowHere i)) (λ i. sym (ap₂ accountOf (entry-is i) (row-is i)))
+      ∙ accounts-table a entryHere rowHere
+      ∙ ap₂ accountsOf (sym (records-table 9 savedEntry bs (contractPlace c + 4) a)) (sym (records-table (8 * c) (savedRow c) bs (accountPlace c a + 4) a))
+    where
+      entryHere : ℕ → Entry
+      entryHere i = savedEntry (drop (contractPlace c + 4 + 9 * i) bs)
+
+      rowHere : ℕ → List Holding
+      rowHere i = savedRow c (drop (rowPlace c a i) bs)
+
+  -- the marks
+  pub marks-are : allOf marked entriesOf ≡ all (markSound bs) a
+  unfolding markSound
+  marks-are =
+      ap (λ (l : List Entry). allOf marked l) (records-table 9 savedEntry bs (contractPlace c + 4) a)
+      ∙ allOf-table marked a (λ i. savedEntry (drop (contractPlace c + 4 + 9 * i) bs))
+      ∙ all-ext (λ i. marked (savedEntry (drop (contractPlace c + 4 + 9 * i) bs))) (markSound bs) a (λ i l. ap marked (entry-is i))

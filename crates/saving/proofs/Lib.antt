@@ -1,0 +1,8 @@
+pub mod AddedUp
+pub mod Loads
+pub mod Lying
+pub mod Placed
+pub mod Sections
+pub mod Shapes
+pub mod Signs
+pub mod Writes

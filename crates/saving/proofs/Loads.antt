@@ -1,0 +1,138 @@
+-- The whole answer of `read_state`, by the test that decides it. Assumes nothing.
+use mathlib.Core.Bool.{Bool, true, false, _&&_}
+use mathlib.Core.List.{List}
+use mathlib.Core.Path.{_≡_, refl, sym, ap, ap₂, _∙_}
+use Prim.Native.Nat.{ℕ, _*_}
+use native.Mathlib.Omega.{arith}
+use lib.Dec.{eqb}
+use lib.ListN.{length, take, length-replicate}
+use Rattle.laws.specs.Choice.{all}
+use Rattle.rules.specs.Answers.{firstOf}
+use Rattle.rules.specs.Bounds.{maxTrades}
+use Rattle.rules.specs.Exchange.{Exchange}
+use Rattle.rules.specs.Memory.{Declared, Memory, countsInRange, exchangeOf, hasRoom, memory, tradeStride, used, wellFormedMemory}
+use Rattle.rules.specs.WellFormed.{wellFormedContents}
+use Rattle.rules.specs.declared.Account.{Account}
+use Rattle.rules.specs.declared.State.{State}
+use Rattle.invariants.proofs.MemoryRoom.{room-test}
+use Rattle.saved.specs.Saved.{ReadIs, accountsIn, allEqual, loadedFrom, loadedInto, loadedState, markSound, readCode, savedSound, shaped, totalsEqual}
+use Rattle.saved.proofs.Again.{loaded-accounts, loaded-asleep, loaded-contracts, loaded-places, loaded-start, shape}
+use Rattle.saved.proofs.Fields.{nothing-in}
+use Rattle.saved.proofs.Loaded.{Loadable, loaded-counts, loaded-in-use}
+use Rattle.saving.specs.Parts.{Laid, inSpare, spare}
+use Rattle.saving.proofs.Lying.{totals-in-use}
+
+and-true : (b : Bool) → (b && true) ≡ b
+and-true true = refl
+and-true false = refl
+
+not-read : (m : Memory) (bs : List ℕ) (code : ℕ) → code ≡ readCode m bs → eqb code 0 ≡ false → ReadIs m bs code (m .state)
+not-read m bs code e h = record { code-is = e; state-is = rw (← e, h) }
+
+module _ (m : Memory) (bs : List ℕ) where
+  unsound : savedSound bs ≡ false → ReadIs m bs 20 (m .state)
+  unfolding readCode firstOf
+  unsound h = not-read m bs 20 (rw h) refl
+
+  pub misshapen-20 : shaped bs ≡ false → ReadIs m bs 20 (m .state)
+  unfolding savedSound
+  misshapen-20 h = unsound (rw h)
+
+  module _ (s : shaped bs ≡ true) (c a : ℕ) (l : Laid bs c a) where
+    marks-at : all (markSound bs) (accountsIn bs) ≡ all (markSound bs) a
+    marks-at = ap (all (markSound bs)) (sym (l .accounts-are))
+
+    pub marks-20 : all (markSound bs) a ≡ false → ReadIs m bs 20 (m .state)
+    unfolding savedSound
+    marks-20 h = unsound (rw (s, marks-at ∙ h))
+
+    -- the state that the file gives, over the one that was there
+    module _ (d : Declared (m .state)) (marks : all (markSound bs) a ≡ true) (next : State) (q : next ≡ loadedState (m .state) (loadedFrom bs)) where
+      its-loadable : Loadable (loadedFrom bs)
+      its-loadable =
+          let p = shape bs s in
+          record {
+            contracts = rw (loaded-contracts bs) (p .contracts);
+            accounts = rw (loaded-accounts bs) (p .accounts);
+            places = loaded-places bs;
+            asleep-all = loaded-asleep bs;
+            no-trades = nothing-in (loadedFrom bs .trades) (rw (loaded-start bs .0));
+          }
+
+      counted : (next .contractcount ≡ c) × (next .accountcount ≡ a)
+      unfolding loadedState
+      counted =
+          (ap (λ (n : State). n .contractcount) q ∙ loaded-contracts bs ∙ sym (l .contracts-are), ap (λ (n : State). n .accountcount) q ∙ loaded-accounts bs ∙ sym (l .accounts-are))
+
+      -- ---- in areas that have room it is well formed where what it holds is
+
+      spare-room : hasRoom (inSpare next) ≡ true
+      spare-room =
+          let e : length spare ≡ tradeStride * maxTrades = length-replicate {A = ℕ} (tradeStride * maxTrades) 0 in
+          room-test (inSpare next)
+          (record {
+            buys = omega (arith, l .few-contracts, e, counted .0);
+            sells = omega (arith, l .few-contracts, e, counted .0);
+            trades = omega (arith, e);
+          })
+
+      spare-in-use : exchangeOf (inSpare next) ≡ loadedFrom bs
+      spare-in-use = ap (λ (n : State). exchangeOf (inSpare n)) q ∙ loaded-in-use (inSpare (m .state)) d (loadedFrom bs) its-loadable
+
+      counts-are : countsInRange next ≡ true
+      counts-are = ap countsInRange q ∙ loaded-counts (inSpare (m .state)) d (loadedFrom bs) its-loadable
+
+      spare-formed : wellFormedMemory (inSpare next) ≡ wellFormedContents (loadedFrom bs)
+      unfolding wellFormedMemory
+      spare-formed = rw (counts-are, spare-room, spare-in-use)
+
+      pub formed-20 : wellFormedMemory (inSpare next) ≡ false → ReadIs m bs 20 (m .state)
+      unfolding savedSound
+      formed-20 h = unsound (rw (s, marks-at ∙ marks, sym spare-formed ∙ h))
+
+      module _ (formed : wellFormedMemory (inSpare next) ≡ true) where
+        contents : wellFormedContents (loadedFrom bs) ≡ true
+        contents = sym spare-formed ∙ formed
+
+        sound : savedSound bs ≡ true
+        unfolding savedSound
+        sound = rw (s, marks-at ∙ marks, contents)
+
+        -- ---- the totals of the accounts as they lie
+
+        accounts-here : used c a (next .accounts) ≡ loadedFrom bs .accounts
+        unfolding exchangeOf
+        accounts-here =
+            ap₂ (λ (k n : ℕ). used k n (next .accounts)) (sym (counted .0)) (sym (counted .1)) ∙ ap (λ (x : Exchange). x .accounts) spare-in-use
+
+        equal-here : all (totalsEqual (take a (next .accounts))) c ≡ allEqual (loadedFrom bs)
+        unfolding allEqual
+        equal-here =
+            sym (totals-in-use c a (next .accounts))
+            ∙ ap (λ (as′ : List Account). all (totalsEqual as′) c) accounts-here
+            ∙ ap (all (totalsEqual (loadedFrom bs .accounts))) (l .contracts-are ∙ sym (loaded-contracts bs))
+
+        pub totals-30 : all (totalsEqual (take a (next .accounts))) c ≡ false → ReadIs m bs 30 (m .state)
+        unfolding readCode firstOf
+        totals-30 h = not-read m bs 30 (rw (sound, sym equal-here ∙ h)) refl
+
+        module _ (equal : all (totalsEqual (take a (next .accounts))) c ≡ true) where
+          -- well formed but for the room
+          abbrev here : Memory
+          here = memory next (m .buys) (m .sells) (m .trades)
+
+          here-formed : wellFormedMemory here ≡ hasRoom (loadedInto m bs)
+          unfolding wellFormedMemory
+          here-formed =
+              ap (λ (n : State). wellFormedMemory (memory n (m .buys) (m .sells) (m .trades))) q
+              ∙ rw (loaded-counts m d (loadedFrom bs) its-loadable, loaded-in-use m d (loadedFrom bs) its-loadable, contents) (and-true (hasRoom (loadedInto m bs)))
+
+          pub room-29 : wellFormedMemory here ≡ false → ReadIs m bs 29 (m .state)
+          unfolding readCode firstOf
+          room-29 h = not-read m bs 29 (rw (sound, sym equal-here ∙ equal, sym here-formed ∙ h)) refl
+
+          pub loaded-0 : wellFormedMemory here ≡ true → ReadIs m bs 0 next
+          unfolding readCode firstOf
+          loaded-0 h =
+              let k : readCode m bs ≡ 0 = rw (sound, sym equal-here ∙ equal, sym here-formed ∙ h) in
+              record { code-is = sym k; state-is = rw k q }

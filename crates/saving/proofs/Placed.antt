@@ -1,0 +1,147 @@
+-- What is read stands over the places of a state. Assumes nothing.
+use mathlib.Core.List.{List, map}
+use mathlib.Core.Path.{_≡_, sym, ap, ap₂, _∙_}
+use Prim.Native.Nat.{ℕ, _+_, _-_, _*_, _≤_, _<_}
+use native.Mathlib.Nat.{mul-le-mul-left}
+use native.Mathlib.Omega.{arith}
+use lib.Dec.{eqb}
+use lib.IntN.{ℤ}
+use lib.ListN.{length, getD}
+use Rattle.laws.specs.Tabulate.{tabulate, length-tabulate, map-tabulate}
+use Rattle.laws.specs.Written.{written}
+use Rattle.rules.specs.DayFile.{contractsIn, u8At, u32At, u64At}
+use Rattle.rules.specs.Exchange.{noAccount}
+use Rattle.rules.specs.Memory.{putAccount, putAccounts, putFirst, putState}
+use Rattle.rules.specs.declared.Account.{Account}
+use Rattle.rules.specs.declared.Contract.{Contract}
+use Rattle.rules.specs.declared.Holding.{Holding}
+use Rattle.rules.specs.declared.State.{State}
+use Rattle.settlement.proofs.Places.{written-accounts, written-first}
+use Rattle.saved.specs.Saved.{accountPlace, accountsIn, contractPlace, loadedAccount, loadedFrom, loadedListing, loadedState, rowPlace, savedAccount, savedContract, savedHolding, settlementsPlace, signedOf}
+use Rattle.saving.specs.Parts.{Laid}
+use Rattle.saving.proofs.Shapes.{few-bytes}
+
+-- ---- one account
+
+pub account-made : (bs : List ℕ) (n at row : ℕ) (room : Account) {z : ℤ} {m : ℕ} {hs : List Holding} → z ≡ signedOf (u64At bs at) → m ≡ u8At bs (at + 8)
+    → hs ≡ written (λ c. savedHolding bs (row + 8 * c)) (room .holdings) n
+    → record { balance = z; maker = eqb m 1; holdings = hs } ≡ putAccount (savedAccount bs n at row) room
+unfolding savedAccount
+account-made bs n at row room e f g =
+    let h = g ∙ sym (written-first (λ c. savedHolding bs (row + 8 * c)) (room .holdings) n) in
+    λ i. record { balance = e i; maker = eqb (f i) 1; holdings = h i }
+
+-- ---- all of them
+
+module _ (bs : List ℕ) (c a : ℕ) (l : Laid bs c a) (i : ℕ) (h : i < a) where
+  -- an account's row ends where the next begins
+  row-ends : 8 * c * i + 8 * c ≤ 8 * c * a
+  row-ends =
+      let e : 8 * c * (i + 1) ≡ 8 * c * i + 8 * c = omega arith in
+      let p : 8 * c * (i + 1) ≤ 8 * c * a = mul-le-mul-left (8 * c) (let q : i + 1 ≤ a = omega arith in q) in
+      omega arith
+
+  pub record Inside : Type 0 where
+    pub entry : 8 + 24 * c + 9 * i + 9 ≤ length bs
+    pub row : 8 + 24 * c + 9 * a + 4 + 8 * c * i + 8 * c ≤ length bs
+    pub small : 8 * c * i ≤ 1_024
+
+  pub inside : Inside
+  inside =
+      record {
+        entry = omega (arith, l .ends);
+        row = omega (arith, l .ends, row-ends);
+        small = omega (arith, row-ends, few-bytes c a (l .few-contracts) (l .few-accounts));
+      }
+
+  account-placed : (first rows wide : ℕ) → first ≡ 8 + 24 * c → rows ≡ first + 9 * a + 4 → wide ≡ 8 * c
+      → savedAccount bs c (first + 9 * i) (rows + wide * i) ≡ loadedAccount bs i
+  unfolding loadedAccount
+  account-placed first rows wide e f g =
+      let p : first + 9 * i ≡ accountPlace c i = omega arith in
+      let q : rows + wide * i ≡ rowPlace c a i = rw g (omega arith) in
+      ap₂ (λ (x y : ℕ). savedAccount bs c x y) p q ∙ rw (l .contracts-are, l .accounts-are)
+
+  pub account-over : (first rows wide : ℕ) → first ≡ 8 + 24 * c → rows ≡ first + 9 * a + 4 → wide ≡ 8 * c → (r room : Account)
+      → r ≡ putAccount (savedAccount bs c (first + 9 * i) (rows + wide * i)) room → r ≡ putAccount (loadedAccount bs i) room
+  account-over first rows wide e f g r room p = p ∙ ap (λ (o : Account). putAccount o room) (account-placed first rows wide e f g)
+
+-- ---- the state
+
+module _ (s : State) (bs : List ℕ) (c a : ℕ) (l : Laid bs c a) where
+  contracts-over : putFirst (map (λ n. n .contract) (loadedFrom bs .listings)) (s .contracts)
+      ≡ written (λ i. savedContract bs (contractPlace i)) (s .contracts) c
+  unfolding loadedFrom loadedListing
+  contracts-over =
+      ap (λ (vs : List Contract). putFirst vs (s .contracts)) (map-tabulate (λ n. n .contract) (contractsIn bs) (loadedListing bs))
+      ∙ written-first (λ i. savedContract bs (contractPlace i)) (s .contracts) (contractsIn bs)
+      ∙ ap (written (λ i. savedContract bs (contractPlace i)) (s .contracts)) (sym (l .contracts-are))
+
+  no-buys : (places : List ℕ) → putFirst (map (λ n. length (n .buys)) (loadedFrom bs .listings)) places ≡ putFirst (tabulate c (λ i. 0)) places
+  unfolding loadedFrom loadedListing
+  no-buys places =
+      ap (λ (vs : List ℕ). putFirst vs places) (map-tabulate (λ n. length (n .buys)) (contractsIn bs) (loadedListing bs) ∙ ap (λ (n : ℕ). tabulate n (λ i. 0)) (sym (l .contracts-are)))
+
+  no-sells : (places : List ℕ) → putFirst (map (λ n. length (n .sells)) (loadedFrom bs .listings)) places ≡ putFirst (tabulate c (λ i. 0)) places
+  unfolding loadedFrom loadedListing
+  no-sells places =
+      ap (λ (vs : List ℕ). putFirst vs places) (map-tabulate (λ n. length (n .sells)) (contractsIn bs) (loadedListing bs) ∙ ap (λ (n : ℕ). tabulate n (λ i. 0)) (sym (l .contracts-are)))
+
+  accounts-over : a ≤ length (s .accounts) → putAccounts (loadedFrom bs .accounts) (s .accounts)
+      ≡ written (λ i. putAccount (loadedAccount bs i) (getD (s .accounts) i noAccount)) (s .accounts) a
+  unfolding loadedFrom
+  accounts-over h =
+      ap (λ (n : ℕ). putAccounts (tabulate n (loadedAccount bs)) (s .accounts)) (sym (l .accounts-are))
+      ∙ written-accounts (loadedAccount bs) (s .accounts) a h
+
+  contract-count : length (loadedFrom bs .listings) ≡ c
+  unfolding loadedFrom
+  contract-count = length-tabulate (contractsIn bs) (loadedListing bs) ∙ sym (l .contracts-are)
+
+  account-count : length (loadedFrom bs .accounts) ≡ a
+  unfolding loadedFrom
+  account-count = length-tabulate (accountsIn bs) (loadedAccount bs) ∙ sym (l .accounts-are)
+
+  settlements-at : loadedFrom bs .settlements ≡ u32At bs (length bs - 4)
+  unfolding loadedFrom
+  settlements-at =
+      let p : length bs - 4 ≡ settlementsPlace c a = omega (arith, l .ends) in
+      sym (ap (u32At bs) (p ∙ rw (l .contracts-are, l .accounts-are)))
+
+  module _ {terms : List Contract} {holders : List Account} {buys sells : List ℕ} {settlements : ℕ} where
+    pub state-made : a ≤ length (s .accounts) → terms ≡ written (λ i. savedContract bs (contractPlace i)) (s .contracts) c
+        → holders ≡ written (λ i. putAccount (loadedAccount bs i) (getD (s .accounts) i noAccount)) (s .accounts) a
+        → buys ≡ putFirst (tabulate c (λ i. 0)) (s .buys) → sells ≡ putFirst (tabulate c (λ i. 0)) (s .sells) → settlements ≡ u32At bs (length bs - 4)
+        → record {
+          contracts = terms;
+          accounts = holders;
+          buys = buys;
+          sells = sells;
+          contractcount = c;
+          accountcount = a;
+          tradecount = 0;
+          next = 1;
+          nextstamp = 1;
+          settlements = settlements;
+        } ≡ loadedState s (loadedFrom bs)
+    unfolding loadedState putState loadedFrom
+    state-made h t o b e n =
+        let t′ = t ∙ sym contracts-over in
+        let o′ = o ∙ sym (accounts-over h) in
+        let b′ = b ∙ sym (no-buys (s .buys)) in
+        let e′ = e ∙ sym (no-sells (s .sells)) in
+        let n′ = n ∙ sym settlements-at in
+        let c′ = sym contract-count in
+        let a′ = sym account-count in
+        λ i. record {
+          contracts = t′ i;
+          accounts = o′ i;
+          buys = b′ i;
+          sells = e′ i;
+          contractcount = c′ i;
+          accountcount = a′ i;
+          tradecount = 0;
+          next = 1;
+          nextstamp = 1;
+          settlements = n′ i;
+        }

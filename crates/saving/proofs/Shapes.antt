@@ -1,0 +1,140 @@
+-- What the counts and the length of a saved file decide. Assumes nothing.
+use mathlib.Core.Bool.{Bool, true, false, _&&_}
+use mathlib.Core.List.{List}
+use mathlib.Core.Path.{_≡_, refl, sym, ap, _∙_}
+use Prim.Native.Nat.{ℕ, _+_, _-_, _*_, _≤_, _<_}
+use native.Mathlib.Nat.{mul-le-mul}
+use native.Mathlib.Omega.{arith}
+use lib.Dec.{eqb}
+use lib.ListN.{length}
+use borrow.Author.Tests.{eq-eqb, ne-eqb, le-leb, lt-leb}
+use Rattle.laws.specs.Choice.{false-both}
+use Rattle.rules.specs.DayFile.{contractsIn, u8At, u32At}
+use Rattle.rules.proofs.Terms.{within-high, within-low, within-test}
+use Rattle.saved.specs.Saved.{accountPlace, accountsIn, countsRight, markSound, rowPlace, settlementsPlace, shaped}
+use Rattle.saved.proofs.Again.{shape}
+use Rattle.saving.specs.Parts.{Laid}
+
+-- rows of eight bytes for each of four contracts and 32 accounts at most
+pub few-bytes : (contracts accounts : ℕ) → contracts ≤ 4 → accounts ≤ 32 → 8 * contracts * accounts ≤ 1_024
+few-bytes contracts accounts h k = let p : 8 * contracts ≤ 32 = omega arith in mul-le-mul p k
+
+-- a file whose counts or length contradict its shape is not so
+pub record Lengths (bs : List ℕ) : Type 0 where
+  pub some-contract : 1 ≤ contractsIn bs
+  pub few-contracts : contractsIn bs ≤ 4
+  pub some-account : 1 ≤ accountsIn bs
+  pub few-accounts : accountsIn bs ≤ 32
+  pub ends : length bs ≡ settlementsPlace (contractsIn bs) (accountsIn bs) + 4
+
+lengths : (bs : List ℕ) → shaped bs ≡ true → Lengths bs
+lengths bs h =
+    let s = shape bs h in
+    record {
+      some-contract = within-low 1 4 (contractsIn bs) (s .contracts);
+      few-contracts = within-high 1 4 (contractsIn bs) (s .contracts);
+      some-account = within-low 1 32 (accountsIn bs) (s .accounts);
+      few-accounts = within-high 1 32 (accountsIn bs) (s .accounts);
+      ends = s .ends;
+    }
+
+pub misshapen : (bs : List ℕ) → (Lengths bs → ⊥) → shaped bs ≡ false
+misshapen bs f = go (shaped bs) refl
+  where
+    go : (t : Bool) → shaped bs ≡ t → shaped bs ≡ false
+    go true e = absurd (f (lengths bs e))
+    go false e = e
+
+-- counts and length as they should be leave it to the counts of the last two sections
+pub counts-decide : (bs : List ℕ) → Lengths bs → shaped bs ≡ countsRight bs
+unfolding shaped
+counts-decide bs l =
+    rw (
+      within-test 1 4 (contractsIn bs) (l .some-contract) (l .few-contracts),
+      within-test 1 32 (accountsIn bs) (l .some-account) (l .few-accounts),
+      eq-eqb (length bs) (settlementsPlace (contractsIn bs) (accountsIn bs) + 4) (l .ends),
+    )
+
+-- ---- the tests in the order of the code, with what was read so far
+
+module _ (bs : List ℕ) (c a n : ℕ) (e : c ≡ contractsIn bs) (f : a ≡ accountsIn bs) (g : n ≡ settlementsPlace c a + 4) where
+  long-as : settlementsPlace (contractsIn bs) (accountsIn bs) + 4 ≡ n
+  long-as = rw (← e, ← f) (sym g)
+
+  pub length-wrong : (length bs ≡ n → ⊥) → false ≡ shaped bs
+  length-wrong d = sym (misshapen bs (λ l. d (l .ends ∙ long-as)))
+
+  module _ (h : length bs ≡ n) (some-contract : 1 ≤ c) (few-contracts : c ≤ 4) (some-account : 1 ≤ a) (few-accounts : a ≤ 32) where
+    pub laid : Laid bs c a
+    laid = record { contracts-are = e; accounts-are = f; few-contracts = few-contracts; few-accounts = few-accounts; ends = h ∙ g }
+
+    pub decided : {r : Bool} → r ≡ countsRight bs → r ≡ shaped bs
+    decided q =
+        q
+        ∙ sym (counts-decide bs
+        (record {
+          some-contract = omega (arith, e);
+          few-contracts = omega (arith, e);
+          some-account = omega (arith, f);
+          few-accounts = omega (arith, f);
+          ends = h ∙ sym long-as;
+        }))
+
+-- a file that passed
+pub shaped-long : (bs : List ℕ) → shaped bs ≡ true → 4 ≤ length bs
+shaped-long bs h = omega (arith, lengths bs h .ends)
+
+pub count-ready : (bs : List ℕ) (c : ℕ) → c ≡ contractsIn bs → shaped bs ≡ true → (c ≡ contractsIn bs) × (c ≤ 4) × (8 + 24 * c ≤ length bs)
+count-ready bs c e h = let l = lengths bs h in (e, omega (arith, e, l .few-contracts), omega (arith, e, l .ends))
+
+pub shaped-laid : (bs : List ℕ) (c a : ℕ) → c ≡ contractsIn bs → a ≡ accountsIn bs → shaped bs ≡ true → Laid bs c a
+shaped-laid bs c a e f h =
+    let l = lengths bs h in
+    record {
+      contracts-are = e;
+      accounts-are = f;
+      few-contracts = omega (arith, e, l .few-contracts);
+      few-accounts = omega (arith, f, l .few-accounts);
+      ends = rw (e, f) (l .ends);
+    }
+
+module _ (bs : List ℕ) (c a : ℕ) (l : Laid bs c a) where
+  holdings-place : 8 + 24 * c + 9 * a ≡ accountPlace (contractsIn bs) (accountsIn bs)
+  holdings-place = omega (arith, l .contracts-are, l .accounts-are)
+
+  one-place : rowPlace (contractsIn bs) (accountsIn bs) (accountsIn bs) ≡ rowPlace c a a
+  one-place = rw (l .contracts-are, l .accounts-are)
+
+  product : accountsIn bs * contractsIn bs ≡ a * c
+  product = rw (l .contracts-are, l .accounts-are)
+
+  abbrev holdingsRight : Bool
+  holdingsRight = eqb (u32At bs (accountPlace (contractsIn bs) (accountsIn bs))) (accountsIn bs * contractsIn bs)
+
+  module _ (n : ℕ) (e : n ≡ u32At bs (8 + 24 * c + 9 * a)) where
+    read-there : u32At bs (accountPlace (contractsIn bs) (accountsIn bs)) ≡ n
+    read-there = ap (u32At bs) (sym holdings-place) ∙ sym e
+
+    pub holdings-wrong : (n ≡ a * c → ⊥) → false ≡ countsRight bs
+    unfolding countsRight
+    holdings-wrong d = sym (false-both holdingsRight _ (ne-eqb _ _ (λ h. d (sym read-there ∙ h ∙ product))))
+
+    pub one-decides : n ≡ a * c → (m : ℕ) → m ≡ u32At bs (length bs - 8) → eqb m 1 ≡ countsRight bs
+    unfolding countsRight
+    one-decides h m q =
+        let p : length bs - 8 ≡ rowPlace c a a = omega (arith, l .ends) in
+        let t : holdingsRight ≡ true = eq-eqb _ _ (read-there ∙ h ∙ sym product) in
+        ap (λ (k : ℕ). eqb k 1) (q ∙ ap (u32At bs) (p ∙ sym one-place)) ∙ sym (ap (λ (b : Bool). b && eqb (u32At bs (rowPlace (contractsIn bs) (accountsIn bs) (accountsIn bs))) 1) t)
+
+  -- a mark stands eight bytes behind its account's first byte
+  module _ (first i n : ℕ) (p : first ≡ 16 + 24 * c) (e : n ≡ u8At bs (first + 9 * i)) where
+    mark-there : n ≡ u8At bs (accountPlace (contractsIn bs) i + 8)
+    mark-there = let q : first + 9 * i ≡ accountPlace (contractsIn bs) i + 8 = omega (arith, l .contracts-are) in e ∙ ap (u8At bs) q
+
+    pub mark-wrong : 1 < n → markSound bs i ≡ false
+    unfolding markSound
+    mark-wrong h = rw (← mark-there) (lt-leb n 1 h)
+
+    pub mark-right : n ≤ 1 → markSound bs i ≡ true
+    unfolding markSound
+    mark-right h = rw (← mark-there) (le-leb n 1 h)

@@ -1,0 +1,71 @@
+-- `loading::holdings_over` meets its contract: the places before c are written. Assumes nothing.
+use mathlib.Core.Path.{_≡_}
+use Prim.Native.Nat.{_+_, _-_, _*_}
+use native.Mathlib.Omega.{arith}
+use borrow.Author.Needs.{needs}
+use lib.ListN.{length}
+use Rattle.laws.specs.Lists.{unmapped}
+use Rattle.laws.specs.Written.{Writing, writing-none, writing-more, writing-done}
+use Rattle.saved.specs.Saved.{savedHolding}
+use Rattle.saving.proofs.loading.holdings_over.Statement.{statement}
+use Rattle.saving.proofs.loading.holdings_over.Tie as tie
+use Rattle.saving.proofs.loading.holdings_over.Reads as reads
+use Rattle.saving.proofs.loading.holdings_over.Lts as lts
+use Rattle.saving.proofs.loading.holding_from.Reads as holding-from-reads
+
+abbrev Inv-loop : tie.InvT-loop
+Inv-loop file row n list₀ c₀ list c = Writing (λ i. savedHolding file (row + 8 * i)) list₀ n c list
+
+abbrev μ-loop : tie.MeasureT-loop
+μ-loop file row n list₀ c₀ list c = n - c
+
+-- the array has its places
+four : (c : tie.Start Inv-loop μ-loop) → length (c .args .places) ≡ 4
+four c = search (needs, unmapped)
+
+loop-holds : tie.Need-loop-holds Inv-loop μ-loop
+loop-holds c = writing-none _ _ _
+
+mul-holding-from : tie.Need-mul-holding-from Inv-loop μ-loop
+mul-holding-from c = omega arith
+
+add-holding-from : tie.Need-add-holding-from Inv-loop μ-loop
+add-holding-from c = omega arith
+
+holding-from-requires : tie.Need-holding-from-requires Inv-loop μ-loop
+holding-from-requires c κs = omega arith
+
+mul-list : tie.Need-mul-list Inv-loop μ-loop
+mul-list c = omega arith
+
+array-set-from-list : tie.Need-array-set-from-list Inv-loop μ-loop
+array-set-from-list c = omega arith
+
+add-c : tie.Need-add-c Inv-loop μ-loop
+add-c c = omega arith
+
+loop-less : tie.Need-loop-less Inv-loop μ-loop
+loop-less c = omega arith
+
+loop-again : tie.Need-loop-again Inv-loop μ-loop
+loop-again c = writing-more _ _ _ (omega (arith, four (c .before .before .before .before))) _ _ _ (c .before .loop-test .taken) (c .holding-from .ensures) (c .before .before .loop .inv)
+
+returns : tie.Need-returns Inv-loop μ-loop
+returns c = writing-done _ _ _ _ _ (c .loop-test .left) (c .before .loop .inv)
+
+pub holdings-over-spec : {M : Type 1} → statement M
+holdings-over-spec =
+    tie.close
+    (tie.spec
+    Inv-loop
+    μ-loop
+    loop-holds
+    mul-holding-from
+    add-holding-from
+    holding-from-requires
+    mul-list
+    array-set-from-list
+    add-c
+    loop-less
+    loop-again
+    returns)

@@ -1,0 +1,52 @@
+-- `loading::loaded_state` meets its contract: each array over what was there. Assumes nothing.
+use mathlib.Core.Path.{_≡_}
+use native.Mathlib.Omega.{arith}
+use lib.ListN.{length}
+use Rattle.laws.specs.Lists.{unmapped}
+use Rattle.saving.proofs.Placed.{state-made}
+use borrow.Author.Needs.{needs}
+use Rattle.saving.proofs.loading.loaded_state.Statement.{statement}
+use Rattle.saving.proofs.loading.loaded_state.Tie as tie
+use Rattle.saving.proofs.loading.loaded_state.Reads as reads
+use Rattle.saving.proofs.loading.loaded_state.Lts as lts
+use Rattle.dayfile.proofs.bytes.u32_at.Reads as u32-at-reads
+use Rattle.saving.proofs.loading.accounts_over.Reads as accounts-over-reads
+use Rattle.saving.proofs.loading.contracts_over.Reads as contracts-over-reads
+use Rattle.settlement.proofs.reopen.no_orders.Reads as no-orders-reads
+
+-- the array has its places
+holders : (c : tie.Start) → length (c .args .state .accounts) ≡ 32
+holders c = search (needs, unmapped)
+
+contracts-over-requires : tie.Need-contracts-over-requires
+contracts-over-requires c κs = search needs
+
+accounts-over-requires : tie.Need-accounts-over-requires
+accounts-over-requires c κs = search needs
+
+no-orders-requires : tie.Need-no-orders-requires
+no-orders-requires c κs = search needs
+
+no-orders-requires-2 : tie.Need-no-orders-requires-2
+no-orders-requires-2 c κs = search needs
+
+sub-u32-at : tie.Need-sub-u32-at
+sub-u32-at c = search needs
+
+u32-at-requires : tie.Need-u32-at-requires
+u32-at-requires c κs = search needs
+
+returns : tie.Need-returns
+returns c = state-made (c .before .before .before .before .before .before .before .before .before .before .args .state) _ _ _ (c .before .before .before .before .before .before .before .before .before .before .pre) (omega (arith, c .before .before .before .before .before .before .before .before .before .before .pre .few-accounts, holders (c .before .before .before .before .before .before .before .before .before .before))) (c .before .before .before .before .contracts-over .ensures) (c .before .before .before .accounts-over .ensures) (c .before .before .no-orders .ensures) (c .before .no-orders2 .ensures) (c .u32-at .ensures)
+
+pub loaded-state-spec : {M : Type 1} → statement M
+loaded-state-spec =
+    tie.close
+    (tie.spec
+    contracts-over-requires
+    accounts-over-requires
+    no-orders-requires
+    no-orders-requires-2
+    sub-u32-at
+    u32-at-requires
+    returns)

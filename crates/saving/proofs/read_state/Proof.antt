@@ -1,0 +1,79 @@
+-- `read_state` meets its contract: the refusals in their order, then the state. Assumes nothing.
+use Rattle.audit.proofs.Chains.{passed, refused}
+use Rattle.engine.proofs.Declared.{declared}
+use Rattle.saving.proofs.Loads.{formed-20, loaded-0, marks-20, misshapen-20, room-29, totals-30}
+use Rattle.saving.proofs.Shapes.{count-ready, shaped-laid, shaped-long}
+use borrow.Author.Needs.{needs}
+use Rattle.saving.proofs.read_state.Statement.{statement}
+use Rattle.saving.proofs.read_state.Tie as tie
+use Rattle.saving.proofs.read_state.Reads as reads
+use Rattle.saving.proofs.read_state.Lts as lts
+use Rattle.audit.proofs.well_formed.Reads as well-formed-reads
+use Rattle.dayfile.proofs.file.contract_count.Reads as contract-count-reads
+use Rattle.saving.proofs.is_formed.Reads as is-formed-reads
+use Rattle.saving.proofs.loading.loaded_state.Reads as loaded-state-reads
+use Rattle.saving.proofs.shape.account_count.Reads as account-count-reads
+use Rattle.saving.proofs.shape.is_shaped.Reads as is-shaped-reads
+use Rattle.saving.proofs.shape.marks_sound.Reads as marks-sound-reads
+use Rattle.saving.proofs.totals.all_equal.Reads as all-equal-reads
+
+is-shaped-requires : tie.Need-is-shaped-requires
+is-shaped-requires c κs = search needs
+
+returns : tie.Need-returns
+returns c = misshapen-20 _ _ (refused (c .before .is-shaped .ensures) (c .if1 .taken))
+
+contract-count-requires : tie.Need-contract-count-requires
+contract-count-requires c κs = shaped-long _ (passed (c .before .is-shaped .ensures) (c .if1 .left))
+
+account-count-requires : tie.Need-account-count-requires
+account-count-requires c κs = count-ready _ _ (c .contract-count .ensures) (passed (c .before .before .is-shaped .ensures) (c .before .if1 .left))
+
+marks-sound-requires : tie.Need-marks-sound-requires
+marks-sound-requires c κs = shaped-laid _ _ _ (c .before .contract-count .ensures) (c .account-count .ensures) (passed (c .before .before .before .is-shaped .ensures) (c .before .before .if1 .left))
+
+returns-2 : tie.Need-returns-2
+returns-2 c = marks-20 _ _ (passed (c .before .before .before .before .before .is-shaped .ensures) (c .before .before .before .before .if1 .left)) _ _ (shaped-laid _ _ _ (c .before .before .before .contract-count .ensures) (c .before .before .account-count .ensures) (passed (c .before .before .before .before .before .is-shaped .ensures) (c .before .before .before .before .if1 .left))) (refused (c .before .marks-sound .ensures) (c .if2 .taken))
+
+loaded-state-requires : tie.Need-loaded-state-requires
+loaded-state-requires c κs = shaped-laid _ _ _ (c .before .before .before .contract-count .ensures) (c .before .before .account-count .ensures) (passed (c .before .before .before .before .before .is-shaped .ensures) (c .before .before .before .before .if1 .left))
+
+is-formed-requires : tie.Need-is-formed-requires
+is-formed-requires c κs = search needs
+
+returns-3 : tie.Need-returns-3
+returns-3 c = formed-20 _ _ (passed (c .before .before .before .before .before .before .before .before .is-shaped .ensures) (c .before .before .before .before .before .before .before .if1 .left)) _ _ (shaped-laid _ _ _ (c .before .before .before .before .before .before .contract-count .ensures) (c .before .before .before .before .before .account-count .ensures) (passed (c .before .before .before .before .before .before .before .before .is-shaped .ensures) (c .before .before .before .before .before .before .before .if1 .left))) (declared (c .before .before .before .before .before .before .before .before .before .before .before .before .before .good .1 .0)) (passed (c .before .before .before .before .marks-sound .ensures) (c .before .before .before .if2 .left)) _ (c .before .before .loaded-state .ensures) (refused (c .before .is-formed .ensures) (c .if3 .taken))
+
+all-equal-requires : tie.Need-all-equal-requires
+all-equal-requires c κs = ((shaped-laid _ _ _ (c .before .before .before .before .before .before .before .contract-count .ensures) (c .before .before .before .before .before .before .account-count .ensures) (passed (c .before .before .before .before .before .before .before .before .before .is-shaped .ensures) (c .before .before .before .before .before .before .before .before .if1 .left))) .few-accounts, (shaped-laid _ _ _ (c .before .before .before .before .before .before .before .contract-count .ensures) (c .before .before .before .before .before .before .account-count .ensures) (passed (c .before .before .before .before .before .before .before .before .before .is-shaped .ensures) (c .before .before .before .before .before .before .before .before .if1 .left))) .few-contracts)
+
+returns-4 : tie.Need-returns-4
+returns-4 c = totals-30 _ _ (passed (c .before .before .before .before .before .before .before .before .before .before .before .is-shaped .ensures) (c .before .before .before .before .before .before .before .before .before .before .if1 .left)) _ _ (shaped-laid _ _ _ (c .before .before .before .before .before .before .before .before .before .contract-count .ensures) (c .before .before .before .before .before .before .before .before .account-count .ensures) (passed (c .before .before .before .before .before .before .before .before .before .before .before .is-shaped .ensures) (c .before .before .before .before .before .before .before .before .before .before .if1 .left))) (declared (c .before .before .before .before .before .before .before .before .before .before .before .before .before .before .before .before .good .1 .0)) (passed (c .before .before .before .before .before .before .before .marks-sound .ensures) (c .before .before .before .before .before .before .if2 .left)) _ (c .before .before .before .before .before .loaded-state .ensures) (passed (c .before .before .before .before .is-formed .ensures) (c .before .before .before .if3 .left)) (refused (c .before .all-equal .ensures) (c .if4 .taken))
+
+well-formed-requires : tie.Need-well-formed-requires
+well-formed-requires c κs = search needs
+
+returns-5 : tie.Need-returns-5
+returns-5 c = room-29 _ _ (passed (c .before .before .before .before .before .before .before .before .before .before .before .before .before .is-shaped .ensures) (c .before .before .before .before .before .before .before .before .before .before .before .before .if1 .left)) _ _ (shaped-laid _ _ _ (c .before .before .before .before .before .before .before .before .before .before .before .contract-count .ensures) (c .before .before .before .before .before .before .before .before .before .before .account-count .ensures) (passed (c .before .before .before .before .before .before .before .before .before .before .before .before .before .is-shaped .ensures) (c .before .before .before .before .before .before .before .before .before .before .before .before .if1 .left))) (declared (c .before .before .before .before .before .before .before .before .before .before .before .before .before .before .before .before .before .before .good .1 .0)) (passed (c .before .before .before .before .before .before .before .before .before .marks-sound .ensures) (c .before .before .before .before .before .before .before .before .if2 .left)) _ (c .before .before .before .before .before .before .before .loaded-state .ensures) (passed (c .before .before .before .before .before .before .is-formed .ensures) (c .before .before .before .before .before .if3 .left)) (passed (c .before .before .before .all-equal .ensures) (c .before .before .if4 .left)) (refused (c .before .well-formed .ensures) (c .if5 .taken))
+
+returns-6 : tie.Need-returns-6
+returns-6 c = loaded-0 _ _ (passed (c .before .before .before .before .before .before .before .before .before .before .before .before .before .is-shaped .ensures) (c .before .before .before .before .before .before .before .before .before .before .before .before .if1 .left)) _ _ (shaped-laid _ _ _ (c .before .before .before .before .before .before .before .before .before .before .before .contract-count .ensures) (c .before .before .before .before .before .before .before .before .before .before .account-count .ensures) (passed (c .before .before .before .before .before .before .before .before .before .before .before .before .before .is-shaped .ensures) (c .before .before .before .before .before .before .before .before .before .before .before .before .if1 .left))) (declared (c .before .before .before .before .before .before .before .before .before .before .before .before .before .before .before .before .before .before .good .1 .0)) (passed (c .before .before .before .before .before .before .before .before .before .marks-sound .ensures) (c .before .before .before .before .before .before .before .before .if2 .left)) _ (c .before .before .before .before .before .before .before .loaded-state .ensures) (passed (c .before .before .before .before .before .before .is-formed .ensures) (c .before .before .before .before .before .if3 .left)) (passed (c .before .before .before .all-equal .ensures) (c .before .before .if4 .left)) (passed (c .before .well-formed .ensures) (c .if5 .left))
+
+pub read-state-spec : {M : Type 1} → statement M
+read-state-spec =
+    tie.close
+    (tie.spec
+    is-shaped-requires
+    returns
+    contract-count-requires
+    account-count-requires
+    marks-sound-requires
+    returns-2
+    loaded-state-requires
+    is-formed-requires
+    returns-3
+    all-equal-requires
+    returns-4
+    well-formed-requires
+    returns-5
+    returns-6)

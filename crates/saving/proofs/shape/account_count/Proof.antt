@@ -1,0 +1,32 @@
+-- `shape::account_count` meets its contract. Assumes nothing.
+use Rattle.saved.specs.Saved.{accountsIn}
+use borrow.Author.Needs.{needs}
+use Rattle.saving.proofs.shape.account_count.Statement.{statement}
+use Rattle.saving.proofs.shape.account_count.Tie as tie
+use Rattle.saving.proofs.shape.account_count.Reads as reads
+use Rattle.saving.proofs.shape.account_count.Lts as lts
+use Rattle.dayfile.proofs.bytes.u32_at.Reads as u32-at-reads
+
+-- src/shape.rt:27:22
+mul-u32-at : tie.Need-mul-u32-at
+mul-u32-at c = search needs
+
+-- src/shape.rt:27:18
+add-u32-at : tie.Need-add-u32-at
+add-u32-at c = search needs
+
+-- src/shape.rt:27:5
+u32-at-requires : tie.Need-u32-at-requires
+u32-at-requires c κs = search needs
+
+-- src/shape.rt:27:5
+cast-result : tie.Need-cast-result
+cast-result c = search needs
+
+-- src/shape.rt:23:1
+returns : tie.Need-returns
+unfolding accountsIn
+returns c = rw (← c .before .before .pre .0) (c .u32-at .ensures)
+
+pub account-count-spec : {M : Type 1} → statement M
+account-count-spec = tie.close (tie.spec mul-u32-at add-u32-at u32-at-requires cast-result returns)

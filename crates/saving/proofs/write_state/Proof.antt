@@ -1,0 +1,54 @@
+-- `write_state` meets its contract: the refusals in their order, then the file. Assumes nothing.
+use Rattle.audit.proofs.Chains.{passed, refused}
+use Rattle.engine.proofs.Declared.{declared}
+use Rattle.saving.proofs.Writes.{by-0, by-21, by-28, by-29, few, fitting}
+use borrow.Author.Needs.{needs}
+use Rattle.saving.proofs.write_state.Statement.{statement}
+use Rattle.saving.proofs.write_state.Tie as tie
+use Rattle.saving.proofs.write_state.Reads as reads
+use Rattle.saving.proofs.write_state.Lts as lts
+use Rattle.audit.proofs.well_formed.Reads as well-formed-reads
+use Rattle.saving.proofs.shape.file_length.Reads as file-length-reads
+use Rattle.saving.proofs.totals.is_writable.Reads as is-writable-reads
+use Rattle.saving.proofs.writing.put_state.Reads as put-state-reads
+
+well-formed-requires : tie.Need-well-formed-requires
+well-formed-requires c κs = search needs
+
+returns : tie.Need-returns
+returns c = by-21 _ _ (refused (c .before .well-formed .ensures) (c .if1 .taken))
+
+is-writable-requires : tie.Need-is-writable-requires
+is-writable-requires c κs = (few _ (declared (c .before .before .before .before .before .before .good .0)) (passed (c .before .well-formed .ensures) (c .if1 .left)) .contracts-high, few _ (declared (c .before .before .before .before .before .before .good .0)) (passed (c .before .well-formed .ensures) (c .if1 .left)) .accounts-high)
+
+returns-2 : tie.Need-returns-2
+returns-2 c = by-28 _ (declared (c .before .before .before .before .before .before .before .before .good .0)) (passed (c .before .before .before .well-formed .ensures) (c .before .before .if1 .left)) _ (refused (c .before .is-writable .ensures) (c .if2 .taken))
+
+file-length-requires : tie.Need-file-length-requires
+file-length-requires c κs = (few _ (declared (c .before .before .before .before .before .before .before .before .good .0)) (passed (c .before .before .before .well-formed .ensures) (c .before .before .if1 .left)) .contracts-high, few _ (declared (c .before .before .before .before .before .before .before .before .good .0)) (passed (c .before .before .before .well-formed .ensures) (c .before .before .if1 .left)) .accounts-high)
+
+returns-3 : tie.Need-returns-3
+returns-3 c = by-29 _ (declared (c .before .before .before .before .before .before .before .before .before .before .good .0)) (passed (c .before .before .before .before .before .well-formed .ensures) (c .before .before .before .before .if1 .left)) _ (passed (c .before .before .before .is-writable .ensures) (c .before .before .if2 .left)) _ (c .before .file-length .ensures .0) (c .if3 .taken)
+
+put-state-requires : tie.Need-put-state-requires
+put-state-requires c κs = fitting _ (declared (c .before .before .before .before .before .before .before .before .before .before .before .good .0)) (passed (c .before .before .before .before .before .before .well-formed .ensures) (c .before .before .before .before .before .if1 .left)) _ (passed (c .before .before .before .before .is-writable .ensures) (c .before .before .before .if2 .left)) _ (c .before .before .file-length .ensures .0) (c .before .if3 .left)
+
+same-length : tie.Need-same-length
+same-length c = search needs
+
+returns-4 : tie.Need-returns-4
+returns-4 c = by-0 _ (declared (c .before .before .before .before .before .before .before .before .before .before .before .before .before .before .good .0)) (passed (c .before .before .before .before .before .before .before .before .before .well-formed .ensures) (c .before .before .before .before .before .before .before .before .if1 .left)) _ (passed (c .before .before .before .before .before .before .before .is-writable .ensures) (c .before .before .before .before .before .before .if2 .left)) _ (c .before .before .before .before .before .file-length .ensures .0) (c .before .before .before .before .if3 .left) (c .before .before .put-state .ensures)
+
+pub write-state-spec : {M : Type 1} → statement M
+write-state-spec =
+    tie.close
+    (tie.spec
+    well-formed-requires
+    returns
+    is-writable-requires
+    returns-2
+    file-length-requires
+    returns-3
+    put-state-requires
+    same-length
+    returns-4)

@@ -1,0 +1,35 @@
+-- `writing::put_holding_section` meets its contract. Assumes nothing.
+use Prim.Native.Nat.{_*_}
+use native.Mathlib.Omega.{arith}
+use Rattle.statements.specs.Parts.{accountsBytes}
+use Rattle.saving.proofs.Sections.{both-written, count-room, few-entries, second-room}
+use borrow.Author.Needs.{needs}
+use Rattle.saving.proofs.writing.put_holding_section.Statement.{statement}
+use Rattle.saving.proofs.writing.put_holding_section.Tie as tie
+use Rattle.saving.proofs.writing.put_holding_section.Reads as reads
+use Rattle.saving.proofs.writing.put_holding_section.Lts as lts
+use Rattle.mending.proofs.bytes.put_u32.Reads as put-u32-reads
+use Rattle.statements.proofs.writing.put_holdings.Reads as put-holdings-reads
+
+mul-entries : tie.Need-mul-entries
+mul-entries c = omega (arith, few-entries (c .before .pre .0) (c .before .pre .1))
+
+cast-put-u32 : tie.Need-cast-put-u32
+cast-put-u32 c = omega (arith, few-entries (c .before .before .pre .0) (c .before .before .pre .1))
+
+put-u32-requires : tie.Need-put-u32-requires
+put-u32-requires c κs = count-room (c .before .before .args .n * c .before .before .args .contracts) (accountsBytes (c .before .before .args .list) (c .before .before .args .n) (c .before .before .args .contracts)) _ _ (c .before .before .pre .2)
+
+put-holdings-requires : tie.Need-put-holdings-requires
+put-holdings-requires c κs = (c .before .before .before .before .before .before .pre .0, c .before .before .before .before .before .before .pre .1, second-room _ _ (c .before .before .before .put-u32 .ensures) (c .before .before .before .before .before .before .pre .2))
+
+same-length : tie.Need-same-length
+same-length c = search needs
+
+returns : tie.Need-returns
+returns c = both-written _ _ (c .before .before .before .before .before .before .put-u32 .ensures) (c .before .before .put-holdings .ensures)
+
+pub put-holding-section-spec : {M : Type 1} → statement M
+put-holding-section-spec =
+    tie.close
+    (tie.spec mul-entries cast-put-u32 put-u32-requires put-holdings-requires same-length returns)

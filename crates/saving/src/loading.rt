@@ -1,0 +1,156 @@
+// The state that a file gives, written over another: "Reading leaves places not in use untouched." For this crate: each requires its bytes
+// within the file.
+ghost use mathlib.Core.Path.{_≡_};
+ghost use Prim.Native.Nat.{_+_, _*_, _<_, _≤_};
+ghost use lib.ListN.{length, getD};
+ghost use Rattle.laws.specs.Written.{written};
+ghost use Rattle.rules.specs.Exchange.{noAccount};
+ghost use Rattle.rules.specs.Memory.{putAccount};
+ghost use Rattle.saved.specs.Saved.{contractPlace, savedContract, signedOf, savedHolding, savedAccount, loadedAccount, loadedFrom, loadedState};
+ghost use Rattle.saving.specs.Parts.{Laid};
+use dayfile::bytes::contract_at;
+use dayfile::bytes::u8_at;
+use dayfile::bytes::u32_at;
+use dayfile::bytes::u64_at;
+use rules::Account;
+use rules::Contract;
+use rules::Holding;
+use rules::State;
+use settlement::reopen::no_orders;
+
+// the day file's contract, with its own last price
+fn contract_from(file: &[u8], at: usize) -> Contract
+    requires { ⌜ at + 24 ≤ length (now file) ⌝ }
+    ensures { λ r. ⌜ r ≡ savedContract (now (file .entry)) at ⌝ }
+{
+    let mut c = contract_at(file, at);
+    c.last = u32_at(file, at + 20);
+    c
+}
+
+fn contracts_over(
+    file: &[u8],
+    n: usize,
+    places: [Contract; rules::MAX_CONTRACTS],
+) -> [Contract; rules::MAX_CONTRACTS]
+    requires { ⌜ (n ≤ 4) × (4 + 24 * n ≤ length (now file)) ⌝ }
+    ensures { λ r. ⌜ r ≡ written (λ c. savedContract (now (file .entry)) (contractPlace c)) places n ⌝ }
+{
+    let mut list = places;
+    let mut c: usize = 0;
+    while c < n {
+        list[c] = contract_from(file, 4 + 24 * c);
+        c += 1;
+    }
+    list
+}
+
+// what is held, at the start of the day and now
+fn holding_from(file: &[u8], at: usize) -> Holding
+    requires { ⌜ at + 8 ≤ length (now file) ⌝ }
+    ensures { λ r. ⌜ r ≡ savedHolding (now (file .entry)) at ⌝ }
+{
+    let long = u32_at(file, at);
+    let short = u32_at(file, at + 4);
+    Holding {
+        long,
+        short,
+        startlong: long,
+        startshort: short,
+    }
+}
+
+fn holdings_over(
+    file: &[u8],
+    row: usize,
+    n: usize,
+    places: [Holding; rules::MAX_CONTRACTS],
+) -> [Holding; rules::MAX_CONTRACTS]
+    requires { ⌜ (n ≤ 4) × (row + 8 * n ≤ length (now file)) ⌝ }
+    ensures { λ r. ⌜ r ≡ written (λ c. savedHolding (now (file .entry)) (row + 8 * c)) places n ⌝ }
+{
+    let mut list = places;
+    let mut c: usize = 0;
+    while c < n {
+        list[c] = holding_from(file, row + 8 * c);
+        c += 1;
+    }
+    list
+}
+
+// A signed number from its eight bytes.
+fn signed(n: u64) -> i64
+    ensures { λ r. ⌜ r ≡ signedOf n ⌝ }
+{
+    if n < 9223372036854775808 {
+        return n as i64;
+    }
+    let size = 18446744073709551615 - n;
+    let opposite = 0 - size as i64;
+    opposite - 1
+}
+
+// An account over another, its holdings in contracts past the count as they were.
+fn account_over(file: &[u8], at: usize, row: usize, n: usize, room: Account) -> Account
+    requires { ⌜ (n ≤ 4) × (at + 9 ≤ length (now file)) × (row + 8 * n ≤ length (now file)) ⌝ }
+    ensures { λ r. ⌜ r ≡ putAccount (savedAccount (now (file .entry)) n at row) room ⌝ }
+{
+    let balance = signed(u64_at(file, at));
+    let mark = u8_at(file, at + 8);
+    let places = room.holdings;
+    let holdings = holdings_over(file, row, n, places);
+    Account {
+        balance,
+        maker: mark == 1,
+        holdings,
+    }
+}
+
+fn accounts_over(
+    file: &[u8],
+    contracts: usize,
+    accounts: usize,
+    places: [Account; rules::MAX_ACCOUNTS],
+) -> [Account; rules::MAX_ACCOUNTS]
+    requires { ⌜ Laid (now file) contracts accounts ⌝ }
+    ensures { λ r. ⌜ r ≡ written (λ a. putAccount (loadedAccount (now (file .entry)) a) (getD places a noAccount)) places accounts ⌝ }
+{
+    let first = 8 + 24 * contracts;
+    let rows = first + 9 * accounts + 4;
+    let wide = 8 * contracts;
+    let mut list = places;
+    let mut a: usize = 0;
+    while a < accounts {
+        let room = places[a];
+        list[a] = account_over(file, first + 9 * a, rows + wide * a, contracts, room);
+        a += 1;
+    }
+    list
+}
+
+pub fn loaded_state(file: &[u8], contracts: usize, accounts: usize, state: State) -> State
+    requires { ⌜ Laid (now file) contracts accounts ⌝ }
+    ensures { λ r. ⌜ r ≡ loadedState state (loadedFrom (now (file .entry))) ⌝ }
+{
+    let old_terms = state.contracts;
+    let old_holders = state.accounts;
+    let old_buys = state.buys;
+    let old_sells = state.sells;
+    let terms = contracts_over(file, contracts, old_terms);
+    let holders = accounts_over(file, contracts, accounts, old_holders);
+    let buys = no_orders(old_buys, contracts);
+    let sells = no_orders(old_sells, contracts);
+    let settlements = u32_at(file, file.len() - 4);
+    State {
+        contracts: terms,
+        accounts: holders,
+        buys,
+        sells,
+        contractcount: contracts,
+        accountcount: accounts,
+        tradecount: 0,
+        next: 1,
+        nextstamp: 1,
+        settlements,
+    }
+}

@@ -1,0 +1,93 @@
+// Whether a state may be written. For this crate: each requires counts within the arrays.
+ghost use mathlib.Core.Path.{_≡_};
+ghost use Prim.Native.Nat.{_≤_, _<_};
+ghost use lib.ListN.{take};
+ghost use Rattle.laws.specs.Choice.{all};
+ghost use Rattle.saved.specs.Saved.{totalsEqual};
+ghost use Rattle.saving.specs.Parts.{asleepAt, stateWritable};
+use rules::Account;
+use rules::State;
+
+// A cast as a call, which says how large the number is.
+fn wide(x: u32) -> u64
+    ensures { λ r. ⌜ (r ≡ x) × (r < 4294967296) ⌝ }
+{
+    x as u64
+}
+
+// "its long and short totals are equal"
+fn totals_equal(list: [Account; rules::MAX_ACCOUNTS], accounts: usize, c: usize) -> bool
+    requires { ⌜ (accounts ≤ 32) × (c < 4) ⌝ }
+    ensures { λ r. ⌜ r ≡ totalsEqual (take accounts list) c ⌝ }
+{
+    let mut long: u64 = 0;
+    let mut short: u64 = 0;
+    let mut a: usize = 0;
+    while a < accounts {
+        let holder = list[a];
+        let h = holder.holdings[c];
+        long += wide(h.long);
+        short += wide(h.short);
+        a += 1;
+    }
+    long == short
+}
+
+pub fn all_equal(list: [Account; rules::MAX_ACCOUNTS], accounts: usize, contracts: usize) -> bool
+    requires { ⌜ (accounts ≤ 32) × (contracts ≤ 4) ⌝ }
+    ensures { λ r. ⌜ r ≡ all (totalsEqual (take accounts list)) contracts ⌝ }
+{
+    let mut c: usize = 0;
+    while c < contracts {
+        if !totals_equal(list, accounts, c) {
+            return false;
+        }
+        c += 1;
+    }
+    true
+}
+
+// "every contract is in pre-open", and no orders exist
+fn all_asleep(state: State) -> bool
+    requires { ⌜ state .contractcount ≤ 4 ⌝ }
+    ensures { λ r. ⌜ r ≡ all (asleepAt state) (state .contractcount) ⌝ }
+{
+    let contracts = state.contractcount;
+    let mut c: usize = 0;
+    while c < contracts {
+        let terms = state.contracts[c];
+        let bids = state.buys[c];
+        let asks = state.sells[c];
+        if terms.phase != rules::PRE_OPEN {
+            return false;
+        }
+        if bids != 0 {
+            return false;
+        }
+        if asks != 0 {
+            return false;
+        }
+        c += 1;
+    }
+    true
+}
+
+pub fn is_writable(state: State) -> bool
+    requires { ⌜ (state .contractcount ≤ 4) × (state .accountcount ≤ 32) ⌝ }
+    ensures { λ r. ⌜ r ≡ stateWritable state ⌝ }
+{
+    if !all_asleep(state) {
+        return false;
+    }
+    let holders = state.accounts;
+    if !all_equal(holders, state.accountcount, state.contractcount) {
+        return false;
+    }
+    if state.tradecount != 0 {
+        return false;
+    }
+    if state.next != 1 {
+        return false;
+    }
+    state.nextstamp == 1
+}
