@@ -15,7 +15,7 @@ import expectations
 import filekinds
 import generate
 import lines
-import make_daytests
+import make_test_days
 import model
 import textfiles
 import words
@@ -240,7 +240,7 @@ class AllAtOnce(unittest.TestCase):
     def test_every_word_damaged(self):
         """Each word of the samples' lines lost, doubled or misspelt: the line is right again, or has faults within it."""
         damaged = faulty = 0
-        for path in make_daytests.SAMPLES.glob("*.txt"):
+        for path in make_test_days.SAMPLES.glob("*.txt"):
             for line in set(path.read_text().split("\n")):
                 for found in re.finditer(r"\S+", line.partition("#")[0]):
                     for word in ("", found.group() * 2, found.group()[:-1], found.group() + "x", "?"):
@@ -334,7 +334,7 @@ class Damaged(unittest.TestCase):
 
     def test_lessons(self):
         rng = random.Random("damaged lessons")
-        text = (make_daytests.SAMPLES / "paper-example.txt").read_text()
+        text = (make_test_days.SAMPLES / "paper-example.txt").read_text()
         right = 0
         for _ in range(800):
             content = self.damaged(rng, text.encode(rng.choice(("utf-8", "utf-8-sig", "utf-16"))))
@@ -344,7 +344,7 @@ class Damaged(unittest.TestCase):
 
     def test_day_files(self):
         rng = random.Random("damaged day files")
-        file = (make_daytests.SAMPLES / "paper-example.day").read_bytes()
+        file = (make_test_days.SAMPLES / "paper-example.day").read_bytes()
         kinds = {filekinds.kind(self.damaged(rng, file), daytext.LINES)[0] for _ in range(2_000)}
         self.assertEqual(kinds, {"sound", "broken"})
 
@@ -582,7 +582,7 @@ class FileKinds(unittest.TestCase):
             ("*.out", "other"),
             ("*.md", "other"),
         ):
-            paths = list(make_daytests.SAMPLES.glob(pattern))
+            paths = list(make_test_days.SAMPLES.glob(pattern))
             self.assertTrue(paths)
             for path in paths:
                 self.assertEqual(filekinds.kind(path.read_bytes(), daytext.LINES)[0], kind, path)
@@ -754,9 +754,9 @@ class Tool(unittest.TestCase):
         self.assert_ended(ended, 1, "", "echo hello: line 1: 'hello' begins with none of C, T, P, B and X\n")
 
     def test_what(self):
-        example = make_daytests.SAMPLES / "paper-example.day"
+        example = make_test_days.SAMPLES / "paper-example.day"
         self.assert_ended(self.run_tool("what", example), 0, "sound: 1 contract, 2 accounts, 8 commands\n", "")
-        off_tick = make_daytests.SAMPLES / "broken" / "reference-off-tick.day"
+        off_tick = make_test_days.SAMPLES / "broken" / "reference-off-tick.day"
         self.assert_ended(self.run_tool("what", off_tick), 0, "broken: contract 1: reference off tick\n", "")
 
 

@@ -9,7 +9,7 @@ import unittest
 from pathlib import Path
 
 import lines
-import make_daytests
+import make_test_days
 
 sys.path.insert(0, str(Path(__file__).resolve().parent / "model"))
 
@@ -17,7 +17,7 @@ import generate
 import model
 
 TOOL = Path(lines.__file__)
-EXAMPLE = (make_daytests.SAMPLES / "paper-example.out").read_text()
+EXAMPLE = (make_test_days.SAMPLES / "paper-example.out").read_text()
 
 
 def printed(run):
@@ -69,7 +69,7 @@ class Read(unittest.TestCase):
 
     def test_round_trip(self):
         """Nothing is lost or reordered: samples, and what the model prints for generated files."""
-        outputs = [path.read_text() for path in sorted(make_daytests.SAMPLES.glob("*.out"))]
+        outputs = [path.read_text() for path in sorted(make_test_days.SAMPLES.glob("*.out"))]
         outputs += [model.run(generate.day_file(11, index)).decode() for index in range(60)]
         self.assertGreater(len(outputs), 60)
         for output in outputs:
@@ -200,7 +200,7 @@ class Json(unittest.TestCase):
         self.assertEqual(json.loads(lines.as_json(lines.Run([], 20))), {"broken": 20, "commands": []})
 
     def test_every_sample(self):
-        for path in make_daytests.SAMPLES.glob("*.out"):
+        for path in make_test_days.SAMPLES.glob("*.out"):
             run = lines.read_run(path.read_text())
             made = json.loads(lines.as_json(run))["commands"]
             self.assertEqual([command["trades"] for command in made], [command.trades for command in run.commands])
@@ -277,7 +277,7 @@ class Tool(unittest.TestCase):
             self.assertEqual((ended.returncode, ended.stdout.decode(), ended.stderr), (0, expected, b""))
 
     def test_compare(self):
-        example = make_daytests.SAMPLES / "paper-example.out"
+        example = make_test_days.SAMPLES / "paper-example.out"
         ended = self.run_tool("compare", example, "-")
         self.assertEqual((ended.returncode, ended.stdout), (0, b"the same: 8 commands\n"))
         ended = self.run_tool("compare", example, "-", given="X 20\n")

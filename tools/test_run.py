@@ -12,10 +12,10 @@ import time
 import unittest
 from pathlib import Path
 
-import make_daytests
+import make_test_days
 
 TOP = Path(__file__).resolve().parents[1]
-SAMPLES = make_daytests.SAMPLES
+SAMPLES = make_test_days.SAMPLES
 DAY_RUNNER = TOP / "target" / "bin" / "dayrun"
 IS_REAL = DAY_RUNNER.exists()
 

@@ -7,7 +7,7 @@ pub const QUEUE: usize = 64 * ORDER;
 pub const TRADE: usize = 9;
 pub const ACCOUNTS: usize = 32;
 
-/// An order as `book_exports` takes it.
+/// An order as `bench_book` takes it.
 #[repr(C)]
 #[derive(Clone, Copy)]
 pub struct Sweeps {
@@ -108,7 +108,7 @@ pub fn queue_case(r: &mut Random, count: usize, absent: u32) -> QueueCase {
     let contract = r.below(4) as usize;
     let sell = r.coin();
     let area = area(r, contract, count, sell, up_to_50_lots);
-    // `book_exports` takes no time stamp
+    // `bench_book` takes no time stamp
     let order = Order { stamp: 0, ..r.order(1000, 7) };
     let number = 1 + r.below((count as u32 + absent).max(1));
     QueueCase { area, contract, count, sell, order, number }

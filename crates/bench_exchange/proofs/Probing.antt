@@ -1,0 +1,27 @@
+-- What is asked of the state that a run leaves is asked of the rules' run. Assumes nothing.
+use mathlib.Core.List.{List}
+use mathlib.Core.Path.{_≡_, ap, _∙_}
+use Prim.Native.Nat.{ℕ}
+use Rattle.rules.specs.Condition3.{run}
+use Rattle.rules.specs.Memory.{Memory, memory}
+use Rattle.rules.specs.declared.Command.{Command}
+use Rattle.rules.specs.declared.State.{State}
+use Rattle.dayfile.specs.Opening.{openingState}
+use Rattle.exchange.specs.Run.{RanIs}
+use Rattle.bench_exchange.specs.Probes.{probeOf, ProbedIs}
+use Rattle.bench_exchange.specs.declared.Probe.{Probe}
+
+pub ran-probed : {opening state : State} {cs : List Command} {buys sells trades buys′ sells′ trades′ : List ℕ} {r : Probe} (day : List ℕ) (a c : ℕ)
+    → opening ≡ openingState day
+    → RanIs (memory opening buys sells trades) cs (memory state buys′ sells′ trades′)
+    → r ≡ probeOf state a c
+    → ProbedIs (run (memory (openingState day) buys sells trades) cs) a c r buys′ sells′ trades′
+ran-probed {state = state} {cs = cs} {buys = buys} {sells = sells} {trades = trades} {buys′ = buys′} {sells′ = sells′} {trades′ = trades′} day a c opened ran asked =
+    let e : memory state buys′ sells′ trades′ ≡ run (memory (openingState day) buys sells trades) cs
+    = ran .memory ∙ ap (λ (s : State). run (memory s buys sells trades) cs) opened in
+    record {
+      answer = asked ∙ ap (λ (m : Memory). probeOf (m .state) a c) e;
+      bids = ap (λ (m : Memory). m .buys) e;
+      offers = ap (λ (m : Memory). m .sells) e;
+      recorded = ap (λ (m : Memory). m .trades) e;
+    }
