@@ -31,6 +31,7 @@ takerOf s =
       close = s .close;
       number = s .number;
       stamp = s .number;
+      quote = 0;
       condition = priceCondition (s .kind) (s .price);
       method = Middle;
       best = s .best;

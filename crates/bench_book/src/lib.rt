@@ -115,6 +115,7 @@ fn taker(s: Sweeps) -> Taker
         close: s.close,
         number: s.number,
         stamp: s.number,
+        quote: 0,
         condition,
         method: PairingMethod::Middle,
         best: s.best,

@@ -19,7 +19,8 @@ use Rattle.rules.specs.declared.Contract.{Contract}
 use Rattle.rules.specs.declared.Holding.{Holding}
 use Rattle.rules.specs.declared.Order.{Order}
 use Rattle.rules.proofs.Holdings.{same-refl}
-use Rattle.invariants.proofs.Clauses.{ListingOk, HoldingOk, WellFormed, Counted}
+use Rattle.invariants.proofs.Clauses.{ListingOk, HoldingOk, MarksOk, WellFormed, Counted}
+use Rattle.invariants.proofs.Marks.{no-marks}
 
 abbrev pub quiet : Contract → Listing
 quiet c = record { contract = c; buys = []; sells = [] }
@@ -124,6 +125,7 @@ module _ (contracts : ℕ) (contract : ℕ → Contract) (accounts : ℕ) (accou
         listing = λ c l. let h : c < contracts = rw nc at l in rw (listing-at c h) (listing-quiet _ 1 1 (contract c) (in-range c h));
         once = rw (no-orders numberOf contracts contract) once-none;
         stamps-once = rw (no-orders stampOf contracts contract) once-none;
+        marks = λ c l sell. rw (listing-at c (rw nc at l)) (none sell);
         trades = refl;
         covered = refl;
         replay = rw (same-start accounts account start) (same-refl (day .accounts));
@@ -133,3 +135,7 @@ module _ (contracts : ℕ) (contract : ℕ → Contract) (accounts : ℕ) (accou
             rw (listing-at c q, holding-at a c p) (holding-quiet (contract c) a _ (start-at a c) (longs a c p q) (shorts a c p q));
         balance = λ a l. let h : a < accounts = rw na at l in rw (account-at a h) (balances a h);
       }
+    where
+      none : (sell : Bool) → MarksOk (day .accounts) (pick {A = List Order} sell [] [])
+      none true = no-marks (day .accounts)
+      none false = no-marks (day .accounts)

@@ -1,5 +1,5 @@
 -- The state in which a sound day file opens is well formed, so that no command of the file can meet code 21. Assumes nothing.
-use mathlib.Core.Bool.{Bool, true, false}
+use mathlib.Core.Bool.{Bool, true}
 use mathlib.Core.List.{List, [], _∷_, map}
 use mathlib.Core.Path.{_≡_, refl, ap}
 use Prim.Native.Nat.{ℕ, zero, suc, _+_, _<_, _≤_}
@@ -11,7 +11,7 @@ use lib.ListN.{length, getD, replicate}
 use Rattle.laws.specs.Choice.{all, all-at, both-true}
 use Rattle.laws.specs.Chains.{passed, join}
 use Rattle.rules.specs.Bounds.{within, preOpen, maxPhase, termsInRange, tickMultiple, maxContracts, maxAccounts, maxBalance}
-use Rattle.rules.specs.DayFile.{maxCommands, contractsIn, contractPlace, accountsIn, commandsIn, commandPlace, contractFrom, contractSound, balanceFrom, accountSound, sound, openingListing, openingAccount, opening}
+use Rattle.rules.specs.DayFile.{maxCommands, contractsIn, contractPlace, accountsIn, commandsIn, commandPlace, contractFrom, contractSound, balanceFrom, makerFrom, accountSound, sound, openingListing, openingAccount, opening}
 use Rattle.rules.specs.Exchange.{noHolding}
 use Rattle.rules.specs.Holdings.{startHolding, startAccount}
 use Rattle.rules.specs.WellFormed.{contractInRange, wellFormedContents}
@@ -57,7 +57,7 @@ module _ (file : List ℕ) (h : sound file ≡ true) where
 
   start : (a : ℕ) → startAccount (openingAccount file a) ≡ openingAccount file a
   unfolding openingAccount
-  start a = ap (λ (hs : List Holding). record { balance = pos (balanceFrom file a); maker = false; holdings = hs }) (none-start (contractsIn file))
+  start a = ap (λ (hs : List Holding). record { balance = pos (balanceFrom file a); maker = makerFrom file a; holdings = hs }) (none-start (contractsIn file))
 
   nothing-held : (a c : ℕ) → getD (openingAccount file a .holdings) c noHolding ≡ noHolding
   unfolding openingAccount

@@ -105,7 +105,7 @@ asked phase buys =
 -- the order of account 2 as it arrives
 entered : ℕ → Entered
 entered phase =
-    enteredOf (asked phase []) 3
+    enteredOf (asked phase []) 3 0
     (record { account = 2; contract = 1; sell = false; close = false; lots = 2; price = 105; condition = Limit 105; time = GoodForDay })
 
 -- the change to continuous with these buys resting

@@ -53,6 +53,7 @@ fn limit_order(sell: bool, number: u32, limit: u32) -> Taker
         close: 0,
         number,
         stamp: number,
+        quote: 0,
         condition: PriceCondition::Limit(limit),
         method: PairingMethod::Middle,
         best: 0,
