@@ -165,7 +165,7 @@ fn with_account(state: State, v: [u64; 16]) -> State {
     if place < 32 {
         let mut account = s.accounts[place];
         account.balance = balance;
-        account.maker = v[2] as u64;
+        account.maker = v[2];
         s.accounts[place] = account;
     }
     s
