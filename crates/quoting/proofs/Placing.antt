@@ -15,11 +15,11 @@ use Rattle.rules.specs.Answers.{Refusal, _when_, firstOf, isGoodForDay, listing
 use Rattle.rules.specs.Bounds.{continuous, inAuction, maxLots, maxResting, maxTrades}
 use Rattle.rules.specs.Exchange.{Exchange, Listing, absent, accountAt, listingAt, noAccount, noContract, opposite, own, placeOf}
 use Rattle.rules.specs.Kinds.{codeOf, done, kindOf}
-use Rattle.rules.specs.Matching.{Entered, enter, restWhole, restedLots, sweep, tradedLots}
-use Rattle.rules.specs.Memory.{Declared, Memory, WellFormedState, exchangeOf, firstWord, listingIn, memory, put, putQueue, putState, queueIn, queueStride, stepIn, tradeStride, tradeWords, wellFormedMemory, written}
+use Rattle.rules.specs.Matching.{enter, restWhole, restedLots, sweep, tradedLots}
+use Rattle.rules.specs.Memory.{Declared, Memory, WellFormedState, exchangeOf, listingIn, memory, put, putQueue, putState, queueIn, queueStride, stepIn, tradeStride, tradeWords, wellFormedMemory, written}
 use Rattle.rules.specs.Quote.{Offered, offered, half, buyOf, sellOf, buyEntered, sellEntered, withoutQuote, withBuy, withSell, quoteRefusals, quoted}
 use Rattle.rules.specs.Step.{answerOf, enteredOf, exchangeAfter, listingAfter, withTrades, without}
-use Rattle.rules.specs.WellFormed.{isQuoteOf, quotes}
+use Rattle.rules.specs.WellFormed.{isQuoteOf}
 use Rattle.rules.specs.declared.Command.{Command}
 use Rattle.rules.specs.declared.Command.the-variants.{Quote}
 use Rattle.rules.specs.declared.NewOrder.{NewOrder}
@@ -39,7 +39,7 @@ use Rattle.accounting.proofs.StepShape.{SameShape, shape-sym, shape-trans}
 use Rattle.invariants.proofs.Accepted.{Failed, failed}
 use Rattle.invariants.proofs.Clauses.{Counted, WellFormed}
 use Rattle.invariants.proofs.MemoryKeeps.{sound, stage-keeps, stage-read}
-use Rattle.invariants.proofs.QuoteKeeps.{buy-accounts, buy-counted, buy-keeps, buy-passes, buy-sells, gone-accounts, gone-counted, gone-keeps, none-marked, sells-unmarked, still-maker}
+use Rattle.invariants.proofs.QuoteKeeps.{buy-counted, buy-keeps, buy-passes, buy-sells, gone-accounts, gone-counted, gone-keeps, none-marked, sells-unmarked, still-maker}
 use Rattle.engine.specs.Outcome.{OutcomeIs, acceptedWith, isAbsent, refusedWith, withCountsIn}
 use Rattle.engine.specs.Removal.{removalCode}
 use Rattle.engine.specs.declared.answers.Outcome.{Outcome}
@@ -50,7 +50,6 @@ use Rattle.engine.proofs.Refusals.{first-append}
 use Rattle.engine.proofs.Removals.{in-continuous, lies}
 use Rattle.engine.proofs.Tests.{place-below}
 use Rattle.engine.proofs.Traded.{few-after, put-traded}
-use Rattle.refusals.specs.Insertion.{Present}
 use Rattle.refusals.proofs.Arrivals.{count-within}
 use Rattle.refusals.proofs.Sides.{contract-is}
 use Rattle.insertion.specs.Arrival.{enteredIn}

@@ -1,6 +1,6 @@
 -- Words written within a part of an area are undone by writing the part as it was. Assumes nothing.
 use mathlib.Core.Bool.{Bool, true, false}
-use mathlib.Core.List.{List, [], _∷_, _++_}
+use mathlib.Core.List.{List, [], _∷_}
 use mathlib.Core.Path.{_≡_, refl, sym, ap, _∙_}
 use Prim.Native.Nat.{ℕ, _+_, _-_, _*_, _<_, _≤_}
 use native.Mathlib.Omega.{arith}
@@ -16,7 +16,7 @@ use Rattle.areas.proofs.Lists.{length-over, over-append, over-inside, over-nil,
 use Rattle.areas.proofs.Records.{length-encode, store-over}
 use Rattle.rules.specs.Bounds.{maxResting, maxTrades}
 use Rattle.rules.specs.Exchange.{noOrder}
-use Rattle.rules.specs.Memory.{orderStride, orderWords, putQueue, queueStride, tradeStride, tradeWords}
+use Rattle.rules.specs.Memory.{orderWords, putQueue, queueStride, tradeStride, tradeWords}
 use Rattle.rules.specs.declared.Order.{Order}
 use Rattle.rules.specs.declared.Trade.{Trade}
 use Rattle.rules.proofs.Codecs.{order-codec, trade-codec}
