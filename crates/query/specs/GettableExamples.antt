@@ -41,7 +41,7 @@ book phase sells =
         buys = order 4 109 3 ∷ [];
         sells = sells;
       } ∷ [];
-      accounts = record { balance = pos 0; maker = false; holdings = noHolding ∷ [] } ∷ record { balance = pos 0; maker = false; holdings = noHolding ∷ [] } ∷ [];
+      accounts = record { balance = pos 0; maker = 0; holdings = noHolding ∷ [] } ∷ record { balance = pos 0; maker = 0; holdings = noHolding ∷ [] } ∷ [];
       trades = [];
       next = 5;
       nextstamp = 1;
@@ -82,7 +82,7 @@ memoryOf contracts =
     record {
       state = record {
         contracts = record { multiplier = 10; tick = 1; reference = 110; band = 10; limit = 1_000; rate = 1_000; method = 0; phase = preOpen; last = 110 } ∷ [];
-        accounts = record { balance = pos 0; maker = false; holdings = noHolding ∷ [] } ∷ [];
+        accounts = record { balance = pos 0; maker = 0; holdings = noHolding ∷ [] } ∷ [];
         buys = 0 ∷ [];
         sells = 0 ∷ [];
         contractcount = contracts;

@@ -125,7 +125,7 @@ module _ {s : State} {buys sells trades : List ℕ} (w : WellFormedState s buys 
       (2 when absent account (x .accounts))
       ∷ (3 when absent contract (x .listings))
       ∷ (4 when not (eqb (listingAt x c .contract .phase) continuous))
-      ∷ (23 when not (accountAt (x .accounts) a .maker))
+      ∷ (23 when not (eqb (accountAt (x .accounts) a .maker) 1))
       ∷ (24 when not (ltb buy sell))
       ∷ []
 
@@ -138,8 +138,8 @@ module _ {s : State} {buys sells trades : List ℕ} (w : WellFormedState s buys 
   early-same = rw (no-account m f account, no-contract m f contract) (by (isAbsent account (s .accountcount)) refl (isAbsent contract (s .contractcount)) refl)
     where
       by : (b : Bool) → isAbsent account (s .accountcount) ≡ b → (d : Bool) → isAbsent contract (s .contractcount) ≡ d
-          → _≡_ {A = ℕ} (pick b 2 (pick d 3 (pick (not (eqb (listingAt x c .contract .phase) continuous)) 4 (pick (not (accountAt (x .accounts) a .maker)) 23 (pick (not (ltb buy sell)) 24 0)))))
-          (pick b 2 (pick d 3 (pick (not (eqb (getD (s .contracts) c noContract .phase) continuous)) 4 (pick (not (getD (s .accounts) a noAccount .maker)) 23 (pick (not (ltb buy sell)) 24 0)))))
+          → _≡_ {A = ℕ} (pick b 2 (pick d 3 (pick (not (eqb (listingAt x c .contract .phase) continuous)) 4 (pick (not (eqb (accountAt (x .accounts) a .maker) 1)) 23 (pick (not (ltb buy sell)) 24 0)))))
+          (pick b 2 (pick d 3 (pick (not (eqb (getD (s .contracts) c noContract .phase) continuous)) 4 (pick (not (eqb (getD (s .accounts) a noAccount .maker) 1)) 23 (pick (not (ltb buy sell)) 24 0)))))
       by true e d h = refl
       by false e true h = refl
       by false e false h = rw (contract-is m f c (place-below contract (s .contractcount) h .1), maker-is (place-below account (s .accountcount) e .1)) refl
@@ -178,8 +178,8 @@ module _ {s : State} {buys sells trades : List ℕ} (w : WellFormedState s buys 
     listed : c < length (x .listings)
     listed = rw (contracts-count m f) here
 
-    is-maker : accountAt (x .accounts) a .maker ≡ true
-    is-maker = maker-is holder-here ∙ not-false _ (tests .1 .1 .1 .0)
+    is-maker : accountAt (x .accounts) a .maker ≡ 1
+    is-maker = maker-is holder-here ∙ eqb-true _ 1 (not-false _ (tests .1 .1 .1 .0))
 
     counts : Counted x
     counts = sound m (w .formed) .counts

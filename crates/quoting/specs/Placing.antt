@@ -31,7 +31,7 @@ earlyRefusals s account contract buy sell =
     (2 when isAbsent account (s .accountcount))
     ∷ (3 when isAbsent contract (s .contractcount))
     ∷ (4 when not (eqb (getD (s .contracts) (placeOf contract) noContract .phase) continuous))
-    ∷ (23 when not (getD (s .accounts) (placeOf account) noAccount .maker))
+    ∷ (23 when not (eqb (getD (s .accounts) (placeOf account) noAccount .maker) 1))
     ∷ (24 when not (ltb buy sell))
     ∷ []
 
@@ -51,7 +51,7 @@ goneIn m account contract =
 pub record Markable (s : State) (buys sells trades : List ℕ) (o : NewOrder) : Type 0 where
   pub present : Present s o
   pub opens : o .close ≡ false
-  pub maker : accountAt (exchangeOf (memory s buys sells trades) .accounts) (placeOf (o .account)) .maker ≡ true
+  pub maker : accountAt (exchangeOf (memory s buys sells trades) .accounts) (placeOf (o .account)) .maker ≡ 1
   pub single : quotes (placeOf (o .account)) (own (o .sell) (listingOf (exchangeOf (memory s buys sells trades)) o)) ≡ 0
 
 -- refused with its code from 5 on, or entered with the next number, marked

@@ -44,7 +44,7 @@ fn early_code(state: State, account: u32, contract: u32, buy: u32, sell: u32) ->
     }
     let a = laws::wide(account) - 1;
     let who = state.accounts[a];
-    if !who.maker {
+    if who.maker != 1 {
         return 23;
     }
     if sell <= buy {

@@ -36,8 +36,8 @@ held long short = record { long = long; short = short; startlong = long; startsh
 
 unfoldable pub holders : ℕ → List Account
 holders short =
-    record { balance = negsuc 1; maker = false; holdings = held 3 0 ∷ [] }
-    ∷ record { balance = pos 20_002; maker = true; holdings = held 0 short ∷ [] }
+    record { balance = negsuc 1; maker = 0; holdings = held 3 0 ∷ [] }
+    ∷ record { balance = pos 20_002; maker = 1; holdings = held 0 short ∷ [] }
     ∷ []
 
 unfoldable pub evening : Exchange

@@ -49,8 +49,8 @@ dayWith short startlong long trades =
         buys = [];
         sells = [];
       } ∷ [];
-      accounts = record { balance = pos 0; maker = false; holdings = record { long = 0; short = short; startlong = 0; startshort = 0 } ∷ [] }
-          ∷ record { balance = pos 0; maker = false; holdings = record { long = long; short = 0; startlong = startlong; startshort = 0 } ∷ [] }
+      accounts = record { balance = pos 0; maker = 0; holdings = record { long = 0; short = short; startlong = 0; startshort = 0 } ∷ [] }
+          ∷ record { balance = pos 0; maker = 0; holdings = record { long = long; short = 0; startlong = startlong; startshort = 0 } ∷ [] }
           ∷ [];
       trades = trades;
       next = 7;
@@ -142,11 +142,11 @@ shortDay =
       } ∷ [];
       accounts = record {
         balance = pos 0;
-        maker = false;
+        maker = 0;
         holdings = record { long = 2; short = 0; startlong = 0; startshort = 0 } ∷ record { long = 0; short = 3; startlong = 0; startshort = 0 } ∷ [];
       } ∷ record {
         balance = pos 0;
-        maker = false;
+        maker = 0;
         holdings = record { long = 0; short = 2; startlong = 0; startshort = 0 } ∷ record { long = 0; short = 3; startlong = 0; startshort = 6 } ∷ [];
       } ∷ [];
       trades = inSecond (trade 54 3 1 2 1 0 1 0) ∷ trade 101 2 3 4 0 1 0 0 ∷ [];
