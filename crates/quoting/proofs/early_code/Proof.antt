@@ -60,15 +60,15 @@ element-copy-out-who c =
 
 returns-4 : tie.Need-returns-4
 unfolding firstOf
-returns-4 c = rw ((sym (c .before .before .before .before .before .before .before .before .before .before .before .before .is-absent .ensures) ∙ c .before .before .before .before .before .before .before .before .before .before .before .if1 .left), (sym (c .before .before .before .before .before .before .before .before .before .before .is-absent2 .ensures) ∙ c .before .before .before .before .before .before .before .before .before .if2 .left), eq-eqb _ _ (rw (c .before .before .before .before .before .before .before .before .wide .ensures) at (c .before .before .before .before .if3 .left)), rw (c .before .before .before .wide2 .ensures) at (c .if4 .taken))
+returns-4 c = rw ((sym (c .before .before .before .before .before .before .before .before .before .before .before .before .is-absent .ensures) ∙ c .before .before .before .before .before .before .before .before .before .before .before .if1 .left), (sym (c .before .before .before .before .before .before .before .before .before .before .is-absent2 .ensures) ∙ c .before .before .before .before .before .before .before .before .before .if2 .left), eq-eqb _ _ (rw (c .before .before .before .before .before .before .before .before .wide .ensures) at (c .before .before .before .before .if3 .left)), ne-eqb _ _ (rw (c .before .before .before .wide2 .ensures) at (c .if4 .taken)))
 
 returns-5 : tie.Need-returns-5
 unfolding firstOf
-returns-5 c = rw ((sym (c .before .before .before .before .before .before .before .before .before .before .before .before .before .is-absent .ensures) ∙ c .before .before .before .before .before .before .before .before .before .before .before .before .if1 .left), (sym (c .before .before .before .before .before .before .before .before .before .before .before .is-absent2 .ensures) ∙ c .before .before .before .before .before .before .before .before .before .before .if2 .left), eq-eqb _ _ (rw (c .before .before .before .before .before .before .before .before .before .wide .ensures) at (c .before .before .before .before .before .if3 .left)), (rw (c .before .before .before .before .wide2 .ensures) at (c .before .if4 .left)), le-ltb _ _ (c .if5 .taken))
+returns-5 c = rw ((sym (c .before .before .before .before .before .before .before .before .before .before .before .before .before .is-absent .ensures) ∙ c .before .before .before .before .before .before .before .before .before .before .before .before .if1 .left), (sym (c .before .before .before .before .before .before .before .before .before .before .before .is-absent2 .ensures) ∙ c .before .before .before .before .before .before .before .before .before .before .if2 .left), eq-eqb _ _ (rw (c .before .before .before .before .before .before .before .before .before .wide .ensures) at (c .before .before .before .before .before .if3 .left)), (eq-eqb _ _ (rw (c .before .before .before .before .wide2 .ensures) at (c .before .if4 .left))), le-ltb _ _ (c .if5 .taken))
 
 returns-6 : tie.Need-returns-6
 unfolding firstOf
-returns-6 c = rw ((sym (c .before .before .before .before .before .before .before .before .before .before .before .before .before .is-absent .ensures) ∙ c .before .before .before .before .before .before .before .before .before .before .before .before .if1 .left), (sym (c .before .before .before .before .before .before .before .before .before .before .before .is-absent2 .ensures) ∙ c .before .before .before .before .before .before .before .before .before .before .if2 .left), eq-eqb _ _ (rw (c .before .before .before .before .before .before .before .before .before .wide .ensures) at (c .before .before .before .before .before .if3 .left)), (rw (c .before .before .before .before .wide2 .ensures) at (c .before .if4 .left)), lt-ltb _ _ (c .if5 .left))
+returns-6 c = rw ((sym (c .before .before .before .before .before .before .before .before .before .before .before .before .before .is-absent .ensures) ∙ c .before .before .before .before .before .before .before .before .before .before .before .before .if1 .left), (sym (c .before .before .before .before .before .before .before .before .before .before .before .is-absent2 .ensures) ∙ c .before .before .before .before .before .before .before .before .before .before .if2 .left), eq-eqb _ _ (rw (c .before .before .before .before .before .before .before .before .before .wide .ensures) at (c .before .before .before .before .before .if3 .left)), (eq-eqb _ _ (rw (c .before .before .before .before .wide2 .ensures) at (c .before .if4 .left))), lt-ltb _ _ (c .if5 .left))
 
 pub early-code-spec : {M : Type 1} → statement M
 early-code-spec =
