@@ -3,13 +3,13 @@
 use mathlib.Core.Bool.{Bool, true, false, not}
 use mathlib.Core.List.{List, [], _∷_}
 use mathlib.Core.Path.{_≡_}
-use Prim.Native.Nat.{ℕ, _+_, _*_}
+use Prim.Native.Nat.{ℕ, _+_, _-_, _*_}
 use lib.Dec.{eqb, leb, ltb}
 use lib.ListN.{length, getD, take, drop}
 use Rattle.areas.specs.Lists.{over}
 use Rattle.laws.specs.Choice.{pick}
 use Rattle.rules.specs.Answers.{Refusal, _when_, firstOf, listingOf, orderRefusals}
-use Rattle.rules.specs.Bounds.{continuous, maxResting}
+use Rattle.rules.specs.Bounds.{continuous, maxResting, maxTrades}
 use Rattle.rules.specs.Exchange.{accountAt, listingAt, noAccount, noContract, own, placeOf}
 use Rattle.rules.specs.Kinds.{refused}
 use Rattle.rules.specs.Memory.{Memory, Responded, exchangeOf, inMemory, memory, put, queueStride, stepIn, tradeStride}
@@ -70,7 +70,7 @@ pub record Undoable (at n : ℕ) (before after : List ℕ) : Type 0 where
 
 -- where the trades begin that the buy can make, and those before the end of the day's room
 abbrev pub madeFrom : ℕ → ℕ
-madeFrom recorded = tradeStride * pick (leb recorded 960) recorded 960
+madeFrom recorded = tradeStride * pick (leb recorded (maxTrades - maxResting)) recorded (maxTrades - maxResting)
 
 -- accepted as the rules say; or refused with the rules' code, and each area can be put back
 pub record PlacedIs (s : State) (buys sells trades : List ℕ) (account contract lots buy sell : ℕ) (r : Outcome) (buys′ sells′ trades′ : List ℕ) : Type 0 where
