@@ -775,7 +775,7 @@ class Tool(unittest.TestCase):
         command = f"{sys.executable} {TOOL} {SAMPLES / 'every-code.txt'} --runner '{MODEL_AS_RUNNER}' | head -1"
         ended = subprocess.run(["sh", "-c", command], capture_output=True)
         self.assertEqual(
-            (ended.stdout, ended.stderr), (b"every-code.txt: 2 contracts, 4 accounts, 1,901 commands\n", b"")
+            (ended.stdout, ended.stderr), (b"every-code.txt: 2 contracts, 5 accounts, 1,905 commands\n", b"")
         )
 
     @unittest.skipUnless(Path("/dev/full").exists(), "no full device")

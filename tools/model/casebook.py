@@ -76,7 +76,13 @@ def quoted(state, contract, buy=None, sell=None, account=1):
 
 def makers(state, *accounts):
     for account in accounts:
-        state.makers[account - 1] = 1
+        maker_mark(state, account, 1)
+    return state
+
+
+def maker_mark(state, account, mark):
+    """An account's mark: 1 of a maker, 0 of another account, any other of none."""
+    state.makers[account - 1] = mark
     return state
 
 

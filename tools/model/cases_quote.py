@@ -16,6 +16,7 @@ def cases():
     yield from refusals()
     yield from refused_by_holding()
     yield from refused_by_money()
+    yield from refused_at_the_sell()
     yield from numbers_and_stamps()
     yield from room_for_trades()
     yield from full_sides()
@@ -67,6 +68,12 @@ def replaced():
         other = rest(rest(with_quote(1, *left), "buy", 2, (95, 1, 31)), "sell", 2, (105, 1, 32))
         yield given(f"{left} lots left in contract 1: a quote in contract 2", other, quote(1, 2, 95, 105, 4))
         yield given(f"{left} lots left of account 1: a quote of account 3", with_quote(1, *left), quote(3, 1, 95, 105, 4))
+    for account, contract in ((1, 1), (1, 2), (3, 1), (3, 2)):
+        four = exchange(2, accounts=3)
+        for number, (maker, of) in enumerate(((1, 1), (3, 1), (1, 2), (3, 2))):
+            quoted(four, of, (95, 4, 2 * number + 1), (105, 4, 2 * number + 2), account=maker)
+        name = f"a quote of account {account} in contract {contract}, where both makers quote both contracts"
+        yield given(name, four, quote(account, contract, 90, 105, 3))
     same = quoted(exchange(), 1, (95, 4, 1), (105, 4, 2))
     yield given("the same quote again", same, quote(1, 1, 95, 105, 4))
     yield given("the quote alone in the book, higher", same.copy(), quote(1, 1, 110, 120, 4))
@@ -102,6 +109,8 @@ def places_between_the_steps():
     state = rest(makers(exchange(), 1), "buy", 1, (100, 1, 1, 2), (95, 1, 2, 2))
     yield given("the third place is used between the steps", state, quote(1, 1, 90, 95, 2))
     yield given("the third place stays in use", state.copy(), quote(1, 1, 90, 100, 2))
+    by_ones = rest(makers(exchange(tick=1), 1), "buy", 1, (100, 1, 1, 2), (99, 1, 2, 2))
+    yield given("buys at 100 and 99, quoted at 90 and 98: the third place is used between the steps", by_ones, quote(1, 1, 90, 98, 2))
     second = rest(makers(exchange(2), 1), "buy", 2, (100, 1, 1, 2), (95, 1, 2, 2))
     yield given("the third place of contract 2 is used between the steps", second, quote(1, 2, 90, 95, 2))
     for orders in (1, 3, 10, 63):
@@ -202,6 +211,50 @@ def refused_by_money():
     yield given("with a balance below zero", ruined, quote(1, 1, 95, 105, 1), 9)
 
 
+# "If either would be refused the whole quote is refused and the old one stands": what the buy did before the sell is refused
+# is undone, whether it rested, traded or both; the orders that it met, their marks and the last price are as they were.
+def refused_at_the_sell():
+    rests, trades = (95, 100), (105, 110)
+    for left in ((6, 6), (6, 0), (0, 6), (0, 0)):
+        for contract in (1, 2):
+            made = lambda: with_quote(contract, *left)
+            where = f"contract {contract}, {left} lots left"
+            for buy, lots in ((85, 4), (95, 4), (100, 4), (105, 2), (105, 3), (105, 4), (105, 9), (110, 12)):
+                yield given(f"{where}: the buy at {buy} of {lots} lots, then 7", made(), quote(1, contract, buy, buy + 1, lots), 7)
+            for name, prices in (("rests", rests), ("trades", trades)):
+                short = terms(start(made(), 1, contract, short=7), contract, limit=13)
+                yield given(f"{where}: the buy {name}, then 8", short, quote(1, contract, *prices, 7), 8)
+                poor = balance(start(made(), 1, contract, short=3), 1, 699)
+                yield given(f"{where}: the buy {name}, then 9", poor, quote(1, contract, *prices, 4), 9)
+                last = counts(made(), next=999_999)
+                yield given(f"{where}: the buy {name}, then 10", last, quote(1, contract, *prices, 4), 10)
+                last = counts(made(), next_stamp=999_999)
+                yield given(f"{where}: the buy {name}, then 10 of the stamp", last, quote(1, contract, *prices, 4), 10)
+    # 12 of the sell: the buy rests, since of the two just one can trade.
+    for left in ((6, 6), (0, 0)):
+        for made, buy, sell, lots in ((1_024, 90, 95, 1), (1_023, 85, 95, 3), (1_022, 80, 85, 9)):
+            state = many_trades(with_quote(1, *left, limit=2_100), made)
+            yield given(f"{left} lots left, {made} trades: the buy at {buy} rests, then 12", state, quote(1, 1, buy, sell, lots), 12)
+    # 13 of the sell: it finds 64 sells, although the buy took lots of the first, and others again where it took that whole.
+    for old in (None, (90, 2, 90)):
+        for lots, code in ((1, 13), (2, 13), (3, 0), (4, 0)):
+            state = full_queue(exchange(accounts=3), "sell", 1, 105, 1, 64, lots=3, account=2)
+            yield given(f"64 sells of 3 lots, old buy {old}: {lots} lots", quoted(state, 1, old), quote(1, 1, 105, 110, lots), code)
+            yield given(f"64 sells of 3 lots, old buy {old}: {lots} lots that rest", state.copy(), quote(1, 1, 100, 110, lots), 13)
+    # Whom the buy meets: the maker itself, to open and to close, and another maker's quote.
+    for lots in (2, 4, 7):
+        own = rest(rest(makers(exchange(), 1), "buy", 1, (95, 4, 1)), "sell", 1, (105, 4, 2))
+        yield given(f"the buy of {lots} lots meets one's own, then 7", own, quote(1, 1, 105, 111, lots), 7)
+        held = start(makers(exchange(), 1), 1, 1, 9, 9)
+        rest(rest(held, "buy", 1, (95, 4, 1, 1, CLOSE)), "sell", 1, (105, 4, 2, 1, CLOSE))
+        yield given(f"the buy of {lots} lots meets one's own close, then 7", held, quote(1, 1, 105, 111, lots), 7)
+        both = quoted(quoted(exchange(), 1, (95, 4, 1), (105, 4, 2), account=2), 1)
+        yield given(f"the buy of {lots} lots meets another maker's quote, then 7", both, quote(1, 1, 105, 111, lots), 7)
+    for method in (0, 1, 2):
+        state = traded(with_quote(method=method), 1, 120, 3, 2, 3, 61, 62)
+        yield given(f"method {method}, after a trade: the buy trades, then 7", state, quote(1, 1, 110, 111, 9), 7)
+
+
 # 10: "numbers used up" or stamps, of the buy or of the sell
 def numbers_and_stamps():
     for number, stamp, code in (
@@ -297,6 +350,9 @@ def marks():
     for operator in (False, True):
         yield given(f"pull of a quote, operator {operator}", with_quote(), dayfile.pull(1, 1, operator))
     yield given("pull of another account", with_quote(), dayfile.pull(2, 1))
+    for phase, code in ((NO_TRADING, 0), (AUCTION, 0), (CLOSED, 4)):
+        yield given(f"cancel of a quote by the operator in state {phase}", with_quote(phase=phase), dayfile.cancel(1, 1, 15, True), code)
+        yield given(f"pull of a quote by the operator in state {phase}", with_quote(phase=phase), dayfile.pull(1, 1, True), code)
     # A partial fill keeps the mark, a whole one takes the order away.
     for lots in (1, 2, 3, 7, 8, 9, 11, 12, 15):
         yield given(f"a sell of {lots} lots", with_quote(), insert(2, 1, "sell", 90, lots))
@@ -312,6 +368,11 @@ def marks():
     yield given("a settlement takes quotes away and keeps the makers", with_quote(phase=CLOSED), dayfile.settle())
     for kind in (insert(1, 1, "buy", 95, 1), insert(3, 1, "sell", 105, 1), dayfile.deposit(1, 5), dayfile.withdraw(3, 5)):
         yield given(f"kind {kind.kind} of maker {kind.account}", with_quote(), kind)
+    # A maker's mark is 0 or 1, whoever gives a command.
+    for account in (1, 2, 3):
+        for command in (quote(1, 1, 95, 105, 3), quote(2, 1, 95, 105, 3), dayfile.deposit(2, 5)):
+            spoilt = maker_mark(with_quote(), account, 2)
+            yield given(f"kind {command.kind} of account {command.account}, mark 2 of account {account}", spoilt, command, 21)
 
 
 def other_calls():

@@ -257,6 +257,17 @@ def quotes():
     yield well("the last account of 32 is a maker", quoted(exchange(4, accounts=32), 4, (95, 1, 1), account=32))
     yield ill("the last account of 32 is none", rest(makers(exchange(4, accounts=32), 31), "buy", 4, (95, 1, 1, 32, OPEN, 301, 1)))
     yield well("every account a maker", makers(exchange(accounts=32), *range(1, 33)))
+    # A maker's mark, and a quote's, has no third value; the place behind the last account is not looked at.
+    for account in (1, 2, 3):
+        with_mark = lambda mark: maker_mark(exchange(accounts=3), account, mark)
+        yield from each(f"mark of account {account}", with_mark, (0, 1), (2, 3, 2**32, 2**32 + 1, 2**63, 2**64 - 1))
+    yield ill("mark 2 of account 32", maker_mark(exchange(accounts=32), 32, 2))
+    yield ill("mark 2 of the one account", maker_mark(exchange(accounts=1), 1, 2))
+    yield ill("mark 2 of a maker with a quote", maker_mark(both.copy(), 1, 2))
+    yield well("mark 2 behind the last account", maker_mark(exchange(accounts=3), 5, 2))
+    for mark in (3, 2**31, 2**32 - 1):
+        yield ill(f"quote mark {mark}", change_order(both.copy(), "buy", 1, 0, quote=mark))
+        yield ill(f"quote mark {mark} of a sell", change_order(both.copy(), "sell", 1, 0, quote=mark))
 
 
 # "recorded trades have existing contract and accounts, two different order numbers below the next, a price allowed

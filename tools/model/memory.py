@@ -92,7 +92,7 @@ class Memory:
 
     contracts: list = field(default_factory=lambda: [FILLED_CONTRACT] * MOST_CONTRACTS)
     balances: list = field(default_factory=lambda: [FILLED_BALANCE] * MOST_ACCOUNTS)
-    # 1 for a maker, 0 for any other account (document 02, ticket 7).
+    # 1 for a maker, 0 for any other account (document 02, ticket 7). A record can hold other marks.
     makers: list = field(default_factory=lambda: [FILLED_MAKER] * MOST_ACCOUNTS)
     # By account, then contract.
     holdings: list = field(default_factory=lambda: [[FILLED_HOLDING] * MOST_CONTRACTS for _ in range(MOST_ACCOUNTS)])
@@ -140,7 +140,8 @@ def in_use(memory):
         next_order_number=memory.next,
         next_stamp=memory.next_stamp,
         settlements=memory.settlements,
-        makers=frozenset(number for number, place in enumerate(accounts, 1) if memory.makers[place]),
+        makers=frozenset(number for number, place in enumerate(accounts, 1) if memory.makers[place] == 1),
+        marked_otherwise=frozenset(number for number, place in enumerate(accounts, 1) if memory.makers[place] > 1),
         room_for_orders={side: room_of(area) for side, area in memory.orders.items()},
         room_for_trades=room_of(memory.trades),
     )

@@ -101,6 +101,8 @@ class State:
     next_stamp: int = 1
     settlements: int = 0
     makers: frozenset = frozenset()
+    # Accounts whose mark is neither a maker's nor another account's.
+    marked_otherwise: frozenset = frozenset()
     room_for_orders: dict = field(
         default_factory=lambda: {side: MOST_CONTRACTS * MOST_RESTING for side in dayfile.SIDES}
     )
@@ -278,7 +280,10 @@ def resting_orders_are_sound(state):
 
 # A quote is "marked in the book (at most one for each contract, account and side, on a maker's open only; well-formed
 # rule too)"
+# Bit 63 marks a maker, and nothing else is said of an account: its mark has no third value.
 def quotes_are_sound(state):
+    if state.marked_otherwise:
+        return False
     for contract in state.contracts.values():
         for queue in contract.queues.values():
             quotes = [order for order in queue if order.quote]

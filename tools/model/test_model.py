@@ -1668,6 +1668,10 @@ class WellFormed(unittest.TestCase):
         self.buys[1].quote = None
         self.assert_21()
 
+    def test_makers_mark(self):
+        self.state.marked_otherwise = frozenset({2})
+        self.assert_21()
+
     def test_trade_contract(self):
         self.replace_trade(contract=2)
         self.assert_21()

@@ -23,8 +23,8 @@
 //   20  limit 100,001
 //   21  rate 10,001 in the second contract
 //   22  a balance of 10^18 + 1
-//   23  a balance with bit 63 set
-//   24  a balance of 10^18, no commands
+//   23  a maker's balance of 10^18 + 1
+//   24  balances of 10^18, the second a maker's; no commands
 //   25  every term at its largest, band above reference
 //   26  every term at its smallest
 //   27  each kind, well formed and malformed
@@ -46,9 +46,9 @@ fn say(byte: u8) {
     io::write_all(STDOUT_FILENO, &[byte]);
 }
 
-// A letter for each kind, by its number; no kind has number 8.
+// A letter for each kind, by its number.
 fn letter(command: Command) -> u8 {
-    let letters = b"-dwicpse?h";
+    let letters = b"-dwicpseqh";
     let kind = commands::kind_of(command) as usize;
     if kind < letters.len() {
         letters[kind]
