@@ -41,7 +41,7 @@ takerOf s =
 abbrev pub accountsOf : ℕ → List Account
 accountsOf lots =
     replicate 32
-    (record { balance = pos 0; maker = false; holdings = replicate 4 (record { long = lots; short = lots; startlong = lots; startshort = lots }) })
+    (record { balance = pos 0; maker = 0; holdings = replicate 4 (record { long = lots; short = lots; startlong = lots; startshort = lots }) })
 
 -- ---- one order entered again and again
 

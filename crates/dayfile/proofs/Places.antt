@@ -8,7 +8,7 @@ use native.Mathlib.Omega.{arith}
 use lib.Dec.{leb, eqb}
 use lib.ListN.{length, getD}
 use borrow.Author.Tests.{leb-true, le-leb, lt-leb, eqb-true}
-use Rattle.laws.specs.Choice.{all, both-true, all-at}
+use Rattle.laws.specs.Choice.{pick, all, both-true, all-at}
 use Rattle.laws.specs.Tabulate.{getD-tabulate}
 use Rattle.rules.specs.Bounds.{within, maxBalance}
 use Rattle.rules.specs.DayFile.{u32At, u64At, contractsIn, contractPlace, accountsIn, accountPlace, commandsIn, commandPlace, contractSound, accountSound, balanceFrom, makerBit, makerFrom, commandFrom, commandsOf, sound}
@@ -59,9 +59,9 @@ module _ (file : List ℕ) where
   unfolding balanceFrom
   balance-read start a e = ap (λ (n : ℕ). n % makerBit) (account-read start a e)
 
-  pub maker-read : (start a : ℕ) → start ≡ accountPlace file 0 → makerFrom file a ≡ leb makerBit (u64At file (start + 8 * a))
+  pub maker-read : (start a : ℕ) → start ≡ accountPlace file 0 → makerFrom file a ≡ pick (leb makerBit (u64At file (start + 8 * a))) 1 0
   unfolding makerFrom
-  maker-read start a e = ap (leb makerBit) (account-read start a e)
+  maker-read start a e = ap (λ (n : ℕ). pick (leb makerBit n) 1 0) (account-read start a e)
 
   pub account-passes : (a balance : ℕ) → balance ≡ balanceFrom file a → balance ≤ 10 ^ 18 → accountSound file a ≡ true
   unfolding accountSound

@@ -1,6 +1,6 @@
 -- The opening state in memory is the opening exchange, whatever stands in the areas lent with it: none of their places is in
 -- use. Assumes nothing.
-use mathlib.Core.Bool.{true, false}
+use mathlib.Core.Bool.{true}
 use mathlib.Core.List.{List, [], _∷_, map}
 use mathlib.Core.Path.{_≡_, refl, ap, _∙_}
 use Prim.Native.Nat.{ℕ, zero, suc, _≤_, _<_}
@@ -65,8 +65,8 @@ module _ (file buys sells trades : List ℕ) (h : sound file ≡ true) where
   accounts-in-use =
       let n = accountsIn file in
       let holders = tabulate n (openingHolder file) in
-      let t : take n (padded 32 (accountWith 0 false) holders) ≡ holders =
-      rw (length-tabulate n (openingHolder file)) at (take-padded 32 (accountWith 0 false) holders) in
+      let t : take n (padded 32 (accountWith 0 0) holders) ≡ holders =
+      rw (length-tabulate n (openingHolder file)) at (take-padded 32 (accountWith 0 0) holders) in
       rw (t, map-tabulate (inUse (contractsIn file)) n (openingHolder file))
       (tabulate-below n (λ a. inUse (contractsIn file) (openingHolder file a)) (openingAccount file) at-account)
 

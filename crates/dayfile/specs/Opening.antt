@@ -1,6 +1,6 @@
 -- The state that a day file's run opens with, as it lies in memory, and the part of `sound` that speaks of counts and length
 -- alone. Assumes nothing.
-use mathlib.Core.Bool.{Bool, false, _&&_}
+use mathlib.Core.Bool.{Bool, _&&_}
 use mathlib.Core.List.{List}
 use Prim.Native.Nat.{ℕ}
 use lib.Dec.{leb, eqb}
@@ -24,7 +24,7 @@ shaped file =
     && eqb (length file) (commandPlace file (commandsIn file))
 
 -- an account with room for its holdings in every contract, and none of them
-abbrev pub accountWith : ℕ → Bool → Account
+abbrev pub accountWith : ℕ → ℕ → Account
 accountWith balance maker = record { balance = pos balance; maker = maker; holdings = replicate maxContracts noHolding }
 
 abbrev pub openingContract : List ℕ → ℕ → Contract
@@ -38,7 +38,7 @@ unfoldable pub openingContracts : List ℕ → List Contract
 openingContracts file = padded maxContracts noContract (tabulate (contractsIn file) (openingContract file))
 
 unfoldable pub openingAccounts : List ℕ → List Account
-openingAccounts file = padded maxAccounts (accountWith 0 false) (tabulate (accountsIn file) (openingHolder file))
+openingAccounts file = padded maxAccounts (accountWith 0 0) (tabulate (accountsIn file) (openingHolder file))
 
 -- "Its run opens in pre-open, with no orders, trades, holdings or settlements."
 unfoldable pub openingState : List ℕ → State

@@ -3,6 +3,7 @@ ghost use mathlib.Core.Path.{_≡_};
 ghost use Prim.Native.Nat.{_+_, _%_, _<_, _≤_};
 ghost use lib.Dec.{leb};
 ghost use lib.ListN.{length};
+ghost use Rattle.laws.specs.Choice.{pick};
 ghost use Rattle.rules.specs.DayFile.{u8At, u16At, u32At, u64At, contractFrom, recordFrom, makerBit};
 use rules::Contract;
 use rules::Record;
@@ -59,11 +60,15 @@ pub fn balance_at(file: &[u8], at: usize) -> u64
     u64_at(file, at) % MAKER_BIT
 }
 
-pub fn maker_at(file: &[u8], at: usize) -> bool
+// 1 for a maker, 0 for another account.
+pub fn maker_at(file: &[u8], at: usize) -> u64
     requires { ⌜ at + 8 ≤ length (now file) ⌝ }
-    ensures { λ r. ⌜ r ≡ leb makerBit (u64At (now (file .entry)) at) ⌝ }
+    ensures { λ r. ⌜ r ≡ pick (leb makerBit (u64At (now (file .entry)) at)) 1 0 ⌝ }
 {
-    MAKER_BIT <= u64_at(file, at)
+    if MAKER_BIT <= u64_at(file, at) {
+        return 1;
+    }
+    0
 }
 
 // "A contract is 20 bytes", the last two of them its pairing method

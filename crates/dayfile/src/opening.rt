@@ -38,7 +38,7 @@ fn opening_contracts(file: &[u8], contracts: usize) -> [Contract; rules::MAX_CON
     places
 }
 
-fn account_with(balance: u64, maker: bool) -> Account
+fn account_with(balance: u64, maker: u64) -> Account
     requires { ⌜ balance ≤ 10 ^ 18 ⌝ }
     ensures { λ r. ⌜ r ≡ accountWith balance maker ⌝ }
 {
@@ -61,7 +61,7 @@ fn opening_accounts(file: &[u8], start: usize, accounts: usize) -> [Account; rul
     requires { ⌜ (sound (now file) ≡ true) × (start ≡ accountPlace (now file) 0) × (accounts ≡ accountsIn (now file)) ⌝ }
     ensures { λ r. ⌜ r ≡ openingAccounts (now (file .entry)) ⌝ }
 {
-    let none = account_with(0, false);
+    let none = account_with(0, 0);
     let mut places = [none; rules::MAX_ACCOUNTS];
     let mut a = 0;
     while a < accounts {

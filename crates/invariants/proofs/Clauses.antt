@@ -14,7 +14,7 @@ use Rattle.laws.specs.Chains.{passed, join}
 use Rattle.rules.specs.Bounds.{within, allowedToday, inAuction, numbersEnd, maxContracts, maxTrades, maxResting, maxLots, maxSettlements, maxBalance, maxDayProfit}
 use Rattle.rules.specs.Exchange.{Exchange, Listing, listingAt, accountAt, holdingAt, own, restingOpens, restingCloses, noListing, noAccount}
 use Rattle.rules.specs.Holdings.{bookTrades, neverBelowZero, startOfDay, sameHoldings}
-use Rattle.rules.specs.WellFormed.{contractInRange, countersInRange, sorted, uncrossed, orderInRange, listingInRange, allNumbers, allStamps, usedOnce, markAllowed, quotes, queueQuoted, listingQuoted, tradeInRange, replays, holdingInRange, holdingsInRange, balanceInRange, wellFormedContents}
+use Rattle.rules.specs.WellFormed.{contractInRange, countersInRange, sorted, uncrossed, orderInRange, listingInRange, allNumbers, allStamps, usedOnce, markAllowed, quotes, queueQuoted, listingQuoted, markInRange, tradeInRange, replays, holdingInRange, holdingsInRange, balanceInRange, wellFormedContents}
 use Rattle.rules.specs.declared.Account.{Account}
 use Rattle.rules.specs.declared.Contract.{Contract}
 use Rattle.rules.specs.declared.Holding.{Holding}
@@ -292,6 +292,7 @@ pub record WellFormed (x : Exchange) : Type 0 where
   pub once : usedOnce (allNumbers (x .listings)) ≡ true
   pub stamps-once : usedOnce (allStamps (x .listings)) ≡ true
   pub marks : (c : ℕ) → c < length (x .listings) → (sell : Bool) → MarksOk (x .accounts) (own sell (listingAt x c))
+  pub makers : (a : ℕ) → a < length (x .accounts) → accountAt (x .accounts) a .maker ≤ 1
   pub trades : allOf (tradeInRange x) (x .trades) ≡ true
   pub covered : neverBelowZero (startOfDay (x .accounts)) (x .trades) ≡ true
   pub replay : sameHoldings (bookTrades (startOfDay (x .accounts)) (x .trades)) (x .accounts) ≡ true
@@ -305,6 +306,7 @@ module _ (x : Exchange) where
       ∷ usedOnce (allNumbers (x .listings))
       ∷ usedOnce (allStamps (x .listings))
       ∷ allOf (listingQuoted (x .accounts)) (x .listings)
+      ∷ allOf markInRange (x .accounts)
       ∷ allOf (tradeInRange x) (x .trades)
       ∷ replays x
       ∷ all (holdingsInRange x) (length (x .accounts))
@@ -315,11 +317,11 @@ module _ (x : Exchange) where
   replayTests = sameHoldings (bookTrades (startOfDay (x .accounts)) (x .trades)) (x .accounts) ∷ []
 
   pub well-formed : wellFormedContents x ≡ true → WellFormed x
-  unfolding wellFormedContents countersInRange replays holdingsInRange balanceInRange listingAt accountAt
+  unfolding wellFormedContents countersInRange markInRange replays holdingsInRange balanceInRange listingAt accountAt
   well-formed h =
       let p = passed (countersInRange x) stateTests h in
       let q = passed (leb 1 (x .next)) (leb (x .next) numbersEnd ∷ within 1 numbersEnd (x .nextstamp) ∷ leb (x .settlements) maxSettlements ∷ []) (p .0) in
-      let r = passed (neverBelowZero (startOfDay (x .accounts)) (x .trades)) replayTests (p .1 .1 .1 .1 .1 .1 .0) in
+      let r = passed (neverBelowZero (startOfDay (x .accounts)) (x .trades)) replayTests (p .1 .1 .1 .1 .1 .1 .1 .0) in
       let s = both-true (leb 1 (x .nextstamp)) (leb (x .nextstamp) numbersEnd) (q .1 .1 .0) in
       record {
         next-low = leb-true _ _ (q .0);
@@ -331,18 +333,19 @@ module _ (x : Exchange) where
         once = p .1 .1 .0;
         stamps-once = p .1 .1 .1 .0;
         marks = λ c l. both-marks-ok (x .accounts) _ (allOf-at (listingQuoted (x .accounts)) (x .listings) c noListing (p .1 .1 .1 .1 .0) l);
-        trades = p .1 .1 .1 .1 .1 .0;
+        makers = λ a l. leb-true _ _ (allOf-at markInRange (x .accounts) a noAccount (p .1 .1 .1 .1 .1 .0) l);
+        trades = p .1 .1 .1 .1 .1 .1 .0;
         covered = r .0;
         replay = r .1;
         holding =
             λ a c la lc. holding-ok _ _ _
             (all-at (λ c. holdingInRange (listingAt x c) a (holdingAt (x .accounts) a c)) c (length (x .listings))
-            (all-at (holdingsInRange x) a (length (x .accounts)) (p .1 .1 .1 .1 .1 .1 .1 .0) la) lc);
-        balance = λ a l. leb-true _ _ (allOf-at (balanceInRange (x .settlements)) (x .accounts) a noAccount (p .1 .1 .1 .1 .1 .1 .1 .1) l);
+            (all-at (holdingsInRange x) a (length (x .accounts)) (p .1 .1 .1 .1 .1 .1 .1 .1 .0) la) lc);
+        balance = λ a l. leb-true _ _ (allOf-at (balanceInRange (x .settlements)) (x .accounts) a noAccount (p .1 .1 .1 .1 .1 .1 .1 .1 .1) l);
       }
 
   pub well-formed-test : WellFormed x → wellFormedContents x ≡ true
-  unfolding wellFormedContents countersInRange replays holdingsInRange balanceInRange listingAt accountAt
+  unfolding wellFormedContents countersInRange markInRange replays holdingsInRange balanceInRange listingAt accountAt
   well-formed-test k =
       join (countersInRange x) stateTests (
         join (leb 1 (x .next)) (leb (x .next) numbersEnd ∷ within 1 numbersEnd (x .nextstamp) ∷ leb (x .settlements) maxSettlements ∷ [])
@@ -356,14 +359,17 @@ module _ (x : Exchange) where
               (
                 allOf-true (listingQuoted (x .accounts)) (x .listings) noListing (λ c l. both-marks-test (x .accounts) _ (k .marks c l)),
                 (
-                  k .trades,
+                  allOf-true markInRange (x .accounts) noAccount (λ a l. le-leb _ _ (k .makers a l)),
                   (
-                    join (neverBelowZero (startOfDay (x .accounts)) (x .trades)) replayTests (k .covered, k .replay),
+                    k .trades,
                     (
-                      all-true (holdingsInRange x) (length (x .accounts))
-                          (λ a la. all-true (λ c. holdingInRange (listingAt x c) a (holdingAt (x .accounts) a c)) (length (x .listings))
-                          (λ c lc. holding-test _ _ _ (k .holding a c la lc))),
-                      allOf-true (balanceInRange (x .settlements)) (x .accounts) noAccount (λ a l. le-leb _ _ (k .balance a l)),
+                      join (neverBelowZero (startOfDay (x .accounts)) (x .trades)) replayTests (k .covered, k .replay),
+                      (
+                        all-true (holdingsInRange x) (length (x .accounts))
+                            (λ a la. all-true (λ c. holdingInRange (listingAt x c) a (holdingAt (x .accounts) a c)) (length (x .listings))
+                            (λ c lc. holding-test _ _ _ (k .holding a c la lc))),
+                        allOf-true (balanceInRange (x .settlements)) (x .accounts) noAccount (λ a l. le-leb _ _ (k .balance a l)),
+                      ),
                     ),
                   ),
                 ),

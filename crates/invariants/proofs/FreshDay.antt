@@ -1,5 +1,5 @@
 -- A state at the start of a day, with no orders and no trades: after a settlement, or as a day file opens it. It is well formed
--- if its contracts, holdings and balances are in range. Assumes nothing.
+-- if its contracts, makers' marks, holdings and balances are in range. Assumes nothing.
 use mathlib.Core.Bool.{Bool, true, false}
 use mathlib.Core.List.{List, []}
 use mathlib.Core.Path.{_≡_, refl, sym, ap, _∙_}
@@ -107,13 +107,13 @@ module _ (contracts : ℕ) (contract : ℕ → Contract) (accounts : ℕ) (accou
       none true = omega arith
       none false = omega arith
 
-  pub fresh-day : settlements ≤ maxSettlements →
+  pub fresh-day : settlements ≤ maxSettlements → ((a : ℕ) → a < accounts → account a .maker ≤ 1) →
       ((a c : ℕ) → a < accounts → c < contracts → getD (account a .holdings) c noHolding .long ≤ contract c .limit) →
       ((a c : ℕ) → a < accounts → c < contracts → getD (account a .holdings) c noHolding .short ≤ contract c .limit) →
       ((a : ℕ) → a < accounts → natAbs (account a .balance) ≤ maxBalance + settlements * maxDayProfit) →
       WellFormed day
   unfolding bookTrades neverBelowZero allOf
-  fresh-day few longs shorts balances =
+  fresh-day few makers longs shorts balances =
       let nc = length-tabulate contracts (λ c. quiet (contract c)) in
       let na = length-tabulate accounts account in
       record {
@@ -126,6 +126,7 @@ module _ (contracts : ℕ) (contract : ℕ → Contract) (accounts : ℕ) (accou
         once = rw (no-orders numberOf contracts contract) once-none;
         stamps-once = rw (no-orders stampOf contracts contract) once-none;
         marks = λ c l sell. rw (listing-at c (rw nc at l)) (none sell);
+        makers = λ a l. let h : a < accounts = rw na at l in rw (account-at a h) (makers a h);
         trades = refl;
         covered = refl;
         replay = rw (same-start accounts account start) (same-refl (day .accounts));

@@ -75,7 +75,7 @@ mark-dropped a o n = go (eqb (o .account) a)
 -- none, or that of a maker's open, with no other of its account on that side
 pub record Marks (x : Exchange) (quote : ℕ) (o : NewOrder) : Type 0 where
   pub low : quote ≤ 1
-  pub allowed : (eqb quote 0 || accountAt (x .accounts) (placeOf (o .account)) .maker && eqb (mark (o .close)) 0) ≡ true
+  pub allowed : (eqb quote 0 || eqb (accountAt (x .accounts) (placeOf (o .account)) .maker) 1 && eqb (mark (o .close)) 0) ≡ true
   pub single : pick (eqb quote 1) 1 0 + quotes (placeOf (o .account)) (own (o .sell) (listingOf x o)) ≤ 1
 
 pub no-mark : (x : Exchange) → WellFormed x → (o : NewOrder) → placeOf (o .account) < length (x .accounts) → placeOf (o .contract) < length (x .listings) → Marks x 0 o
@@ -91,7 +91,7 @@ module _ (accounts : List Account) (t : Taker) where
 
   -- the queue in which it rests
   pub rested-marks : (price n : ℕ) (queue : List Order) →
-      (eqb (t .quote) 0 || accountAt accounts (t .account) .maker && eqb (t .close) 0) ≡ true → pick (eqb (t .quote) 1) 1 0 + quotes (t .account) queue ≤ 1 →
+      (eqb (t .quote) 0 || eqb (accountAt accounts (t .account) .maker) 1 && eqb (t .close) 0) ≡ true → pick (eqb (t .quote) 1) 1 0 + quotes (t .account) queue ≤ 1 →
       MarksOk accounts queue → MarksOk accounts (restLots t price n queue)
   unfolding markAllowed quotes remainder
   rested-marks price n queue allowed single k =

@@ -41,6 +41,7 @@ module _ (x : Exchange) (k : WellFormed x) (c : ℕ) (there : c < length (x .lis
         stamps-once = once-changed stampOf (x .listings) c m there (k .stamps-once) (λ n. omega (arith, fewer stampOf (λ o lots. (refl, refl)) n, once-count (allStamps (x .listings)) (k .stamps-once) n));
         marks = λ d l sell. at-set (λ (j : ℕ) (n : Listing). MarksOk (x .accounts) (own sell n)) (x .listings) c m noListing there (marks sell) d
             (λ n. k .marks d (rw same-count at l) sell);
+        makers = k .makers;
         trades = trades-carried x (withListing x c m) (sym same-count) refl (le-refl (x .next))
             (λ d. at-set (λ (j : ℕ) (n : Listing). Allows (listingAt x j .contract) (n .contract)) (x .listings) c m noListing there allows d
             (λ n p h. h))

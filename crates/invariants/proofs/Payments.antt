@@ -73,6 +73,7 @@ module _ (x : Exchange) (k : WellFormed x) (a : ℕ) (there : a < length (x .acc
         once = k .once;
         stamps-once = k .stamps-once;
         marks = λ c l sell. marks-carried (x .accounts) after same-count same-maker (k .marks c l sell);
+        makers = λ b lb. rw (same-maker b) (k .makers b (rw same-count at lb));
         trades = trades-carried x (paid x a balance) refl (sym same-count) (le-refl (x .next)) (λ c p h. h) (x .trades) (k .trades);
         covered = never-same (startOfDay after) (startOfDay (x .accounts)) same-start (x .trades) ∙ k .covered;
         replay =

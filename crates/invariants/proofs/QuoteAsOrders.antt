@@ -77,7 +77,7 @@ pub record Passes24 (x : Exchange) (q : Offered) : Type 0 where
   pub account : absent (q .account) (x .accounts) ≡ false
   pub contract : absent (q .contract) (x .listings) ≡ false
   pub open′ : eqb (listingAt x (placeOf (q .contract)) .contract .phase) continuous ≡ true
-  pub maker : accountAt (x .accounts) (placeOf (q .account)) .maker ≡ true
+  pub maker : accountAt (x .accounts) (placeOf (q .account)) .maker ≡ 1
   pub below : ltb (q .buy) (q .sell) ≡ true
 
 -- A QUOTE AND ITS ORDERS: the same code, and where it is 0 the same answer and the same state, marks aside

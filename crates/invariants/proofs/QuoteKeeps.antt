@@ -5,7 +5,8 @@ use mathlib.Core.List.{List, [], _∷_}
 use mathlib.Core.Path.{_≡_, refl, _∙_}
 use Prim.Native.Nat.{ℕ, _+_, _<_, _≤_}
 use native.Mathlib.Omega.{arith}
-use borrow.Author.Tests.{not-false}
+use borrow.Author.Tests.{eqb-true, not-false}
+use lib.Dec.{eqb}
 use lib.ListN.{length, length-set}
 use lib.Seq.{getD-set-same}
 use Rattle.laws.specs.Choice.{pick}
@@ -81,7 +82,7 @@ module _ (x : Exchange) (w : WellFormed x) (q : Offered) (account-there : placeO
 
   -- ---- the buy, which passes its tests
 
-  module _ (is-maker : accountAt (x .accounts) (placeOf (q .account)) .maker ≡ true) (bought : Failed (orderRefusals (withoutQuote x q) (buyOf q))) where
+  module _ (is-maker : accountAt (x .accounts) (placeOf (q .account)) .maker ≡ 1) (bought : Failed (orderRefusals (withoutQuote x q) (buyOf q))) where
     pub buy-passes : Passes (withoutQuote x q) (withoutQuote x q .next) (buyOf q)
     unfolding half
     buy-passes = order-passes (withoutQuote x q) (buyOf q) bought (rw gone-accounts account-there) gone-there
@@ -112,7 +113,7 @@ module _ (x : Exchange) (w : WellFormed x) (q : Offered) (account-there : placeO
     unfolding withBuy exchangeAfter
     buy-listings = length-set (withoutQuote x q .listings) (placeOf (buyOf q .contract)) _
 
-    pub still-maker : accountAt (withBuy x q .accounts) account .maker ≡ true
+    pub still-maker : accountAt (withBuy x q .accounts) account .maker ≡ 1
     unfolding withBuy exchangeAfter withoutQuote
     still-maker = booked-maker (x .accounts) (buyEntered x q .trades) account ∙ is-maker
 
@@ -169,9 +170,9 @@ module _ (x : Exchange) (w : WellFormed x) (q : Offered) (e : firstOf (quoteRefu
   unfolding quoteRefusals
   listed = present (q .contract) (x .listings) (tests .1 .0)
 
-  maker : accountAt (x .accounts) (placeOf (q .account)) .maker ≡ true
+  maker : accountAt (x .accounts) (placeOf (q .account)) .maker ≡ 1
   unfolding quoteRefusals
-  maker = not-false (accountAt (x .accounts) (placeOf (q .account)) .maker) (tests .1 .1 .1 .0)
+  maker = eqb-true (accountAt (x .accounts) (placeOf (q .account)) .maker) 1 (not-false (eqb (accountAt (x .accounts) (placeOf (q .account)) .maker) 1) (tests .1 .1 .1 .0))
 
   codes : Failed (orderRefusals (withoutQuote x q) (buyOf q)) × Failed (orderRefusals (withBuy x q) (sellOf q))
   unfolding quoteRefusals

@@ -112,6 +112,7 @@ module _ (x : Exchange) (k : WellFormed x) (c : ℕ) (m : Listing) (ts : List Tr
         once = once-changed numberOf (x .listings) c m (ok .there) (k .once) (ok .numbers);
         stamps-once = once-changed stampOf (x .listings) c m (ok .there) (k .stamps-once) (ok .stamps);
         marks = λ d l. marks-after d (omega (arith, traded-listings x c m ts n s));
+        makers = λ a l. rw (booked-maker (x .accounts) ts a) (k .makers a (omega (arith, traded-accounts x c m ts n s)));
         trades =
             rw (allOf-append (tradeInRange afterwards) (x .trades) ts)
             (true-both (allOf (tradeInRange afterwards) (x .trades)) (allOf (tradeInRange afterwards) ts) old-trades (ok .ranges));

@@ -6,13 +6,12 @@ use Prim.Native.Nat.{ℕ, _+_, _-_, _<_, _≤_}
 use native.Mathlib.Omega.{arith}
 use borrow.Author.Tests.{eqb-true, ne-eqb}
 use lib.Dec.{eqb}
-use lib.ListN.{length, getD}
+use lib.ListN.{length}
 use Rattle.laws.specs.Choice.{pick}
 use Rattle.rules.specs.Answers.{firstOf, orderRefusals}
-use Rattle.rules.specs.Exchange.{Exchange, noAccount, placeOf}
+use Rattle.rules.specs.Exchange.{Exchange, placeOf}
 use Rattle.rules.specs.Kinds.{refused}
 use Rattle.rules.specs.Memory.{Memory, Responded, WellFormedState, exchangeOf, inMemory, memory}
-use Rattle.rules.specs.declared.Account.{Account}
 use Rattle.rules.specs.declared.NewOrder.{NewOrder}
 use Rattle.rules.specs.declared.State.{State}
 use Rattle.invariants.proofs.Accepted.{Failed, failed}

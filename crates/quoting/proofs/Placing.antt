@@ -7,36 +7,39 @@ use Prim.Native.Nat.{ℕ, _+_, _-_, _*_, _<_, _≤_}
 use native.Mathlib.Omega.{arith}
 use borrow.Author.Tests.{eqb-true, ne-eqb, not-false}
 use lib.Dec.{eqb, ltb}
-use lib.ListN.{length, getD, set, length-append}
+use lib.ListN.{length, getD, set, take, drop, length-append}
 use Rattle.laws.specs.Choice.{pick}
+use Rattle.areas.specs.Lists.{over}
 use Rattle.areas.specs.Records.{store}
-use Rattle.rules.specs.Answers.{Refusal, _when_, firstOf, listingOf, orderRefusals, takerOf, tradesNeeded}
-use Rattle.rules.specs.Bounds.{continuous, inAuction, maxResting, maxTrades}
+use Rattle.rules.specs.Answers.{Refusal, _when_, firstOf, isGoodForDay, listingOf, orderRefusals, takerOf, tradesNeeded}
+use Rattle.rules.specs.Bounds.{continuous, inAuction, maxLots, maxResting, maxTrades}
 use Rattle.rules.specs.Exchange.{Exchange, Listing, absent, accountAt, listingAt, noAccount, noContract, opposite, own, placeOf}
-use Rattle.rules.specs.Kinds.{codeOf, kindOf}
-use Rattle.rules.specs.Matching.{Entered, sweep, tradedLots}
-use Rattle.rules.specs.Memory.{Declared, Memory, WellFormedState, exchangeOf, firstWord, listingIn, memory, put, putQueue, putState, queueIn, queueStride, stepIn, tradeStride, tradeWords, wellFormedMemory}
+use Rattle.rules.specs.Kinds.{codeOf, done, kindOf}
+use Rattle.rules.specs.Matching.{enter, restWhole, restedLots, sweep, tradedLots}
+use Rattle.rules.specs.Memory.{Declared, Memory, WellFormedState, exchangeOf, listingIn, memory, put, putQueue, putState, queueIn, queueStride, stepIn, tradeStride, tradeWords, wellFormedMemory, written}
 use Rattle.rules.specs.Quote.{Offered, offered, half, buyOf, sellOf, buyEntered, sellEntered, withoutQuote, withBuy, withSell, quoteRefusals, quoted}
 use Rattle.rules.specs.Step.{answerOf, enteredOf, exchangeAfter, listingAfter, withTrades, without}
-use Rattle.rules.specs.WellFormed.{isQuoteOf, quotes}
+use Rattle.rules.specs.WellFormed.{isQuoteOf}
 use Rattle.rules.specs.declared.Command.{Command}
 use Rattle.rules.specs.declared.Command.the-variants.{Quote}
 use Rattle.rules.specs.declared.NewOrder.{NewOrder}
 use Rattle.rules.specs.declared.Order.{Order}
 use Rattle.rules.specs.declared.State.{State}
 use Rattle.rules.specs.declared.Trade.{Trade}
-use Rattle.rules.proofs.AuctionSteps.{trades-needed}
+use Rattle.rules.proofs.AuctionSteps.{entered-either, trades-needed}
 use Rattle.rules.proofs.Codecs.{length-queue}
-use Rattle.rules.proofs.Fillable.{trades-counted}
+use Rattle.rules.proofs.Fillable.{swept-at-most, traded-nil, trades-counted}
 use Rattle.rules.proofs.Queue.{length-without}
 use Rattle.rules.proofs.Stages.{Each}
+use Rattle.book.specs.Removal.{PulledIs}
+use Rattle.book.specs.declared.removal.Pulled.{Pulled}
 use Rattle.accounting.proofs.Declared.{stage-declared}
 use Rattle.accounting.proofs.QuoteMoves.{quoted-shape}
 use Rattle.accounting.proofs.StepShape.{SameShape, shape-sym, shape-trans}
 use Rattle.invariants.proofs.Accepted.{Failed, failed}
 use Rattle.invariants.proofs.Clauses.{Counted, WellFormed}
 use Rattle.invariants.proofs.MemoryKeeps.{sound, stage-keeps, stage-read}
-use Rattle.invariants.proofs.QuoteKeeps.{buy-accounts, buy-counted, buy-keeps, buy-passes, buy-sells, gone-accounts, gone-counted, gone-keeps, none-marked, sells-unmarked, still-maker}
+use Rattle.invariants.proofs.QuoteKeeps.{buy-counted, buy-keeps, buy-passes, buy-sells, gone-accounts, gone-counted, gone-keeps, none-marked, sells-unmarked, still-maker}
 use Rattle.engine.specs.Outcome.{OutcomeIs, acceptedWith, isAbsent, refusedWith, withCountsIn}
 use Rattle.engine.specs.Removal.{removalCode}
 use Rattle.engine.specs.declared.answers.Outcome.{Outcome}
@@ -44,10 +47,9 @@ use Rattle.engine.proofs.Formed.{Formed, account-at, accounts-count, contracts-
 use Rattle.engine.proofs.Outcomes.{acceptance, refusal}
 use Rattle.engine.proofs.Puts.{put-queues, trades-count}
 use Rattle.engine.proofs.Refusals.{first-append}
-use Rattle.engine.proofs.Removals.{in-continuous}
+use Rattle.engine.proofs.Removals.{in-continuous, lies}
 use Rattle.engine.proofs.Tests.{place-below}
 use Rattle.engine.proofs.Traded.{few-after, put-traded}
-use Rattle.refusals.specs.Insertion.{Present}
 use Rattle.refusals.proofs.Arrivals.{count-within}
 use Rattle.refusals.proofs.Sides.{contract-is}
 use Rattle.insertion.specs.Arrival.{enteredIn}
@@ -63,6 +65,27 @@ needed-few y number o = by (inAuction (listingOf y o .contract))
     by : (b : Bool) → pick b 0 (length (sweep (takerOf y number 0 o) (o .lots) (listingOf y o .contract .last) (opposite (o .sell) (listingOf y o)) .trades)) ≤ length (opposite (o .sell) (listingOf y o))
     by true = omega arith
     by false = omega (arith, trades-counted (takerOf y number 0 o) (o .lots) (listingOf y o .contract .last) (opposite (o .sell) (listingOf y o)), count-within (takerOf y number 0 o) (o .lots) (opposite (o .sell) (listingOf y o)))
+
+-- an order trades and rests at most its lots
+rested-lots : (b : Bool) (lots : ℕ) (ts : List Trade) → restedLots b lots ts ≤ lots
+unfolding restedLots
+rested-lots true lots ts = omega arith
+rested-lots false lots ts = omega arith
+
+entered-lots : (y : Exchange) (number mark : ℕ) (o : NewOrder) → (tradedLots (enteredOf y number mark o .trades) ≤ o .lots) × (enteredOf y number mark o .rested ≤ o .lots)
+unfolding enter restWhole
+entered-lots y number mark o =
+    entered-either y number mark o (λ e. (tradedLots (e .trades) ≤ o .lots) × (e .rested ≤ o .lots)) (λ h. (omega (arith, traded-nil), omega arith))
+    (λ h. (swept-at-most (takerOf y number mark o) (o .lots) (listingOf y o .contract .last) (opposite (o .sell) (listingOf y o)), rested-lots (isGoodForDay (o .time)) (o .lots) _))
+
+-- what the code takes out of the two queues is the account's old quote; k is the contract's number as the code widens it
+pub gone-written : {s : State} {buys sells trades : List ℕ} (w : WellFormedState s buys sells trades) (account contract : ℕ) → removalCode s account contract false ≡ 0 → {k : ℕ} → k ≡ contract
+    → {r : State} {bid offer : Pulled} {buys′ sells′ : List ℕ}
+    → PulledIs (isQuoteOf (placeOf account)) buys (k - 1) (getD (s .buys) (k - 1) 0) bid buys′ → PulledIs (isQuoteOf (placeOf account)) sells (k - 1) (getD (s .sells) (k - 1) 0) offer sells′
+    → r ≡ withCountsIn s (set (s .buys) (k - 1) (bid .count)) (set (s .sells) (k - 1) (offer .count)) → memory r buys′ sells′ trades ≡ goneIn (memory s buys sells trades) account contract
+gone-written w account contract none is b o e =
+    rw e
+    (sym (lies w account contract false none is (isQuoteOf (placeOf account)) (record { queue = b .queue; count = b .count; lots = b .lots }) (record { queue = o .queue; count = o .count; lots = o .lots })))
 
 module _ {s : State} {buys sells trades : List ℕ} (w : WellFormedState s buys sells trades) (account contract lots buy sell : ℕ) where
   abbrev m : Memory
@@ -102,7 +125,7 @@ module _ {s : State} {buys sells trades : List ℕ} (w : WellFormedState s buys 
       (2 when absent account (x .accounts))
       ∷ (3 when absent contract (x .listings))
       ∷ (4 when not (eqb (listingAt x c .contract .phase) continuous))
-      ∷ (23 when not (accountAt (x .accounts) a .maker))
+      ∷ (23 when not (eqb (accountAt (x .accounts) a .maker) 1))
       ∷ (24 when not (ltb buy sell))
       ∷ []
 
@@ -115,8 +138,8 @@ module _ {s : State} {buys sells trades : List ℕ} (w : WellFormedState s buys 
   early-same = rw (no-account m f account, no-contract m f contract) (by (isAbsent account (s .accountcount)) refl (isAbsent contract (s .contractcount)) refl)
     where
       by : (b : Bool) → isAbsent account (s .accountcount) ≡ b → (d : Bool) → isAbsent contract (s .contractcount) ≡ d
-          → _≡_ {A = ℕ} (pick b 2 (pick d 3 (pick (not (eqb (listingAt x c .contract .phase) continuous)) 4 (pick (not (accountAt (x .accounts) a .maker)) 23 (pick (not (ltb buy sell)) 24 0)))))
-          (pick b 2 (pick d 3 (pick (not (eqb (getD (s .contracts) c noContract .phase) continuous)) 4 (pick (not (getD (s .accounts) a noAccount .maker)) 23 (pick (not (ltb buy sell)) 24 0)))))
+          → _≡_ {A = ℕ} (pick b 2 (pick d 3 (pick (not (eqb (listingAt x c .contract .phase) continuous)) 4 (pick (not (eqb (accountAt (x .accounts) a .maker) 1)) 23 (pick (not (ltb buy sell)) 24 0)))))
+          (pick b 2 (pick d 3 (pick (not (eqb (getD (s .contracts) c noContract .phase) continuous)) 4 (pick (not (eqb (getD (s .accounts) a noAccount .maker) 1)) 23 (pick (not (ltb buy sell)) 24 0)))))
       by true e d h = refl
       by false e true h = refl
       by false e false h = rw (contract-is m f c (place-below contract (s .contractcount) h .1), maker-is (place-below account (s .accountcount) e .1)) refl
@@ -155,8 +178,8 @@ module _ {s : State} {buys sells trades : List ℕ} (w : WellFormedState s buys 
     listed : c < length (x .listings)
     listed = rw (contracts-count m f) here
 
-    is-maker : accountAt (x .accounts) a .maker ≡ true
-    is-maker = maker-is holder-here ∙ not-false _ (tests .1 .1 .1 .0)
+    is-maker : accountAt (x .accounts) a .maker ≡ 1
+    is-maker = maker-is holder-here ∙ eqb-true _ 1 (not-false _ (tests .1 .1 .1 .0))
 
     counts : Counted x
     counts = sound m (w .formed) .counts
@@ -465,15 +488,72 @@ module _ {s : State} {buys sells trades : List ℕ} (w : WellFormedState s buys 
                       let e : r₂ .answer ≡ answerOf 0 (exchangeOf m₂ .next) (tradedLots (enteredOf (exchangeOf m₂) (exchangeOf m₂ .next) 1 (sellOf q) .trades)) (enteredOf (exchangeOf m₂) (exchangeOf m₂ .next) 1 (sellOf q) .rested) = entered₂ .answer ∙ rw offer-is in
                       (ap (λ v. v .traded) e ∙ ap (λ (y : Exchange). tradedLots (enteredOf y (y .next) 1 (sellOf q) .trades)) buy-read, ap (λ v. v .lots) e ∙ ap (λ (y : Exchange). enteredOf y (y .next) 1 (sellOf q) .rested) buy-read)
 
-                  pub quote-accepted : {r : Outcome} {left₂ : State} {traded rested : ℕ} → left₂ ≡ r₂ .state → traded ≡ r₁ .answer .traded + r₂ .answer .traded → rested ≡ r₁ .answer .lots + r₂ .answer .lots
-                      → r ≡ acceptedWith left₂ (s .next) traded rested → PlacedIs s buys sells trades account contract lots buy sell r buys₃ sells₃ trades₃
-                  unfolding kindOf quoted exchangeOf
-                  quote-accepted {r} el et er e =
-                      let done-so = acceptance s buys sells trades command (code-sell ∙ sold) (sym (rw (first-is .0, first-is .1, second-is .0, second-is .1) (ap (λ (n : ℕ). n) refl))) (sym sell-left) (e ∙ rw (el, et, er)) in
+                  abbrev traded : ℕ
+                  traded = r₁ .answer .traded + r₂ .answer .traded
+
+                  abbrev rested : ℕ
+                  rested = r₁ .answer .lots + r₂ .answer .lots
+
+                  next-is : x .next ≡ s .next
+                  unfolding exchangeOf
+                  next-is = refl
+
+                  summed : done (kindOf x command .effect) .answer ≡ answerOf 0 (x .next) traded rested
+                  unfolding kindOf quoted
+                  summed = rw (first-is .0, first-is .1, second-is .0, second-is .1) refl
+
+                  told-both : done (kindOf x command .effect) .answer ≡ answerOf 0 (s .next) traded rested
+                  told-both = summed ∙ ap (λ (n : ℕ). answerOf 0 n traded rested) next-is
+
+                  written-both : written m (kindOf x command .effect .stages) ≡ memory (r₂ .state) buys₃ sells₃ trades₃
+                  unfolding kindOf quoted
+                  written-both = sym sell-left
+
+                  lots-few : lots ≤ maxLots
+                  unfolding half
+                  lots-few = buy-passes x (f .contents) q holder listed is-maker bought .lots-high
+
+                  pub sums-fit : (traded ≤ 2 * maxLots) × (rested ≤ 2 * maxLots)
+                  unfolding half
+                  sums-fit =
+                      let b = entered-lots (withoutQuote x q) (withoutQuote x q .next) 1 (buyOf q) in
+                      let o = entered-lots (withBuy x q) (withBuy x q .next) 1 (sellOf q) in
+                      (omega (arith, first-is .0, second-is .0, b .0, o .0, lots-few), omega (arith, first-is .1, second-is .1, b .1, o .1, lots-few))
+
+                  pub quote-accepted : {r : Outcome} → r ≡ acceptedWith (r₂ .state) (s .next) traded rested → PlacedIs s buys sells trades account contract lots buy sell r buys₃ sells₃ trades₃
+                  quote-accepted {r} e =
+                      let zero-told : r .answer .code ≡ 0 = ap (λ (v : Outcome). v .answer .code) e in
                       record {
-                        accepted = λ z. done-so;
-                        refused = λ z. absurd (z (ap (λ (v : Outcome). v .answer .code) e));
-                        buys-back = λ z. absurd (z (ap (λ (v : Outcome). v .answer .code) e));
-                        sells-back = λ z. absurd (z (ap (λ (v : Outcome). v .answer .code) e));
-                        trades-back = λ z. absurd (z (ap (λ (v : Outcome). v .answer .code) e));
+                        accepted = λ z. acceptance s buys sells trades command (code-sell ∙ sold) told-both written-both e;
+                        refused = λ z. absurd (z zero-told);
+                        buys-back = λ z. absurd (z zero-told);
+                        sells-back = λ z. absurd (z zero-told);
+                        trades-back = λ z. absurd (z zero-told);
                       }
+
+    -- ---- what is kept and put back; k is the contract's number as the code widens it, n the room of the copy
+
+    pub traded-few : s .tradecount ≤ maxTrades
+    traded-few = f .trades-high
+
+    pub buys-room : {k n : ℕ} → k ≡ contract → n ≡ queueStride → queueStride * (k - 1) + n ≤ length buys
+    buys-room ek en = rw (ek, en) room-buys
+
+    pub sells-room : {k n : ℕ} → k ≡ contract → n ≡ queueStride → queueStride * (k - 1) + n ≤ length sells
+    sells-room ek en = rw (ek, en) room-sells
+
+    pub kept-room : {at n : ℕ} → at ≡ madeFrom (s .tradecount) → n ≡ tradeStride * maxResting → at + n ≤ length trades
+    kept-room ea en = rw (ea, en) trades-room
+
+    module _ {r : Outcome} {buys′ sells′ trades′ : List ℕ} (p : PlacedIs s buys sells trades account contract lots buy sell r buys′ sells′ trades′) (some : r .answer .code ≡ 0 → ⊥) where
+      pub buys-again : {k n : ℕ} → k ≡ contract → n ≡ queueStride → {kept buys″ : List ℕ} → kept ≡ take n (drop (queueStride * (k - 1)) buys) → buys″ ≡ over buys′ (queueStride * (k - 1)) kept → buys″ ≡ buys
+      buys-again ek en e h = h ∙ rw (e, ek, en) (p .buys-back some .back)
+
+      pub sells-again : {k n : ℕ} → k ≡ contract → n ≡ queueStride → {kept sells″ : List ℕ} → kept ≡ take n (drop (queueStride * (k - 1)) sells) → sells″ ≡ over sells′ (queueStride * (k - 1)) kept → sells″ ≡ sells
+      sells-again ek en e h = h ∙ rw (e, ek, en) (p .sells-back some .back)
+
+      pub trades-again : {at n : ℕ} → at ≡ madeFrom (s .tradecount) → n ≡ tradeStride * maxResting → {kept trades″ : List ℕ} → kept ≡ take n (drop at trades) → trades″ ≡ over trades′ at kept → trades″ ≡ trades
+      trades-again ea en e h = h ∙ rw (e, ea, en) (p .trades-back some .back)
+
+      pub quote-undone : {buys″ sells″ trades″ : List ℕ} → buys″ ≡ buys → sells″ ≡ sells → trades″ ≡ trades → OutcomeIs (stepIn m command) r buys″ sells″ trades″
+      quote-undone b o t = rw (b, o, t) (p .refused some)

@@ -1,6 +1,6 @@
 -- Words written within a part of an area are undone by writing the part as it was. Assumes nothing.
 use mathlib.Core.Bool.{Bool, true, false}
-use mathlib.Core.List.{List, [], _∷_, _++_}
+use mathlib.Core.List.{List, [], _∷_}
 use mathlib.Core.Path.{_≡_, refl, sym, ap, _∙_}
 use Prim.Native.Nat.{ℕ, _+_, _-_, _*_, _<_, _≤_}
 use native.Mathlib.Omega.{arith}
@@ -8,7 +8,7 @@ use borrow.Author.Tests.{leb-true, leb-false}
 use lib.Dec.{leb}
 use native.Mathlib.Numerals.{add-one}
 use lib.ListN.{length, getD, set, take, drop, length-append, length-drop, length-replicate}
-use lib.Seq.{length-take-le, take-suc}
+use lib.Seq.{getD-drop, getD-take, length-take-le, take-all, take-suc}
 use Rattle.laws.specs.Choice.{pick}
 use Rattle.areas.specs.Lists.{over, padded}
 use Rattle.areas.specs.Records.{store, encode}
@@ -16,7 +16,7 @@ use Rattle.areas.proofs.Lists.{length-over, over-append, over-inside, over-nil,
 use Rattle.areas.proofs.Records.{length-encode, store-over}
 use Rattle.rules.specs.Bounds.{maxResting, maxTrades}
 use Rattle.rules.specs.Exchange.{noOrder}
-use Rattle.rules.specs.Memory.{orderStride, orderWords, putQueue, queueStride, tradeStride, tradeWords}
+use Rattle.rules.specs.Memory.{orderWords, putQueue, queueStride, tradeStride, tradeWords}
 use Rattle.rules.specs.declared.Order.{Order}
 use Rattle.rules.specs.declared.Trade.{Trade}
 use Rattle.rules.proofs.Codecs.{order-codec, trade-codec}
@@ -102,6 +102,22 @@ copy-next a at k i h room =
 pub copy-none : (a : List ℕ) (at : ℕ) (k : List ℕ) → a ≡ over a at (take 0 k)
 copy-none a at k = sym (over-nil a at)
 
--- all of them, over the whole of an area
-pub copied-whole : (a k : List ℕ) → length k ≡ length a → over a 0 k ≡ k
-copied-whole a k e = over-tail a 0 k (omega arith)
+-- ---- words kept: so far i of as many as there is room for
+
+abbrev pub keptSo : List ℕ → ℕ → List ℕ → ℕ → List ℕ
+keptSo a at kept i = over kept 0 (take i (take (length kept) (drop at a)))
+
+module _ (a : List ℕ) (at : ℕ) (kept : List ℕ) (room : at + length kept ≤ length a) where
+  pub keep-none : kept ≡ keptSo a at kept 0
+  keep-none = copy-none kept 0 (take (length kept) (drop at a))
+
+  pub keep-next : (i : ℕ) → i < length kept → set (keptSo a at kept i) i (getD a (at + i) 0) ≡ keptSo a at kept (i + 1)
+  keep-next i h =
+      let l : length (take (length kept) (drop at a)) ≡ length kept = part-length a at (length kept) room in
+      let z : 0 + i ≡ i = omega arith in
+      rw (← getD-drop, ← getD-take (length kept) (drop at a) i 0) (rw z at (copy-next kept 0 (take (length kept) (drop at a)) i (omega arith) (omega arith)))
+
+  pub keep-all : keptSo a at kept (length kept) ≡ take (length kept) (drop at a)
+  keep-all =
+      let l : length (take (length kept) (drop at a)) ≡ length kept = part-length a at (length kept) room in
+      rw (take-all (length kept) (take (length kept) (drop at a)) (omega arith)) (over-tail kept 0 (take (length kept) (drop at a)) (omega arith))

@@ -3,13 +3,13 @@
 use mathlib.Core.Bool.{Bool, true, false, not}
 use mathlib.Core.List.{List, [], _∷_}
 use mathlib.Core.Path.{_≡_}
-use Prim.Native.Nat.{ℕ, _+_, _*_}
+use Prim.Native.Nat.{ℕ, _+_, _-_, _*_}
 use lib.Dec.{eqb, leb, ltb}
 use lib.ListN.{length, getD, take, drop}
 use Rattle.areas.specs.Lists.{over}
 use Rattle.laws.specs.Choice.{pick}
 use Rattle.rules.specs.Answers.{Refusal, _when_, firstOf, listingOf, orderRefusals}
-use Rattle.rules.specs.Bounds.{continuous, maxResting}
+use Rattle.rules.specs.Bounds.{continuous, maxResting, maxTrades}
 use Rattle.rules.specs.Exchange.{accountAt, listingAt, noAccount, noContract, own, placeOf}
 use Rattle.rules.specs.Kinds.{refused}
 use Rattle.rules.specs.Memory.{Memory, Responded, exchangeOf, inMemory, memory, put, queueStride, stepIn, tradeStride}
@@ -31,7 +31,7 @@ earlyRefusals s account contract buy sell =
     (2 when isAbsent account (s .accountcount))
     ∷ (3 when isAbsent contract (s .contractcount))
     ∷ (4 when not (eqb (getD (s .contracts) (placeOf contract) noContract .phase) continuous))
-    ∷ (23 when not (getD (s .accounts) (placeOf account) noAccount .maker))
+    ∷ (23 when not (eqb (getD (s .accounts) (placeOf account) noAccount .maker) 1))
     ∷ (24 when not (ltb buy sell))
     ∷ []
 
@@ -51,7 +51,7 @@ goneIn m account contract =
 pub record Markable (s : State) (buys sells trades : List ℕ) (o : NewOrder) : Type 0 where
   pub present : Present s o
   pub opens : o .close ≡ false
-  pub maker : accountAt (exchangeOf (memory s buys sells trades) .accounts) (placeOf (o .account)) .maker ≡ true
+  pub maker : accountAt (exchangeOf (memory s buys sells trades) .accounts) (placeOf (o .account)) .maker ≡ 1
   pub single : quotes (placeOf (o .account)) (own (o .sell) (listingOf (exchangeOf (memory s buys sells trades)) o)) ≡ 0
 
 -- refused with its code from 5 on, or entered with the next number, marked
@@ -70,7 +70,7 @@ pub record Undoable (at n : ℕ) (before after : List ℕ) : Type 0 where
 
 -- where the trades begin that the buy can make, and those before the end of the day's room
 abbrev pub madeFrom : ℕ → ℕ
-madeFrom recorded = tradeStride * pick (leb recorded 960) recorded 960
+madeFrom recorded = tradeStride * pick (leb recorded (maxTrades - maxResting)) recorded (maxTrades - maxResting)
 
 -- accepted as the rules say; or refused with the rules' code, and each area can be put back
 pub record PlacedIs (s : State) (buys sells trades : List ℕ) (account contract lots buy sell : ℕ) (r : Outcome) (buys′ sells′ trades′ : List ℕ) : Type 0 where

@@ -22,10 +22,8 @@ use rules::PriceCondition;
 use rules::State;
 use rules::TimeCondition;
 
-// The words of a contract's queue, and of the trades that one order can make: at most one with each of 64 orders.
-const QUEUE: usize = 448;
-
-const MADE: usize = 576;
+// The words of the trades that one order can make: at most one with each order that it meets.
+const MADE: usize = rules::TRADE_STRIDE * rules::MAX_RESTING;
 
 // Codes 2, 3, 4, 23 and 24, 0 where none holds. Requires at most 4 contracts and 32 accounts.
 fn early_code(state: State, account: u32, contract: u32, buy: u32, sell: u32) -> u32
@@ -46,7 +44,7 @@ fn early_code(state: State, account: u32, contract: u32, buy: u32, sell: u32) ->
     }
     let a = laws::wide(account) - 1;
     let who = state.accounts[a];
-    if !who.maker {
+    if who.maker != 1 {
         return 23;
     }
     if sell <= buy {
@@ -210,10 +208,10 @@ pub fn quote(
     if early != 0 {
         return answers::refused(state, early);
     }
-    let queue = QUEUE * (laws::wide(contract) - 1);
+    let queue = rules::QUEUE_STRIDE * (laws::wide(contract) - 1);
     let recorded = first_made(state.tradecount);
-    let mut bids = [0; QUEUE];
-    let mut offers = [0; QUEUE];
+    let mut bids = [0; rules::QUEUE_STRIDE];
+    let mut offers = [0; rules::QUEUE_STRIDE];
     let mut made = [0; MADE];
     keep(&buys[..], queue, &mut bids[..]);
     keep(&sells[..], queue, &mut offers[..]);

@@ -33,7 +33,7 @@ each-set P (x ∷ xs) (suc i) y d h p (suc k) = each-set P xs i y d (λ j. h (su
 -- ---- one leg
 
 -- what an account has beside its holdings
-abbrev heldBy : {A : Type 0} → (ℤ → Bool → A) → List Account → ℕ → A
+abbrev heldBy : {A : Type 0} → (ℤ → ℕ → A) → List Account → ℕ → A
 heldBy f l b = f (accountAt l b .balance) (accountAt l b .maker)
 
 -- the start of the day is as it was
@@ -82,7 +82,7 @@ module _ (l : List Account) (a c : ℕ) (sell : Bool) (close lots : ℕ) where
   holding-other-contract b d apart = kept-at (λ x. getD (x .holdings) d noHolding) l a _ noAccount (getD-set-other (getD l a noAccount .holdings) c d _ noHolding apart) b
 
   -- it changes neither a balance nor a maker mark
-  leg-kept : {A : Type 0} (f : ℤ → Bool → A) (b : ℕ) → heldBy f (bookLeg l a c sell close lots) b ≡ heldBy f l b
+  leg-kept : {A : Type 0} (f : ℤ → ℕ → A) (b : ℕ) → heldBy f (bookLeg l a c sell close lots) b ≡ heldBy f l b
   unfolding bookLeg accountAt
   leg-kept f b = kept-at (λ x. f (x .balance) (x .maker)) l a _ noAccount refl b
 
@@ -101,7 +101,7 @@ module _ (l : List Account) (t : Trade) where
   unfolding bookTrade
   length-bookTrade = length-bookLeg (bookBuyer l t) (t .seller) (t .contract) true (t .sellclose) (t .lots) ∙ length-bookLeg l (t .buyer) (t .contract) false (t .buyclose) (t .lots)
 
-  trade-kept : {A : Type 0} (f : ℤ → Bool → A) (b : ℕ) → heldBy f (bookTrade l t) b ≡ heldBy f l b
+  trade-kept : {A : Type 0} (f : ℤ → ℕ → A) (b : ℕ) → heldBy f (bookTrade l t) b ≡ heldBy f l b
   unfolding bookTrade
   trade-kept f b = leg-kept (bookBuyer l t) (t .seller) (t .contract) true (t .sellclose) (t .lots) f b ∙ leg-kept l (t .buyer) (t .contract) false (t .buyclose) (t .lots) f b
 
@@ -138,7 +138,7 @@ unfolding bookTrades
 length-bookTrades l [] = refl
 length-bookTrades l (t ∷ ts) = length-bookTrades (bookTrade l t) ts ∙ length-bookTrade l t
 
-booked-kept : {A : Type 0} (f : ℤ → Bool → A) (l : List Account) (ts : List Trade) (b : ℕ) → heldBy f (bookTrades l ts) b ≡ heldBy f l b
+booked-kept : {A : Type 0} (f : ℤ → ℕ → A) (l : List Account) (ts : List Trade) (b : ℕ) → heldBy f (bookTrades l ts) b ≡ heldBy f l b
 unfolding bookTrades
 booked-kept f l [] b = refl
 booked-kept f l (t ∷ ts) b = booked-kept f (bookTrade l t) ts b ∙ trade-kept l t f b

@@ -81,7 +81,7 @@ of : Order → ℕ → ℕ → Order
 of o account close = record { price = o .price; number = o .number; account = account; lots = o .lots; close = close; stamp = o .stamp; quote = 0 }
 
 account : ℕ → Account
-account long = record { balance = pos 0; maker = false; holdings = record { long = long; short = 0; startlong = long; startshort = 0 } ∷ noHolding ∷ [] }
+account long = record { balance = pos 0; maker = 0; holdings = record { long = long; short = 0; startlong = long; startshort = 0 } ∷ noHolding ∷ [] }
 
 listing : ℕ → List Order → Listing
 listing phase buys =

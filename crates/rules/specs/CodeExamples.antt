@@ -41,10 +41,10 @@ order : ℕ → ℕ → ℕ → Order
 order number price lots = record { price = price; number = number; account = 0; lots = lots; close = 0; stamp = number; quote = 0 }
 
 rich : Account
-rich = record { balance = pos 1_100_000; maker = false; holdings = noHolding ∷ [] }
+rich = record { balance = pos 1_100_000; maker = 0; holdings = noHolding ∷ [] }
 
 poor : Account
-poor = record { balance = pos 109_780; maker = false; holdings = record { long = 0; short = 995; startlong = 0; startshort = 995 } ∷ [] }
+poor = record { balance = pos 109_780; maker = 0; holdings = record { long = 0; short = 995; startlong = 0; startshort = 995 } ∷ [] }
 
 -- a contract in a phase, so many buys resting at 100, so many trades made, a next number, so many settlements
 asked : ℕ → ℕ → ℕ → ℕ → ℕ → Exchange

@@ -5,7 +5,7 @@ use Prim.Native.Nat.{ℕ, _+_, _*_, _%_, _^_}
 use lib.Dec.{leb, eqb}
 use lib.IntN.{pos}
 use lib.ListN.{length, getD, replicate}
-use Rattle.laws.specs.Choice.{all}
+use Rattle.laws.specs.Choice.{all, pick}
 use Rattle.laws.specs.Tabulate.{tabulate}
 use Rattle.rules.specs.Bounds.{within, maxContracts, maxAccounts, maxBalance, termsInRange, preOpen}
 use Rattle.rules.specs.Command.{commandOf}
@@ -85,8 +85,8 @@ makerBit = 2 ^ 63
 unfoldable pub balanceFrom : List ℕ → ℕ → ℕ
 balanceFrom file a = u64At file (accountPlace file a) % makerBit
 
-unfoldable pub makerFrom : List ℕ → ℕ → Bool
-makerFrom file a = leb makerBit (u64At file (accountPlace file a))
+unfoldable pub makerFrom : List ℕ → ℕ → ℕ
+makerFrom file a = pick (leb makerBit (u64At file (accountPlace file a))) 1 0
 
 unfoldable pub accountSound : List ℕ → ℕ → Bool
 accountSound file a = leb (balanceFrom file a) maxBalance

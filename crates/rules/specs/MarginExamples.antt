@@ -36,7 +36,7 @@ held : ℕ → ℕ → Holding
 held long short = record { long = long; short = short; startlong = long; startshort = short }
 
 account : ℤ → Holding → Holding → Account
-account balance first second = record { balance = balance; maker = false; holdings = first ∷ second ∷ [] }
+account balance first second = record { balance = balance; maker = 0; holdings = first ∷ second ∷ [] }
 
 -- two contracts, a lot charged 100 in the first and 50 in the second. Account 1 bids for 5 and offers 3 to open, and offers its 40
 -- long lots to close, in the first; it offers 9 to open in the second

@@ -81,7 +81,7 @@ quoteRefusals x q =
     ∷ (3 when absent (q .contract) (x .listings))
     -- "in continuous only"
     ∷ (4 when not (eqb (listingAt x (placeOf (q .contract)) .contract .phase) continuous))
-    ∷ (23 when not (accountAt (x .accounts) (placeOf (q .account)) .maker))
+    ∷ (23 when not (eqb (accountAt (x .accounts) (placeOf (q .account)) .maker) 1))
     ∷ (24 when not (ltb (q .buy) (q .sell)))
     ∷ (orderRefusals (withoutQuote x q) (buyOf q) ++ orderRefusals (withBuy x q) (sellOf q))
 

@@ -37,7 +37,7 @@ order : ℕ → ℕ → ℕ → ℕ → ℕ → Order
 order number price account lots quote =
     record { price = price; number = number; account = account; lots = lots; close = 0; stamp = number; quote = quote }
 
-account : Bool → ℕ → ℕ → ℕ → Account
+account : ℕ → ℕ → ℕ → ℕ → Account
 account maker balance long short =
     record { balance = pos balance; maker = maker; holdings = record { long = long; short = short; startlong = long; startshort = short } ∷ [] }
 
@@ -51,7 +51,7 @@ state : ℕ → List Order → List Order → ℕ → ℕ → ℕ → Account �
 state phase buys sells trades next nextstamp maker =
     record {
       listings = record { contract = contract 2 20 phase; buys = buys; sells = sells } ∷ [];
-      accounts = maker ∷ account false 1_000_000 0 0 ∷ [];
+      accounts = maker ∷ account 0 1_000_000 0 0 ∷ [];
       trades = replicate trades noTrade;
       next = next;
       nextstamp = nextstamp;
@@ -59,7 +59,7 @@ state phase buys sells trades next nextstamp maker =
     }
 
 rich : Account
-rich = account true 1_000_000 0 0
+rich = account 1 1_000_000 0 0
 
 -- account 2 bids 3 at 100 and offers 5 at 112
 phased : ℕ → Exchange
@@ -69,7 +69,7 @@ open′ : Exchange
 open′ = phased continuous
 
 held : ℕ → ℕ → ℕ → Exchange
-held balance long short = state continuous [] [] 0 100 100 (account true balance long short)
+held balance long short = state continuous [] [] 0 100 100 (account 1 balance long short)
 
 numbered′ : ℕ → ℕ → Exchange
 numbered′ next nextstamp = state continuous [] [] 0 next nextstamp rich
@@ -83,7 +83,7 @@ crowded buys sells = state continuous (tabulate buys (λ i. order (1 + i) 100 1 
 
 -- account 1 rests 6 lots on either side, as its quote or not, and has money for so many lots
 replacing : ℕ → ℕ → Exchange
-replacing mark balance = state continuous (order 1 98 0 6 mark ∷ []) (order 2 120 0 6 mark ∷ []) 0 100 100 (account true balance 0 0)
+replacing mark balance = state continuous (order 1 98 0 6 mark ∷ []) (order 2 120 0 6 mark ∷ []) 0 100 100 (account 1 balance 0 0)
 
 -- 24 bytes of kind 8: account 1 quotes 5 lots in contract 1
 sent : ℕ → ℕ → ℕ → ℕ → ℕ
@@ -174,7 +174,7 @@ book =
         buys = order 1 104 0 2 1 ∷ order 3 102 0 1 0 ∷ order 5 101 1 4 0 ∷ [];
         sells = order 2 108 0 5 1 ∷ order 6 115 1 4 0 ∷ order 4 116 0 1 0 ∷ [];
       } ∷ [];
-      accounts = account true 1_000_000 0 0 ∷ account false 1_000_000 0 0 ∷ [];
+      accounts = account 1 1_000_000 0 0 ∷ account 0 1_000_000 0 0 ∷ [];
       trades = [];
       next = 7;
       nextstamp = 9;
@@ -273,7 +273,7 @@ lying =
     memory
     record {
       contracts = contract 1 1_000 continuous ∷ [];
-      accounts = account true 1_000_000 0 0 ∷ account false 1_000_000 0 0 ∷ [];
+      accounts = account 1 1_000_000 0 0 ∷ account 0 1_000_000 0 0 ∷ [];
       buys = 2 ∷ [];
       sells = 0 ∷ [];
       contractcount = 1;
@@ -313,14 +313,14 @@ file low high = 0 ∷ 0 ∷ 0 ∷ 0 ∷ 1 ∷ 0 ∷ 0 ∷ 0 ∷ low ∷ 0 ∷ 10
 pub makers : List Row
 makers =
     (balanceFrom (file 0 13) 0 gives 10 ^ 18)
-    ∷ (mark (makerFrom (file 0 13) 0) gives 0)
+    ∷ (makerFrom (file 0 13) 0 gives 0)
     ∷ (balanceFrom (file 0 141) 0 gives 10 ^ 18)
-    ∷ (mark (makerFrom (file 0 141) 0) gives 1)
+    ∷ (makerFrom (file 0 141) 0 gives 1)
     ∷ (mark (accountSound (file 0 141) 0) gives 1)
     -- the other 63 bits are 0 to 10^18 as before
     ∷ (mark (accountSound (file 1 141) 0) gives 0)
     ∷ (mark (accountSound (file 0 127) 0) gives 0)
-    ∷ (mark (makerFrom (file 0 127) 0) gives 0)
+    ∷ (makerFrom (file 0 127) 0 gives 0)
     ∷ []
 
 pub maker-bits : allRight makers ≡ true

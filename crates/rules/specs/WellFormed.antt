@@ -110,7 +110,7 @@ quotes a queue = sumOf (λ o. pick (isQuoteOf a o) 1 0) queue
 
 -- "on a maker's open only"
 unfoldable pub markAllowed : List Account → Order → Bool
-markAllowed accounts o = eqb (o .quote) 0 || accountAt accounts (o .account) .maker && eqb (o .close) 0
+markAllowed accounts o = eqb (o .quote) 0 || eqb (accountAt accounts (o .account) .maker) 1 && eqb (o .close) 0
 
 -- "at most one for each .. account and side"
 unfoldable pub queueQuoted : List Account → List Order → Bool
@@ -118,6 +118,10 @@ queueQuoted accounts queue = allOf (markAllowed accounts) queue && all (λ a. le
 
 unfoldable pub listingQuoted : List Account → Listing → Bool
 listingQuoted accounts l = queueQuoted accounts (l .buys) && queueQuoted accounts (l .sells)
+
+-- "maker mark 1, its value 0 or 1" (02, ticket 10)
+unfoldable pub markInRange : Account → Bool
+markInRange a = leb (a .maker) 1
 
 -- ---- "recorded trades have existing contract and accounts, two different order numbers below the next, a price allowed
 -- today, 1 to 1,000 lots, and for each leg open or close"
@@ -173,6 +177,7 @@ wellFormedContents x =
     && usedOnce (allNumbers (x .listings))
     && usedOnce (allStamps (x .listings))
     && allOf (listingQuoted (x .accounts)) (x .listings)
+    && allOf markInRange (x .accounts)
     && allOf (tradeInRange x) (x .trades)
     && replays x
     && all (holdingsInRange x) (length (x .accounts))

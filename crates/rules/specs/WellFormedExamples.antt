@@ -14,7 +14,7 @@ use Rattle.rules.specs.Exchange.{Exchange, accountAt, holdingAt, listing
 use Rattle.rules.specs.Holdings.{afterLeg, bookLeg, bookTrade, bookTrades, legCovered, neverBelowZero, sameHoldings, sameLots, startOfDay}
 use Rattle.rules.specs.Answers.{mark}
 use Rattle.rules.specs.Memory.{Memory, countsInRange, hasRoom}
-use Rattle.rules.specs.WellFormed.{ahead, aheadOfFirst, balanceInRange, contractInRange, countersInRange, holdingInRange, holdingsInRange, listingInRange, orderInRange, replays, sorted, tradeInRange, uncrossed, usedOnce, wellFormedContents, listed, allListed, quotes, markAllowed, queueQuoted, listingQuoted}
+use Rattle.rules.specs.WellFormed.{ahead, aheadOfFirst, balanceInRange, contractInRange, countersInRange, holdingInRange, holdingsInRange, listingInRange, orderInRange, replays, sorted, tradeInRange, uncrossed, usedOnce, wellFormedContents, listed, allListed, quotes, markAllowed, queueQuoted, listingQuoted, markInRange}
 use Rattle.rules.specs.declared.Account.{Account}
 use Rattle.rules.specs.declared.Contract.{Contract}
 use Rattle.rules.specs.declared.Order.{Order}
@@ -38,7 +38,7 @@ trade price lots sellorder =
 
 account : ℤ → ℕ → ℕ → ℕ → ℕ → Account
 account balance long short startlong startshort =
-    record { balance = balance; maker = false; holdings = record { long = long; short = short; startlong = startlong; startshort = startshort } ∷ [] }
+    record { balance = balance; maker = 0; holdings = record { long = long; short = short; startlong = startlong; startshort = startshort } ∷ [] }
 
 -- account 1 starts with 2 long, account 2 with 2 short
 asked : ℕ → ℕ → List Order → List Order → List Trade → ℕ → ℕ → ℤ → Exchange
@@ -112,7 +112,7 @@ table =
     ∷ []
 
 pub well-formed-examples : allRight table ≡ true
-unfolding allRight table contract order stamped trade account asked buys sells trades test testIn all allOf sumOf accountAt afterLeg ahead aheadOfFirst allListed allowedToday balanceInRange bookLeg bookTrade bookTrades contractInRange countersInRange dayHigh dayLow holdingAt holdingInRange holdingsInRange legCovered listingAt listingInRange lotsWhere neverBelowZero listed onTick orderInRange replays resting sameHoldings sameLots sorted startOfDay termsInRange tickMultiple tradeInRange uncrossed usedOnce wellFormedContents quotes markAllowed queueQuoted listingQuoted
+unfolding allRight table contract order stamped trade account asked buys sells trades test testIn all allOf sumOf accountAt afterLeg ahead aheadOfFirst allListed allowedToday balanceInRange bookLeg bookTrade bookTrades contractInRange countersInRange dayHigh dayLow holdingAt holdingInRange holdingsInRange legCovered listingAt listingInRange lotsWhere neverBelowZero listed onTick orderInRange replays resting sameHoldings sameLots sorted startOfDay termsInRange tickMultiple tradeInRange uncrossed usedOnce wellFormedContents quotes markAllowed queueQuoted listingQuoted markInRange
 well-formed-examples = refl
 
 -- ---- counts and room, on a state as it lies, and the replay of closes
@@ -188,7 +188,7 @@ laid-examples = refl
 
 -- ---- quote marks: accounts 1 and 2, each long 2 lots, makers or not
 
-quoting : Bool → Bool → List Order → List Order → ℕ
+quoting : ℕ → ℕ → List Order → List Order → ℕ
 quoting first second b s =
     mark (wellFormedContents record {
       listings = record { contract = contract continuous 110; buys = b; sells = s } ∷ [];
@@ -199,7 +199,7 @@ quoting first second b s =
       settlements = 0;
     })
   where
-    maker : Bool → Account
+    maker : ℕ → Account
     maker m = record { balance = pos 0; maker = m; holdings = record { long = 2; short = 0; startlong = 2; startshort = 0 } ∷ [] }
 
 -- an order of one lot, its number its time stamp too
@@ -210,18 +210,21 @@ quoteAt number price account close quote =
 pub quoted : List Row
 quoted =
     -- a buy and a sell of each maker, beside an order of its own
-    (quoting true true (quoteAt 1 108 0 0 1 ∷ quoteAt 3 108 1 0 1 ∷ quoteAt 5 108 0 0 0 ∷ []) (quoteAt 2 110 0 0 1 ∷ quoteAt 4 110 1 0 1 ∷ []) gives 1)
+    (quoting 1 1 (quoteAt 1 108 0 0 1 ∷ quoteAt 3 108 1 0 1 ∷ quoteAt 5 108 0 0 0 ∷ []) (quoteAt 2 110 0 0 1 ∷ quoteAt 4 110 1 0 1 ∷ []) gives 1)
     -- two of one account on one side, the buys and the sells
-    ∷ (quoting true true (quoteAt 1 108 0 0 1 ∷ quoteAt 3 108 0 0 1 ∷ []) [] gives 0)
-    ∷ (quoting true true [] (quoteAt 1 108 1 0 1 ∷ quoteAt 3 108 1 0 1 ∷ []) gives 0)
+    ∷ (quoting 1 1 (quoteAt 1 108 0 0 1 ∷ quoteAt 3 108 0 0 1 ∷ []) [] gives 0)
+    ∷ (quoting 1 1 [] (quoteAt 1 108 1 0 1 ∷ quoteAt 3 108 1 0 1 ∷ []) gives 0)
     -- of an account that is no maker, buy and sell
-    ∷ (quoting true false (quoteAt 1 108 1 0 1 ∷ []) [] gives 0)
-    ∷ (quoting false true [] (quoteAt 1 108 0 0 1 ∷ []) gives 0)
+    ∷ (quoting 1 0 (quoteAt 1 108 1 0 1 ∷ []) [] gives 0)
+    ∷ (quoting 0 1 [] (quoteAt 1 108 0 0 1 ∷ []) gives 0)
     -- a close, marked and not
-    ∷ (quoting true true [] (quoteAt 1 108 0 1 1 ∷ []) gives 0)
-    ∷ (quoting true true [] (quoteAt 1 108 0 1 0 ∷ []) gives 1)
+    ∷ (quoting 1 1 [] (quoteAt 1 108 0 1 1 ∷ []) gives 0)
+    ∷ (quoting 1 1 [] (quoteAt 1 108 0 1 0 ∷ []) gives 1)
+    -- a maker mark of 2, of either account
+    ∷ (quoting 2 0 [] [] gives 0)
+    ∷ (quoting 1 2 [] [] gives 0)
     ∷ []
 
 pub quoted-examples : allRight quoted ≡ true
-unfolding allRight quoted quoting quoteAt contract all allOf sumOf accountAt afterLeg ahead aheadOfFirst allListed allowedToday balanceInRange bookLeg bookTrade bookTrades contractInRange countersInRange dayHigh dayLow holdingAt holdingInRange holdingsInRange legCovered listingAt listingInRange lotsWhere neverBelowZero listed onTick orderInRange replays resting sameHoldings sameLots sorted startOfDay termsInRange tickMultiple tradeInRange uncrossed usedOnce wellFormedContents quotes markAllowed queueQuoted listingQuoted
+unfolding allRight quoted quoting quoteAt contract all allOf sumOf accountAt afterLeg ahead aheadOfFirst allListed allowedToday balanceInRange bookLeg bookTrade bookTrades contractInRange countersInRange dayHigh dayLow holdingAt holdingInRange holdingsInRange legCovered listingAt listingInRange lotsWhere neverBelowZero listed onTick orderInRange replays resting sameHoldings sameLots sorted startOfDay termsInRange tickMultiple tradeInRange uncrossed usedOnce wellFormedContents quotes markAllowed queueQuoted listingQuoted markInRange
 quoted-examples = refl

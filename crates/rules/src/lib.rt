@@ -76,11 +76,11 @@ pub struct Holding {
     pub startshort: u32,
 }
 
-// `maker` marks a market maker.
+// `maker` is 1 for a market maker and 0 for others.
 pub struct Account {
     pub balance: i64,
     pub holdings: [Holding; MAX_CONTRACTS],
-    pub maker: bool,
+    pub maker: u64,
 }
 
 // A resting order: its remaining lots, the account's place, 1 for a close and 0 for an open, its time stamp, 1 where it is part of

@@ -1,74 +1,74 @@
+-- `quoting::early_code` meets its contract: the tests in the order of the list. Assumes nothing.
+use mathlib.Core.Path.{sym, _∙_}
+use native.Mathlib.Omega.{arith}
+use borrow.Author.Tests.{eq-eqb, le-ltb, lt-ltb, ne-eqb}
+use Rattle.rules.specs.Answers.{firstOf}
+use Rattle.engine.proofs.Tests.{place-below}
 use borrow.Author.Needs.{needs}
 use Rattle.quoting.proofs.early_code.Statement.{statement}
 use Rattle.quoting.proofs.early_code.Tie as tie
-use Rattle.quoting.proofs.early_code.Reads as reads
-use Rattle.quoting.proofs.early_code.Lts as lts
-use Rattle.engine.proofs.answers.is_absent.Reads as is-absent-reads
-use Rattle.laws.proofs.wide.Reads as wide-reads
 
--- src/lib.rt:35:8
 is-absent-requires : tie.Need-is-absent-requires
 is-absent-requires c κs = search needs
 
--- src/lib.rt:36:9
 returns : tie.Need-returns
-returns c = ?
+unfolding firstOf
+returns c = rw (sym (c .before .is-absent .ensures) ∙ c .if1 .taken)
 
--- src/lib.rt:38:8
 is-absent-requires-2 : tie.Need-is-absent-requires-2
 is-absent-requires-2 c κs = search needs
 
--- src/lib.rt:39:9
 returns-2 : tie.Need-returns-2
-returns-2 c = ?
+unfolding firstOf
+returns-2 c = rw ((sym (c .before .before .before .is-absent .ensures) ∙ c .before .before .if1 .left), sym (c .before .is-absent2 .ensures) ∙ c .if2 .taken)
 
--- src/lib.rt:41:13
 wide-requires : tie.Need-wide-requires
 wide-requires c κs = search needs
 
--- src/lib.rt:41:13
 sub-c : tie.Need-sub-c
-sub-c c = ?
+sub-c c =
+    let start = c .before .before .before .before .before in
+    omega (arith, c .wide .ensures, (place-below (start .args .contract) (start .args .t1 .contractcount) (sym (c .before .before .is-absent2 .ensures) ∙ c .before .if2 .left)) .0)
 
--- src/lib.rt:43:17
 mul-terms : tie.Need-mul-terms
 mul-terms c = search needs
 
--- src/lib.rt:43:17
 array-copy-out-terms : tie.Need-array-copy-out-terms
-array-copy-out-terms c = ?
+array-copy-out-terms c =
+    let start = c .before .before .before .before .before .before in
+    omega (arith, c .before .wide .ensures, (place-below (start .args .contract) (start .args .t1 .contractcount) (sym (c .before .before .before .is-absent2 .ensures) ∙ c .before .before .if2 .left)) .1, start .pre .0)
 
--- src/lib.rt:45:9
 returns-3 : tie.Need-returns-3
-returns-3 c = ?
+unfolding firstOf
+returns-3 c = rw ((sym (c .before .before .before .before .before .before .before .before .is-absent .ensures) ∙ c .before .before .before .before .before .before .before .if1 .left), (sym (c .before .before .before .before .before .before .is-absent2 .ensures) ∙ c .before .before .before .before .before .if2 .left), ne-eqb _ _ (rw (c .before .before .before .before .wide .ensures) at (c .if3 .taken)))
 
--- src/lib.rt:47:13
 wide-requires-2 : tie.Need-wide-requires-2
 wide-requires-2 c κs = search needs
 
--- src/lib.rt:47:13
 sub-a : tie.Need-sub-a
-sub-a c = ?
+sub-a c =
+    let start = c .before .before .before .before .before .before .before .before .before .before in
+    omega (arith, c .wide2 .ensures, (place-below (start .args .account) (start .args .t1 .accountcount) (sym (c .before .before .before .before .before .before .before .before .before .is-absent .ensures) ∙ c .before .before .before .before .before .before .before .before .if1 .left)) .0)
 
--- src/lib.rt:48:15
 mul-who : tie.Need-mul-who
 mul-who c = search needs
 
--- src/lib.rt:48:15
 element-copy-out-who : tie.Need-element-copy-out-who
-element-copy-out-who c = ?
+element-copy-out-who c =
+    let start = c .before .before .before .before .before .before .before .before .before .before in
+    omega (arith, c .wide2 .ensures, (place-below (start .args .account) (start .args .t1 .accountcount) (sym (c .before .before .before .before .before .before .before .before .before .is-absent .ensures) ∙ c .before .before .before .before .before .before .before .before .if1 .left)) .1, start .pre .1)
 
--- src/lib.rt:50:9
 returns-4 : tie.Need-returns-4
-returns-4 c = ?
+unfolding firstOf
+returns-4 c = rw ((sym (c .before .before .before .before .before .before .before .before .before .before .before .before .is-absent .ensures) ∙ c .before .before .before .before .before .before .before .before .before .before .before .if1 .left), (sym (c .before .before .before .before .before .before .before .before .before .before .is-absent2 .ensures) ∙ c .before .before .before .before .before .before .before .before .before .if2 .left), eq-eqb _ _ (rw (c .before .before .before .before .before .before .before .before .wide .ensures) at (c .before .before .before .before .if3 .left)), ne-eqb _ _ (rw (c .before .before .before .wide2 .ensures) at (c .if4 .taken)))
 
--- src/lib.rt:53:9
 returns-5 : tie.Need-returns-5
-returns-5 c = ?
+unfolding firstOf
+returns-5 c = rw ((sym (c .before .before .before .before .before .before .before .before .before .before .before .before .before .is-absent .ensures) ∙ c .before .before .before .before .before .before .before .before .before .before .before .before .if1 .left), (sym (c .before .before .before .before .before .before .before .before .before .before .before .is-absent2 .ensures) ∙ c .before .before .before .before .before .before .before .before .before .before .if2 .left), eq-eqb _ _ (rw (c .before .before .before .before .before .before .before .before .before .wide .ensures) at (c .before .before .before .before .before .if3 .left)), (eq-eqb _ _ (rw (c .before .before .before .before .wide2 .ensures) at (c .before .if4 .left))), le-ltb _ _ (c .if5 .taken))
 
--- src/lib.rt:31:1
 returns-6 : tie.Need-returns-6
-returns-6 c = ?
+unfolding firstOf
+returns-6 c = rw ((sym (c .before .before .before .before .before .before .before .before .before .before .before .before .before .is-absent .ensures) ∙ c .before .before .before .before .before .before .before .before .before .before .before .before .if1 .left), (sym (c .before .before .before .before .before .before .before .before .before .before .before .is-absent2 .ensures) ∙ c .before .before .before .before .before .before .before .before .before .before .if2 .left), eq-eqb _ _ (rw (c .before .before .before .before .before .before .before .before .before .wide .ensures) at (c .before .before .before .before .before .if3 .left)), (eq-eqb _ _ (rw (c .before .before .before .before .wide2 .ensures) at (c .before .if4 .left))), lt-ltb _ _ (c .if5 .left))
 
 pub early-code-spec : {M : Type 1} → statement M
 early-code-spec =

@@ -1,67 +1,70 @@
+-- `quoting::remove_quote` meets its contract: both queues without the old quote. Assumes nothing.
+use mathlib.Core.Bool.{true, false}
+use Rattle.engine.proofs.Removals.{account-low, contract-fits, contract-low, side-few, side-room}
+use Rattle.quoting.proofs.Placing.{gone-written}
 use borrow.Author.Needs.{needs}
 use Rattle.quoting.proofs.remove_quote.Statement.{statement}
 use Rattle.quoting.proofs.remove_quote.Tie as tie
-use Rattle.quoting.proofs.remove_quote.Reads as reads
-use Rattle.quoting.proofs.remove_quote.Lts as lts
-use Rattle.book.proofs.removal.pull.Reads as pull-reads
-use Rattle.engine.proofs.removal.with_counts.Reads as with-counts-reads
-use Rattle.laws.proofs.wide.Reads as wide-reads
 
--- src/lib.rt:86:13
 wide-requires : tie.Need-wide-requires
 wide-requires c κs = search needs
 
--- src/lib.rt:86:13
 sub-c : tie.Need-sub-c
-sub-c c = ?
+sub-c c =
+    let start = c .before .before .before .before in
+    contract-low (start .pre .0) _ _ _ (start .pre .1) (c .wide .ensures)
 
--- src/lib.rt:89:18
 mul-bought : tie.Need-mul-bought
 mul-bought c = search needs
 
--- src/lib.rt:89:18
 array-read-bought : tie.Need-array-read-bought
-array-read-bought c = ?
+array-read-bought c =
+    let start = c .before .before .before .before .before .before in
+    contract-fits (start .pre .0) _ _ _ (start .pre .1) (c .before .before .wide .ensures)
 
--- src/lib.rt:90:16
 mul-sold : tie.Need-mul-sold
 mul-sold c = search needs
 
--- src/lib.rt:90:16
 array-read-sold : tie.Need-array-read-sold
-array-read-sold c = ?
+array-read-sold c =
+    let start = c .before .before .before .before .before .before in
+    contract-fits (start .pre .0) _ _ _ (start .pre .1) (c .before .before .wide .ensures)
 
--- src/lib.rt:91:52
 sub-pull : tie.Need-sub-pull
-sub-pull c = ?
+sub-pull c =
+    let start = c .before .before .before .before .before .before .before in
+    account-low (start .pre .0) _ _ _ (start .pre .1)
 
--- src/lib.rt:91:9
 pull-requires : tie.Need-pull-requires
-pull-requires c κs = ?
+pull-requires c κs =
+    let start = c .before .before .before .before .before .before .before in
+    (side-few (start .pre .0) _ _ _ (start .pre .1) (c .before .before .before .wide .ensures) false, side-room (start .pre .0) _ _ _ (start .pre .1) (c .before .before .before .wide .ensures) false)
 
--- src/lib.rt:92:53
 sub-pull-2 : tie.Need-sub-pull-2
-sub-pull-2 c = ?
+sub-pull-2 c =
+    let start = c .before .before .before .before .before .before .before .before .before .before .before in
+    account-low (start .pre .0) _ _ _ (start .pre .1)
 
--- src/lib.rt:92:9
 pull-requires-2 : tie.Need-pull-requires-2
-pull-requires-2 c κs = ?
+pull-requires-2 c κs =
+    let start = c .before .before .before .before .before .before .before .before .before .before .before in
+    (side-few (start .pre .0) _ _ _ (start .pre .1) (c .before .before .before .before .before .before .before .wide .ensures) true, side-room (start .pre .0) _ _ _ (start .pre .1) (c .before .before .before .before .before .before .before .wide .ensures) true)
 
--- src/lib.rt:93:5
 with-counts-requires : tie.Need-with-counts-requires
-with-counts-requires c κs = ?
+with-counts-requires c κs =
+    let start = c .before .before .before .before .before .before .before .before .before .before .before .before .before .before in
+    contract-fits (start .pre .0) _ _ _ (start .pre .1) (c .before .before .before .before .before .before .before .before .before .before .wide .ensures)
 
--- src/lib.rt:75:1
 same-length : tie.Need-same-length
 same-length c = search needs
 
--- src/lib.rt:75:1
 same-length-2 : tie.Need-same-length-2
 same-length-2 c = search needs
 
--- src/lib.rt:75:1
 returns : tie.Need-returns
-returns c = ?
+returns c =
+    let start = c .before .before .before .before .before .before .before .before .before .before .before .before .before .before .before in
+    gone-written (start .pre .0) _ _ (start .pre .1) (c .before .before .before .before .before .before .before .before .before .before .before .wide .ensures) (c .before .before .before .before .before .before .before .pull .ensures) (c .before .before .before .pull2 .ensures) (c .with-counts .ensures)
 
 pub remove-quote-spec : {M : Type 1} → statement M
 remove-quote-spec =
