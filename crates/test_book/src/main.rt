@@ -36,7 +36,7 @@ fn no_holdings() -> [Account; rules::MAX_ACCOUNTS]
     };
     let empty = Account {
         balance: 0,
-        maker: false,
+        maker: 0,
         holdings: [none; rules::MAX_CONTRACTS],
     };
     [empty; rules::MAX_ACCOUNTS]
