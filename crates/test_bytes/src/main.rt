@@ -23,11 +23,13 @@
 //   20  limit 100,001
 //   21  rate 10,001 in the second contract
 //   22  a balance of 10^18 + 1
-//   23  a maker's balance of 10^18 + 1
-//   24  balances of 10^18, the second a maker's; no commands
+//   23  a balance with bit 62 set
+//   24  a balance of 10^18, no commands
 //   25  every term at its largest, band above reference
 //   26  every term at its smallest
 //   27  each kind, well formed and malformed
+//   28  a maker with a balance of 10^18
+//   29  a maker with a balance of 10^18 + 1
 ghost use mathlib.Core.Bool.{true};
 ghost use mathlib.Core.Path.{_≡_};
 ghost use Prim.Native.Nat.{_<_};
@@ -139,7 +141,7 @@ fn say_lines() {
 
 fn main() {
     let mut i: u8 = 1;
-    while i < 28 {
+    while i < 30 {
         run_case(i);
         i += 1;
     }
