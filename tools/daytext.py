@@ -14,11 +14,13 @@ before a line and commas in numbers (10,000) are free.
 
     contract multiplier 10 tick 1 reference 100 band 10 limit 1000 rate 1000
     account 10,000                                       its opening balance
+    maker 10,000                                         the same for a market maker, who may quote
     state 1 continuous                                   contract 1; or pre-open, no-trading, closed, auction
     insert 1 contract 1 sell open limit 102 lots 5 day   account 1; buy or sell, open or close
     insert 2 contract 1 buy close market lots 3 kill     limit PRICE, market or best; day, immediate or kill
     cancel 1 contract 1 order 7                          account 1; add operator for the operator bit
     pull 2 contract 1 operator
+    quote 1 contract 1 buy 99 sell 101 lots 5            account 1, a maker: a buy and a sell of 5 lots each
     change 1 contract 1 order 7 lots 3 price 102         account 1: the lots it is to have now, and its price
     change 1 contract 1 order 7 lots 0                   no lots: out of the book, whatever the price
     deposit 1 500                                        account 1
@@ -116,7 +118,14 @@ def read_contract(words):
 
 
 def read_account(words):
-    return words.number("opening balance", BITS_64)
+    return words.number("opening balance", BITS_63)
+
+
+def read_maker(words):
+    return dayfile.maker(words.number("opening balance", BITS_63))
+
+
+ACCOUNTS = {"account": read_account, "maker": read_maker}
 
 
 def read_deposit(words):
@@ -151,6 +160,14 @@ def read_pull(words):
     account = words.number("account", BITS_8)
     contract = words.named_number("contract", BITS_8)
     return dayfile.pull(account, contract, words.optional("operator"))
+
+
+def read_quote(words):
+    account = words.number("account", BITS_8)
+    contract = words.named_number("contract", BITS_8)
+    buy_price = words.named_number("buy", BITS_32)
+    sell_price = words.named_number("sell", BITS_32)
+    return dayfile.quote(account, contract, buy_price, sell_price, words.named_number("lots", BITS_32))
 
 
 def read_change(words):
@@ -189,6 +206,7 @@ COMMANDS = {
     "insert": read_insert,
     "cancel": read_cancel,
     "pull": read_pull,
+    "quote": read_quote,
     "change": read_change,
     "deposit": read_deposit,
     "withdraw": read_withdraw,
@@ -196,7 +214,7 @@ COMMANDS = {
     "raw": read_raw,
 }
 
-LINES = ["contract", "account", *COMMANDS, "repeat", "end"]
+LINES = ["contract", *ACCOUNTS, *COMMANDS, "repeat", "end"]
 ORDER_OF_LINES = "contracts come first, then accounts, then commands"
 
 
@@ -269,11 +287,11 @@ class Reader:
                 words.note(column, f"contract after an account or a command: {ORDER_OF_LINES}")
             self.last_step = Step(first, None, self.expected_of_file)
             self.contracts.append(read_contract(words))
-        elif first == "account":
+        elif first in ACCOUNTS:
             if self.commands_begun:
-                words.note(column, f"account after a command: {ORDER_OF_LINES}")
+                words.note(column, f"{first} after a command: {ORDER_OF_LINES}")
             self.last_step = Step(first, None, self.expected_of_file)
-            self.balances.append(read_account(words))
+            self.balances.append(ACCOUNTS[first](words))
         else:
             self.commands_begun = True
             self.read_command(number, column, first, words)
@@ -306,7 +324,7 @@ class Reader:
             after = f"behind {first}" if first else "before the first line"
             raise Wrong(words.column(), f"=> {after}, which nothing answers")
         for expectation in expectations.read_expectations(words, number, first):
-            if first in ("contract", "account") and expectation.value != BROKEN_CODE:
+            if first in ("contract", *ACCOUNTS) and expectation.value != BROKEN_CODE:
                 message = f"of {first} lines only code {BROKEN_CODE} can be expected: a broken file"
                 raise Wrong(expectation.column, message)
             self.last_step.expected.append(expectation)
@@ -344,7 +362,7 @@ def unpack(file):
     day = dayfile.sections(file)
     texts = [
         *(f"{contract_text(contract)}  # contract {number}" for number, contract in enumerate(day.contracts, 1)),
-        *(f"account {balance}  # account {number}" for number, balance in enumerate(day.balances, 1)),
+        *(f"{account_text(field)}  # account {number}" for number, field in enumerate(day.balances, 1)),
         *(f"{command_text(command)}  # C {number}" for number, command in enumerate(day.commands, 1)),
     ]
     return "".join(text + "\n" for text in texts)
@@ -354,6 +372,10 @@ def contract_text(contract):
     fields = " ".join(f"{name} {getattr(contract, name)}" for name in CONTRACT_WORDS)
     method = f" method {contract.method}" if contract.method else ""
     return f"contract {fields}{method}"
+
+
+def account_text(field):
+    return f"{'maker' if dayfile.is_maker(field) else 'account'} {dayfile.opening_balance(field)}"
 
 
 def command_text(command):
@@ -398,6 +420,10 @@ TEXT_OF_KIND = {
     "pull": lambda command: f"pull {command.account} contract {command.contract}{operator_text(command)}",
     "state": lambda command: f"state {command.contract} {dayfile.STATES[command.flags]}",
     "settle": lambda command: "settle",
+    "quote": lambda command: (
+        f"quote {command.account} contract {command.contract} buy {command.price} sell {command.order_number}"
+        f" lots {command.lots}"
+    ),
     "change": change_text,
 }
 

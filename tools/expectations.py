@@ -15,6 +15,7 @@ EXPECTED_OF = {
     "insert": ("code", "order", "traded", "rested", "trade"),
     "cancel": ("code", "order", "removed"),
     "pull": ("code", "removed"),
+    "quote": ("code", "order", "traded", "rested", "trade"),
     "change": ("code", "order", "traded", "rested", "removed", "trade"),
     "state": ("code", "traded", "trade"),
     "deposit": ("code",),
@@ -23,6 +24,7 @@ EXPECTED_OF = {
     "raw": ("code", "order", "traded", "rested", "removed", "trade", "contract", "account"),
     "contract": ("code",),
     "account": ("code",),
+    "maker": ("code",),
 }
 
 # The fields of the runner's lines, by the words behind =>.

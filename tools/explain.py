@@ -55,27 +55,29 @@ def opening_text(lesson, state):
         lines.append(wrapped(0, first))
         lines += [wrapped(1, words) for words in others]
         lines += all_comments(1, lesson.comments["contract"][number - 1])
-    for accounts, balance, comment in accounts_at_opening(lesson, state):
-        lines.append(f"{accounts_words(accounts)} with {balance:,}.")
+    for accounts, balance, is_maker, comment in accounts_at_opening(lesson, state):
+        lines.append(f"{accounts_words(accounts, is_maker)} with {balance:,}.")
         lines += all_comments(1, comment)
     return "\n".join(lines)
 
 
 def accounts_at_opening(lesson, state):
-    """Neighbours that open alike stand together: their numbers, the balance, the comment."""
+    """Neighbours that open alike stand together: their numbers, the balance, whether makers, the comment."""
     groups = []
     for (account, balance), comment in zip(state.balances.items(), lesson.comments["account"]):
-        if groups and groups[-1][1:] == (balance, comment):
+        alike = (balance, account in state.makers, comment)
+        if groups and groups[-1][1:] == alike:
             groups[-1][0].append(account)
         else:
-            groups.append(([account], balance, comment))
+            groups.append(([account], *alike))
     return groups
 
 
-def accounts_words(accounts):
+def accounts_words(accounts, are_makers):
     if len(accounts) == 1:
-        return f"Account {accounts[0]} opens"
-    return f"Accounts {accounts[0]} {'and' if len(accounts) == 2 else 'to'} {accounts[-1]} open"
+        return f"Account {accounts[0]}{', a market maker,' if are_makers else ''} opens"
+    numbers = f"Accounts {accounts[0]} {'and' if len(accounts) == 2 else 'to'} {accounts[-1]}"
+    return f"{numbers}{', market makers,' if are_makers else ''} open"
 
 
 def comment_text(level, paragraphs):
@@ -144,7 +146,7 @@ def queue_rows(side, levels):
 
 def orders_text(orders):
     shown = [
-        f"order {order.number} of account {order.account}, {order.lots:,} to {order.effect}"
+        f"order {order.number} of account {order.account}, {order.lots:,} {'quoted' if order.quote else f'to {order.effect}'}"
         for order in orders[:MOST_ORDERS]
     ]
     if len(orders) > MOST_ORDERS:

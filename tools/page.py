@@ -44,7 +44,7 @@ def book_data(contract):
 
 def queue_data(contract, side):
     return [
-        [level.price, [[order.number, order.account, order.lots, order.effect] for order in level.orders]]
+        [level.price, [[order.number, order.account, order.lots, order.effect, order.quote] for order in level.orders]]
         for level in explanation.price_levels(contract, side)
     ]
 

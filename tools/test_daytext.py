@@ -63,6 +63,7 @@ class Pack(unittest.TestCase):
             state 2 no-trading
             state 2 closed
             settle
+            quote 1 contract 2 buy 99 sell 101 lots 5
             change 1 contract 2 order 7 lots 3 price 102
             change 1 contract 2 order 7 lots 0
             change 1 contract 2 order 7 lots 0 price 5
@@ -86,6 +87,7 @@ class Pack(unittest.TestCase):
                 dayfile.Command(6, contract=2, flags=2),
                 dayfile.Command(6, contract=2, flags=3),
                 dayfile.Command(7),
+                dayfile.Command(8, 1, 2, 0, 5, 99, 101),
                 dayfile.Command(9, 1, 2, 0, 3, 102, 7),
                 dayfile.Command(9, 1, 2, 0, 0, 0, 7),
                 dayfile.Command(9, 1, 2, 0, 0, 5, 7),
@@ -123,8 +125,8 @@ class Messages(unittest.TestCase):
     def test_first_word(self):
         self.assert_message(
             "hello 1",
-            "'hello' where contract, account, state, insert, cancel, pull, change, deposit, withdraw, settle, raw,"
-            " repeat or end should stand",
+            "'hello' where contract, account, maker, state, insert, cancel, pull, quote, change, deposit, withdraw,"
+            " settle, raw, repeat or end should stand",
         )
 
     def test_other_words(self):

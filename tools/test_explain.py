@@ -320,8 +320,8 @@ class Refusals(unittest.TestCase):
     def test_every_code_of_the_sample_has_figures(self):
         """Code 10 is out of a file's reach; its words are held to the code's number all the same."""
         codes = {step.answer.code for step in play("every-code") if explanation.explained(step)}
-        self.assertEqual(codes, set(range(20)) - {10})
-        self.assertEqual(set(refusals.REFUSALS), set(range(1, 20)))
+        self.assertEqual(codes, {*range(20), 23, 24} - {10})
+        self.assertEqual(set(refusals.REFUSALS), {*range(1, 20), 23, 24})
         for used_up, words in (("next_order_number", "order numbers"), ("next_stamp", "time stamps")):
             state = model.State({}, {}, {}, {}, **{used_up: 1_000_000})
             step = types.SimpleNamespace(before=state)
@@ -604,6 +604,59 @@ class Changes(unittest.TestCase):
             self.assert_words(f"change 1 contract 1 order {order} lots {lots} price {price}", words, text)
 
 
+class Quotes(unittest.TestCase):
+    """A market maker's quote, and why it is refused."""
+
+    BOOK = (
+        CONTRACT
+        + "maker 1,000\naccount 10,000\n"
+        + """state 1 continuous
+        quote 1 contract 1 buy 98 sell 102 lots 4
+        insert 2 contract 1 buy open limit 102 lots 1 day
+        insert 2 contract 1 sell open limit 101 lots 3 day
+        """
+    )
+
+    def assert_words(self, command, words, text=BOOK):
+        number = len(dayfile.read(daytext.pack(text + command)).commands)
+        self.assertIn(words, told_of_text(text + command, command=number))
+
+    def test_accepted(self):
+        self.assertIn("Account 1, a market maker, opens with 1,000.", told_of_text(self.BOOK))
+        for words in (
+            "5 Account 1: quote 5 lots of contract 1, buy at 101 and sell at 103",
+            "Accepted. The old quote leaves the book: order 1 (4 lots) and order 2 (3 lots).",
+            "Order 5 is the buy at 101. 3 of 5 lots trade: no other sell order rests.",
+            "Order 6 is the sell at 103. Nothing trades: the best buy, at 101, is below its limit.",
+            "Of both 3 traded and 7 rest.",
+            "101 is the middle of the buy price 101, the sell price 101 and the last price 102.",
+            "order 6 of account 1, 5 quoted",
+        ):
+            self.assert_words("quote 1 contract 1 buy 101 sell 103 lots 5", words)
+
+    def test_marks(self):
+        words = "Order 1 goes from 4 to 3 lots and keeps its place: alone at 98. It is no longer part of a quote."
+        self.assert_words("change 1 contract 1 order 1 lots 3 price 98", words)
+
+    def test_refusals(self):
+        for command, words in (
+            ("quote 2 contract 1 buy 98 sell 102 lots 1", "Account 2 is no market maker; the makers are account 1."),
+            ("quote 1 contract 1 buy 98 sell 98 lots 1", "The buy price 98 is the sell price; it must be below."),
+            ("quote 1 contract 1 buy 99 sell 98 lots 1", "The buy price 99 is above the sell price 98; it must be below."),
+            ("quote 1 contract 1 buy 98 sell 102 lots 0", "The order is for 0 lots"),
+            ("quote 1 contract 1 buy 98 sell 111 lots 1", "111 is above the day's high"),
+            (
+                "quote 1 contract 1 buy 98 sell 102 lots 10",
+                "The sell of the quote, with the old quote gone: with the lots of this order 1,100 would be charged",
+            ),
+            (
+                "quote 1 contract 1 buy 98 sell 102 lots 11",
+                "The buy of the quote, with the old quote gone: with the lots of this order 1,100 would be charged",
+            ),
+        ):
+            self.assert_words(command, words)
+
+
 class Arithmetic(unittest.TestCase):
     """Every sum that an explanation shows is right."""
 
@@ -722,7 +775,7 @@ class Tool(unittest.TestCase):
         command = f"{sys.executable} {TOOL} {SAMPLES / 'every-code.txt'} --runner '{MODEL_AS_RUNNER}' | head -1"
         ended = subprocess.run(["sh", "-c", command], capture_output=True)
         self.assertEqual(
-            (ended.stdout, ended.stderr), (b"every-code.txt: 2 contracts, 4 accounts, 1,901 commands\n", b"")
+            (ended.stdout, ended.stderr), (b"every-code.txt: 2 contracts, 5 accounts, 1,905 commands\n", b"")
         )
 
     @unittest.skipUnless(Path("/dev/full").exists(), "no full device")

@@ -11,6 +11,8 @@ NUMBER_LIKE = re.compile("[-+.,]?[0-9]")
 MEANT_BY = {
     "contract": "instrument product future",
     "account": "acct member trader",
+    "maker": "market-maker marketmaker",
+    "quote": "two-sided",
     "insert": "new place add send submit enter order",
     "cancel": "delete remove",
     "pull": "cancel-all remove-all mass-cancel",

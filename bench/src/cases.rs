@@ -69,7 +69,7 @@ impl Random {
     }
 
     fn order(&mut self, number: u32, lots: u32) -> Order {
-        Order { price: self.price(), number, account: self.below(ACCOUNTS as u32), lots, close: self.below(2), stamp: number }
+        Order { price: self.price(), number, account: self.below(ACCOUNTS as u32), lots, close: self.below(2), stamp: number, quote: 0 }
     }
 }
 

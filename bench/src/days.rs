@@ -1,7 +1,7 @@
 //! What both exchanges are run on: day files without commands, and lists of commands, the same at every run.
 
 use crate::cases::{Random, ORDER, QUEUE, TRADE};
-use crate::exchange::{Areas, State, AUCTION, RECORD};
+use crate::exchange::{Areas, State, AUCTION, MAKER, RECORD};
 
 pub const CONTRACTS: usize = 4;
 pub const REFERENCE: u32 = 1_000;
@@ -24,7 +24,8 @@ impl Memory {
     }
 }
 
-/// Four contracts, the pairing methods among them in turn, and accounts that are rich enough for anything.
+/// Four contracts, the pairing methods among them in turn, and accounts that are rich enough for anything, those with odd numbers
+/// makers.
 pub fn file(accounts: usize) -> Vec<u8> {
     let mut bytes = vec![CONTRACTS as u8, 0, 0, 0];
     for c in 0..CONTRACTS as u16 {
@@ -37,8 +38,9 @@ pub fn file(accounts: usize) -> Vec<u8> {
         bytes.extend((c % 3).to_le_bytes());
     }
     bytes.extend((accounts as u32).to_le_bytes());
-    for _ in 0..accounts {
-        bytes.extend(1_000_000_000_000u64.to_le_bytes());
+    for a in 1..=accounts {
+        let mark = if a % 2 == 1 { MAKER } else { 0 };
+        bytes.extend((1_000_000_000_000u64 | mark).to_le_bytes());
     }
     bytes.extend(0u32.to_le_bytes());
     bytes
@@ -85,6 +87,10 @@ fn cancel(account: u8, contract: u8, number: u32) -> Command {
 
 fn change(account: u8, contract: u8, number: u32, lots: u32, price: u32) -> Command {
     Command { kind: 9, lots, price, ..cancel(account, contract, number) }
+}
+
+fn quote(account: u8, contract: u8, buy: u32, sell: u32, lots: u32) -> Command {
+    Command { kind: 8, lots, price: buy, ..cancel(account, contract, sell) }
 }
 
 pub fn settle() -> Command {
@@ -150,6 +156,13 @@ fn any_change(r: &mut Random, state: &State, memory: &Memory, contract: u8, side
     change(account, contract, o[1], lots, price)
 }
 
+/// A quote about the reference, which may cross the book; its prices may be equal. One in ten is of any account, the others of makers.
+fn any_quote(r: &mut Random, state: &State, account: u8, contract: u8) -> Command {
+    let maker = if r.below(10) == 0 { account } else { (account - 1) | 1 };
+    let buy = state.contracts[contract as usize - 1].reference - 15 + r.below(21);
+    quote(maker, contract, buy, buy + r.below(20), 1 + r.below(20))
+}
+
 fn any_command(r: &mut Random, state: &State, memory: &Memory) -> Command {
     let account = 1 + r.below(state.accountcount as u32) as u8;
     let contract = 1 + r.below(CONTRACTS as u32) as u8;
@@ -165,6 +178,7 @@ fn any_command(r: &mut Random, state: &State, memory: &Memory) -> Command {
             Some((side, o)) => any_change(r, state, memory, contract, side, o),
             None => order(r, state, account, contract),
         },
+        35..=44 => any_quote(r, state, account, contract),
         _ => order(r, state, account, contract),
     }
 }
@@ -175,7 +189,7 @@ fn opening(r: &mut Random) -> impl DoubleEndedIterator<Item = Command> {
     (1..=CONTRACTS).map(move |c| phase(c, if c == auction { AUCTION as u8 } else { 1 }))
 }
 
-/// A mixed list: orders, cancels, changes, money, state changes, and a settlement after each 500 commands. One contract in four opens
+/// A mixed list: orders, cancels, changes, quotes, money, state changes, and a settlement after each 500 commands. One contract in four opens
 /// by an auction. The commands are chosen by the state that they meet.
 pub fn mixed(r: &mut Random, accounts: usize, count: usize) -> Vec<Command> {
     let mut state = State::open(&file(accounts));
@@ -229,7 +243,7 @@ impl Script {
 }
 
 /// The kinds of command that are counted one by one.
-pub const KINDS: [&str; 10] = [
+pub const KINDS: [&str; 11] = [
     "deposit",
     "withdraw",
     "insert that rests",
@@ -237,6 +251,7 @@ pub const KINDS: [&str; 10] = [
     "cancel",
     "change that keeps its place",
     "change that loses its place",
+    "quote",
     "pull",
     "state change",
     "settle",
@@ -255,7 +270,8 @@ pub fn kind_lists(kind: usize, trades: usize) -> [Vec<Command>; 2] {
     match kind {
         // two lots each, in the same order as before
         5 => s.commands.extend((0..20).map(|i| change_buy(i, 2))),
-        9 => s.commands.extend((1..=CONTRACTS).map(|c| phase(c, 3))),
+        7 => s.commands.push(quote(1, 1, REFERENCE - 4, REFERENCE + 4, 1)),
+        10 => s.commands.extend((1..=CONTRACTS).map(|c| phase(c, 3))),
         _ => {}
     }
     let without = s.commands.clone();
@@ -272,9 +288,11 @@ pub fn kind_lists(kind: usize, trades: usize) -> [Vec<Command>; 2] {
             4 => s.commands.push(cancel(account, 1, number)),
             5 => s.commands.push(change_buy(i, 1)),
             6 => s.commands.push(change_buy(i, 2)),
-            7 if i < 8 => s.commands.push(Command { kind: 5, account, contract: 1 + i as u8 / 2, ..Command::default() }),
-            8 => s.commands.push(phase(4, 2 - (i % 2) as u8)),
-            9 if i == 0 => s.commands.push(settle()),
+            // in the place of the one before
+            7 => s.commands.push(quote(1, 1, REFERENCE - 5 - i, REFERENCE + 5 + i, 1)),
+            8 if i < 8 => s.commands.push(Command { kind: 5, account, contract: 1 + i as u8 / 2, ..Command::default() }),
+            9 => s.commands.push(phase(4, 2 - (i % 2) as u8)),
+            10 if i == 0 => s.commands.push(settle()),
             _ => {}
         }
     }

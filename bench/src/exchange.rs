@@ -1,10 +1,13 @@
-//! The same exchange in plain Rust, after document 01 and tickets 2, 4, 6 and 8 of document 02: the state changed where it
+//! The same exchange in plain Rust, after document 01 and tickets 2, 4, 6, 7 and 8 of document 02: the state changed where it
 //! stands, the same areas of words, the same refusals in the same order.
 
 use crate::cases::{ACCOUNTS, ORDER, QUEUE, TRADE};
 use crate::plain::{close_up, enter, insert, Account, Entry, Holding, PairingMethod, PriceCondition, Taker};
 
 pub const RECORD: usize = 24;
+
+/// "Bit 63 of an account's opening balance in the file marks a maker."
+pub const MAKER: u64 = 1 << 63;
 
 pub const CONTINUOUS: u32 = 1;
 pub const AUCTION: u32 = 4;
@@ -118,7 +121,7 @@ impl Record {
                 self.account != 0 || self.contract != 0 || self.flags != 0
                     || order_fields || self.number != 0 || self.amount != 0
             }
-            9 => self.flags != 0 || self.amount != 0,
+            8 | 9 => self.flags != 0 || self.amount != 0,
             _ => true,
         }
     }
@@ -138,6 +141,22 @@ impl Record {
             },
             day: self.flags >> 4 & 3 == 0,
             kill: self.flags >> 4 & 3 == 2,
+        }
+    }
+
+    /// The buy or the sell of a quote: "the price field holds the buy price, the order number field the sell price"
+    fn half(&self, sell: bool) -> NewOrder {
+        let price = if sell { self.number } else { self.price };
+        NewOrder {
+            account: self.account,
+            contract: self.contract,
+            sell,
+            close: false,
+            lots: self.lots,
+            price,
+            condition: PriceCondition::Limit(price),
+            day: true,
+            kill: false,
         }
     }
 }
@@ -245,7 +264,7 @@ impl State {
         trades
     }
 
-    // What a change shares with an insert or a cancel is always inlined: each is counted as a compiler makes it that sees this one
+    // What a change or a quote shares with an insert or a cancel is always inlined: each is counted as a compiler makes it that sees this one
     // use alone.
 
     /// "it would make more trades than the day has room for"
@@ -273,7 +292,7 @@ impl State {
         (self.accounts[a].balance < self.charged(areas, a, &holdings) as i64).then_some(9)
     }
 
-    /// An order as it meets the book: with a number, and with the next time stamp.
+    /// An order as it meets the book: with a number, and with the next time stamp. It has no quote mark.
     #[inline(always)]
     fn taker(&self, areas: &Areas, o: &NewOrder, number: u32) -> Taker {
         let c = o.contract - 1;
@@ -284,6 +303,7 @@ impl State {
             close: o.close as u32,
             number,
             stamp: self.nextstamp,
+            quote: 0,
             condition: o.condition,
             method: self.contracts[c].pairing_method(),
             best: self.queue(areas, !o.sell, c).first().copied().unwrap_or(0),
@@ -301,12 +321,19 @@ impl State {
         if State::absent(o.contract, self.contractcount) {
             return Err(3);
         }
+        let phase = self.contracts[o.contract - 1].phase;
+        if phase != CONTINUOUS && phase != AUCTION {
+            return Err(4);
+        }
+        self.pass(areas, o)
+    }
+
+    /// Codes 5 to 13, or the order as it meets the book.
+    #[inline(always)]
+    fn pass(&self, areas: &Areas, o: &NewOrder) -> Result<Taker, u32> {
         let c = o.contract - 1;
         let terms = &self.contracts[c];
         let auction = terms.phase == AUCTION;
-        if terms.phase != CONTINUOUS && !auction {
-            return Err(4);
-        }
         if o.lots < 1 || o.lots > 1_000 {
             return Err(5);
         }
@@ -453,6 +480,9 @@ impl State {
         }
         let old = &mut areas.queues[side][QUEUE * c + ORDER * place..][..ORDER];
         if r.price == old[0] && r.lots <= old[3] {
+            if r.lots < old[3] {
+                old[6] = 0;
+            }
             old[3] = r.lots;
             return kept(r.lots);
         }
@@ -500,6 +530,90 @@ impl State {
             return Err(12);
         }
         Ok(t)
+    }
+
+    fn quote(&mut self, areas: &mut Areas, r: &Record) -> Answer {
+        if State::absent(r.account, self.accountcount) {
+            return refused(2);
+        }
+        if State::absent(r.contract, self.contractcount) {
+            return refused(3);
+        }
+        let (a, c) = (r.account - 1, r.contract - 1);
+        if self.contracts[c].phase != CONTINUOUS {
+            return refused(4);
+        }
+        if !self.accounts[a].maker {
+            return refused(23);
+        }
+        if r.price >= r.number {
+            return refused(24);
+        }
+        let old = [0, 1].map(|side| self.take_quote(areas, side, c, a as u32));
+        let [bid, offer] = [r.half(false), r.half(true)];
+        if let Err(code) = self.pass(areas, &bid).and_then(|buy| self.pass_behind(areas, &buy, &offer)) {
+            for (side, taken) in old.into_iter().enumerate() {
+                self.put_back(areas, side, c, taken);
+            }
+            return refused(code);
+        }
+        let mut sums = Answer { number: self.next, ..Answer::default() };
+        for o in [bid, offer] {
+            let t = Taker { quote: 1, ..self.taker(areas, &o, self.next) };
+            self.next += 1;
+            let entered = self.enter(areas, &t);
+            sums.traded += entered.traded;
+            sums.lots += entered.lots;
+        }
+        sums
+    }
+
+    /// Codes 5 to 13 of a quote's sell behind its buy, which is not entered yet. 8 and 9 are the same with the buy as without it: what
+    /// it buys of its own account's sells stays on their side, and 9 of the buy has passed. The book is uncrossed, so that where the
+    /// buy trades the sell meets no one.
+    fn pass_behind(&self, areas: &Areas, buy: &Taker, o: &NewOrder) -> Result<(), u32> {
+        let c = o.contract - 1;
+        if !self.contracts[c].allows(o.price) {
+            return Err(7);
+        }
+        if let Some(code) = self.uncovered(areas, o) {
+            return Err(code);
+        }
+        if self.next + 1 >= 1_000_000 || self.nextstamp + 1 >= 1_000_000 {
+            return Err(10);
+        }
+        let t = self.taker(areas, o, self.next + 1);
+        if self.lacks_room(areas, &t) {
+            return Err(12);
+        }
+        if self.resting[1][c] == 64 && !self.fills_first(areas, buy) && self.fillable(areas, &t) < o.lots as u64 {
+            return Err(13);
+        }
+        Ok(())
+    }
+
+    /// Whether an order fills the first one that it may meet, so that a place is free behind it.
+    fn fills_first(&self, areas: &Areas, t: &Taker) -> bool {
+        orders(self.queue(areas, !t.sell, t.contract)).next().is_some_and(|o| t.meets(o[0]) && o[3] <= t.lots)
+    }
+
+    /// Takes out what is left of an account's quote on a side: its place and its words.
+    #[inline(always)]
+    fn take_quote(&mut self, areas: &mut Areas, side: usize, c: usize, account: u32) -> Option<(usize, [u32; ORDER])> {
+        let queue = self.queue(areas, side == 1, c);
+        let place = orders(queue).position(|o| o[6] == 1 && o[2] == account)?;
+        let words = queue[ORDER * place..][..ORDER].try_into().unwrap();
+        self.remove(areas, side, c, place);
+        Some((place, words))
+    }
+
+    fn put_back(&mut self, areas: &mut Areas, side: usize, c: usize, taken: Option<(usize, [u32; ORDER])>) {
+        if let Some((place, words)) = taken {
+            self.resting[side][c] += 1;
+            let rest = &mut areas.queues[side][QUEUE * c..][ORDER * place..ORDER * self.resting[side][c]];
+            rest.copy_within(..rest.len() - ORDER, ORDER);
+            rest[..ORDER].copy_from_slice(&words);
+        }
     }
 
     fn pull(&mut self, areas: &mut Areas, r: &Record) -> Answer {
@@ -658,6 +772,7 @@ impl State {
             5 => self.pull(areas, &r),
             6 => self.change_phase(areas, &r),
             7 => self.settle(areas),
+            8 => self.quote(areas, &r),
             _ => self.change(areas, &r),
         }
     }
@@ -684,7 +799,9 @@ impl State {
         }
         let mut accounts = [Account::default(); ACCOUNTS];
         for (a, account) in accounts[..accountcount].iter_mut().enumerate() {
-            account.balance = long(day, 8 + 20 * contractcount + 8 * a) as i64;
+            let opening = long(day, 8 + 20 * contractcount + 8 * a);
+            account.balance = (opening & !MAKER) as i64;
+            account.maker = opening & MAKER != 0;
         }
         State {
             contracts,

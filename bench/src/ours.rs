@@ -23,7 +23,7 @@ extern "C" {
 }
 
 pub fn insert(area: &mut [u32], contract: usize, count: usize, sell: bool, o: &Order) {
-    assert!(contract < 4 && count < 64 && QUEUE * contract + ORDER * (count + 1) <= area.len() && o.stamp == 0);
+    assert!(contract < 4 && count < 64 && QUEUE * contract + ORDER * (count + 1) <= area.len() && o.stamp == 0 && o.quote == 0);
     unsafe {
         zelvorm_insert(
             area.as_mut_ptr(), area.len(), contract, count, sell,

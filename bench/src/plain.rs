@@ -14,6 +14,7 @@ pub struct Holding {
 pub struct Account {
     pub balance: i64,
     pub holdings: [Holding; 4],
+    pub maker: bool,
 }
 
 pub type Accounts = [Account; ACCOUNTS];
@@ -26,12 +27,13 @@ pub struct Order {
     pub lots: u32,
     pub close: u32,
     pub stamp: u32,
+    pub quote: u32,
 }
 
 impl Order {
-    /// As it lies in its queue: no quote mark yet.
+    /// As it lies in its queue.
     pub fn words(&self) -> [u32; ORDER] {
-        [self.price, self.number, self.account, self.lots, self.close, self.stamp, 0]
+        [self.price, self.number, self.account, self.lots, self.close, self.stamp, self.quote]
     }
 }
 
@@ -50,7 +52,7 @@ pub enum PairingMethod {
     FirstIn,
 }
 
-/// An arriving order. `price` is where a good-for-day remainder rests.
+/// An arriving order. `price` is where a good-for-day remainder rests, `quote` is 1 where it is marked as its account's quote.
 pub struct Taker {
     pub account: u32,
     pub contract: usize,
@@ -58,6 +60,7 @@ pub struct Taker {
     pub close: u32,
     pub number: u32,
     pub stamp: u32,
+    pub quote: u32,
     pub condition: PriceCondition,
     pub method: PairingMethod,
     pub best: u32,
@@ -124,6 +127,7 @@ impl Taker {
             close: s.close,
             number: s.number,
             stamp: s.number,
+            quote: 0,
             condition,
             method: PairingMethod::Middle,
             best: s.best,
@@ -135,7 +139,15 @@ impl Taker {
 
     /// The order that rests, at its limit, with its time stamp.
     pub fn remainder(&self, lots: u32) -> Order {
-        Order { price: self.price, number: self.number, account: self.account, lots, close: self.close, stamp: self.stamp }
+        Order {
+            price: self.price,
+            number: self.number,
+            account: self.account,
+            lots,
+            close: self.close,
+            stamp: self.stamp,
+            quote: self.quote,
+        }
     }
 
     pub fn meets(&self, price: u32) -> bool {
@@ -238,7 +250,7 @@ pub fn enter(
 
 fn start(s: &Sweeps) -> (Entry, Accounts) {
     let holding = Holding { long: s.held, short: s.held, startlong: s.held, startshort: s.held };
-    let accounts = [Account { balance: 0, holdings: [holding; 4] }; ACCOUNTS];
+    let accounts = [Account { balance: 0, holdings: [holding; 4], maker: false }; ACCOUNTS];
     (Entry { rested: 0, own: s.own, opposite: s.opposite, made: s.made, last: s.last }, accounts)
 }
 

@@ -83,16 +83,16 @@ def price_levels(contract, side):
 def inserted(step):
     order = model.arriving(step.command)
     contract = step.before.contracts[order.contract]
-    words = f"Accepted as order {step.answer.order_number}. {arrived_words(step, contract, order)}"
-    return [Said(step.lines[0], words), *trades_said(step, contract, order)]
+    words = f"Accepted as order {step.answer.order_number}. {arrived_words(step.answer, contract, order)}"
+    return [Said(step.lines[0], words), *trades_said(step, contract, order, step.answer.trades)]
 
 
-def trades_said(step, contract, order):
-    """The trades of an order that arrives, each with its price."""
+def trades_said(step, contract, order, trades, first=0):
+    """The trades of an order that arrives, each with its price; `first` is the place of the first of them."""
     fills = model.sweep(contract, order)
     said = []
     last_price = contract.last_price
-    for place, (trade, (resting, lots)) in enumerate(zip(step.answer.trades, fills)):
+    for place, (trade, (resting, lots)) in enumerate(zip(trades, fills), first):
         check("lots of a trade", lots, trade.lots)
         words = price_words(contract, order, resting, last_price, trade)
         said.append(trade_said(step, place, [(1, words)]))
@@ -100,9 +100,8 @@ def trades_said(step, contract, order):
     return said
 
 
-def arrived_words(step, contract, order):
+def arrived_words(given, contract, order):
     """What of an order trades, what rests, and why no more trades."""
-    given = step.answer
     fills = model.sweep(contract, order)
     vanished = order.lots - given.lots_traded - given.lots_rested_or_removed
     if contract.state == "auction":
@@ -191,6 +190,28 @@ def pulled(step):
     return [Said(step.lines[0], f"Accepted. Out of the book: {which}{total}.")]
 
 
+# "removed first; then the buy is inserted, then the sell, on the state each step leaves" (document 02, ticket 7)
+def quoted(step):
+    old = [
+        order
+        for queue in step.before.contracts[step.command.contract].queues.values()
+        for order in queue
+        if order.quote and order.account == step.command.account
+    ]
+    gone = listed(f"order {order.number} ({lots_of(order.lots)})" for order in old)
+    said = [f"The old quote leaves the book: {gone}." if old else "No old quote rests there."]
+    trades = []
+    for found, order in model.quote_steps(step.before, step.command):
+        contract = found.contracts[order.contract]
+        given = model.insert_order(model.copied(found), order)
+        words = arrived_words(given, contract, order)
+        said.append(f"Order {given.order_number} is the {order.side} at {order.price:,}. {words}")
+        trades += trades_said(step, contract, order, given.trades, len(trades))
+    check("trades of a quote", len(trades), len(step.answer.trades))
+    total = f"Of both {step.answer.lots_traded:,} traded and {step.answer.lots_rested_or_removed:,} rest."
+    return [Said(step.lines[0], f"Accepted. {' '.join(said)} {total}"), *trades]
+
+
 # "fewer lots keep the place in the queue; more lots or another price lose it" (001, 4.1.2.3; document 02, ticket 8)
 def changed(step):
     contract = step.before.contracts[step.command.contract]
@@ -203,13 +224,17 @@ def changed(step):
         if step.command.lots == old.lots:
             return [Said(step.lines[0], f"Accepted. Order {old.number} is as it was, and nothing changes.")]
         fewer = f"{old.lots:,} to {lots_of(step.command.lots)} and keeps its place: {place_words(step, old)}"
-        return [Said(step.lines[0], f"Accepted. Order {old.number} goes from {fewer}.")]
+        return [Said(step.lines[0], f"Accepted. Order {old.number} goes from {fewer}.{mark_dropped(old)}")]
     order = model.changed_order(step.before, step.command)
     lost = f"{why_place_lost(step, old)}, so order {old.number} loses its place and arrives anew under its number."
-    words = f"Accepted. {lost} {arrived_words(step, contract, order)}"
+    words = f"Accepted. {lost}{mark_dropped(old)} {arrived_words(step.answer, contract, order)}"
     if step.answer.lots_rested_or_removed:
         words += f" It is {place_words(step, old)}."
-    return [Said(step.lines[0], words), *trades_said(step, contract, order)]
+    return [Said(step.lines[0], words), *trades_said(step, contract, order, step.answer.trades)]
+
+
+def mark_dropped(old):
+    return " It is no longer part of a quote." if old.quote else ""
 
 
 def why_place_lost(step, old):
@@ -301,5 +326,6 @@ ACCEPTED = {
     "pull": pulled,
     "state": state_changed,
     "settle": settled,
+    "quote": quoted,
     "change": changed,
 }

@@ -6,7 +6,6 @@ The lines are the runner's. Every one of them is compared with the model's, and 
 
 import shlex
 import shutil
-from dataclasses import replace
 from pathlib import Path
 from typing import NamedTuple
 
@@ -141,7 +140,8 @@ def comments_of(text):
             comments["command"] += commands * times
             commands = comments["command"]
         elif first:
-            kept = comments[first] if first in ("contract", "account") else commands
+            kind = "account" if first in daytext.ACCOUNTS else first
+            kept = comments[kind] if kind in ("contract", "account") else commands
             kept.append(Comment(above.take(), comment.strip()))
         elif expects:
             kept[-1] = kept[-1]._replace(beside=f"{kept[-1].beside} {comment.strip()}".strip())
@@ -203,7 +203,7 @@ def play(lesson, printed):
     state = model.opening_state(lesson.day)
     books = model.Condition3(state)
     money = Money(sum(state.balances.values()))
-    after = copied(state)
+    after = model.copied(state)
     for number, command in enumerate(lesson.day.commands, 1):
         before, day = after, state.settlements + 1
         answer = model.answer(state, command)
@@ -212,7 +212,7 @@ def play(lesson, printed):
         books.enter(state, command, answer)
         money = paid(money, command, answer)
         check_money(number, books, state, answer, money)
-        after = copied(state)
+        after = model.copied(state)
         yield Step(number, day, command, lesson.comments["command"][number - 1], lines, before, answer, after, money)
     if len(groups) > len(lesson.day.commands) + 1:
         extra = groups[len(lesson.day.commands) + 1][0]
@@ -266,21 +266,3 @@ def check_money(number, books, state, answer, money):
         raise Differs(f"after command {number} the balances together are not what was paid in")
     if answer.settlement and not books.holds_after_settlement(state, answer.settlement.prices):
         raise Differs(f"after command {number} a balance is not the account's sales less its costs")
-
-
-def copied(state):
-    """The state as it is now; what the model changes later does not reach it."""
-    contracts = {
-        number: replace(
-            contract, queues={side: [replace(order) for order in queue] for side, queue in contract.queues.items()}
-        )
-        for number, contract in state.contracts.items()
-    }
-    return replace(
-        state,
-        contracts=contracts,
-        balances=dict(state.balances),
-        holdings_at_start=dict(state.holdings_at_start),
-        holdings=dict(state.holdings),
-        trades=list(state.trades),
-    )

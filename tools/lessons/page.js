@@ -158,7 +158,7 @@ function bookCard(at, contract) {
     element("p", { class: "terms" }, `${book.state}; ${prices}, ${range}`),
     ladder(at, contract, [...shown]),
     ...(hidden ? [note(`${hidden} more prices with orders, further out, are not shown.`)] : []),
-    note("An order: its lots, A account, # order number; dashed: to close; yellow: new or changed."),
+    note("An order: its lots, A account, # order number, Q a quote's; dashed: to close; yellow: new or changed."),
   ];
 }
 
@@ -238,14 +238,14 @@ function queueCell(side, level, before) {
   return element("td", { class: side }, ...(side === "buy" ? marks.reverse() : marks));
 }
 
-function orderMark(price, [number, account, count, effect], known) {
+function orderMark(price, [number, account, count, effect, isQuote], known) {
   const [priceBefore, countBefore] = known.get(number) ?? [];
   const attributes = {
     class: `order ${effect} ${price === priceBefore && count === countBefore ? "" : "new"}`,
-    title: `order ${number} of account ${account}: ${lots(count)} to ${effect}`,
+    title: `order ${number} of account ${account}: ${lots(count)} ${isQuote ? "of its quote" : `to ${effect}`}`,
     style: `border-color: ${colour(account)}`,
   };
-  return element("span", attributes, figure(count), element("small", {}, `A${account} #${number}`));
+  return element("span", attributes, figure(count), element("small", {}, `A${account} #${number}${isQuote ? " Q" : ""}`));
 }
 
 // --- Accounts and trades ---

@@ -34,21 +34,36 @@ def refused(step):
 
 def arriving(step):
     """The order that a command would bring into the book: an insert's, or what a change makes of a resting one."""
-    if dayfile.KINDS[step.command.kind] == "change":
-        return model.changed_order(step.before, step.command)
-    return model.arriving(step.command)
+    kind = dayfile.KINDS[step.command.kind]
+    if kind == "quote":
+        return refused_step(step)[1]
+    return model.changed_order(step.before, step.command) if kind == "change" else model.arriving(step.command)
+
+
+def refused_step(step):
+    """The order of a quote that is refused, behind the state that it finds."""
+    for found, order in model.quote_steps(step.before, step.command):
+        if model.code_from_5_on(found, order) != 0:
+            return found, order
+    raise Differs(f"command {step.number} is refused, and no order of the quote is")
 
 
 def found(step):
     """The state that the order is tested in: a change as though the old order were gone."""
-    if dayfile.KINDS[step.command.kind] == "change":
+    kind = dayfile.KINDS[step.command.kind]
+    if kind == "quote":
+        return refused_step(step)[0]
+    if kind == "change":
         return model.without_order(step.before, step.command.contract, step.command.order_number)
     return step.before
 
 
 def old_is_gone(step):
-    """How the figures of a change begin."""
-    return "As though the old order were gone: " if dayfile.KINDS[step.command.kind] == "change" else ""
+    """How the figures of a change and of a quote begin."""
+    kind = dayfile.KINDS[step.command.kind]
+    if kind == "quote":
+        return f"The {arriving(step).side} of the quote, with the old quote gone: "
+    return "As though the old order were gone: " if kind == "change" else ""
 
 
 def why_malformed(step):
@@ -119,8 +134,8 @@ def why_wrong_state(step):
     kind = dayfile.KINDS[step.command.kind]
     if kind == "insert":
         return [f"{now}; an insert needs {listed(trading, 'or')}."]
-    if kind == "change":
-        return [f"{now}; a change needs continuous."]
+    if kind in ("quote", "change"):
+        return [f"{now}; a {kind} needs continuous."]
     return [f"{now}; cancel and pull need {listed(trading, 'or')}, or no trading with the operator."]
 
 
@@ -138,7 +153,7 @@ def why_conditions(step):
 
 def why_price(step):
     order = arriving(step)
-    contract = step.before.contracts[order.contract]
+    contract = found(step).contracts[order.contract]
     price, low, high = order.price, model.low(contract), model.high(contract)
     if order.price_condition != "limit":
         return [f"An order {PRICE_WORDS[order.price_condition]} names no price; this one names {price:,}."]
@@ -223,8 +238,9 @@ def why_not_filled(step):
 
 def why_no_room(step):
     """12: an order's sweep, or an auction's match."""
-    made = len(step.before.trades)
-    contract = step.before.contracts[step.command.contract]
+    state = found(step)
+    made = len(state.trades)
+    contract = state.contracts[step.command.contract]
     if dayfile.KINDS[step.command.kind] == "state":
         trades = len(model.auction_pairs(contract))
     else:
@@ -233,8 +249,8 @@ def why_no_room(step):
 
 
 def why_side_full(step):
-    order = model.arriving(step.command)
-    contract = step.before.contracts[order.contract]
+    order = arriving(step)
+    contract = found(step).contracts[order.contract]
     full = f"{MOST_RESTING} {order.side} orders rest in contract {order.contract}, as many as there is room for"
     if contract.state == "auction":
         return [f"{full}, and in an auction every order rests."]
@@ -242,6 +258,17 @@ def why_side_full(step):
     return [
         f"{full}. Fillable: {fillable:,} of {lots_of(order.lots)}, so {order.lots - fillable:,} would have to rest."
     ]
+
+
+def why_no_maker(step):
+    makers = [f"account {account}" for account in sorted(step.before.makers)]
+    others = f"the makers are {listed(makers)}" if makers else "no account of the lesson is one"
+    return [f"Account {step.command.account} is no market maker; {others}."]
+
+
+def why_not_below(step):
+    buy, sell = step.command.price, step.command.order_number
+    return [f"The buy price {buy:,} is {'the sell price' if buy == sell else f'above the sell price {sell:,}'}; it must be below."]
 
 
 def why_no_order(step):
@@ -313,4 +340,6 @@ REFUSALS = {
     17: ("the contract cannot go from its state to that one", why_not_listed),
     18: ("a contract is not closed", why_not_closed),
     19: ("no more settlements in this run", why_settlements),
+    23: ("the account is no market maker", why_no_maker),
+    24: ("a quote buys below the price that it sells at", why_not_below),
 }

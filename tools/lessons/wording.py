@@ -113,6 +113,10 @@ COMMAND_WORDS = {
     "pull": lambda command: (
         f"Account {command.account}: pull all its orders in contract {command.contract}{by_operator(command)}"
     ),
+    "quote": lambda command: (
+        f"Account {command.account}: quote {lots_of(command.lots)} of contract {command.contract},"
+        f" buy at {command.price:,} and sell at {command.order_number:,}"
+    ),
     "change": lambda command: (
         f"Account {command.account}: change order {command.order_number} in contract {command.contract} to"
         + (f" {lots_of(command.lots)} at {command.price:,}" if command.lots else " no lots")

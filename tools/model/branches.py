@@ -66,7 +66,8 @@ class Case:
         """How many trades the day has room for."""
         return MOST_TRADES - len(self.state.trades)
 
-    # What follows is asked of inserts and of changes alone. A change finds the state without the order that it changes.
+    # What follows is asked of the orders of inserts, changes and quotes alone. A change finds the state without the order
+    # that it changes, an order of a quote the one that the steps before it leave.
 
     @cached_property
     def order(self):
@@ -79,6 +80,10 @@ class Case:
             return self.state
         return model.without_order(self.state, self.command.contract, self.command.order_number)
 
+    @cached_property
+    def found_contract(self):
+        return self.found.contracts[self.command.contract]
+
     def added_charge(self, lots):
         """What so many lots of the order, an open, would add to the charged margin."""
         order = self.order._replace(lots=lots)
@@ -90,19 +95,19 @@ class Case:
 
     @cached_property
     def opposite(self):
-        return model.opposite_queue(self.contract, self.order)
+        return model.opposite_queue(self.found_contract, self.order)
 
     @cached_property
     def own_side(self):
-        return self.found.contracts[self.command.contract].queues[self.order.side]
+        return self.found_contract.queues[self.order.side]
 
     @cached_property
     def fillable(self):
-        return model.fillable(self.contract, self.order)
+        return model.fillable(self.found_contract, self.order)
 
     @cached_property
     def fills(self):
-        return model.sweep(self.contract, self.order)
+        return model.sweep(self.found_contract, self.order)
 
     @cached_property
     def lots_traded(self):
@@ -129,11 +134,11 @@ class Case:
     def trade_prices(self):
         """The price of each trade beside the resting price and the last price that it was worked out from."""
         prices = []
-        last_price = self.contract.last_price
+        last_price = self.found_contract.last_price
         for resting, _ in self.fills:
             price = resting.price
             if self.order.price_condition == "limit":
-                price = model.paired_price(self.contract, self.order.price, resting.price, last_price)
+                price = model.paired_price(self.found_contract, self.order.price, resting.price, last_price)
             prices.append((price, resting.price, last_price))
             last_price = price
         return prices
@@ -266,6 +271,52 @@ class Case:
             balance + sum(model.profit_in_all_contracts(self.state, account, prices))
             for account, balance in self.state.balances.items()
         ]
+
+
+class QuoteCase(Case):
+    """A quote that passes 24: its two orders, each with what it finds, up to the one that is refused."""
+
+    @cached_property
+    def steps(self):
+        cases = []
+        for found, order in model.quote_steps(self.state, self.command):
+            case = Case(self.state, self.command)
+            case.found, case.order, case.code = model.copied(found), order, model.code_from_5_on(found, order)
+            cases.append(case)
+            if case.code != 0:
+                break
+        return cases
+
+    @cached_property
+    def last_step(self):
+        return self.steps[-1]
+
+    @cached_property
+    def old(self):
+        """What is left of the old quote, by side."""
+        return {
+            side: [order for order in self.contract.queues[side] if order.quote and order.account == self.command.account]
+            for side in dayfile.SIDES
+        }
+
+    @cached_property
+    def old_sides(self):
+        return tuple(side for side in dayfile.SIDES if self.old[side])
+
+    @cached_property
+    def old_numbers(self):
+        return {order.number for orders in self.old.values() for order in orders}
+
+    @cached_property
+    def shares(self):
+        return tuple(case.share_traded for case in self.steps)
+
+    @cached_property
+    def fills(self):
+        return [fill for case in self.steps for fill in case.fills]
+
+    def trades_on(self, side):
+        return next(case for case in self.steps if case.order.side == side).fills != []
 
 
 def compared(first, second, names):
@@ -921,6 +972,237 @@ CHANGE_LOSES = {
 }
 
 
+# A quote that is refused before its orders are looked at (document 02, ticket 7).
+QUOTE_REFUSED = {
+    **codes("quote", (2, 3, 4, 23, 24)),
+    **for_each(
+        ("pre-open", "no-trading", "closed", "auction"),
+        lambda state: f"quote: refused in {state}",
+        lambda case, state: case.code == 4 and case.contract.state == state,
+    ),
+    "quote: no maker, and the prices the wrong way round": lambda case: (
+        case.code == 23 and case.command.price >= case.command.order_number
+    ),
+    "quote: equal prices": lambda case: case.code == 24 and case.command.price == case.command.order_number,
+    "quote: buy above sell": lambda case: case.code == 24 and case.command.price > case.command.order_number,
+    "quote: the prices come before the lots": lambda case: case.code == 24 and not 1 <= case.command.lots <= MOST_LOTS,
+    "quote: the prices come before the ticks": lambda case: (
+        case.code == 24 and case.command.price % case.contract.tick != 0
+    ),
+}
+
+# A quote that is refused for one of its orders.
+QUOTE_REFUSED_FOR_AN_ORDER = {
+    **for_each(
+        [("buy", code) for code in (5, 7, 8, 9, 12, 13)] + [("sell", code) for code in (7, 8, 9, 12, 13)],
+        lambda value: f"quote: code {value[1]} for the {value[0]}",
+        lambda case, value: (case.last_step.order.side, case.code) == value,
+    ),
+    **for_each(
+        dayfile.SIDES,
+        lambda side: f"quote: refused for the {side}, and the old one stands",
+        lambda case, side: case.last_step.order.side == side and case.old_sides == dayfile.SIDES,
+    ),
+    "quote: 0 lots": lambda case: case.code == 5 and case.command.lots == 0,
+    "quote: 1,001 lots": lambda case: case.code == 5 and case.command.lots == MOST_LOTS + 1,
+    **for_each(
+        dayfile.SIDES,
+        lambda side: f"quote: {side} one lot above what the holding permits",
+        lambda case, side: (
+            case.code == 8
+            and case.last_step.order.side == side
+            and case.command.lots == case.last_step.most_lots_by_holding + 1
+        ),
+    ),
+    **for_each(
+        dayfile.SIDES,
+        lambda side: f"quote: {side} one lot above what the balance covers",
+        lambda case, side: (
+            case.code == 9
+            and case.last_step.order.side == side
+            and case.last_step.added_charge(case.command.lots - 1) <= case.last_step.free_without
+        ),
+    ),
+    **for_each(
+        dayfile.SIDES,
+        lambda side: f"quote: the {side} would make one trade more than the day has room for",
+        lambda case, side: (
+            case.code == 12
+            and case.last_step.order.side == side
+            and len(case.last_step.found.trades) + len(case.last_step.fills) == MOST_TRADES + 1
+        ),
+    ),
+    "quote: the buy would trade, and the sell is refused": lambda case: (
+        case.last_step.order.side == "sell" and case.steps[0].fills != []
+    ),
+    **for_each(
+        dayfile.SIDES,
+        lambda side: f"quote: the {side}'s side is full, some of its lots could trade",
+        lambda case, side: case.code == 13 and case.last_step.order.side == side and case.last_step.fillable > 0,
+    ),
+}
+
+# A quote that is accepted.
+QUOTE_ACCEPTED = {
+    "quote: code 0": lambda case: True,
+    **for_each(
+        ((), ("buy",), ("sell",), ("buy", "sell")),
+        lambda sides: f"quote: {' and '.join(sides) or 'nothing'} left of the old one",
+        lambda case, sides: case.old_sides == sides,
+    ),
+    "quote: an order of the old one is filled in part": lambda case: any(
+        number in (trade.buy_order, trade.sell_order) for trade in case.state.trades for number in case.old_numbers
+    ),
+    "quote: the old one's prices again": lambda case: (
+        case.old_sides == dayfile.SIDES
+        and [case.old[side][0].price for side in dayfile.SIDES] == [case.command.price, case.command.order_number]
+    ),
+    **for_each(
+        dayfile.SIDES,
+        lambda side: f"quote: beyond the {side} of the old one",
+        lambda case, side: (
+            side in case.old_sides
+            and (
+                case.command.price >= case.old["sell"][0].price
+                if side == "sell"
+                else case.command.order_number <= case.old["buy"][0].price
+            )
+        ),
+    ),
+    # The book is uncrossed and the buy below the sell, so that one of the two trades at most.
+    **for_each(
+        (("none", "none"), ("some", "none"), ("all", "none"), ("none", "some"), ("none", "all")),
+        lambda shares: f"quote: {shares[0]} of the buy trades, {shares[1]} of the sell",
+        lambda case, shares: case.shares == shares,
+    ),
+    **for_each(
+        product(dayfile.SIDES, dayfile.EFFECTS),
+        lambda value: f"quote: the {value[0]} meets an order of its own account, to {value[1]}",
+        lambda case, value: any(
+            step.order.side == value[0]
+            and any(
+                resting.account == case.command.account and resting.effect == value[1] for resting, _ in step.fills
+            )
+            for step in case.steps
+        ),
+    ),
+    **for_each(
+        product((0, 1, 2), dayfile.SIDES),
+        lambda value: f"quote: method {value[0]}, the {value[1]} trades at a price that is neither its own nor the last",
+        lambda case, value: any(
+            paired_by(step, value[0])
+            and step.order.side == value[1]
+            and any(price not in (step.order.price, last) for price, _, last in step.trade_prices)
+            for step in case.steps
+        ),
+    ),
+    "quote: meets another maker's": lambda case: any(resting.quote for resting, _ in case.fills),
+    "quote: several trades": lambda case: len(case.fills) > 1,
+    "quote: the buy stands in a place that the sell frees": lambda case: (
+        case.steps[0].rests
+        and len(case.steps[1].fills) > 0
+        and len(case.steps[0].own_side) >= len(case.contract.queues["buy"])
+    ),
+    **for_each(
+        dayfile.SIDES,
+        lambda side: f"quote: the {side} rests as the 64th",
+        lambda case, side: any(
+            step.order.side == side and step.rests and len(step.own_side) == MOST_RESTING - 1 for step in case.steps
+        ),
+    ),
+    **for_each(
+        dayfile.SIDES,
+        lambda side: f"quote: the {side}'s side was full with the old one",
+        lambda case, side: side in case.old_sides and len(case.contract.queues[side]) == MOST_RESTING,
+    ),
+    "quote: the sell's side is full until the buy trades": lambda case: (
+        len(case.contract.queues["sell"]) == MOST_RESTING
+        and case.old["sell"] == []
+        and case.steps[0].fills != []
+        and case.steps[1].rests
+    ),
+    "quote: a full side, all lots of the order trade": lambda case: any(
+        step.share_traded == "all" and len(step.own_side) == MOST_RESTING for step in case.steps
+    ),
+    **for_each(
+        dayfile.SIDES,
+        lambda side: f"quote: the {side} to all that the holding permits",
+        lambda case, side: any(
+            step.order.side == side and step.order.lots == step.most_lots_by_holding for step in case.steps
+        ),
+    ),
+    "quote: permitted by the holding only as the old one is gone": lambda case: any(
+        step.order.lots > model.most_lots_by_holding(case.state, step.order) for step in case.steps
+    ),
+    "quote: covered by the balance only as the old one is gone": lambda case: any(
+        model.charged_margin(case.state, step.order.account, step.order) > case.balance for step in case.steps
+    ),
+    "quote: takes all of the balance": lambda case: (
+        0 < case.steps[1].free_without == case.steps[1].added_charge(case.command.lots)
+        or 0 < case.steps[0].free_without == case.steps[0].added_charge(case.command.lots)
+    ),
+    "quote: the sell adds no charge": lambda case: case.steps[1].added_charge(case.command.lots) == 0,
+    "quote: the sell adds charge": lambda case: case.steps[1].added_charge(case.command.lots) > 0,
+    "quote: the day's last trade": lambda case: (
+        case.fills != [] and len(case.state.trades) + len(case.fills) == MOST_TRADES
+    ),
+    "quote: a full day, no trade": lambda case: case.room == 0,
+    "quote: a quote of its own in another contract stays": lambda case: any(
+        order.quote and order.account == case.command.account
+        for number, contract in case.state.contracts.items()
+        if number != case.command.contract
+        for queue in contract.queues.values()
+        for order in queue
+    ),
+    "quote: an open of its own that is no quote stays": lambda case: any(
+        order.account == case.command.account and not order.quote and order.effect == "open"
+        for queue in case.contract.queues.values()
+        for order in queue
+    ),
+    "quote: while another contract is in auction": lambda case: "auction" in case.states_of_others,
+}
+
+# Other commands that meet the orders of a quote.
+MARKED = {
+    "quote's order: filled in part": lambda case: (
+        case.kind == "insert" and case.code == 0 and any(order.quote and lots < order.lots for order, lots in case.fills)
+    ),
+    "quote's order: filled": lambda case: (
+        case.kind == "insert" and case.code == 0 and any(order.quote and lots == order.lots for order, lots in case.fills)
+    ),
+    "quote's order: cancelled": lambda case: (
+        case.kind == "cancel" and case.code == 0 and model.resting_order(case.contract, case.command.order_number).quote
+    ),
+    "quote's order: pulled": lambda case: (
+        case.kind == "pull"
+        and case.code == 0
+        and any(order.quote for side in dayfile.SIDES for order in pulled(case, side))
+    ),
+    **for_each(
+        ("fewer", "as many", "more"),
+        lambda lots: f"quote's order: changed at its price, {lots} lots",
+        lambda case, lots: (
+            case.kind == "change"
+            and case.code == 0
+            and case.command.lots > 0
+            and case.old.quote
+            and case.command.price == case.old.price
+            and case.lots_compared == lots
+        ),
+    ),
+    "quote's order: changed to another price": lambda case: (
+        case.kind == "change"
+        and case.code == 0
+        and case.command.lots > 0
+        and case.old.quote
+        and case.command.price != case.old.price
+    ),
+    "quote's order: changed to no lots": lambda case: (
+        case.kind == "change" and case.code == 0 and case.command.lots == 0 and case.old.quote
+    ),
+}
+
+
 def traded_before(case):
     return any(case.command.order_number in (trade.buy_order, trade.sell_order) for trade in case.state.trades)
 
@@ -1156,6 +1438,7 @@ BROKEN = [
     "broken: commands not 0 to 2,000",
     *(f"broken: {fault}" for fault, _ in CONTRACT_RULES),
     "broken: balance not 0 to 10^18",
+    "broken: balance of a maker not 0 to 10^18",
 ]
 
 NAMES = [
@@ -1166,6 +1449,10 @@ NAMES = [
     *AUCTION_INSERT_REFUSED,
     *AUCTION_INSERT_ACCEPTED,
     *dict.fromkeys((*CHANGE_REFUSED, *CHANGE_REFUSED_FOR_ITSELF, *CHANGE_KEEPS, *CHANGE_LOSES)),
+    *QUOTE_REFUSED,
+    *QUOTE_REFUSED_FOR_AN_ORDER,
+    *QUOTE_ACCEPTED,
+    *MARKED,
     *(name for table in OF_KIND.values() for name in table),
     *AUCTION,
     *AUCTION_WITH_VOLUME,
@@ -1175,13 +1462,23 @@ NAMES = [
 
 def met(state, command):
     """The names of what the command meets in this state."""
-    case = Case(state, command)
+    case = (QuoteCase if command.kind == dayfile.NUMBER_OF_KIND["quote"] else Case)(state, command)
     return [name for table in tables(case) for name, test in table.items() if test(case)]
 
 
 def tables(case):
+    if case.code in (1, 2, 3) or case.kind == "quote":
+        return tables_of_kind(case)
+    return [*tables_of_kind(case), MARKED]
+
+
+def tables_of_kind(case):
     if case.code == 1:
         return [MALFORMED]
+    if case.kind == "quote":
+        if case.code in (2, 3, 4, 23, 24):
+            return [QUOTE_REFUSED]
+        return [QUOTE_ACCEPTED if case.code == 0 else QUOTE_REFUSED_FOR_AN_ORDER]
     if case.kind == "insert" and case.code not in (2, 3) and case.contract.state == "auction":
         return [AUCTION_INSERT_ACCEPTED if case.code == 0 else AUCTION_INSERT_REFUSED]
     if case.kind == "insert":

@@ -1,7 +1,7 @@
 """Every way to break a day file: one fault at a time, under a name that says which (document 01, code 20)."""
 
 from bounds import MOST_ACCOUNTS, MOST_COMMANDS, MOST_CONTRACTS, TOP_BALANCE, TOP_PRICE
-from dayfile import ACCOUNT, COMMAND, CONTRACT, COUNT, settle, write
+from dayfile import ACCOUNT, COMMAND, CONTRACT, COUNT, maker, settle, write
 
 # The values that spoil a contract. Where one alone would break a second rule too, the others follow it.
 CONTRACT_FAULTS = {
@@ -27,7 +27,8 @@ CONTRACT_FAULTS = {
 
 BALANCE_FAULTS = {
     "balance-one-above": TOP_BALANCE + 1,
-    "balance-bit-63": 2**63,
+    "balance-bit-62": 2**62,
+    "balance-of-a-maker-one-above": maker(TOP_BALANCE + 1),
     "balance-all-bits": 2**64 - 1,
 }
 

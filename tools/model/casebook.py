@@ -53,20 +53,36 @@ FIRST_STAMP = 300
 
 
 def rest(state, side, contract, *orders):
-    """Orders at the end of a queue: (price, lots, number, account, OPEN or CLOSE, stamp). What is left out is account 1,
-    OPEN, and a stamp that rises with the number."""
+    """Orders at the end of a queue: (price, lots, number, account, OPEN or CLOSE, stamp, quote mark). What is left out is
+    account 1, OPEN, a stamp that rises with the number, and no mark."""
     queue_counts = state.order_counts[side]
     for price, lots, number, *more in orders:
-        account, close, stamp = (*more, *(1, OPEN, FIRST_STAMP + number)[len(more) :])
+        account, close, stamp, mark = (*more, *(1, OPEN, FIRST_STAMP + number, 0)[len(more) :])
         place = MOST_RESTING * (contract - 1) + queue_counts[contract - 1]
-        state.orders[side].contents[place] = Order(price, number, account - 1, lots, close, stamp, 0)
+        state.orders[side].contents[place] = Order(price, number, account - 1, lots, close, stamp, mark)
         queue_counts[contract - 1] += 1
+    return state
+
+
+def quoted(state, contract, buy=None, sell=None, account=1):
+    """A maker, and its quote behind the orders of the two queues: each side's (price, lots, number), or None."""
+    makers(state, account)
+    for side, order in (("buy", buy), ("sell", sell)):
+        if order is not None:
+            price, lots, number = order
+            rest(state, side, contract, (price, lots, number, account, OPEN, FIRST_STAMP + number, 1))
     return state
 
 
 def makers(state, *accounts):
     for account in accounts:
-        state.makers[account - 1] = 1
+        maker_mark(state, account, 1)
+    return state
+
+
+def maker_mark(state, account, mark):
+    """An account's mark: 1 of a maker, 0 of another account, any other of none."""
+    state.makers[account - 1] = mark
     return state
 
 
@@ -120,17 +136,17 @@ def tempting(state):
         state.contracts[contracts] = TERMS._replace(multiplier=3, phase=PRE_OPEN)
         for side, price in (("buy", 95), ("sell", 105)):
             state.order_counts[side][contracts] = 1
-            state.orders[side].contents.setdefault(MOST_RESTING * contracts, Order(price, 98, 0, 7, OPEN, 398, 0))
+            state.orders[side].contents.setdefault(MOST_RESTING * contracts, Order(price, 98, 0, 7, OPEN, 398, 1))
         state.holdings[0][contracts] = Holding(3, 4, 5, 6)
     if accounts < MOST_ACCOUNTS:
         state.balances[accounts] = 2_000
-        state.makers[accounts] = 0
+        state.makers[accounts] = 1
         state.holdings[accounts][0] = Holding(8, 8, 8, 8)
     for side, price in (("buy", 95), ("sell", 105)):
         for contract, count in enumerate(state.order_counts[side][: min(contracts, MOST_CONTRACTS)]):
             if count < MOST_RESTING:
                 place = MOST_RESTING * contract + count
-                state.orders[side].contents.setdefault(place, Order(price, 99, 0, 7, contract % 2, 399, 0))
+                state.orders[side].contents.setdefault(place, Order(price, 99, 0, 7, contract % 2, 399, 1))
     if state.trade_count < room_of(state.trades):
         state.trades.contents.setdefault(state.trade_count, Trade(0, 95, 7, 97, 98, 0, 1, OPEN, OPEN))
     return state
@@ -167,6 +183,10 @@ def market(account, contract, side, lots, time="immediate", effect="open", price
 
 def best(account, contract, side, lots, time="immediate", effect="open", price=0):
     return insert(account, contract, side, price, lots, time, effect, "best")
+
+
+def quote(account, contract, buy_price, sell_price, lots):
+    return dayfile.quote(account, contract, buy_price, sell_price, lots)
 
 
 def change(account, contract, order_number, lots, price):

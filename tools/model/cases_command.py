@@ -41,6 +41,7 @@ def sound_commands():
         "pull": (book(), dayfile.pull(1, 1)),
         "state": (book(), dayfile.state(1, "closed")),
         "settle": (book(phase=CLOSED), dayfile.settle()),
+        "quote": (makers(book(), 1), quote(1, 1, 95, 105, 2)),
         "change": (book(), change(1, 1, 1, 2, 100)),
     }
 
@@ -106,6 +107,10 @@ def spoilt_states():
     yield "a stamp that is still to be given", change_order(book(), "buy", 1, 1, stamp=700)
     yield "one stamp for two orders", change_order(book(), "buy", 1, 1, stamp=301)
     yield "a million and one stamps", counts(book(), next_stamp=10**6 + 1)
+    yield "a quote of no maker", change_order(book(), "buy", 1, 1, quote=1)
+    yield "a mark that is neither", change_order(makers(book(), 1, 2), "buy", 1, 1, quote=2)
+    yield "two quotes on a side", change_order(change_order(makers(book(), 1), "buy", 1, 0, quote=1), "buy", 1, 1, quote=1)
+    yield "an account that is neither a maker nor none", maker_mark(book(), 2, 2)
 
 
 # "2: account 0 or absent", for these two accounts: numbers that have none

@@ -46,7 +46,7 @@ def counts_and_length():
 
 
 # "A contract is 20 bytes: multiplier 2, tick 2, reference 4, band 4, limit 4, rate 2, zero 2." "20 for a method above 2"
-# "An account is 8 bytes: opening balance, 0 to 10^18."
+# "An account is 8 bytes: opening balance, 0 to 10^18." "Bit 63 of an account's opening balance in the file marks a maker."
 def values():
     for name, inside, outside in (
         ("multiplier", (1, 1_000), (0, 1_001, 65_535)),
@@ -70,7 +70,8 @@ def values():
         for value, sound in ((1, 1), (10**6, 1), (10**6 + 1, 0)):
             yield read(f"{name} {value} by ticks of 1", file([by_one._replace(**{name: value})]), sound)
     for place in (0, 1, 31):
-        for value, sound in ((0, 1), (10**18, 1), (10**18 + 1, 0), (2**63, 0), (2**64 - 1, 0)):
+        top = 10**18
+        for value, sound in ((0, 1), (top, 1), (top + 1, 0), (2**62, 0), (2**63 - 1, 0), (2**63, 1), (2**63 + 1, 1), (2**63 + top, 1), (2**63 + top + 1, 0), (2**63 + 2**62, 0), (2**64 - 1, 0)):
             balances = [3] * max(place + 1, 2)
             balances[place] = value
             yield read(f"balance {value} of account {place + 1}", file(balances=balances), sound)

@@ -75,7 +75,8 @@ def heads():
         contract = CONTRACT_RECORD._replace(**{name: 101})
         yield accepted(f"{name} off tick", head([contract], count=1) + records(SOUND), 1, 0, code=20)
     for place in (0, 1):
-        for value, code in ((0, 0), (10**18, 0), (10**18 + 1, 20), (2**64 - 1, 20)):
+        top, mark = 10**18, 2**63
+        for value, code in ((0, 0), (top, 0), (top + 1, 20), (mark, 0), (mark + top, 0), (mark + top + 1, 20), (2**64 - 1, 20)):
             balances = [3, 3]
             balances[place] = value
             yield accepted(f"balance {value} of account {place + 1}", head(balances=balances), 0, 0, code=code)

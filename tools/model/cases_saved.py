@@ -139,6 +139,7 @@ def reading():
     full = full_queue(used(), "buy", 2, 95, 41)
     yield read("over a full queue", file(), lent=counts(full, order_counts={"buy": [2, 65, 2, 2**63], "sell": [1, 0, 1, 0]}))
     yield read("over a state that no one has written", file(), lent=Memory())
+    yield read("over marks that have no meaning", file(), lent=maker_mark(maker_mark(used(), 1, 2), 3, 2**64 - 1))
     yield read("over the state itself", file(), lent=morning())
     top = dict(multiplier=1_000, tick=1, reference=10**6, band=10**6, limit=100_000, rate=10_000, method=2, last=10**6)
     largest = counts(exchange(4, 32, phase=PRE_OPEN, **top), next=1, next_stamp=1, settlements=250)
@@ -274,6 +275,9 @@ def order_of_refusals():
     yield written("21 before 28", terms(terms(morning(), 1, phase=CLOSED), 2, rate=0), 21)
     yield written("21 before 29", terms(morning(), 2, rate=0), 21, length=0)
     yield written("21 for a short trade area", areas(morning(), trades=(1_024, -1)), 21)
+    for account in (1, 2, 3):
+        yield written(f"21 for mark 2 of account {account}", maker_mark(morning(), account, 2), 21)
+    yield written("a mark of 2 behind the last account", maker_mark(morning(), 5, 2))
     yield written("28 before 29", unequal(), 28, length=0)
     yield read("20 before 30", file(terms(unequal(), 1, rate=0)), 20)
     yield read("20 before 29", file(terms(morning(), 1, rate=0)), 20, used(trades=0))
@@ -297,6 +301,10 @@ def there_and_back():
     trading = terms(loaded.copy(), 1, phase=CONTINUOUS)
     yield given("loaded lots are closed", trading, insert(3, 1, "sell", 105, 1, effect="close"))
     yield given("one more than were loaded", trading.copy(), insert(3, 1, "sell", 105, 2, effect="close"), 8)
+    # Account 3 is loaded as a maker, account 1 as none, whatever they were before.
+    yield given("a loaded maker's quote is refused in pre-open", loaded.copy(), quote(3, 1, 95, 105, 2), 4)
+    yield given("a loaded maker quotes", trading.copy(), quote(3, 1, 95, 105, 2))
+    yield given("a loaded account that is no maker does not", trading.copy(), quote(1, 1, 95, 105, 2), 23)
     closed = terms(terms(loaded.copy(), 1, phase=CLOSED), 2, phase=CLOSED)
     yield given("a loaded state is settled", closed, dayfile.settle())
 

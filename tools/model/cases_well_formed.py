@@ -15,6 +15,7 @@ def cases():
     yield from resting_orders()
     yield from numbers_used_once()
     yield from stamps_used_once()
+    yield from quotes()
     yield from recorded_trades()
     yield from replays()
     yield from limits()
@@ -217,6 +218,56 @@ def stamps_used_once():
     queue = lambda *stamps: rest(exchange(), "buy", 1, *((95 - 5 * k, 1, 9 - k, 1, OPEN, stamp) for k, stamp in enumerate(stamps)))
     yield well("stamps 3, 2, 1, 699 at falling prices", queue(3, 2, 1, 699))
     yield ill("stamps 3, 2, 1, 3 at falling prices", queue(3, 2, 1, 3))
+
+
+# A quote is "marked in the book (at most one for each contract, account and side, on a maker's open only; well-formed
+# rule too)" (document 02, ticket 7)
+def quotes():
+    prices = {"buy": (95, 95, 90), "sell": (105, 105, 110)}
+    for side in dayfile.SIDES:
+        for contract in (1, 2):
+
+            def marked(*marks, accounts=(1, 1, 1), close=OPEN, are_makers=(1,)):
+                state = start(start(exchange(2, accounts=3), 1, contract, 9, 9), 2, contract, 9, 9)
+                orders = zip(prices[side], (11, 12, 13), accounts, marks)
+                rest(state, side, contract, *((price, 1, n, account, close, 300 + n, mark) for price, n, account, mark in orders))
+                return makers(state, *are_makers)
+
+            where = f"{side} orders of contract {contract}"
+            yield well(f"{where}: a maker's, none marked", marked(0, 0, 0))
+            for place in range(3):
+                one = [int(other == place) for other in range(3)]
+                yield well(f"{where}: a maker's, number {place + 1} marked", marked(*one))
+                yield ill(f"{where}: number {place + 1} marked and to close", marked(*one, close=CLOSE))
+                yield ill(f"{where}: number {place + 1} marked, another account is the maker", marked(*one, are_makers=(2, 3)))
+                yield ill(f"{where}: number {place + 1} marked, no maker", marked(*one, are_makers=()))
+                yield ill(f"{where}: number {place + 1} with mark 2", marked(*(2 * mark for mark in one)))
+                yield ill(f"{where}: all marked but number {place + 1}", marked(*(1 - mark for mark in one)))
+            yield ill(f"{where}: all marked", marked(1, 1, 1))
+            yield well(f"{where}: of three makers, all marked", marked(1, 1, 1, accounts=(1, 2, 3), are_makers=(1, 2, 3)))
+            yield ill(f"{where}: of two makers, all marked", marked(1, 1, 1, accounts=(1, 2, 1), are_makers=(1, 2)))
+            yield well(f"{where}: of two makers, two marked", marked(1, 1, 0, accounts=(1, 2, 1), are_makers=(1, 2)))
+            yield ill(f"{where}: two marked, one of no maker", marked(1, 1, 0, accounts=(1, 2, 1), are_makers=(1,)))
+    both = quoted(exchange(2), 1, (95, 1, 1), (105, 1, 2))
+    yield well("both sides marked", both)
+    yield well("both sides marked in two contracts", quoted(both.copy(), 2, (95, 1, 3), (105, 1, 4)))
+    yield well("marked in auction, crossed", quoted(exchange(phase=AUCTION), 1, (105, 1, 1), (95, 1, 2)))
+    for phase in (PRE_OPEN, NO_TRADING, CLOSED):
+        yield well(f"marked in state {phase}", quoted(exchange(phase=phase), 1, (95, 1, 1), (105, 1, 2)))
+    yield well("the last account of 32 is a maker", quoted(exchange(4, accounts=32), 4, (95, 1, 1), account=32))
+    yield ill("the last account of 32 is none", rest(makers(exchange(4, accounts=32), 31), "buy", 4, (95, 1, 1, 32, OPEN, 301, 1)))
+    yield well("every account a maker", makers(exchange(accounts=32), *range(1, 33)))
+    # A maker's mark, and a quote's, has no third value; the place behind the last account is not looked at.
+    for account in (1, 2, 3):
+        with_mark = lambda mark: maker_mark(exchange(accounts=3), account, mark)
+        yield from each(f"mark of account {account}", with_mark, (0, 1), (2, 3, 2**32, 2**32 + 1, 2**63, 2**64 - 1))
+    yield ill("mark 2 of account 32", maker_mark(exchange(accounts=32), 32, 2))
+    yield ill("mark 2 of the one account", maker_mark(exchange(accounts=1), 1, 2))
+    yield ill("mark 2 of a maker with a quote", maker_mark(both.copy(), 1, 2))
+    yield well("mark 2 behind the last account", maker_mark(exchange(accounts=3), 5, 2))
+    for mark in (3, 2**31, 2**32 - 1):
+        yield ill(f"quote mark {mark}", change_order(both.copy(), "buy", 1, 0, quote=mark))
+        yield ill(f"quote mark {mark} of a sell", change_order(both.copy(), "sell", 1, 0, quote=mark))
 
 
 # "recorded trades have existing contract and accounts, two different order numbers below the next, a price allowed

@@ -45,7 +45,7 @@ class Reached:
         return output
 
     def report(self):
-        codes = [f"  {code:>2} {self.codes[code]:>9,}" for code in range(22)]
+        codes = [f"  {code:>2} {self.codes[code]:>9,}" for code in (*range(22), 23, 24)]
         reached = [f"  {self.branches[name]:>9,} {name}" for name in branches.NAMES if self.branches[name]]
         missed = [f"  {name}" for name in branches.NAMES if not self.branches[name]]
         return "\n".join(

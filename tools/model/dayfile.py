@@ -12,6 +12,8 @@ COUNT = struct.Struct("<I")
 CONTRACT = struct.Struct("<HHIIIHH")
 # "An account is 8 bytes: opening balance"
 ACCOUNT = struct.Struct("<Q")
+# "Bit 63 of an account's opening balance in the file marks a maker." (document 02, ticket 7)
+MAKER = 1 << 63
 # "A command is 24 bytes: kind 1, account 1, contract 1, flags 1, lots 4, price 4, order number 4, amount 8."
 COMMAND = struct.Struct("<BBBBIIIQ")
 
@@ -39,13 +41,37 @@ class Command(NamedTuple):
 
 class DayFile(NamedTuple):
     contracts: list
+    # An account's eight bytes as they stand in the file: its opening balance, with a maker's mark.
     balances: list
     commands: list
 
 
+def opening_balance(field):
+    return field & ~MAKER
+
+
+def is_maker(field):
+    return field & MAKER != 0
+
+
+def maker(balance):
+    return balance | MAKER
+
+
 # "1 deposit, 2 withdraw", "3 insert", "4 cancel", "5 pull", "6 state", "7 settle"
+# "One command, kind 8, [...] places a buy and a sell" (document 02, ticket 7)
 # "Kind 9 [...] gives account, contract, order number, the new remaining lots and the price." (document 02, ticket 8)
-KINDS = {1: "deposit", 2: "withdraw", 3: "insert", 4: "cancel", 5: "pull", 6: "state", 7: "settle", 9: "change"}
+KINDS = {
+    1: "deposit",
+    2: "withdraw",
+    3: "insert",
+    4: "cancel",
+    5: "pull",
+    6: "state",
+    7: "settle",
+    8: "quote",
+    9: "change",
+}
 NUMBER_OF_KIND = {name: number for number, name in KINDS.items()}
 
 # The table's second column: the fields that each kind uses.
@@ -57,6 +83,8 @@ FIELDS_USED = {
     "pull": ("account", "contract", "flags"),
     "state": ("contract", "flags"),
     "settle": (),
+    # "the price field holds the buy price, the order number field the sell price"
+    "quote": ("account", "contract", "lots", "price", "order_number"),
     "change": ("account", "contract", "order_number", "lots", "price"),
 }
 
@@ -134,6 +162,10 @@ def state(contract, name):
 
 def settle():
     return Command(NUMBER_OF_KIND["settle"])
+
+
+def quote(account, contract, buy_price, sell_price, lots):
+    return Command(NUMBER_OF_KIND["quote"], account, contract, 0, lots, buy_price, sell_price)
 
 
 def change(account, contract, order_number, lots, price):
@@ -219,9 +251,10 @@ def balances_faults(balances):
     if not 1 <= len(balances) <= MOST_ACCOUNTS:
         yield Broken("accounts not 1 to 32")
     for number, balance in enumerate(balances, 1):
-        # "opening balance, 0 to 10^18"
-        if balance > TOP_BALANCE:
-            yield Broken("balance not 0 to 10^18", f"account {number}: ")
+        # "opening balance, 0 to 10^18", a maker's mark aside
+        if opening_balance(balance) > TOP_BALANCE:
+            whose = "balance of a maker" if is_maker(balance) else "balance"
+            yield Broken(f"{whose} not 0 to 10^18", f"account {number}: ")
 
 
 def check_contracts(contracts):

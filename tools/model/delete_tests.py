@@ -37,6 +37,7 @@ NO_DIFFERENCE = (
     ("is_writable", "state.trades == []", "with the next order number 1 a well-formed state has no trades"),
     ("is_writable", "queue == []", "with the next order number 1 a well-formed state has no orders"),
     ("sections", "exchanged: raise dayfile.Broken", "both faults are code 20"),
+    ("balances_faults", "'balance of a maker'", "the words of a fault alone: both are code 20"),
 )
 
 # Longer samples take too long to be run for each edit.

@@ -119,16 +119,23 @@ def some_balance(rng, charges):
     )
 
 
+def with_makers(rng, balances, chance):
+    """The accounts as the file has them; with some chance each is a maker."""
+    return [dayfile.maker(balance) if rng.random() < chance else balance for balance in balances]
+
+
 def some_day(rng):
     contracts = [some_contract(rng) for _ in range(pick(rng, {1: 5, 2: 3, 3: 1, 4: 1}))]
     opening = model.opening_state(DayFile(contracts, [], []))
     charges = [model.charge(contract) for contract in opening.contracts.values()]
     accounts = pick(rng, {1: 1, 2: 4, 3: 3, rng.randint(4, 31): 1, 32: 1})
-    return Day(rng, contracts, [some_balance(rng, charges) for _ in range(accounts)])
+    balances = [some_balance(rng, charges) for _ in range(accounts)]
+    return Day(rng, contracts, with_makers(rng, balances, rng.choice((0, 0.3, 1))))
 
 
 def wide_day(rng, contracts=1):
-    return Day(rng, [wide_contract(rng, rng.choice((1, 5))) for _ in range(contracts)], [10**15] * rng.randint(1, 4))
+    accounts = with_makers(rng, [10**15] * rng.randint(1, 4), 0.4)
+    return Day(rng, [wide_contract(rng, rng.choice((1, 5))) for _ in range(contracts)], accounts)
 
 
 # --- Single commands, chosen beside the state ---
@@ -319,7 +326,7 @@ def lots_at_an_edge(day, number, order):
     arriving = model.Arriving(order.account, number, side, order.effect, "limit", "day", 1, order.price)
     most = rng.choice(
         [model.most_lots_by_holding(without, arriving)] * 4
-        + [most_lots_by_money(without, arriving)] * 3 * (order.effect == "open")
+        + [most_lots_by_money(without, arriving)] * 5 * (order.effect == "open")
         + [MOST_LOTS]
     )
     price = rng.choice((order.price, order.price, some_price(rng, contract, side)))
@@ -346,6 +353,77 @@ SORTS_OF_CHANGE = {
     lots_at_an_edge: 15,
     wrong_lots_or_price: 4,
 }
+
+
+def some_quote(day, number=None):
+    """Mostly a maker's, near the book or into it; now and then another account's, or the wrong way round."""
+    rng = day.rng
+    number = number or day.contract()
+    contract = day.state.contracts[number]
+    makers = list(day.state.makers)
+    account = rng.choice(makers) if makers and rng.random() < 0.95 else day.account()
+    buy, sell = some_quote_prices(rng, contract)
+    if rng.random() < 0.02:
+        account = rng.choice((0, len(day.state.balances) + 1))
+    if rng.random() < 0.02:
+        number = rng.choice((0, len(day.state.contracts) + 1))
+    return dayfile.quote(account, number, buy, sell, some_quote_lots(day, account, number, buy, sell))
+
+
+def some_quote_prices(rng, contract):
+    """A buy and a sell price: around the reference, at the best prices, into one side of the book, or not allowed."""
+    tick = contract.tick
+    best_buy = contract.queues["buy"][0].price if contract.queues["buy"] else contract.reference - tick
+    best_sell = contract.queues["sell"][0].price if contract.queues["sell"] else contract.reference + tick
+    ticks = rng.randint(1, 3) * tick
+    buy, sell = pick(
+        rng,
+        {
+            (contract.reference - ticks, contract.reference + rng.randint(1, 3) * tick): 4,
+            (best_buy, best_sell): 3,
+            (best_buy + tick, best_sell - tick): 2,
+            (best_buy - ticks, best_sell + tick): 2,
+            (best_sell, best_sell + ticks): 4,
+            (best_sell + tick, best_sell + tick + ticks): 3,
+            (best_buy - ticks, best_buy): 4,
+            (best_buy - tick - ticks, best_buy - tick): 3,
+            (some_price(rng, contract, "buy"), some_price(rng, contract, "sell")): 2,
+            (model.low(contract), model.high(contract)): 0.5,
+            (model.low(contract) - tick, best_sell): 0.3,
+            (best_buy, model.high(contract) + tick): 0.3,
+            (best_buy, best_sell + rng.randint(1, tick)): 0.3,
+        },
+    )
+    buy, sell = max(buy, 0), max(sell, 0)
+    if buy >= sell and rng.random() < 0.8:
+        return buy, min(buy + ticks, 2**32 - 1)
+    if rng.random() < 0.05:
+        wrong = min(sell + rng.choice((0, 0, 1)), 2**32 - 1)
+        return wrong, rng.choice((wrong, buy))
+    return buy, sell
+
+
+def some_quote_lots(day, account, number, buy, sell):
+    """Few lots, or about what the holding, the money or the book permits to one of the two orders, the old quote gone."""
+    rng = day.rng
+    few = rng.randint(1, 6)
+    if rng.random() < 0.05:
+        return rng.choice((0, MOST_LOTS + 1, MOST_LOTS))
+    if rng.random() < 0.5 or account not in day.state.balances or number not in day.state.contracts:
+        return few
+    command = dayfile.quote(account, number, buy, sell, few)
+    state = model.copied(day.state)
+    model.remove_quote(state, command)
+    order = rng.choice(model.quote_orders(command))
+    most = rng.choice(
+        (
+            model.most_lots_by_holding(state, order),
+            most_lots_by_money(state, order),
+            most_lots_by_money(state, order),
+            model.fillable(state.contracts[number], order),
+        )
+    )
+    return min(max(most + rng.choice((-1, 0, 0, 1, 1)), 1), MOST_LOTS)
 
 
 def some_pull(day):
@@ -423,7 +501,7 @@ def some_malformed(day):
 
 def spoiling_values(day, spoilt):
     return {
-        "kind": (0, 8, 10, 255),
+        "kind": (0, 10, 255),
         "account": (0, 1, len(day.state.balances) + 1, 255),
         "contract": (0, 1, len(day.state.contracts) + 1, 255),
         "flags": (1, 2, 3, 4, 5, 64, 128, 12, 48, 255),
@@ -442,6 +520,7 @@ REASONABLE = {
     some_insert: 70,
     some_cancel: 6,
     some_change: 12,
+    some_quote: 8,
     some_pull: 3,
     some_deposit: 3,
     some_withdrawal: 4,
@@ -480,6 +559,8 @@ def end_of_day(day):
             leave_auction(day, number)
         if contract.state != "closed":
             day.give(dayfile.state(number, "closed"))
+        if day.rng.random() < 0.03:
+            day.give(dayfile.pull(day.account(), number, operator=True))
     day.give(dayfile.settle())
 
 
@@ -634,13 +715,14 @@ def auction_file(rng):
 
 def two_account_day(rng):
     """Two contracts and two accounts, so that an account often meets its own orders."""
-    return Day(rng, [wide_contract(rng), wide_contract(rng, tick=5)], [10**9] * 2)
+    return Day(rng, [wide_contract(rng), wide_contract(rng, tick=5)], with_makers(rng, [10**9] * 2, 0.4))
 
 
 AUCTION_COMMANDS = {
     some_insert: 60,
     some_cancel: 8,
     some_change: 2,
+    some_quote: 1,
     some_pull: 3,
     some_withdrawal: 1,
     some_state_change: 3,
@@ -784,14 +866,33 @@ def changes_file(rng):
                 day.give(dayfile.state(number, "continuous"))
         for _ in range(rng.randint(5, 50)):
             day.give(pick(rng, CHANGES)(day))
+            if rng.random() < 0.05:
+                lose_place_and_sweep(day)
         end_of_day(day)
     return day.file()
 
 
+def lose_place_and_sweep(day):
+    """The first of several orders at the best price loses its place, and an order of the other side is changed so that it
+    takes them."""
+    for number, contract in day.state.contracts.items():
+        for side, queue in contract.queues.items():
+            opposite = contract.queues[model.OPPOSITE[side]]
+            level = [order for order in opposite if order.price == opposite[0].price]
+            if queue and len(level) > 1:
+                first, last = level[0], queue[-1]
+                day.give(dayfile.change(first.account, number, first.number, first.lots + 1, first.price))
+                lots = sum(order.lots for order in level) + day.rng.choice((-1, 0, 1, 2))
+                day.give(dayfile.change(last.account, number, last.number, max(lots, 1), first.price))
+                return
+
+
 def tight_day(rng):
     """A low limit and little money, so that what a change frees decides."""
-    contract = ContractRecord(10, 1, 100, 10, rng.randint(4, 15), 1_000, rng.choice((0, 1, 2)))
-    return Day(rng, [contract], [rng.choice((10**6, 100 * rng.randint(3, 20))) for _ in range(rng.randint(1, 3))])
+    limit = rng.choice((rng.randint(4, 15), 1_000))
+    contract = ContractRecord(10, 1, 100, 10, limit, 1_000, rng.choice((0, 1, 2)))
+    balances = [pick(rng, {10**6: 1, 100 * rng.randint(3, 20): 2}) for _ in range(rng.randint(1, 3))]
+    return Day(rng, [contract], with_makers(rng, balances, 0.5))
 
 
 def rest_near(day):
@@ -806,7 +907,126 @@ def rest_near(day):
     return dayfile.insert(account, number, side, effect, "limit", price, day.rng.randint(1, 5), "day")
 
 
-CHANGES = {rest_near: 40, some_change: 45, some_insert: 12, some_cancel: 2, some_pull: 0.5, some_malformed: 1}
+CHANGES = {
+    rest_near: 40,
+    some_change: 45,
+    some_insert: 12,
+    some_quote: 4,
+    some_cancel: 2,
+    some_pull: 0.5,
+    some_malformed: 1,
+}
+
+
+def crossing_quote(day, number=None):
+    """A quote of which one order trades, with all its lots or but for one."""
+    rng = day.rng
+    number = number or day.contract()
+    contract = day.state.contracts[number]
+    side = rng.choice(dayfile.SIDES)
+    opposite = contract.queues[model.OPPOSITE[side]]
+    if not opposite or not day.state.makers:
+        return some_quote(day, number)
+    price = rng.choice(opposite[: rng.choice((1, 4))]).price
+    away = rng.randint(1, 4) * contract.tick
+    buy, sell = (price, price + away) if side == "buy" else (max(price - away, 0), price)
+    lots = model.fillable(contract, arriving_limit(number, side, price)) + rng.choice((0, 1))
+    return dayfile.quote(rng.choice(list(day.state.makers)), number, buy, sell, min(lots, MOST_LOTS))
+
+
+def quotes_file(rng):
+    """Makers that quote again and again, half filled, replaced, refused, changed and cancelled in between."""
+    day = rng.choice((wide_day, two_account_day, tight_day, tight_day))(rng)
+    for _ in range(rng.randint(1, 3)):
+        if rng.random() < 0.2:
+            day.give(some_quote(day))
+        if rng.random() < 0.2:
+            day.give(dayfile.state(1, "auction"))
+            day.give(some_quote(day, 1))
+        for number, contract in day.state.contracts.items():
+            if contract.state != "auction" or rng.random() < 0.7:
+                day.give(dayfile.state(number, "continuous"))
+        for _ in range(rng.randint(5, 40)):
+            day.give(pick(rng, QUOTES)(day))
+            if rng.random() < 0.3:
+                change_a_quote(day)
+        if rng.random() < 0.2:
+            day.give(dayfile.state(1, "closed"))
+            day.give(some_quote(day, 1))
+        end_of_day(day)
+    return day.file()
+
+
+QUOTES = {
+    some_quote: 30,
+    crossing_quote: 12,
+    some_insert: 25,
+    rest_near: 15,
+    some_change: 5,
+    some_cancel: 4,
+    some_pull: 1,
+    some_state_change: 1,
+    some_malformed: 1,
+}
+
+
+def change_a_quote(day):
+    """One of the marked orders changed in some way, or cancelled."""
+    rng = day.rng
+    orders = [
+        (number, order)
+        for number, contract in day.state.contracts.items()
+        for queue in contract.queues.values()
+        for order in queue
+        if order.quote
+    ]
+    if not orders:
+        return
+    number, order = rng.choice(orders)
+    if rng.random() < 0.2:
+        day.give(dayfile.cancel(order.account, number, order.number))
+    else:
+        day.give(dayfile.change(order.account, number, order.number, *pick(rng, SORTS_OF_CHANGE)(day, number, order)))
+
+
+def full_book_quotes_file(rng):
+    """One side filled to 64, with a quote among the orders or without, and quotes that would be the 65th."""
+    day = Day(rng, [wide_contract(rng)], [10**15, dayfile.maker(10**15)])
+    open_all(day)
+    side = rng.choice(dayfile.SIDES)
+    other = model.OPPOSITE[side]
+    contract = day.state.contracts[1]
+    if rng.random() < 0.6:
+        tick = contract.tick
+        day.give(dayfile.quote(2, 1, contract.reference - 5 * tick, contract.reference + 5 * tick, rng.randint(1, 5)))
+    rest_many(day, 1, other, rng.randint(0, 4))
+    for _ in range(rng.randint(5, 25)):
+        if rng.random() < 0.7:
+            rest_many(day, 1, side, MOST_RESTING - rng.choice((0, 0, 1)) - len(contract.queues[side]))
+        day.give(rng.choice((some_quote, crossing_quote))(day, 1))
+        if rng.random() < 0.3:
+            day.give(some_insert(day, 1))
+            rest_many(day, 1, other, rng.randint(0, 2))
+    end_of_day(day)
+    return day.file()
+
+
+def full_day_quotes_file(rng):
+    """Quotes that the day has no room for, or just enough, for the buy or for the sell, and those that need none."""
+    day = Day(rng, [wide_contract(rng)], [10**15, dayfile.maker(10**15)])
+    open_all(day)
+    make_trades(day, 1, MOST_TRADES - rng.randint(1, 3))
+    for _ in range(5):
+        for side, ticks in (("buy", -2), ("sell", 2)):
+            rest(day, 1, side, ticks + rng.randint(-1, 1), lots=rng.randint(1, 4))
+    for trades in (0, MOST_TRADES):
+        make_trades(day, 1, trades)
+        for _ in range(rng.randint(8, 20)):
+            day.give(rng.choice((some_quote, crossing_quote))(day, 1))
+    end_of_day(day)
+    open_all(day)
+    trade(day, rng.randint(0, 10))
+    return day.file()
 
 
 def full_day_changes_file(rng):
@@ -953,6 +1173,9 @@ FILES = {
     full_day_auction_file: 1,
     changes_file: 12,
     full_day_changes_file: 1,
+    quotes_file: 12,
+    full_book_quotes_file: 2,
+    full_day_quotes_file: 1,
     many_settlements_file: 1,
     rich_file: 5,
     ruined_file: 5,

@@ -41,7 +41,7 @@ class Order(NamedTuple):
     close: int
     # "Orders need a time stamp of their own" (document 02, ticket 8).
     stamp: int
-    # The mark of a quote, which is 0 until ticket 7.
+    # 1 where it is marked as its account's quote, otherwise 0 (document 02, ticket 7).
     quote: int
 
 
@@ -92,7 +92,7 @@ class Memory:
 
     contracts: list = field(default_factory=lambda: [FILLED_CONTRACT] * MOST_CONTRACTS)
     balances: list = field(default_factory=lambda: [FILLED_BALANCE] * MOST_ACCOUNTS)
-    # The mark of a market maker, which is 0 until ticket 7.
+    # 1 for a maker, 0 for any other account (document 02, ticket 7). A record can hold other marks.
     makers: list = field(default_factory=lambda: [FILLED_MAKER] * MOST_ACCOUNTS)
     # By account, then contract.
     holdings: list = field(default_factory=lambda: [[FILLED_HOLDING] * MOST_CONTRACTS for _ in range(MOST_ACCOUNTS)])
@@ -140,7 +140,8 @@ def in_use(memory):
         next_order_number=memory.next,
         next_stamp=memory.next_stamp,
         settlements=memory.settlements,
-        makers=frozenset(number for number, place in enumerate(accounts, 1) if memory.makers[place]),
+        makers=frozenset(number for number, place in enumerate(accounts, 1) if memory.makers[place] == 1),
+        marked_otherwise=frozenset(number for number, place in enumerate(accounts, 1) if memory.makers[place] > 1),
         room_for_orders={side: room_of(area) for side, area in memory.orders.items()},
         room_for_trades=room_of(memory.trades),
     )
@@ -185,7 +186,7 @@ def order_in_use(record):
         record.price,
         record.lots,
         record.stamp,
-        quote=record.quote != 0,
+        quote=name_of((False, True), record.quote),
     )
 
 
@@ -292,9 +293,10 @@ def well_formed(memory):
 
 
 # One command. "a refusal gives three zeros and changes nothing"
+# What each step of a quote leaves is written, so that "a place in use only between the steps is set to zero" by the next.
 def execute(memory, command):
     state = in_use(memory)
-    given = model.answer(state, command)
+    given = model.answer(state, command, after_step=lambda: put(memory, state))
     if given.code == 0:
         put(memory, state)
     return given

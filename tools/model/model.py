@@ -1,6 +1,6 @@
 #!/usr/bin/env python3
-"""The rules of document 01, with tickets 2, 4, 6 and 8 of document 02, as a slow, plain interpreter: a day file in, the
-day runner's whole output out.
+"""The rules of document 01, with tickets 2, 4, 6, 7 and 8 of document 02, as a slow, plain interpreter: a day file in,
+the day runner's whole output out.
 
 Written from the papers alone, in their order and under their sentences (in quotation marks), so that it can be
 checked by reading and stand beside the engine as a second opinion. Where the paper leaves a choice, a comment outside
@@ -45,7 +45,7 @@ class Resting:
     lots: int
     # "Orders need a time stamp of their own" (document 02, ticket 8, as all below on stamps and changes).
     stamp: int
-    # The mark of a quote, which no order has until ticket 7.
+    # Whether it is marked as its account's quote (document 02, ticket 7, as all below on quotes and makers).
     quote: bool = False
 
 
@@ -87,7 +87,7 @@ class Contract:
 
 # "The state keeps, for each account and each contract, long and short holdings at the start of the day and now;
 # balances; queues; the day's trades; each contract's state, reference and last price; the next order number; the count
-# of settlements." And the next stamp.
+# of settlements." And the next stamp, and which accounts are makers.
 # Contracts and balances stand under their numbers from 1, holdings under (account, contract, "long" or "short").
 # The room is that of the lent areas: how many orders the area of each side holds, and how many trades the trade area.
 @dataclass
@@ -100,30 +100,13 @@ class State:
     next_order_number: int = 1
     next_stamp: int = 1
     settlements: int = 0
-    # The accounts with the mark of a maker, at which no rule looks yet.
     makers: frozenset = frozenset()
+    # Accounts whose mark is neither a maker's nor another account's.
+    marked_otherwise: frozenset = frozenset()
     room_for_orders: dict = field(
         default_factory=lambda: {side: MOST_CONTRACTS * MOST_RESTING for side in dayfile.SIDES}
     )
     room_for_trades: int = MOST_TRADES
-
-
-# The same state, of which changes of one do not reach the other.
-def copied(state):
-    contracts = {
-        number: replace(
-            contract, queues={side: [replace(order) for order in queue] for side, queue in contract.queues.items()}
-        )
-        for number, contract in state.contracts.items()
-    }
-    return replace(
-        state,
-        contracts=contracts,
-        balances=dict(state.balances),
-        holdings_at_start=dict(state.holdings_at_start),
-        holdings=dict(state.holdings),
-        trades=list(state.trades),
-    )
 
 
 # "Its run opens in pre-open, with no orders, trades, holdings or settlements."
@@ -142,11 +125,31 @@ def opening_state(day):
         )
         for number, record in enumerate(day.contracts, 1)
     }
-    balances = dict(enumerate(day.balances, 1))
+    balances = {account: dayfile.opening_balance(field) for account, field in enumerate(day.balances, 1)}
+    # "Bit 63 of an account's opening balance in the file marks a maker."
+    makers = frozenset(account for account, field in enumerate(day.balances, 1) if dayfile.is_maker(field))
     none_held = {
         (account, contract, held): 0 for account in balances for contract in contracts for held in ("long", "short")
     }
-    return State(contracts, balances, holdings_at_start=dict(none_held), holdings=dict(none_held))
+    return State(contracts, balances, holdings_at_start=dict(none_held), holdings=dict(none_held), makers=makers)
+
+
+# The same state, of which changes of one do not reach the other.
+def copied(state):
+    contracts = {
+        number: replace(
+            contract, queues={side: [replace(order) for order in queue] for side, queue in contract.queues.items()}
+        )
+        for number, contract in state.contracts.items()
+    }
+    return replace(
+        state,
+        contracts=contracts,
+        balances=dict(state.balances),
+        holdings_at_start=dict(state.holdings_at_start),
+        holdings=dict(state.holdings),
+        trades=list(state.trades),
+    )
 
 
 # "Its day's low is the larger of one tick and reference minus band."
@@ -205,6 +208,7 @@ def well_formed(state):
         ranges_are_kept(state)
         and queues_are_sorted_and_uncrossed(state)
         and resting_orders_are_sound(state)
+        and quotes_are_sound(state)
         and trades_are_sound(state)
         and replay_gives_the_holdings(state)
         and limits_and_cover_are_kept(state)
@@ -268,10 +272,26 @@ def resting_orders_are_sound(state):
                 and allowed_today(contract, order.price)
                 and 1 <= order.number < state.next_order_number
                 and 1 <= order.stamp < state.next_stamp
-                and not order.quote
+                and order.quote in (False, True)
             ):
                 return False
     return len(numbers) == len(set(numbers)) and len(stamps) == len(set(stamps))
+
+
+# A quote is "marked in the book (at most one for each contract, account and side, on a maker's open only; well-formed
+# rule too)"
+# Bit 63 marks a maker, and nothing else is said of an account: its mark has no third value.
+def quotes_are_sound(state):
+    if state.marked_otherwise:
+        return False
+    for contract in state.contracts.values():
+        for queue in contract.queues.values():
+            quotes = [order for order in queue if order.quote]
+            if len(quotes) > len({order.account for order in quotes}):
+                return False
+            if any(order.effect != "open" or order.account not in state.makers for order in quotes):
+                return False
+    return True
 
 
 # "recorded trades have existing contract and accounts, two different order numbers below the next, a price allowed
@@ -344,17 +364,19 @@ class Answer:
 
 
 # "Order: 21, 1, then" the codes of the command's kind.
-def answer(state, command):
+def answer(state, command, after_step=lambda: None):
     if not well_formed(state):
         return Answer(21)
-    return carry_out(state, command)
+    return carry_out(state, command, after_step)
 
 
-# The answer in a state that is well formed.
-def carry_out(state, command):
+# The answer in a state that is well formed. `after_step` is called after each step of a quote.
+def carry_out(state, command, after_step=lambda: None):
     code = first_code(state, command)
     if code != 0:
         return Answer(code)
+    if dayfile.KINDS[command.kind] == "quote":
+        return quote(state, command, after_step)
     return EFFECT_OF_KIND[dayfile.KINDS[command.kind]](state, command)
 
 
@@ -416,6 +438,13 @@ def insert_code(state, command):
     in_auction = contract.state == "auction"
     if contract.state != "continuous" and not in_auction:
         return 4
+    return code_from_5_on(state, order)
+
+
+# The refusals of an order that arrives in a contract that takes it: 5 to 13.
+def code_from_5_on(state, order):
+    contract = state.contracts[order.contract]
+    in_auction = contract.state == "auction"
     code = order_code(contract, order, in_auction)
     if code != 0:
         return code
@@ -639,12 +668,83 @@ def change(state, command):
         return Answer(0, old.number, lots_rested_or_removed=old.lots)
     if keeps_place(state, command):
         # "Equal lots and price change nothing." Fewer lots keep the stamp.
+        # "In a quote, any other change of an order drops that order's mark."
+        if command.lots < old.lots:
+            old.quote = False
         old.lots = command.lots
         return Answer(0, old.number, lots_rested_or_removed=command.lots)
     order = changed_order(state, command)
     remove_orders(contract, [old])
     # "then matched at once". "The number stays."
     return arrive(state, order, old.number)
+
+
+# --- quote: "after 4, code 23 if not a maker, then 24 if buy is not below sell, then the buy's code from 5 on, then the
+# sell's" (document 02, ticket 7) ---
+
+
+def quote_code(state, command):
+    code = absence_code(state, command)
+    if code != 0:
+        return code
+    # "One command, kind 8, in continuous only"
+    if state.contracts[command.contract].state != "continuous":
+        return 4
+    if command.account not in state.makers:
+        return 23
+    # Whatever the lots and the prices are.
+    if not command.price < command.order_number:
+        return 24
+    for found, order in quote_steps(state, command):
+        code = code_from_5_on(found, order)
+        if code != 0:
+            return code
+    return 0
+
+
+# "places a buy and a sell good-for-day limit open with equal lots: the price field holds the buy price, the order number
+# field the sell price"
+def quote_orders(command):
+    return [
+        Arriving(command.account, command.contract, side, "open", "limit", "day", command.lots, price)
+        for side, price in (("buy", command.price), ("sell", command.order_number))
+    ]
+
+
+# "The account's earlier quote in that contract [...] is removed first; then the buy is inserted, then the sell, on the
+# state each step leaves": each order with the state that it finds, which is not the one given but a copy of it.
+def quote_steps(state, command):
+    found = copied(state)
+    remove_quote(found, command)
+    for order in quote_orders(command):
+        yield found, order
+        insert_order(found, order, quote=True)
+
+
+# What is left of it: two orders, one or none.
+def remove_quote(state, command):
+    contract = state.contracts[command.contract]
+    orders = contract.queues["buy"] + contract.queues["sell"]
+    remove_orders(contract, [order for order in orders if order.quote and order.account == command.account])
+
+
+# "If either would be refused the whole quote is refused and the old one stands": here neither would.
+# "The C line gives the buy's number; its lots are summed over both."
+def quote(state, command, after_step=lambda: None):
+    remove_quote(state, command)
+    after_step()
+    given = []
+    for order in quote_orders(command):
+        given.append(insert_order(state, order, quote=True))
+        after_step()
+    buy, sell = given
+    return Answer(
+        0,
+        buy.order_number,
+        buy.lots_traded + sell.lots_traded,
+        buy.lots_rested_or_removed + sell.lots_rested_or_removed,
+        buy.trades + sell.trades,
+    )
 
 
 # --- "deposit 2, 16; withdraw 2, 16, 9" ---
@@ -795,18 +895,22 @@ def middle(first, second, third):
     return sorted([first, second, third])[1]
 
 
-# An accepted order takes the next number ("given to accepted orders in turn over all contracts") and trades.
 def insert(state, command):
+    return insert_order(state, arriving(command))
+
+
+# An accepted order takes the next number ("given to accepted orders in turn over all contracts") and trades.
+def insert_order(state, order, quote=False):
     number = state.next_order_number
     state.next_order_number += 1
-    return arrive(state, arriving(command), number)
+    return arrive(state, order, number, quote)
 
 
 # An order that arrives under its number takes the next stamp ("given in turn from 1 each day, new at insert and at each
 # loss of place"), whether it comes to rest or not, and trades.
 # "A good-for-day remainder rests, and every later order moves one place back. Other remainders vanish; filled orders
 # leave."
-def arrive(state, order, number):
+def arrive(state, order, number, quote=False):
     contract = state.contracts[order.contract]
     stamp = state.next_stamp
     state.next_stamp += 1
@@ -817,7 +921,7 @@ def arrive(state, order, number):
     lots_traded = sum(trade.lots for trade in trades)
     lots_rested = order.lots - lots_traded if order.time_condition == "day" else 0
     if lots_rested > 0:
-        rester = Resting(number, order.account, order.effect, order.price, lots_rested, stamp)
+        rester = Resting(number, order.account, order.effect, order.price, lots_rested, stamp, quote)
         contract.queues[order.side] = sort_queue(order.side, contract.queues[order.side] + [rester])
     return Answer(0, number, lots_traded, lots_rested, trades)
 
@@ -1062,6 +1166,7 @@ CODE_OF_KIND = {
     "pull": pull_code,
     "state": state_code,
     "settle": settle_code,
+    "quote": quote_code,
     "change": change_code,
 }
 
@@ -1073,6 +1178,7 @@ EFFECT_OF_KIND = {
     "pull": pull,
     "state": change_state,
     "settle": settle,
+    "quote": quote,
     "change": change,
 }
 

@@ -70,6 +70,27 @@ class InMemory(unittest.TestCase):
         self.assertEqual(before.orders["buy"].contents, old)
         self.assertEqual((before.next, before.next_stamp), (100, 700))
 
+    def test_a_place_between_the_steps_of_a_quote_is_cleared(self):
+        """Buys of 1 lot at 100 and 95; 2 lots quoted at 90 and 95: the buy stands third, then the sell fills the others."""
+        state = rest(makers(exchange(), 1), "buy", 1, (100, 1, 1, 2), (95, 1, 2, 2))
+        state = tempting(state)
+        room = dict(state.orders["buy"].contents)
+        self.assertNotEqual(room[2], memory.NO_ORDER)
+        given = memory.execute(state, quote(1, 1, 90, 95, 2))
+        self.assertEqual((given.code, given.order_number, given.lots_traded, given.lots_rested_or_removed), (0, 100, 2, 2))
+        after = state.orders["buy"].contents
+        rester = Order(90, 100, 0, 2, OPEN, 700, 1)
+        self.assertEqual([after[place] for place in range(3)], [rester, memory.NO_ORDER, memory.NO_ORDER])
+        self.assertEqual({place: after[place] for place in after if place > 2}, {k: room[k] for k in room if k > 2})
+        self.assertEqual((state.next, state.next_stamp, state.order_counts["buy"][0]), (102, 702, 1))
+
+    def test_a_refused_quote_changes_nothing(self):
+        state = tempting(rest(quoted(exchange(limit=5), 1, (95, 1, 1), (105, 1, 2)), "sell", 1, (105, 2, 3, 2)))
+        for command, code in ((quote(1, 1, 90, 95, 6), 8), (quote(1, 1, 105, 111, 3), 7), (quote(2, 1, 90, 95, 1), 23)):
+            before = state.copy()
+            self.assertEqual(memory.execute(state, command).code, code)
+            self.assertEqual(state, before)
+
     def test_room_affects_nothing(self):
         bare, full = exchange(2), tempting(exchange(2))
         for command in (insert(1, 1, "sell", 100, 2), insert(2, 1, "buy", 105, 3), dayfile.withdraw(1, 5)):

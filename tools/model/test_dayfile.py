@@ -42,6 +42,8 @@ class Faults(unittest.TestCase):
             ("rate-0", "contract 1: rate not 1 to 10,000"),
             ("method-3", "contract 1: method above 2"),
             ("balance-one-above", "account 1: balance not 0 to 10^18"),
+            ("balance-bit-62", "account 1: balance not 0 to 10^18"),
+            ("balance-of-a-maker-one-above", "account 1: balance of a maker not 0 to 10^18"),
             ("one-byte-less", "cut in the commands (2 counted, 1 there whole)"),
             ("one-byte-more", "bytes after the last command (1 of them)"),
             ("one-command-more", "bytes after the last command (24 of them)"),

@@ -20,14 +20,15 @@ import generate
 import model
 
 # So many files as the comparison takes them, and so many of each sort, since some are rare.
-FILES = 200
-FILES_OF_A_SORT = 4
+FILES = 150
+FILES_OF_A_SORT = 5
 
 # The right definitions, for wrong ones that differ from them in some cases only.
 right_arrive = model.arrive
 right_auction_price = model.auction_price
 right_change = model.change
 right_changed_order = model.changed_order
+right_quote_orders = model.quote_orders
 right_is_counterpart = model.is_counterpart
 right_match = model.match_auction
 right_most_lots = model.most_lots_by_holding
@@ -428,10 +429,10 @@ WRONG_AUCTIONS = {
     ),
 }
 
-def arrives_without_a_match(state, order, number):
+def arrives_without_a_match(state, order, number, quote=False):
     """As a changed order would that is only put in its new place; a crossed book is then told as a fault."""
     with replaced(sweep=lambda contract, order: []):
-        return right_arrive(state, order, number)
+        return right_arrive(state, order, number, quote)
 
 
 def change_with(**definitions):
@@ -455,10 +456,10 @@ def change_tested_with(**definitions):
     return mock.patch.dict(model.CODE_OF_KIND, {"change": code})
 
 
-def new_number(state, order, number):
+def new_number(state, order, number, quote=False):
     number = state.next_order_number
     state.next_order_number += 1
-    return right_arrive(state, order, number)
+    return right_arrive(state, order, number, quote)
 
 
 def place_by_number(side, order):
@@ -541,6 +542,133 @@ WRONG_CHANGES = {
     "no lots told as traded": mock.patch.dict(model.EFFECT_OF_KIND, {"change": cancels_instead}),
 }
 
+right_quote_steps = model.quote_steps
+right_remove_quote = model.remove_quote
+
+
+def old_quote_counts(state, command):
+    """The orders tested with the old quote in the book."""
+    found = model.copied(state)
+    for order in model.quote_orders(command):
+        yield found, order
+        model.insert_order(found, order, quote=True)
+
+
+def sell_first(state, command):
+    found = model.copied(state)
+    model.remove_quote(found, command)
+    for order in reversed(model.quote_orders(command)):
+        yield found, order
+        model.insert_order(found, order, quote=True)
+
+
+def both_on_one_state(state, command):
+    """The sell tested on the state that the buy found."""
+    found = model.copied(state)
+    model.remove_quote(found, command)
+    for order in model.quote_orders(command):
+        yield found, order
+
+
+def all_its_orders_go(state, command):
+    contract = state.contracts[command.contract]
+    orders = contract.queues["buy"] + contract.queues["sell"]
+    model.remove_orders(contract, [order for order in orders if order.account == command.account])
+
+
+def every_quote_goes(state, command):
+    contract = state.contracts[command.contract]
+    model.remove_orders(contract, [order for queue in contract.queues.values() for order in queue if order.quote])
+
+
+def quote_goes_everywhere(state, command):
+    for number in state.contracts:
+        right_remove_quote(state, command._replace(contract=number))
+
+
+def quote_answer_changed(change):
+    """The model with another answer to an accepted quote."""
+    right = model.quote
+
+    def quote(state, command, after_step=lambda: None):
+        given = right(state, command, after_step)
+        change(given, command)
+        return given
+
+    return replaced(quote=quote)
+
+
+def lots_of_the_buy_alone(given, command):
+    sold = sum(trade.lots for trade in given.trades if trade.sell_order == given.order_number + 1)
+    given.lots_traded -= sold
+    given.lots_rested_or_removed -= command.lots - sold
+
+
+def number_of_the_sell(given, command):
+    given.order_number += 1
+
+
+def old_one_gone_when_refused(state, command, code):
+    if code >= 5 and code not in (23, 24):
+        right_remove_quote(state, command)
+    return code
+
+
+def change_keeps_the_mark(state, command):
+    old = model.resting_order(state.contracts[command.contract], command.order_number)
+    was_quote = old.quote
+    given = right_change(state, command)
+    now = model.resting_order(state.contracts[command.contract], command.order_number)
+    if now is not None:
+        now.quote = was_quote
+    return given
+
+
+def equal_change_drops_the_mark(state, command):
+    old = model.resting_order(state.contracts[command.contract], command.order_number)
+    given = right_change(state, command)
+    old.quote = False
+    return given
+
+
+WRONG_QUOTES = {
+    "the old quote stays": replaced(remove_quote=lambda state, command: None),
+    "the old quote counts in the tests": replaced(quote_steps=old_quote_counts),
+    "the sell is tested first": replaced(quote_steps=sell_first),
+    "the sell is tested on the buy's state": replaced(quote_steps=both_on_one_state),
+    "the sell is placed first": replaced(
+        quote_orders=lambda command: list(reversed(right_quote_orders(command))), quote_steps=right_quote_steps
+    ),
+    "a quote removes all orders of its account": replaced(remove_quote=all_its_orders_go),
+    "a quote removes other makers' quotes": replaced(remove_quote=every_quote_goes),
+    "a quote removes those of other contracts": replaced(remove_quote=quote_goes_everywhere),
+    "the lots of the buy alone": quote_answer_changed(lots_of_the_buy_alone),
+    "the number of the sell": quote_answer_changed(number_of_the_sell),
+    "the old one is gone when refused": code_changed("quote", old_one_gone_when_refused),
+    "anyone may quote": code_changed(
+        "quote", lambda state, command, code: 0 if code == 23 and command.price < command.order_number else code
+    ),
+    "24 before 23": code_changed(
+        "quote", lambda state, command, code: 24 if code == 23 and command.price >= command.order_number else code
+    ),
+    "equal prices pass": code_changed(
+        "quote",
+        lambda state, command, code: (
+            5 if code == 24 and command.price == command.order_number and not 1 <= command.lots <= 1_000 else code
+        ),
+    ),
+    "quotes in auction": code_changed(
+        "quote",
+        lambda state, command, code: (
+            23 if code == 4 and state.contracts[command.contract].state == "auction" and command.account not in state.makers
+            else code
+        ),
+    ),
+    "a change keeps the mark": mock.patch.dict(model.EFFECT_OF_KIND, {"change": change_keeps_the_mark}),
+    "an equal change drops the mark": mock.patch.dict(model.EFFECT_OF_KIND, {"change": equal_change_drops_the_mark}),
+    "bit 63 is broken": mock.patch.object(dayfile, "opening_balance", lambda field: field),
+}
+
 WRONG_ENGINES = {
     "one price for the whole sweep": replaced(trade_price=one_price_for_the_sweep),
     "market trades by the method": replaced(trade_price=method_for_market_too),
@@ -616,6 +744,7 @@ WRONG_ENGINES = {
     "values of the file not checked": mock.patch.object(dayfile, "check_ranges", lambda day: None),
     **WRONG_AUCTIONS,
     **WRONG_CHANGES,
+    **WRONG_QUOTES,
 }
 
 
@@ -635,7 +764,7 @@ class Generated(unittest.TestCase):
         self.assertNotEqual(generate.day_file(5, 0), generate.day_file(6, 0))
 
     def test_every_code_of_a_file_is_reached(self):
-        self.assertEqual(set(self.reached.codes), set(range(21)) - {10})
+        self.assertEqual(set(self.reached.codes), {*range(21), 23, 24} - {10})
 
     def test_almost_every_branch_is_reached(self):
         """Few files reach most branches; the comparison of 2,000 reaches all."""
@@ -648,6 +777,10 @@ class Generated(unittest.TestCase):
     def test_every_branch_of_a_change_is_reached(self):
         names = {name for name in branches.NAMES if name.startswith("change:") or name in branches.BY_STAMP}
         self.assert_reached(names, generate.changes_file, generate.ruined_file, generate.full_book_file)
+
+    def test_every_branch_of_a_quote_is_reached(self):
+        names = {name for name in branches.NAMES if name.startswith(("quote:", "quote's order:"))}
+        self.assert_reached(names, generate.quotes_file, generate.full_book_quotes_file, generate.full_day_quotes_file)
 
     def assert_reached(self, names, *sorts):
         """By the files of all sorts, or else by more of some."""

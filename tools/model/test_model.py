@@ -159,7 +159,7 @@ class Malformed(unittest.TestCase):
         return model.carry_out(model.opening_state(day), command).code
 
     def test_unknown_kinds_whatever_the_rest(self):
-        for kind in (0, 8, 10, 255):
+        for kind in (0, 10, 255):
             self.assertEqual(self.code(dayfile.Command(kind)), 1)
             self.assertEqual(self.code(dayfile.Command(kind, 1, 1, 0, 1, 100, 0, 0)), 1)
 
@@ -172,6 +172,7 @@ class Malformed(unittest.TestCase):
             dayfile.pull(1, 1): ("lots", "price", "order_number", "amount"),
             dayfile.state(1, "continuous"): ("account", "lots", "price", "order_number", "amount"),
             dayfile.settle(): ("account", "contract", "flags", "lots", "price", "order_number", "amount"),
+            dayfile.quote(1, 1, 95, 105, 1): ("flags", "amount"),
             dayfile.change(1, 1, 1, 1, 100): ("flags", "amount"),
         }
         for command, fields in unused.items():
@@ -214,8 +215,9 @@ class AccountsAndContracts(unittest.TestCase):
                 cancel {absent} contract 1 order 1
                 pull {absent} contract 1
                 change {absent} contract 1 order 1 lots 1 price 100
+                quote {absent} contract 1 buy 95 sell 105 lots 1
                 """
-            self.assertEqual(codes(OPEN_DAY + commands), [0, 2, 2, 2, 2, 2, 2])
+            self.assertEqual(codes(OPEN_DAY + commands), [0, 2, 2, 2, 2, 2, 2, 2])
         for absent in (0, 2, 255):
             commands = f"""
                 insert 1 contract {absent} buy open limit 100 lots 1 day
@@ -223,8 +225,9 @@ class AccountsAndContracts(unittest.TestCase):
                 pull 1 contract {absent}
                 state {absent} closed
                 change 1 contract {absent} order 1 lots 1 price 100
+                quote 1 contract {absent} buy 95 sell 105 lots 1
                 """
-            self.assertEqual(codes(OPEN_DAY + commands), [0, 3, 3, 3, 3, 3])
+            self.assertEqual(codes(OPEN_DAY + commands), [0, 3, 3, 3, 3, 3, 3])
 
     def test_account_comes_first(self):
         self.assertEqual(last_code(OPEN_DAY + "insert 0 contract 0 buy open limit 100 lots 1 day"), 2)
@@ -827,6 +830,160 @@ class Changes(unittest.TestCase):
                     orders = [order for contract in state.contracts.values() for queue in contract.queues.values() for order in queue]
                     self.assertTrue(all(order.stamp == order.number for order in orders))
                     self.assertEqual(state.next_stamp, state.next_order_number)
+
+
+class Quotes(unittest.TestCase):
+    """Quotes from market makers (document 02, ticket 7)."""
+
+    # Account 1 is a maker with 1,000 for ten lots, and quotes 4 lots, of whose sell account 2 takes 1.
+    HEAD = CONTRACT + "maker 1,000\naccount 10,000\nstate 1 continuous\n"
+    BOOK = HEAD + """
+        quote 1 contract 1 buy 98 sell 102 lots 4
+        insert 2 contract 1 buy open limit 102 lots 1 day
+        """
+
+    def quote(self, buy, sell, lots, account=1, text=BOOK):
+        return text + f"quote {account} contract 1 buy {buy} sell {sell} lots {lots}\n"
+
+    def queues(self, text):
+        """Each order's number, price, lots and mark: the buys, then the sells."""
+        queues = state_after(text).contracts[1].queues
+        return [
+            [(order.number, order.price, order.lots, order.quote) for order in queues[side]] for side in dayfile.SIDES
+        ]
+
+    def test_two_orders_and_their_sums(self):
+        self.assertEqual(answers(self.BOOK)[1:], ["0 1 0 8", "0 3 1 0"])
+        self.assertEqual(self.queues(self.BOOK), [[(1, 98, 4, True)], [(2, 102, 3, True)]])
+
+    def test_the_old_one_goes_first(self):
+        text = self.quote(99, 103, 5)
+        self.assertEqual(last_answer(text), "0 4 0 10")
+        self.assertEqual(self.queues(text), [[(4, 99, 5, True)], [(5, 103, 5, True)]])
+        # Beyond its own old prices nothing is met.
+        self.assertEqual(last_answer(self.quote(103, 104, 5)), "0 4 0 10")
+        self.assertEqual(last_answer(self.quote(95, 96, 5)), "0 4 0 10")
+        # What was changed is no quote; what was cancelled is not there.
+        changed = self.BOOK + "change 1 contract 1 order 1 lots 3 price 98\n cancel 1 contract 1 order 2\n"
+        self.assertEqual(self.queues(changed), [[(1, 98, 3, False)], []])
+        self.assertEqual(
+            self.queues(self.quote(97, 103, 2, text=changed)), [[(1, 98, 3, False), (4, 97, 2, True)], [(5, 103, 2, True)]]
+        )
+
+    def test_each_change_but_the_equal_one_drops_the_mark(self):
+        for lots, price, mark in ((4, 98, True), (3, 98, False), (5, 98, False), (4, 97, False), (3, 97, False)):
+            text = self.BOOK + f"change 1 contract 1 order 1 lots {lots} price {price}"
+            self.assertEqual(self.queues(text)[0], [(1, price, lots, mark)])
+
+    def test_the_buy_trades_or_the_sell(self):
+        sells = self.BOOK + "insert 2 contract 1 sell open limit 101 lots 3 day\n"
+        self.assertEqual(last_answer(self.quote(101, 103, 5, text=sells)), "0 5 3 7")
+        self.assertEqual(lines_of("T", self.quote(101, 103, 5, text=sells))[-1], "T 2 1 101 3 5 4")
+        buys = self.BOOK + "insert 2 contract 1 buy open limit 99 lots 3 day\n"
+        self.assertEqual(last_answer(self.quote(97, 99, 5, text=buys)), "0 5 3 7")
+        self.assertEqual(lines_of("T", self.quote(97, 99, 5, text=buys))[-1], "T 2 1 99 3 4 6")
+
+    def test_refusals_in_turn(self):
+        for buy, sell, lots, account, code in (
+            (101, 99, 0, 2, 23),
+            (98, 102, 1, 2, 23),
+            (99, 99, 0, 1, 24),
+            (111, 99, 1_001, 1, 24),
+            (89, 111, 1_001, 1, 5),
+            (89, 111, 0, 1, 5),
+            (89, 111, 1, 1, 7),
+            (98, 111, 1, 1, 7),
+            (98, 102, 1_000, 1, 9),
+            (98, 102, 11, 1, 9),
+            (98, 102, 10, 1, 9),
+            (98, 102, 9, 1, 0),
+        ):
+            text = self.quote(buy, sell, lots, account)
+            self.assertEqual(last_code(text), code, (buy, sell, lots))
+            if code:
+                self.assertEqual(state_after(text), state_after(self.BOOK))
+        # 1 is held short: 10 to buy are within the limit, 10 to sell are not.
+        limited = self.BOOK.replace("limit 1000 rate", "limit 10 rate").replace("maker 1,000", "maker 100,000")
+        for lots, code in ((9, 0), (10, 8), (11, 8)):
+            self.assertEqual(last_code(self.quote(98, 102, lots, text=limited)), code)
+
+    def test_in_continuous_only(self):
+        for state in ("no-trading", "closed"):
+            self.assertEqual(last_code(self.quote(98, 102, 1, text=self.BOOK + f"state 1 {state}\n")), 4)
+        auction = self.HEAD.replace("continuous", "auction")
+        self.assertEqual(last_code(self.quote(98, 102, 1, text=auction)), 4)
+        self.assertEqual(last_code(self.quote(98, 102, 1, account=2, text=auction)), 4)
+
+    def test_two_numbers_and_two_stamps(self):
+        for number, stamp, code in (
+            (999_998, 1_000, 0),
+            (999_999, 1_000, 10),
+            (1_000, 999_998, 0),
+            (1_000, 999_999, 10),
+            (1_000_000, 1_000, 10),
+        ):
+            state = state_after(self.BOOK)
+            state.next_order_number, state.next_stamp = number, stamp
+            self.assertEqual(model.answer(state, dayfile.quote(1, 1, 98, 102, 2)).code, code)
+
+    def test_13_with_the_old_one_gone(self):
+        full = self.HEAD.replace("account 10,000", "account 100,000")
+        full += "quote 1 contract 1 buy 98 sell 102 lots 1\n"
+        full += "repeat 63\n insert 2 contract 1 buy open limit 97 lots 1 day\n end\n"
+        self.assertEqual(last_code(self.quote(96, 102, 1, text=full)), 0)
+        more = full + "cancel 1 contract 1 order 1\n insert 2 contract 1 buy open limit 97 lots 1 day\n"
+        self.assertEqual(last_code(self.quote(96, 102, 1, text=more)), 13)
+        sells = more + "insert 2 contract 1 sell open limit 100 lots 1 day\n"
+        self.assertEqual(last_code(self.quote(100, 102, 1, text=sells)), 0)
+        self.assertEqual(last_code(self.quote(100, 102, 2, text=sells)), 13)
+
+    def test_as_cancels_and_inserts(self):
+        """Marks aside, a quote that passes 24 is: cancel what is left of the old one, insert the buy, insert the sell."""
+        compared = set()
+        for index in range(60):
+            day = dayfile.sections(generate.quotes_file(random.Random(index)))
+            state = model.opening_state(day)
+            for command in day.commands:
+                code = model.first_code(state, command)
+                if command.kind == dayfile.NUMBER_OF_KIND["quote"] and code not in (1, 2, 3, 4, 23, 24):
+                    given, after = self.singly(state, command)
+                    before = model.copied(state)
+                    answer = model.carry_out(state, command)
+                    self.assertEqual(answer.code, given[0])
+                    if answer.code:
+                        self.assertEqual(state, before)
+                    else:
+                        self.assertEqual((answer.order_number, answer.lots_traded, answer.lots_rested_or_removed), given[1:])
+                        self.assertEqual(self.unmarked(state), self.unmarked(after))
+                    compared.add(answer.code)
+                else:
+                    model.carry_out(state, command)
+        self.assertGreaterEqual(compared, {0, 5, 7, 8, 9})
+
+    def singly(self, state, command):
+        """The answer and the state of the commands that a quote stands for."""
+        state = model.copied(state)
+        queues = state.contracts[command.contract].queues
+        old = [order.number for queue in queues.values() for order in queue if order.quote and order.account == command.account]
+        commands = [dayfile.cancel(command.account, command.contract, number) for number in old]
+        for side, price in (("buy", command.price), ("sell", command.order_number)):
+            commands.append(dayfile.insert(command.account, command.contract, side, "open", "limit", price, command.lots, "day"))
+        given = []
+        for single in commands:
+            given.append(model.answer(state, single))
+            if given[-1].code:
+                return (given[-1].code,), None
+        buy, sell = given[-2:]
+        rested = buy.lots_rested_or_removed + sell.lots_rested_or_removed
+        return (0, buy.order_number, buy.lots_traded + sell.lots_traded, rested), state
+
+    def unmarked(self, state):
+        state = model.copied(state)
+        for contract in state.contracts.values():
+            for queue in contract.queues.values():
+                for order in queue:
+                    order.quote = False
+        return state
 
 
 class Auction(unittest.TestCase):
@@ -1491,8 +1648,28 @@ class WellFormed(unittest.TestCase):
         self.buys[0].stamp, self.buys[1].stamp = self.buys[1].stamp, self.buys[0].stamp
         self.assert_21()
 
-    def test_no_order_is_marked_as_a_quote(self):
+    def test_quotes(self):
         self.buys[0].quote = True
+        self.assert_21()
+        self.state.makers = frozenset({2})
+        self.assert_21()
+        self.state.makers = frozenset({1})
+        self.assertTrue(model.well_formed(self.state))
+        # A close, a second one of the account on that side, and a mark that is none.
+        self.sells[0].quote = True
+        self.assert_21()
+        self.sells[0].quote = False
+        self.buys[1].quote = True
+        self.assert_21()
+        self.state.makers = frozenset({1, 2})
+        self.assertTrue(model.well_formed(self.state))
+        self.buys[1].account = 1
+        self.assert_21()
+        self.buys[1].quote = None
+        self.assert_21()
+
+    def test_makers_mark(self):
+        self.state.marked_otherwise = frozenset({2})
         self.assert_21()
 
     def test_trade_contract(self):
@@ -1589,7 +1766,7 @@ class DayFiles(unittest.TestCase):
             ("reference-off-tick", "contract 1: reference off tick"),
             ("band-off-tick", "contract 1: band off tick"),
             ("method-256", "contract 1: method above 2"),
-            ("balance-bit-63", "account 1: balance not 0 to 10^18"),
+            ("balance-bit-62", "account 1: balance not 0 to 10^18"),
             ("accounts-33", "accounts not 1 to 32"),
             ("commands-2001", "commands not 0 to 2,000"),
             ("one-byte-more", "bytes after the last command"),

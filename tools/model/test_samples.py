@@ -38,7 +38,7 @@ class Samples(unittest.TestCase):
         self.assertGreater(expected, 0)
 
     def test_every_code_of_a_file(self):
-        self.assertEqual(self.codes("every-code"), set(range(20)) - {10})
+        self.assertEqual(self.codes("every-code"), {*range(20), 23, 24} - {10})
 
     def test_contents_of_every_code(self):
         """The table at its top names for each code just the commands that get it."""
@@ -75,6 +75,9 @@ class Samples(unittest.TestCase):
 
     def test_changing_an_order(self):
         self.assertEqual(self.codes("changes-of-a-day"), {0, 4, 5, 7, 8, 9, 14, 15})
+
+    def test_market_makers(self):
+        self.assertEqual(self.codes("market-makers"), {0, 4, 5, 7, 8, 9, 14, 23, 24})
 
     def test_largest_file(self):
         day = read(self.made[make_samples.SAMPLES / "largest-file.day"])

@@ -32,8 +32,8 @@ An edit is its number, then
                 record is higher by the step
     9 answers   as trades; the area of a bundle's answers, of code, number, traded, lots
 
-with the fields in the order in which the records are declared; marks are 0 or 1. A contract's queue begins at place 64 x the contract's
-place. What no edit writes has the filling, which is expected to stay: every word of an area has one of its own, the
+with the fields in the order in which the records are declared; of a well-formed state all marks are 0 or 1. A
+contract's queue begins at place 64 x the contract's place. What no edit writes has the filling, which is expected to stay: every word of an area has one of its own, the
 records of contracts and accounts those of `memory.py`.
 
     call            arguments                                       answer

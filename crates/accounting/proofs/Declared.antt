@@ -133,6 +133,10 @@ module _ (m : Memory) (d : Declared (m .state)) (few : Counts (m .state)) where
   each-fits [] s = tt
   each-fits (y ∷ ys) s = (shaped-fits y (s .0), each-fits ys (s .1))
 
+-- nor does one stage
+pub stage-declared : (m : Memory) → Declared (m .state) → wellFormedMemory m ≡ true → (y : Exchange) → SameShape (exchangeOf m) y → Declared (put m y .state)
+stage-declared m d w y s = put-declared m d y (shaped-fits m d (counts m w) y s)
+
 -- no command changes the lengths of the arrays
 pub declared-kept : (m : Memory) (command : Command) → Declared (m .state) → Declared (respond m command .memory .state)
 unfolding respond stepIn

@@ -13,7 +13,7 @@ use Rattle.laws.specs.Choice.{all, allOf, all-at, allOf-at, both-true}
 use Rattle.laws.specs.Chains.{Passed, passed}
 use Rattle.rules.specs.Bounds.{within, inAuction, onTick, dayLow, dayHigh, allowedToday, maxPrice, maxLots}
 use Rattle.rules.specs.Exchange.{Exchange, Listing, noListing, listingAt, holdingAt, restingOpens, restingCloses}
-use Rattle.rules.specs.WellFormed.{contractInRange, sorted, uncrossed, orderInRange, listingInRange, tradeInRange, replays, holdingInRange, holdingsInRange, balanceInRange, countersInRange, usedOnce, allNumbers, allStamps, wellFormedContents}
+use Rattle.rules.specs.WellFormed.{contractInRange, sorted, uncrossed, orderInRange, listingInRange, tradeInRange, replays, holdingInRange, holdingsInRange, balanceInRange, countersInRange, usedOnce, allNumbers, allStamps, listingQuoted, markInRange, wellFormedContents}
 use Rattle.rules.specs.declared.Contract.{Contract}
 use Rattle.rules.specs.declared.Holding.{Holding}
 use Rattle.rules.specs.declared.Order.{Order}
@@ -35,7 +35,7 @@ unfolding orderInRange
 order-price accounts next nextstamp c o h =
     allowed-price c (o .price)
     (passed (within 1 maxLots (o .lots))
-    (ltb (o .account) accounts ∷ allowedToday c (o .price) ∷ leb 1 (o .number) ∷ ltb (o .number) next ∷ leb (o .close) 1 ∷ leb 1 (o .stamp) ∷ ltb (o .stamp) nextstamp ∷ eqb (o .quote) 0 ∷ []) h .1 .1 .0)
+    (ltb (o .account) accounts ∷ allowedToday c (o .price) ∷ leb 1 (o .number) ∷ ltb (o .number) next ∷ leb (o .close) 1 ∷ leb 1 (o .stamp) ∷ ltb (o .stamp) nextstamp ∷ leb (o .quote) 1 ∷ []) h .1 .1 .0)
 
 -- ---- a recorded trade
 
@@ -77,11 +77,11 @@ pub record Facts (x : Exchange) : Type 0 where
 
 module _ (x : Exchange) (h : wellFormedContents x ≡ true) where
   clauses : Passed (countersInRange x)
-      (allOf (listingInRange (length (x .accounts)) (x .next) (x .nextstamp)) (x .listings) ∷ usedOnce (allNumbers (x .listings)) ∷ usedOnce (allStamps (x .listings)) ∷ allOf (tradeInRange x) (x .trades)
+      (allOf (listingInRange (length (x .accounts)) (x .next) (x .nextstamp)) (x .listings) ∷ usedOnce (allNumbers (x .listings)) ∷ usedOnce (allStamps (x .listings)) ∷ allOf (listingQuoted (x .accounts)) (x .listings) ∷ allOf markInRange (x .accounts) ∷ allOf (tradeInRange x) (x .trades)
       ∷ replays x ∷ all (holdingsInRange x) (length (x .accounts)) ∷ allOf (balanceInRange (x .settlements)) (x .accounts) ∷ [])
   unfolding wellFormedContents
   clauses = passed (countersInRange x)
-      (allOf (listingInRange (length (x .accounts)) (x .next) (x .nextstamp)) (x .listings) ∷ usedOnce (allNumbers (x .listings)) ∷ usedOnce (allStamps (x .listings)) ∷ allOf (tradeInRange x) (x .trades)
+      (allOf (listingInRange (length (x .accounts)) (x .next) (x .nextstamp)) (x .listings) ∷ usedOnce (allNumbers (x .listings)) ∷ usedOnce (allStamps (x .listings)) ∷ allOf (listingQuoted (x .accounts)) (x .listings) ∷ allOf markInRange (x .accounts) ∷ allOf (tradeInRange x) (x .trades)
       ∷ replays x ∷ all (holdingsInRange x) (length (x .accounts)) ∷ allOf (balanceInRange (x .settlements)) (x .accounts) ∷ []) h
 
   listing-in-range : (c : ℕ) → c < length (x .listings) → listingInRange (length (x .accounts)) (x .next) (x .nextstamp) (listingAt x c) ≡ true
@@ -106,7 +106,7 @@ module _ (x : Exchange) (h : wellFormedContents x ≡ true) where
   unfolding holdingsInRange
   holding-in-range a c la lc =
       all-at (λ c. holdingInRange (listingAt x c) a (holdingAt (x .accounts) a c)) c (length (x .listings))
-      (all-at (holdingsInRange x) a (length (x .accounts)) (clauses .1 .1 .1 .1 .1 .1 .0) la) lc
+      (all-at (holdingsInRange x) a (length (x .accounts)) (clauses .1 .1 .1 .1 .1 .1 .1 .1 .0) la) lc
 
   start-lots : (m : Listing) (a : ℕ) (k : Holding) → holdingInRange m a k ≡ true →
       (k .startlong ≤ m .contract .limit) × (k .startshort ≤ m .contract .limit)
@@ -129,8 +129,8 @@ module _ (x : Exchange) (h : wellFormedContents x ≡ true) where
   facts = record {
     terms-of = terms-at;
     buys = λ c l. listing-clauses (listingAt x c) (listing-in-range c l) .1;
-    trades = clauses .1 .1 .1 .1 .0;
-    replay = clauses .1 .1 .1 .1 .1 .0;
+    trades = clauses .1 .1 .1 .1 .1 .1 .0;
+    replay = clauses .1 .1 .1 .1 .1 .1 .1 .0;
     startlong = λ a c la lc. starts a c la lc .0;
     startshort = λ a c la lc. starts a c la lc .1;
   }

@@ -13,6 +13,7 @@ pub mod ProfitBound
 pub mod BooksLaws
 pub mod StepMoves
 pub mod ChangeMoves
+pub mod QuoteMoves
 pub mod StepShape
 pub mod EachKind
 pub mod Declared

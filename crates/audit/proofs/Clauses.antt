@@ -9,7 +9,8 @@ use Rattle.laws.specs.Choice.{all, allOf}
 use Rattle.rules.specs.Bounds.{within, inAuction, maxPhase, termsInRange, tickMultiple, allowedToday, maxResting, maxTrades}
 use Rattle.rules.specs.Exchange.{Listing, restingOpens, restingCloses}
 use Rattle.rules.specs.Memory.{Memory, countsInRange, hasRoom, queueStride, tradeStride}
-use Rattle.rules.specs.WellFormed.{contractInRange, orderInRange, sorted, uncrossed, listingInRange, holdingInRange}
+use Rattle.rules.specs.WellFormed.{contractInRange, orderInRange, sorted, uncrossed, listingInRange, queueQuoted, listingQuoted, holdingInRange}
+use Rattle.rules.specs.declared.Account.{Account}
 use Rattle.rules.specs.declared.Contract.{Contract}
 use Rattle.rules.specs.declared.Holding.{Holding}
 use Rattle.rules.specs.declared.Order.{Order}
@@ -49,7 +50,7 @@ contract-chain c = record { is = refl }
 pub order-chain : (accounts next nextstamp : ℕ) (c : Contract) (o : Order)
     → Chain (orderInRange accounts next nextstamp c o)
     (within 1 1_000 (o .lots) ∷ ltb (o .account) accounts ∷ allowedToday c (o .price) ∷ leb 1 (o .number) ∷ ltb (o .number) next ∷ leb (o .close) 1 ∷ leb 1 (o .stamp) ∷ ltb (o .stamp) nextstamp ∷ [])
-    (eqb (o .quote) 0)
+    (leb (o .quote) 1)
 unfolding orderInRange
 order-chain accounts next nextstamp c o = record { is = refl }
 
@@ -64,6 +65,10 @@ pub listing-chain : (accounts next nextstamp : ℕ) (l : Listing)
     (allOf (orderInRange accounts next nextstamp (l .contract)) (l .sells))
 unfolding listingInRange
 listing-chain accounts next nextstamp l = record { is = refl }
+
+pub quoted-chain : (accounts : List Account) (l : Listing) → Chain (listingQuoted accounts l) (queueQuoted accounts (l .buys) ∷ []) (queueQuoted accounts (l .sells))
+unfolding listingQuoted
+quoted-chain accounts l = record { is = refl }
 
 -- ---- a holding
 

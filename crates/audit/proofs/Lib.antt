@@ -2,6 +2,7 @@ pub mod Chains
 pub mod Clauses
 pub mod FieldLists
 pub mod Limits
+pub mod MarkedOrders
 pub mod Replaying
 pub mod Rooms
 pub mod SortedQueues

@@ -7,13 +7,15 @@ use Prim.Native.Nat.{ℕ, zero, suc, _*_, _<_, _≤_}
 use native.Mathlib.Omega.{arith}
 use borrow.Author.Tests.{leb-true}
 use lib.Dec.{leb}
-use lib.ListN.{length, getD, take, length-replicate}
+use lib.ListN.{length, getD, take, length-map, length-replicate}
 use Rattle.laws.specs.Choice.{all, allOf, all-at, all-ext, allOf-all, allOf-at, both-true}
 use Rattle.laws.specs.Tabulate.{tabulate, length-tabulate, getD-tabulate}
 use Rattle.rules.specs.Bounds.{within, termsInRange}
-use Rattle.rules.specs.Exchange.{Exchange, Listing, listingAt, holdingAt, noContract, noListing, noTrade}
+use Rattle.rules.specs.Exchange.{Exchange, Listing, listingAt, accountAt, holdingAt, noContract, noListing, noTrade}
 use Rattle.rules.specs.Memory.{Memory, exchangeOf, inUse, listingIn, recordedTrades, countsInRange, hasRoom, wellFormedMemory, used, memory, tradeStride}
-use Rattle.rules.specs.WellFormed.{countersInRange, listingInRange, allNumbers, allStamps, usedOnce, tradeInRange, replays, holdingInRange, holdingsInRange, balanceInRange, wellFormedContents}
+use Rattle.rules.specs.WellFormed.{countersInRange, listingInRange, allNumbers, allStamps, usedOnce, quotes, markAllowed, queueQuoted, listingQuoted, markInRange, tradeInRange, replays, holdingInRange, holdingsInRange, balanceInRange, wellFormedContents}
+use Rattle.rules.specs.declared.Account.{Account}
+use Rattle.rules.specs.declared.Order.{Order}
 use Rattle.rules.specs.declared.State.{State}
 use Rattle.rules.specs.declared.Trade.{Trade}
 use Rattle.rules.proofs.Codecs.{length-trades}
@@ -49,6 +51,23 @@ same-contracts zero f g c e = refl
 same-contracts (suc n) f g zero e = e 0
 same-contracts (suc n) f g (suc c) e = same-contracts n (λ i. f (suc i)) (λ i. g (suc i)) c (λ i. e (suc i))
 
+-- a mark asks for nothing of an account but whether it is a maker
+maker-in-use : (contracts : ℕ) (l : List Account) (a : ℕ) → accountAt (map (inUse contracts) l) a .maker ≡ accountAt l a .maker
+unfolding accountAt
+maker-in-use contracts [] a = refl
+maker-in-use contracts (x ∷ l) zero = refl
+maker-in-use contracts (x ∷ l) (suc a) = maker-in-use contracts l a
+
+queue-in-use : (contracts : ℕ) (l : List Account) (queue : List Order) → queueQuoted (map (inUse contracts) l) queue ≡ queueQuoted l queue
+unfolding queueQuoted markAllowed
+queue-in-use contracts l queue =
+    ap₂ (λ x n. x && all (λ a. leb (quotes a queue) 1) n)
+    (same-tests (markAllowed (map (inUse contracts) l)) (markAllowed l) queue (λ o. rw (maker-in-use contracts l (o .account)) refl)) (length-map l (inUse contracts))
+
+quoted-in-use : (contracts : ℕ) (l : List Account) (m : Listing) → listingQuoted (map (inUse contracts) l) m ≡ listingQuoted l m
+unfolding listingQuoted
+quoted-in-use contracts l m = ap₂ (λ x y. x && y) (queue-in-use contracts l (m .buys)) (queue-in-use contracts l (m .sells))
+
 -- ---- the tests
 
 module _ (s : State) (buys sells trades : List ℕ) where
@@ -66,6 +85,12 @@ module _ (s : State) (buys sells trades : List ℕ) where
 
   abbrev stampsTest : Bool
   stampsTest = usedOnce (allStamps (tabulate (s .contractcount) (listing s buys sells)))
+
+  abbrev quotesTest : Bool
+  quotesTest = all (λ c. listingQuoted (take (s .accountcount) (s .accounts)) (listing s buys sells c)) (s .contractcount)
+
+  abbrev makersTest : Bool
+  makersTest = allOf markInRange (take (s .accountcount) (s .accounts))
 
   abbrev asked : Exchange
   asked = tested (s .contracts) (s .contractcount) (s .accountcount) (s .next)
@@ -107,6 +132,17 @@ module _ (s : State) (buys sells trades : List ℕ) where
     unfolding exchangeOf listingIn
     stamps-same = refl
 
+    quotes-same : allOf (listingQuoted (exchangeOf m .accounts)) (exchangeOf m .listings) ≡ quotesTest
+    unfolding exchangeOf listingIn
+    quotes-same =
+        same-tests (listingQuoted (used (s .contractcount) (s .accountcount) (s .accounts))) (listingQuoted (take (s .accountcount) (s .accounts))) (tabulate (s .contractcount) (listingIn m))
+        (quoted-in-use (s .contractcount) (take (s .accountcount) (s .accounts)))
+        ∙ all-of-table (listingQuoted (take (s .accountcount) (s .accounts))) (s .contractcount) (listingIn m) noListing
+
+    makers-same : allOf markInRange (exchangeOf m .accounts) ≡ makersTest
+    unfolding exchangeOf markInRange
+    makers-same = all-of-map markInRange (inUse (s .contractcount)) (take (s .accountcount) (s .accounts))
+
     trade-same : (t : Trade) → tradeInRange (exchangeOf m) t ≡ tradeInRange asked t
     unfolding tradeInRange tested exchangeOf listingAt listingIn
     trade-same t =
@@ -141,9 +177,9 @@ module _ (s : State) (buys sells trades : List ℕ) where
     balances-same = all-of-map (balanceInRange (s .settlements)) (inUse (s .contractcount)) (take (s .accountcount) (s .accounts))
 
     pub contents-chain :
-        Chain (wellFormedContents (exchangeOf m)) (countersTest ∷ listingsTest ∷ numbersTest ∷ stampsTest ∷ tradesTest ∷ replayTest ∷ holdingsTest ∷ []) balancesTest
+        Chain (wellFormedContents (exchangeOf m)) (countersTest ∷ listingsTest ∷ numbersTest ∷ stampsTest ∷ quotesTest ∷ makersTest ∷ tradesTest ∷ replayTest ∷ holdingsTest ∷ []) balancesTest
     unfolding wellFormedContents
-    contents-chain = record { is = rw (counters-same, listings-same, numbers-same, stamps-same, trades-same, replay-same, holdings-same, balances-same) refl }
+    contents-chain = record { is = rw (counters-same, listings-same, numbers-same, stamps-same, quotes-same, makers-same, trades-same, replay-same, holdings-same, balances-same) refl }
 
 -- the whole: counts and room before the contents
 pub whole-chain : (m : Memory) → Chain (wellFormedMemory m) (countsInRange (m .state) ∷ hasRoom m ∷ []) (wellFormedContents (exchangeOf m))

@@ -10,6 +10,7 @@ use Rattle.rules.specs.Exchange.{Exchange, Listing, noAccount, noContract}
 use Rattle.rules.specs.Memory.{countsInRange, listingIn, memory, queueStride}
 use Rattle.rules.specs.declared.Account.{Account}
 use Rattle.rules.specs.declared.Contract.{Contract}
+use Rattle.rules.specs.declared.Order.{Order}
 use Rattle.rules.specs.declared.State.{State}
 use Rattle.rules.specs.declared.Trade.{Trade}
 
@@ -22,6 +23,11 @@ pub record Ready (s : State) (buys sells : List ℕ) : Type 0 where
   pub counts : countsInRange s ≡ true
   pub buy-room : queueStride * s .contractcount ≤ length buys
   pub sell-room : queueStride * s .contractcount ≤ length sells
+
+-- an order of an account in use, with a quote mark of 0 or 1
+pub record Markable (accounts : ℕ) (o : Order) : Type 0 where
+  pub account : o .account < accounts
+  pub quote : o .quote ≤ 1
 
 -- what a recorded trade is tested against: the contracts, the numbers of accounts and contracts, the next order number
 unfoldable pub tested : List Contract → ℕ → ℕ → ℕ → Exchange

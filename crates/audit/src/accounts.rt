@@ -1,4 +1,4 @@
-// Holdings against limits and resting orders, and balances.
+// Holdings against limits and resting orders, makers' marks, and balances.
 ghost use mathlib.Core.Bool.{true};
 ghost use mathlib.Core.Path.{_≡_};
 ghost use Prim.Native.Nat.{_+_, _*_, _≤_, _<_};
@@ -8,7 +8,7 @@ ghost use Rattle.laws.specs.Choice.{all, allOf};
 ghost use Rattle.rules.specs.Bounds.{maxResting};
 ghost use Rattle.rules.specs.Exchange.{holdingAt, restingOpens, restingCloses};
 ghost use Rattle.rules.specs.Memory.{queueIn, firstWord};
-ghost use Rattle.rules.specs.WellFormed.{holdingInRange, balanceInRange};
+ghost use Rattle.rules.specs.WellFormed.{holdingInRange, markInRange, balanceInRange};
 ghost use Rattle.audit.specs.Parts.{Ready, listing};
 use book::scan;
 use rules::Account;
@@ -94,6 +94,22 @@ pub fn holdings_in_range(state: State, buys: &[u32], sells: &[u32]) -> bool
     let mut a: usize = 0;
     while a < accounts {
         if !account_in_range(state, a, buys, sells) {
+            return false;
+        }
+        a += 1;
+    }
+    true
+}
+
+// "maker mark 1, its value 0 or 1"
+pub fn marks_in_range(list: [Account; rules::MAX_ACCOUNTS], accounts: usize) -> bool
+    requires { ⌜ accounts ≤ 32 ⌝ }
+    ensures { λ r. ⌜ r ≡ allOf markInRange (take accounts list) ⌝ }
+{
+    let mut a: usize = 0;
+    while a < accounts {
+        let who = list[a];
+        if 1 < who.maker {
             return false;
         }
         a += 1;

@@ -8,6 +8,7 @@ mod accounts;
 mod counts;
 mod numbers;
 mod queues;
+mod quotes;
 mod recorded;
 mod replay;
 
@@ -34,8 +35,15 @@ fn contents_are_well_formed(state: State, buys: &[u32], sells: &[u32], trades: &
     if !numbers::used_once(state, buys, sells, rules::STAMP_WORD) {
         return false;
     }
-    let contracts = state.contractcount;
+    if !quotes::listings_quoted(state, buys, sells) {
+        return false;
+    }
+    let held = state.accounts;
     let holders = state.accountcount;
+    if !accounts::marks_in_range(held, holders) {
+        return false;
+    }
+    let contracts = state.contractcount;
     let count = state.tradecount;
     let list = state.contracts;
     if !recorded::trades_in_range(list, contracts, holders, next, trades, count) {
@@ -44,7 +52,6 @@ fn contents_are_well_formed(state: State, buys: &[u32], sells: &[u32], trades: &
     if !accounts::holdings_in_range(state, buys, sells) {
         return false;
     }
-    let held = state.accounts;
     if !replay::replays(held, contracts, holders, trades, count) {
         return false;
     }

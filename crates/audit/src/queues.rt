@@ -91,8 +91,8 @@ fn is_apart(
     is_uncrossed(buys, bids, sells, asks, c)
 }
 
-// "1 to 1,000 lots, an existing account, a price allowed today, and a number below the next", and a time stamp below the next; no quote
-// mark.
+// "1 to 1,000 lots, an existing account, a price allowed today, and a number below the next", and a time stamp below the next; a quote
+// mark of 0 or 1.
 fn order_in_range(accounts: usize, next: u32, nextstamp: u32, c: Contract, o: Order) -> bool
     requires { ⌜ termsInRange c ≡ true ⌝ }
     ensures { λ r. ⌜ r ≡ orderInRange accounts next nextstamp c o ⌝ }
@@ -122,7 +122,7 @@ fn order_in_range(accounts: usize, next: u32, nextstamp: u32, c: Contract, o: Or
     if nextstamp <= o.stamp {
         return false;
     }
-    o.quote == 0
+    o.quote <= 1
 }
 
 fn orders_in_range(

@@ -31,6 +31,7 @@ takerOf s =
       close = s .close;
       number = s .number;
       stamp = s .number;
+      quote = 0;
       condition = priceCondition (s .kind) (s .price);
       method = Middle;
       best = s .best;
@@ -40,7 +41,7 @@ takerOf s =
 abbrev pub accountsOf : ℕ → List Account
 accountsOf lots =
     replicate 32
-    (record { balance = pos 0; maker = false; holdings = replicate 4 (record { long = lots; short = lots; startlong = lots; startshort = lots }) })
+    (record { balance = pos 0; maker = 0; holdings = replicate 4 (record { long = lots; short = lots; startlong = lots; startshort = lots }) })
 
 -- ---- one order entered again and again
 

@@ -115,6 +115,7 @@ fn taker(s: Sweeps) -> Taker
         close: s.close,
         number: s.number,
         stamp: s.number,
+        quote: 0,
         condition,
         method: PairingMethod::Middle,
         best: s.best,
@@ -133,7 +134,7 @@ fn accounts_with(lots: u32) -> [Account; rules::MAX_ACCOUNTS]
     let holdings = [holding; rules::MAX_CONTRACTS];
     let account = Account {
         balance: 0,
-        maker: false,
+        maker: 0,
         holdings: holdings,
     };
     [account; rules::MAX_ACCOUNTS]

@@ -16,6 +16,7 @@ use Rattle.areas.proofs.Changes.{removed-at, removed-first}
 use Rattle.areas.proofs.Lists.{length-insertAt}
 use Rattle.areas.proofs.Moves.{lent-over}
 use Rattle.areas.proofs.Records.{insert-store, set-store}
+use Rattle.rules.specs.Change.{unmarked}
 use Rattle.rules.specs.Exchange.{noOrder}
 use Rattle.rules.specs.Matching.{restIn, withLots}
 use Rattle.rules.specs.Memory.{orderWords, orderFrom, queueIn, putQueue, orderStride, queueStride, firstWord}
@@ -107,6 +108,19 @@ set-fourth area s lots h =
     let d : drop s (set area (s + 3) lots) ≡ orderWords (withLots o lots) ++ drop (s + orderStride) area = drop-set-add s area 3 lots ∙ ap (λ (l : List ℕ). set l 3 lots) w in
     sym (take-append-drop s (set area (s + 3) lots)) ∙ rw (t, d)
 
+-- and the seventh its mark
+set-unmarked : (area : List ℕ) (s lots : ℕ) → s + orderStride ≤ length area
+    → set (set area (s + 3) lots) (s + 6) 0 ≡ over area s (orderWords (unmarked (withLots (orderFrom (drop s area)) lots)))
+unfolding over
+set-unmarked area s lots h =
+    let o : Order = orderFrom (drop s area) in
+    let f : orderWords o ≡ take orderStride (drop s area) = order-codec .forth (drop s area) (rw length-drop (omega arith)) in
+    let w : drop s area ≡ orderWords o ++ drop (s + orderStride) area = sym (take-append-drop orderStride (drop s area)) ∙ ap (λ (l : List ℕ). l ++ drop orderStride (drop s area)) (sym f) ∙ ap (λ (l : List ℕ). orderWords o ++ l) (drop-drop orderStride s area) in
+    let t : take s (set (set area (s + 3) lots) (s + 6) 0) ≡ take s area = take-set-le s (set area (s + 3) lots) (s + 6) 0 (omega arith) ∙ take-set-le s area (s + 3) lots (omega arith) in
+    let d : drop s (set (set area (s + 3) lots) (s + 6) 0) ≡ orderWords (unmarked (withLots o lots)) ++ drop (s + orderStride) area =
+    drop-set-add s (set area (s + 3) lots) 6 0 ∙ ap (λ (l : List ℕ). set l 6 0) (drop-set-add s area 3 lots) ∙ ap (λ (l : List ℕ). set (set l 3 lots) 6 0) w in
+    sym (take-append-drop s (set (set area (s + 3) lots) (s + 6) 0)) ∙ rw (t, d)
+
 module _ (area : List ℕ) (c n : ℕ) where
   -- a place that was searched for is at most the number of orders
   pub found-within : (test : Order → Bool) (i : ℕ) → i ≡ firstWhere test (queueIn area c n) → i ≤ n
@@ -150,16 +164,24 @@ module _ (area : List ℕ) (c n : ℕ) where
   unfolding queueIn
   stored-order i o h room = set-store order-codec area (queueStride * c) n i o h room
 
+  -- the order at place i changed: what was written there is the order as f makes it
+  replaced-order : (f : Order → Order) (i : ℕ) {after : List ℕ} → i < n → firstWord c n ≤ length area
+      → after ≡ over area (firstWord c i) (orderWords (f (orderFrom (drop (firstWord c i) area))))
+      → after ≡ putQueue area c n (set (queueIn area c n) i (f (getD (queueIn area c n) i noOrder)))
+  replaced-order f i h room e =
+      let o : Order = f (orderFrom (drop (firstWord c i) area)) in
+      let lq : n ≤ length (set (queueIn area c n) i o) = omega (arith, length-set (queueIn area c n) i o, length-queue area c n) in
+      e ∙ rw (order-at area c n i h, put-full area c n (set (queueIn area c n) i o) lq) (stored-order i o h room)
+
   -- the lots of the order at place i written over
   pub changed-lots : (i lots : ℕ) → i < n → firstWord c n ≤ length area
       → set area (firstWord c i + 3) lots ≡ putQueue area c n (set (queueIn area c n) i (withLots (getD (queueIn area c n) i noOrder) lots))
-  changed-lots i lots h room =
-      let s : ℕ = firstWord c i in
-      let o : Order = orderFrom (drop s area) in
-      let lq : n ≤ length (set (queueIn area c n) i (withLots o lots)) = omega (arith, length-set (queueIn area c n) i (withLots o lots), length-queue area c n) in
-      set-fourth area s lots (omega arith)
-      ∙ rw (order-at area c n i h, put-full area c n (set (queueIn area c n) i (withLots o lots)) lq)
-      (stored-order i (withLots o lots) h room)
+  changed-lots i lots h room = replaced-order (λ o. withLots o lots) i h room (set-fourth area (firstWord c i) lots (omega arith))
+
+  -- and its mark
+  pub unmarked-lots : (i lots : ℕ) → i < n → firstWord c n ≤ length area
+      → set (set area (firstWord c i + 3) lots) (firstWord c i + 6) 0 ≡ putQueue area c n (set (queueIn area c n) i (unmarked (withLots (getD (queueIn area c n) i noOrder) lots)))
+  unmarked-lots i lots h room = replaced-order (λ o. unmarked (withLots o lots)) i h room (set-unmarked area (firstWord c i) lots (omega arith))
 
 -- the first order taken out
 pub removed-front : (os : List Order) → removeAt 0 os ≡ drop 1 os

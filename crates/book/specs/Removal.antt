@@ -1,4 +1,5 @@
--- What a pull leaves of one queue, for its contract. Assumes nothing.
+-- What of one queue is taken out, and what that leaves, for the contract. Assumes nothing.
+use mathlib.Core.Bool.{Bool, true, false}
 use mathlib.Core.List.{List}
 use mathlib.Core.Path.{_≡_}
 use Prim.Native.Nat.{ℕ}
@@ -6,9 +7,16 @@ use lib.ListN.{length}
 use Rattle.rules.specs.Exchange.{lotsWhere}
 use Rattle.rules.specs.Memory.{queueIn, putQueue}
 use Rattle.rules.specs.Step.{without, isOf}
+use Rattle.rules.specs.WellFormed.{isQuoteOf}
+use Rattle.rules.specs.declared.Order.{Order}
 use Rattle.book.specs.declared.removal.Pulled.{Pulled}
 
-pub record PulledIs (account : ℕ) (area : List ℕ) (c n : ℕ) (r : Pulled) (area′ : List ℕ) : Type 0 where
-  pub queue : area′ ≡ putQueue area c n (without (isOf account) (queueIn area c n))
-  pub count : r .count ≡ length (without (isOf account) (queueIn area c n))
-  pub lots : r .lots ≡ lotsWhere (isOf account) (queueIn area c n)
+-- the orders of an account, or those of its quote alone
+abbrev pub isPulled : Bool → ℕ → Order → Bool
+isPulled true account = isQuoteOf account
+isPulled false account = isOf account
+
+pub record PulledIs (test : Order → Bool) (area : List ℕ) (c n : ℕ) (r : Pulled) (area′ : List ℕ) : Type 0 where
+  pub queue : area′ ≡ putQueue area c n (without test (queueIn area c n))
+  pub count : r .count ≡ length (without test (queueIn area c n))
+  pub lots : r .lots ≡ lotsWhere test (queueIn area c n)

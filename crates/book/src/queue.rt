@@ -6,6 +6,7 @@ ghost use Prim.Native.Nat.{_+_, _-_, _*_, _≤_, _<_};
 ghost use lib.ListN.{length, take, drop, getD, set};
 ghost use Rattle.areas.specs.Lists.{insertAt, removeAt};
 ghost use Rattle.areas.specs.Moves.{closedUp};
+ghost use Rattle.rules.specs.Change.{unmarked};
 ghost use Rattle.rules.specs.Exchange as exchange;
 ghost use Rattle.rules.specs.Matching as matching;
 ghost use Rattle.rules.specs.Memory.{queueIn, putQueue, orderFrom, orderWords, orderStride, firstWord, wordOf};
@@ -146,4 +147,14 @@ pub fn set_lots(area: &mut [u32], c: usize, count: usize, i: usize, lots: u32)
 {
     let at = rules::QUEUE_STRIDE * c + rules::ORDER_STRIDE * i + 3;
     area[at] = lots;
+}
+
+// Changes the remaining lots of the order at a place, which is then part of no quote.
+pub fn set_lots_unmarked(area: &mut [u32], c: usize, count: usize, i: usize, lots: u32)
+    requires { ⌜ (i < count) × (firstWord c count ≤ length (now area)) ⌝ }
+    ensures { λ _. ⌜ now (area .exit) ≡ putQueue (now (area .entry)) c count (set (queueIn (now (area .entry)) c count) i (unmarked (matching.withLots (getD (queueIn (now (area .entry)) c count) i exchange.noOrder) lots))) ⌝ }
+{
+    let at = rules::QUEUE_STRIDE * c + rules::ORDER_STRIDE * i;
+    area[at + 3] = lots;
+    area[at + 6] = 0;
 }

@@ -5,8 +5,9 @@ ghost use lib.ListN.{length};
 ghost use Rattle.rules.specs.Bounds.{maxResting};
 ghost use Rattle.rules.specs.Memory.{queueIn, firstWord};
 ghost use Rattle.rules.specs.Places.{indexOf};
-ghost use Rattle.book.specs.Removal.{PulledIs};
+ghost use Rattle.book.specs.Removal.{isPulled, PulledIs};
 use crate::queue;
+use rules::Order;
 
 // The place of the order with a number; the count where there is none.
 pub fn find(area: &[u32], c: usize, count: usize, number: u32) -> usize
@@ -30,10 +31,24 @@ pub struct Pulled {
     pub lots: u64,
 }
 
-// Takes out all orders of an account, perhaps none: the others close up, and the freed places are set to zero.
-pub fn pull(area: &mut [u32], c: usize, count: usize, account: u32) -> Pulled
+// Whether an order is the account's, or part of its quote where only that is meant.
+fn is_pulled(o: Order, account: u32, quote: bool) -> bool
+    ensures { λ r. ⌜ r ≡ isPulled quote account o ⌝ }
+{
+    if o.account != account {
+        return false;
+    }
+    if quote {
+        return o.quote == 1;
+    }
+    true
+}
+
+// Takes out all orders of an account, or those of its quote alone, perhaps none: the others close up, and the freed places are set
+// to zero.
+pub fn pull(area: &mut [u32], c: usize, count: usize, account: u32, quote: bool) -> Pulled
     requires { ⌜ (count ≤ maxResting) × (firstWord c count ≤ length (now area)) ⌝ }
-    ensures { λ r. ⌜ PulledIs account (now (area .entry)) c count r (now (area .exit)) ⌝ }
+    ensures { λ r. ⌜ PulledIs (isPulled quote account) (now (area .entry)) c count r (now (area .exit)) ⌝ }
 {
     let mut kept: usize = 0;
     let mut lots: u64 = 0;
@@ -41,7 +56,7 @@ pub fn pull(area: &mut [u32], c: usize, count: usize, account: u32) -> Pulled
     while i < count {
         let o = queue::order_at(&area[..], c, i);
         i += 1;
-        if o.account == account {
+        if is_pulled(o, account, quote) {
             lots += laws::wide32(o.lots);
         } else {
             let at = rules::QUEUE_STRIDE * c + rules::ORDER_STRIDE * kept;

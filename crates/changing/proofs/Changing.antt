@@ -570,21 +570,21 @@ module _ {s : State} {buys sells trades : List ℕ} (w : WellFormedState s buys 
               unfolding exchangeOf
               x-next = refl
 
-              same-after : exchangeAfter (exchangeOf m′) o (enteredOf (exchangeOf m′) number o) (t .state .next) ≡ after
+              same-after : exchangeAfter (exchangeOf m′) o (enteredOf (exchangeOf m′) number 0 o) (t .state .next) ≡ after
               unfolding reentered
               same-after =
-                  ap (λ (v : NewOrder). exchangeAfter (exchangeOf m′) v (enteredOf (exchangeOf m′) number v) (t .state .next)) its-order
-                  ∙ ap (λ (y : Exchange). exchangeAfter y (arriving x k) (enteredOf y number (arriving x k)) (t .state .next)) read
-                  ∙ ap (λ (n : ℕ). exchangeAfter (gone x k) (arriving x k) (enteredOf (gone x k) number (arriving x k)) n) (next-is ∙ sym x-next)
+                  ap (λ (v : NewOrder). exchangeAfter (exchangeOf m′) v (enteredOf (exchangeOf m′) number 0 v) (t .state .next)) its-order
+                  ∙ ap (λ (y : Exchange). exchangeAfter y (arriving x k) (enteredOf y number 0 (arriving x k)) (t .state .next)) read
+                  ∙ ap (λ (n : ℕ). exchangeAfter (gone x k) (arriving x k) (enteredOf (gone x k) number 0 (arriving x k)) n) (next-is ∙ sym x-next)
 
               -- what it leaves is well formed
-              entered-keeps : WellFormed (exchangeAfter (exchangeOf m′) o (enteredOf (exchangeOf m′) number o) (t .state .next))
+              entered-keeps : WellFormed (exchangeAfter (exchangeOf m′) o (enteredOf (exchangeOf m′) number 0 o) (t .state .next))
               entered-keeps = subst WellFormed (sym same-after) after-keeps
 
-              entered-counted : Counted (exchangeAfter (exchangeOf m′) o (enteredOf (exchangeOf m′) number o) (t .state .next))
+              entered-counted : Counted (exchangeAfter (exchangeOf m′) o (enteredOf (exchangeOf m′) number 0 o) (t .state .next))
               entered-counted = subst Counted (sym same-after) after-counted
 
-              entered-few : (side : Bool) → length (own side (listingAfter (listingOf (exchangeOf m′) o) (o .sell) (enteredOf (exchangeOf m′) number o))) ≤ maxResting
+              entered-few : (side : Bool) → length (own side (listingAfter (listingOf (exchangeOf m′) o) (o .sell) (enteredOf (exchangeOf m′) number 0 o))) ≤ maxResting
               unfolding exchangeAfter
               entered-few side =
                   few-after m′ (formed gone-formed) (placeOf (o .contract)) _ _ (t .state .next) (exchangeOf m′ .nextstamp + 1) (gone-present .contract) entered-keeps entered-counted side
@@ -597,7 +597,7 @@ module _ {s : State} {buys sells trades : List ℕ} (w : WellFormedState s buys 
               unfolding reentryRefusals
               trades-room = reentry .1 .1 .1 .0
 
-              pub lost-enterable : Enterable (t .state) buys′ sells′ trades o number (t .state .next)
+              pub lost-enterable : Enterable (t .state) buys′ sells′ trades o number 0 (t .state .next)
               lost-enterable =
                   record {
                     present = gone-present;
@@ -608,24 +608,24 @@ module _ {s : State} {buys sells trades : List ℕ} (w : WellFormedState s buys 
                     leaves = well-formed-test _ entered-keeps;
                   }
 
-              same-entered : enteredOf (exchangeOf m′) number o ≡ reentered x k
+              same-entered : enteredOf (exchangeOf m′) number 0 o ≡ reentered x k
               unfolding reentered
-              same-entered = rw its-order (ap (λ (y : Exchange). enteredOf y number (arriving x k)) read)
+              same-entered = rw its-order (ap (λ (y : Exchange). enteredOf y number 0 (arriving x k)) read)
 
               response : stepIn m command
                   ≡ record { answer = answerOf 0 number (tradedLots (reentered x k .trades)) (reentered x k .rested); memory = put (put m (gone x k)) after }
               unfolding stepIn decide kindOf placeLost
               response = rw (zero-code, lost-is)
 
-              same-response : enteredIn m′ o number (t .state .next) ≡ stepIn m command
+              same-response : enteredIn m′ o number 0 (t .state .next) ≡ stepIn m command
               same-response =
                   ap (λ (e : Entered). record {
                     answer = answerOf 0 number (tradedLots (e .trades)) (e .rested);
-                    memory = put m′ (exchangeAfter (exchangeOf m′) o (enteredOf (exchangeOf m′) number o) (t .state .next));
+                    memory = put m′ (exchangeAfter (exchangeOf m′) o (enteredOf (exchangeOf m′) number 0 o) (t .state .next));
                   }) same-entered
                   ∙ ap (λ (y : Exchange). record { answer = answerOf 0 number (tradedLots (reentered x k .trades)) (reentered x k .rested); memory = put m′ y }) same-after
                   ∙ ap (λ (v : Memory). record { answer = answerOf 0 number (tradedLots (reentered x k .trades)) (reentered x k .rested); memory = put v after }) lies
                   ∙ sym response
 
-              pub lost-changed : {q : Outcome} {b d e : List ℕ} → OutcomeIs (enteredIn m′ o number (t .state .next)) q b d e → OutcomeIs (stepIn m command) q b d e
+              pub lost-changed : {q : Outcome} {b d e : List ℕ} → OutcomeIs (enteredIn m′ o number 0 (t .state .next)) q b d e → OutcomeIs (stepIn m command) q b d e
               lost-changed {q} {b} {d} {e} h = subst (λ (v : Responded). OutcomeIs v q b d e) same-response h

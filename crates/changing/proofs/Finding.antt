@@ -10,7 +10,7 @@ use lib.ListN.{length, getD, set, drop}
 use Rattle.areas.specs.Lists.{insertAt, removeAt}
 use Rattle.areas.proofs.Lists.{length-removeAt}
 use Rattle.rules.specs.Answers.{noSuchOrder, numbered}
-use Rattle.rules.specs.Change.{lessened}
+use Rattle.rules.specs.Change.{lessened, unmarked}
 use Rattle.rules.specs.Exchange.{noOrder}
 use Rattle.rules.specs.Matching.{withLots}
 use Rattle.rules.specs.Memory.{firstWord, orderFrom, putQueue, queueIn}
@@ -124,9 +124,9 @@ module _ (number lots : ℕ) where
   later-once o os u = once-append (numbers (o ∷ [])) (numbers os) u .1
 
   pub lessened-one : (os : List Order) → usedOnce (numbers os) ≡ true → indexOf number os < length os
-      → lessened number lots os ≡ set os (indexOf number os) (withLots (getD os (indexOf number os) noOrder) lots)
+      → lessened number lots os ≡ set os (indexOf number os) (unmarked (withLots (getD os (indexOf number os) noOrder) lots))
   unfolding lessened
   lessened-one =
-      first-ind (hasNumber number) (λ os i. usedOnce (numbers os) ≡ true → i < length os → lessened number lots os ≡ set os i (withLots (getD os i noOrder) lots)) (λ u h. absurd (omega arith))
-      (λ o os e u h. rw e (ap (λ (l : List Order). withLots o lots ∷ l) (lessened-none os (only o os e u))))
+      first-ind (hasNumber number) (λ os i. usedOnce (numbers os) ≡ true → i < length os → lessened number lots os ≡ set os i (unmarked (withLots (getD os i noOrder) lots))) (λ u h. absurd (omega arith))
+      (λ o os e u h. rw e (ap (λ (l : List Order). unmarked (withLots o lots) ∷ l) (lessened-none os (only o os e u))))
       (λ o os i e ih u h. rw e (ap (λ (l : List Order). o ∷ l) (ih (later-once o os u) (le-of-suc-le-suc h))))

@@ -10,6 +10,7 @@ use Rattle.laws.specs.Choice.{pick}
 use Rattle.areas.specs.Lists.{insertAt}
 use Rattle.rules.specs.Answers.{Refusal, _when_, firstOf, noSuchOrder, numbered}
 use Rattle.rules.specs.Bounds.{allowedToday, continuous, maxLots}
+use Rattle.rules.specs.Change.{unmarked}
 use Rattle.rules.specs.Exchange.{noContract, noOrder, placeOf}
 use Rattle.rules.specs.Matching.{withLots}
 use Rattle.rules.specs.Memory.{putQueue, queueIn}
@@ -72,11 +73,11 @@ arrivingFor account contract r lots price =
       time = GoodForDay;
     }
 
--- ---- one queue written: other lots at a place, and an order put back at one
+-- ---- one queue written: other lots and no mark at a place, and an order put back at one
 
 abbrev pub lessenedIn : List ℕ → ℕ → ℕ → ℕ → ℕ → List ℕ
 lessenedIn area c count place lots =
-    putQueue area c count (set (queueIn area c count) place (withLots (getD (queueIn area c count) place noOrder) lots))
+    putQueue area c count (set (queueIn area c count) place (unmarked (withLots (getD (queueIn area c count) place noOrder) lots)))
 
 abbrev pub putBackIn : List ℕ → ℕ → ℕ → ℕ → Order → List ℕ
 putBackIn area c count place o = putQueue area c count (insertAt place o (queueIn area c count))

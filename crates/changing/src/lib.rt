@@ -153,7 +153,7 @@ fn arriving(account: u32, contract: u32, r: Resting, lots: u32, price: u32) -> N
     }
 }
 
-// Fewer lots: that order's lots alone. `count` is the number of orders on its side.
+// Fewer lots: that order's lots alone, and its mark. `count` is the number of orders on its side.
 fn lessen(buys: &mut [u32], sells: &mut [u32], c: usize, count: usize, r: Resting, lots: u32)
     requires { ⌜ (r .place < count) × (firstWord c count ≤ length (sideArea (r .sell) (now buys) (now sells))) ⌝ }
     ensures { λ _. ⌜ now (buys .exit) ≡ pick (r .sell) (now (buys .entry)) (lessenedIn (now (buys .entry)) c count (r .place) lots) ⌝ }
@@ -161,10 +161,10 @@ fn lessen(buys: &mut [u32], sells: &mut [u32], c: usize, count: usize, r: Restin
 {
     let place = r.place;
     if r.sell {
-        queue::set_lots(sells, c, count, place, lots);
+        queue::set_lots_unmarked(sells, c, count, place, lots);
         return;
     }
-    queue::set_lots(buys, c, count, place, lots);
+    queue::set_lots_unmarked(buys, c, count, place, lots);
 }
 
 // The order that was taken out is put back at its place. `count` is the number of orders that its side has without it.
@@ -219,7 +219,7 @@ fn lose_place(
         put_back(buys, sells, c, count, r);
         return answers::refused(state, code);
     }
-    insertion::enter_order(gone, buys, sells, trades, o, number, gone.next)
+    insertion::enter_order(gone, buys, sells, trades, o, number, 0, gone.next)
 }
 
 pub fn change(

@@ -103,9 +103,9 @@ module _ (starts : List ℕ) (clients k : ℕ) where
   heldBy c = startHolding (pick (ltb k clients) starts []) k c
 
   pub four-holdings : (h₀ h₁ h₂ h₃ : Holding) → h₀ ≡ heldBy 0 → h₁ ≡ heldBy 1 → h₂ ≡ heldBy 2 → h₃ ≡ heldBy 3
-      → record { balance = pos 0; maker = false; holdings = h₀ ∷ h₁ ∷ h₂ ∷ h₃ ∷ [] } ≡ clientAccount (clientsWith clients starts) k
+      → record { balance = pos 0; maker = 0; holdings = h₀ ∷ h₁ ∷ h₂ ∷ h₃ ∷ [] } ≡ clientAccount (clientsWith clients starts) k
   unfolding clientAccount tabulate
-  four-holdings h₀ h₁ h₂ h₃ e₀ e₁ e₂ e₃ = λ i. record { balance = pos 0; maker = false; holdings = e₀ i ∷ e₁ i ∷ e₂ i ∷ e₃ i ∷ [] }
+  four-holdings h₀ h₁ h₂ h₃ e₀ e₁ e₂ e₃ = λ i. record { balance = pos 0; maker = 0; holdings = e₀ i ∷ e₁ i ∷ e₂ i ∷ e₃ i ∷ [] }
 
 pub all-written : {A : Type 0} (f : ℕ → A) (l next : List A) (n k : ℕ) → length l ≡ n → n ≤ k → Writing f l n k next → next ≡ tabulate n f
 unfolding written

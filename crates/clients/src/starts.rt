@@ -94,7 +94,7 @@ fn client_account(starts: &[u32], clients: usize, k: usize) -> Account
     let fourth = start_holding(starts, clients, k, 3);
     Account {
         balance: 0,
-        maker: false,
+        maker: 0,
         holdings: [first, second, third, fourth],
     }
 }

@@ -2,7 +2,7 @@
 // document 01 gives code 1 is `Malformed`.
 ghost use mathlib.Core.Path.{_≡_};
 ghost use mathlib.Core.List.{[], _∷_};
-ghost use Rattle.rules.specs.Command.{zeros, priceCondition, timeCondition, insertFlags, newOrder, depositOf, withdrawOf, insertOf, cancelOf, pullOf, phaseOf, settleOf, changeOf, commandOf, kindNumber, isMalformed, isSettle};
+ghost use Rattle.rules.specs.Command.{zeros, priceCondition, timeCondition, insertFlags, newOrder, depositOf, withdrawOf, insertOf, cancelOf, pullOf, phaseOf, settleOf, quoteOf, changeOf, commandOf, kindNumber, isMalformed, isSettle};
 use rules::Command;
 use rules::NewOrder;
 use rules::PriceCondition;
@@ -203,6 +203,23 @@ fn settle_of(r: Record) -> Command
     }
 }
 
+// "the price field holds the buy price, the order number field the sell price".
+fn quote_of(r: Record) -> Command
+    ensures { λ c. ⌜ c ≡ quoteOf r ⌝ }
+{
+    if all_zero(0, 0, r.flags, 0, 0, 0, r.amount) {
+        Command::Quote {
+            account: r.account as u32,
+            contract: r.contract as u32,
+            lots: r.lots,
+            buy: r.price,
+            sell: r.number,
+        }
+    } else {
+        Command::Malformed
+    }
+}
+
 // "Kind 9 .. gives account, contract, order number, the new remaining lots and the price."
 fn change_of(r: Record) -> Command
     ensures { λ c. ⌜ c ≡ changeOf r ⌝ }
@@ -233,6 +250,7 @@ pub fn command_of(r: Record) -> Command
         5 => pull_of(r),
         6 => phase_of(r),
         7 => settle_of(r),
+        8 => quote_of(r),
         9 => change_of(r),
         _ => Command::Malformed,
     }
@@ -269,6 +287,13 @@ pub fn kind_of(command: Command) -> u32
             phase: _,
         } => 6,
         Command::Settle => 7,
+        Command::Quote {
+            account: _,
+            contract: _,
+            lots: _,
+            buy: _,
+            sell: _,
+        } => 8,
         Command::Change {
             account: _,
             contract: _,

@@ -3,15 +3,15 @@
 use mathlib.Core.Bool.{Bool, true, false, _&&_}
 use mathlib.Core.List.{List}
 use mathlib.Core.Path.{_≡_, refl, sym, ap, _∙_}
-use Prim.Native.Nat.{ℕ, _+_, _*_, _≤_, _<_, _^_}
+use Prim.Native.Nat.{ℕ, _+_, _*_, _%_, _≤_, _<_, _^_}
 use native.Mathlib.Omega.{arith}
 use lib.Dec.{leb, eqb}
 use lib.ListN.{length, getD}
 use borrow.Author.Tests.{leb-true, le-leb, lt-leb, eqb-true}
-use Rattle.laws.specs.Choice.{all, both-true, all-at}
+use Rattle.laws.specs.Choice.{pick, all, both-true, all-at}
 use Rattle.laws.specs.Tabulate.{getD-tabulate}
 use Rattle.rules.specs.Bounds.{within, maxBalance}
-use Rattle.rules.specs.DayFile.{u32At, u64At, contractsIn, contractPlace, accountsIn, accountPlace, commandsIn, commandPlace, contractSound, accountSound, balanceFrom, commandFrom, commandsOf, sound}
+use Rattle.rules.specs.DayFile.{u32At, u64At, contractsIn, contractPlace, accountsIn, accountPlace, commandsIn, commandPlace, contractSound, accountSound, balanceFrom, makerBit, makerFrom, commandFrom, commandsOf, sound}
 use Rattle.rules.specs.declared.Command.{Command}
 use Rattle.rules.proofs.Terms.{within-low, within-high}
 use Rattle.dayfile.specs.Opening.{shaped}
@@ -51,10 +51,17 @@ module _ (file : List ℕ) where
   unfolding commandsIn
   commands-read = ap (u32At file) (account-place (accountsIn file))
 
-  -- a balance, read where the accounts begin at `start`
-  pub balance-at : (start a : ℕ) → start ≡ accountPlace file 0 → balanceFrom file a ≡ u64At file (start + 8 * a)
+  -- a balance and a maker's mark, read where the accounts begin at `start`
+  account-read : (start a : ℕ) → start ≡ accountPlace file 0 → u64At file (accountPlace file a) ≡ u64At file (start + 8 * a)
+  account-read start a e = ap (u64At file) (omega (arith, account-place a, account-place 0))
+
+  pub balance-read : (start a : ℕ) → start ≡ accountPlace file 0 → balanceFrom file a ≡ u64At file (start + 8 * a) % makerBit
   unfolding balanceFrom
-  balance-at start a e = ap (u64At file) (omega (arith, account-place a, account-place 0))
+  balance-read start a e = ap (λ (n : ℕ). n % makerBit) (account-read start a e)
+
+  pub maker-read : (start a : ℕ) → start ≡ accountPlace file 0 → makerFrom file a ≡ pick (leb makerBit (u64At file (start + 8 * a))) 1 0
+  unfolding makerFrom
+  maker-read start a e = ap (λ (n : ℕ). pick (leb makerBit n) 1 0) (account-read start a e)
 
   pub account-passes : (a balance : ℕ) → balance ≡ balanceFrom file a → balance ≤ 10 ^ 18 → accountSound file a ≡ true
   unfolding accountSound

@@ -65,8 +65,8 @@ module _ (file buys sells trades : List ℕ) (h : sound file ≡ true) where
   accounts-in-use =
       let n = accountsIn file in
       let holders = tabulate n (openingHolder file) in
-      let t : take n (padded 32 (accountWith 0) holders) ≡ holders =
-      rw (length-tabulate n (openingHolder file)) at (take-padded 32 (accountWith 0) holders) in
+      let t : take n (padded 32 (accountWith 0 0) holders) ≡ holders =
+      rw (length-tabulate n (openingHolder file)) at (take-padded 32 (accountWith 0 0) holders) in
       rw (t, map-tabulate (inUse (contractsIn file)) n (openingHolder file))
       (tabulate-below n (λ a. inUse (contractsIn file) (openingHolder file a)) (openingAccount file) at-account)
 

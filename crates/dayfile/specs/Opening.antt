@@ -1,6 +1,6 @@
 -- The state that a day file's run opens with, as it lies in memory, and the part of `sound` that speaks of counts and length
 -- alone. Assumes nothing.
-use mathlib.Core.Bool.{Bool, false, _&&_}
+use mathlib.Core.Bool.{Bool, _&&_}
 use mathlib.Core.List.{List}
 use Prim.Native.Nat.{ℕ}
 use lib.Dec.{leb, eqb}
@@ -9,7 +9,7 @@ use lib.ListN.{length, replicate}
 use Rattle.areas.specs.Lists.{padded}
 use Rattle.laws.specs.Tabulate.{tabulate}
 use Rattle.rules.specs.Bounds.{within, maxContracts, maxAccounts}
-use Rattle.rules.specs.DayFile.{maxCommands, contractsIn, accountsIn, commandsIn, contractPlace, commandPlace, contractFrom, balanceFrom}
+use Rattle.rules.specs.DayFile.{maxCommands, contractsIn, accountsIn, commandsIn, contractPlace, commandPlace, contractFrom, balanceFrom, makerFrom}
 use Rattle.rules.specs.Exchange.{noContract, noHolding}
 use Rattle.rules.specs.declared.Account.{Account}
 use Rattle.rules.specs.declared.Contract.{Contract}
@@ -24,21 +24,21 @@ shaped file =
     && eqb (length file) (commandPlace file (commandsIn file))
 
 -- an account with room for its holdings in every contract, and none of them
-abbrev pub accountWith : ℕ → Account
-accountWith balance = record { balance = pos balance; maker = false; holdings = replicate maxContracts noHolding }
+abbrev pub accountWith : ℕ → ℕ → Account
+accountWith balance maker = record { balance = pos balance; maker = maker; holdings = replicate maxContracts noHolding }
 
 abbrev pub openingContract : List ℕ → ℕ → Contract
 openingContract file c = contractFrom file (contractPlace c)
 
 abbrev pub openingHolder : List ℕ → ℕ → Account
-openingHolder file a = accountWith (balanceFrom file a)
+openingHolder file a = accountWith (balanceFrom file a) (makerFrom file a)
 
 -- the contracts and the accounts of the file in the first places, zeros in the others
 unfoldable pub openingContracts : List ℕ → List Contract
 openingContracts file = padded maxContracts noContract (tabulate (contractsIn file) (openingContract file))
 
 unfoldable pub openingAccounts : List ℕ → List Account
-openingAccounts file = padded maxAccounts (accountWith 0) (tabulate (accountsIn file) (openingHolder file))
+openingAccounts file = padded maxAccounts (accountWith 0 0) (tabulate (accountsIn file) (openingHolder file))
 
 -- "Its run opens in pre-open, with no orders, trades, holdings or settlements."
 unfoldable pub openingState : List ℕ → State

@@ -1,8 +1,10 @@
 // Little-endian numbers and the records they make. For the crates of this repository: each requires its bytes within the file.
 ghost use mathlib.Core.Path.{_≡_};
-ghost use Prim.Native.Nat.{_+_, _<_, _≤_};
+ghost use Prim.Native.Nat.{_+_, _%_, _<_, _≤_};
+ghost use lib.Dec.{leb};
 ghost use lib.ListN.{length};
-ghost use Rattle.rules.specs.DayFile.{u8At, u16At, u32At, u64At, contractFrom, recordFrom};
+ghost use Rattle.laws.specs.Choice.{pick};
+ghost use Rattle.rules.specs.DayFile.{u8At, u16At, u32At, u64At, contractFrom, recordFrom, makerBit};
 use rules::Contract;
 use rules::Record;
 
@@ -45,6 +47,28 @@ pub fn u64_at(file: &[u8], at: usize) -> u64
     let low = u32_at(file, at) as u64;
     let high = u32_at(file, at + 4) as u64;
     low + 4294967296 * high
+}
+
+// "Bit 63 of an account's opening balance in the file marks a maker."
+const MAKER_BIT: u64 = 9223372036854775808;
+
+// An account's opening balance: the other 63 bits.
+pub fn balance_at(file: &[u8], at: usize) -> u64
+    requires { ⌜ at + 8 ≤ length (now file) ⌝ }
+    ensures { λ r. ⌜ r ≡ u64At (now (file .entry)) at % makerBit ⌝ }
+{
+    u64_at(file, at) % MAKER_BIT
+}
+
+// 1 for a maker, 0 for another account.
+pub fn maker_at(file: &[u8], at: usize) -> u64
+    requires { ⌜ at + 8 ≤ length (now file) ⌝ }
+    ensures { λ r. ⌜ r ≡ pick (leb makerBit (u64At (now (file .entry)) at)) 1 0 ⌝ }
+{
+    if MAKER_BIT <= u64_at(file, at) {
+        return 1;
+    }
+    0
 }
 
 // "A contract is 20 bytes", the last two of them its pairing method

@@ -8,10 +8,10 @@ ghost use Rattle.laws.specs.Choice.{all};
 ghost use Rattle.rules.specs.DayFile.{contractsIn, accountsIn, commandsIn, contractPlace, accountPlace, commandPlace, contractSound, accountSound, recordFrom};
 ghost use Rattle.rules.specs.DayFile.{sound as DayFile·sound};
 ghost use Rattle.dayfile.specs.Opening.{shaped};
+use super::bytes::balance_at;
 use super::bytes::contract_at;
 use super::bytes::record_at;
 use super::bytes::u32_at;
-use super::bytes::u64_at;
 use rules::Record;
 
 // Each count stands behind the section before it. For the crates of this repository: each requires the counts before it, and
@@ -101,7 +101,7 @@ pub fn accounts_sound(file: &[u8], start: usize, accounts: usize) -> bool
 {
     let mut a = 0;
     while a < accounts {
-        let balance = u64_at(file, start + 8 * a);
+        let balance = balance_at(file, start + 8 * a);
         if rules::MAX_BALANCE < balance {
             return false;
         }

@@ -4,8 +4,9 @@ ghost use mathlib.Core.Path.{_≡_};
 ghost use Prim.Native.Nat.{_≤_, _^_};
 ghost use Rattle.rules.specs.DayFile.{sound, contractsIn, accountsIn, accountPlace};
 ghost use Rattle.dayfile.specs.Opening.{accountWith, openingContracts, openingAccounts, openingState};
+use super::bytes::balance_at;
 use super::bytes::contract_at;
-use super::bytes::u64_at;
+use super::bytes::maker_at;
 use super::file::account_count;
 use super::file::contract_count;
 use rules::Account;
@@ -37,9 +38,9 @@ fn opening_contracts(file: &[u8], contracts: usize) -> [Contract; rules::MAX_CON
     places
 }
 
-fn account_with(balance: u64) -> Account
+fn account_with(balance: u64, maker: u64) -> Account
     requires { ⌜ balance ≤ 10 ^ 18 ⌝ }
-    ensures { λ r. ⌜ r ≡ accountWith balance ⌝ }
+    ensures { λ r. ⌜ r ≡ accountWith balance maker ⌝ }
 {
     let none = Holding {
         long: 0,
@@ -50,7 +51,7 @@ fn account_with(balance: u64) -> Account
     let holdings = [none; rules::MAX_CONTRACTS];
     Account {
         balance: balance as i64,
-        maker: false,
+        maker,
         holdings: holdings,
     }
 }
@@ -60,12 +61,13 @@ fn opening_accounts(file: &[u8], start: usize, accounts: usize) -> [Account; rul
     requires { ⌜ (sound (now file) ≡ true) × (start ≡ accountPlace (now file) 0) × (accounts ≡ accountsIn (now file)) ⌝ }
     ensures { λ r. ⌜ r ≡ openingAccounts (now (file .entry)) ⌝ }
 {
-    let none = account_with(0);
+    let none = account_with(0, 0);
     let mut places = [none; rules::MAX_ACCOUNTS];
     let mut a = 0;
     while a < accounts {
-        let balance = u64_at(file, start + 8 * a);
-        places[a] = account_with(balance);
+        let balance = balance_at(file, start + 8 * a);
+        let maker = maker_at(file, start + 8 * a);
+        places[a] = account_with(balance, maker);
         a += 1;
     }
     places

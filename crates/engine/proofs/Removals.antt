@@ -284,7 +284,7 @@ module _ {s : State} {buys sells trades : List ℕ} (w : WellFormedState s buys 
         short : (sell : Bool) → length (without test (orders sell)) ≤ maxResting
         short sell = omega (arith, length-without test (orders sell), length-queue (area sell) (k - 1) (count sell), side-few sell)
 
-        lies : put m (withListing (exchangeOf m) (contract - 1) (listingWithout test (listingAt (exchangeOf m) (contract - 1))))
+        pub lies : put m (withListing (exchangeOf m) (contract - 1) (listingWithout test (listingAt (exchangeOf m) (contract - 1))))
             ≡ memory (withCountsIn s (set (s .buys) (k - 1) bought) (set (s .sells) (k - 1) sold)) buys′ sells′ trades
         unfolding listingIn
         lies =
@@ -364,11 +364,11 @@ module _ {s : State} {buys sells trades : List ℕ} (w : WellFormedState s buys 
       side-lots false test = omega (arith, lots-high _ _ _ _ test (orders false) (in-range .orders false), length-queue buys (k - 1) (count false), side-few false)
       side-lots true test = omega (arith, lots-high _ _ _ _ test (orders true) (in-range .orders true), length-queue sells (k - 1) (count true), side-few true)
 
-      pub pulled-high : (sell : Bool) {p : Pulled} {area′ : List ℕ} → PulledIs (account - 1) (area sell) (k - 1) (count sell) p area′ → p .lots ≤ 64_000
+      pub pulled-high : (sell : Bool) {p : Pulled} {area′ : List ℕ} → PulledIs (isOf (account - 1)) (area sell) (k - 1) (count sell) p area′ → p .lots ≤ 64_000
       pulled-high sell b = rw (b .lots) (side-lots sell (isOf (account - 1)))
 
       pub pull-accepted : {r : Outcome} {next : State} {lots : ℕ} {bid offer : Pulled} {buys′ sells′ : List ℕ}
-          → PulledIs (account - 1) buys (k - 1) (count false) bid buys′ → PulledIs (account - 1) sells (k - 1) (count true) offer sells′
+          → PulledIs (isOf (account - 1)) buys (k - 1) (count false) bid buys′ → PulledIs (isOf (account - 1)) sells (k - 1) (count true) offer sells′
           → next ≡ withCountsIn s (set (s .buys) (k - 1) (bid .count)) (set (s .sells) (k - 1) (offer .count)) → lots ≡ bid .lots + offer .lots
           → r ≡ acceptedWith next 0 0 lots → OutcomeIs (stepIn m (Pull account contract operator)) r buys′ sells′ trades
       unfolding kindOf pulled

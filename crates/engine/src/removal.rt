@@ -51,8 +51,8 @@ fn refusal(state: State, account: u32, contract: u32, operator: bool) -> u32
     0
 }
 
-// The state with other counts of resting orders at one contract's place.
-fn with_counts(state: State, c: usize, bought: usize, sold: usize) -> State
+// The state with other counts of resting orders at one contract's place. Another crate takes orders out too.
+pub fn with_counts(state: State, c: usize, bought: usize, sold: usize) -> State
     requires { ⌜ c < 4 ⌝ }
     ensures { λ r. ⌜ r ≡ withCountsIn state (set (state .buys) c bought) (set (state .sells) c sold) ⌝ }
 {
@@ -164,8 +164,8 @@ pub fn pull(
     let offers = state.sells;
     let bought = bids[c];
     let sold = offers[c];
-    let bid = book::removal::pull(buys, c, bought, account - 1);
-    let offer = book::removal::pull(sells, c, sold, account - 1);
+    let bid = book::removal::pull(buys, c, bought, account - 1, false);
+    let offer = book::removal::pull(sells, c, sold, account - 1, false);
     let lots = (bid.lots + offer.lots) as u32;
     answers::accepted(with_counts(state, c, bid.count, offer.count), 0, 0, lots)
 }

@@ -74,6 +74,23 @@ pub fn step(
             settling::plain(opening::change(state, buys, sells, trades, contract, phase))
         }
         Command::Settle => settling::settle(state, buys, sells, trades),
+        Command::Quote {
+            account,
+            contract,
+            lots,
+            buy,
+            sell,
+        } => settling::plain(quoting::quote(
+            state,
+            buys,
+            sells,
+            trades,
+            account,
+            contract,
+            lots,
+            buy,
+            sell,
+        )),
         Command::Change {
             account,
             contract,

@@ -26,8 +26,8 @@ use Rattle.refusals.specs.Insertion.{takerFor}
 use Rattle.insertion.specs.Arrival.{Arrived, Arriving, enteredFor, lastIn, termsIn}
 
 -- k is the contract's number as the code widens it
-module _ {s : State} {number : ℕ} {owns : List ℕ} {own : ℕ} {opposites : List ℕ} {opposite : ℕ} {area : List ℕ} {o : NewOrder} (a : Arriving s number owns own opposites opposite area o)
-    {k : ℕ} (is : k ≡ o .contract) {t : Taker} (et : t ≡ takerFor number (s .nextstamp) (getD (s .contracts) (k - 1) noContract) (queueIn opposites (o .contract - 1) opposite) o)
+module _ {s : State} {number quote : ℕ} {owns : List ℕ} {own : ℕ} {opposites : List ℕ} {opposite : ℕ} {area : List ℕ} {o : NewOrder} (a : Arriving s number quote owns own opposites opposite area o)
+    {k : ℕ} (is : k ≡ o .contract) {t : Taker} (et : t ≡ takerFor number quote (s .nextstamp) (getD (s .contracts) (k - 1) noContract) (queueIn opposites (o .contract - 1) opposite) o)
     {price : ℕ} (ep : price ≡ limitOf (o .condition)) where
   abbrev c : ℕ
   c = placeOf (o .contract)
@@ -38,16 +38,16 @@ module _ {s : State} {number : ℕ} {owns : List ℕ} {own : ℕ} {opposites : L
   abbrev others : List Order
   others = queueIn opposites c opposite
 
-  taker-is : t ≡ takerFor number (s .nextstamp) (termsIn s o) others o
+  taker-is : t ≡ takerFor number quote (s .nextstamp) (termsIn s o) others o
   taker-is = rw is at et
 
   -- ---- in auction
 
   module _ (e : getD (s .contracts) (k - 1) noContract .phase ≡ 4) where
-    whole : enteredFor s number mine others o ≡ restWhole (takerFor number (s .nextstamp) (termsIn s o) others o) (o .lots) (limitOf (o .condition)) mine others
+    whole : enteredFor s number quote mine others o ≡ restWhole (takerFor number quote (s .nextstamp) (termsIn s o) others o) (o .lots) (limitOf (o .condition)) mine others
     whole = pick-true (inAuction (termsIn s o)) _ _ (eq-eqb (termsIn s o .phase) 4 (rw is at e))
 
-    own-is : enteredFor s number mine others o .own ≡ restLots t price (o .lots) mine
+    own-is : enteredFor s number quote mine others o .own ≡ restLots t price (o .lots) mine
     unfolding restWhole
     own-is = ap (λ (x : Entered). x .own) whole ∙ sym (rw (taker-is, ep))
 
@@ -56,7 +56,7 @@ module _ {s : State} {number : ℕ} {owns : List ℕ} {own : ℕ} {opposites : L
 
     pub rested-whole : {owns′ : List ℕ} {resting : ℕ} → resting ≡ length (restLots t price (o .lots) (queueIn owns (k - 1) own))
         → owns′ ≡ putQueue owns (k - 1) own (restLots t price (o .lots) (queueIn owns (k - 1) own))
-        → Arrived s number owns own opposites opposite area o
+        → Arrived s number quote owns own opposites opposite area o
         (record { accounts = s .accounts; traded = 0; rested = o .lots; own = resting; opposite = opposite; made = s .tradecount; last = getD (s .contracts) (k - 1) noContract .last }) owns′ opposites area
     unfolding restWhole
     rested-whole el eq =
@@ -84,8 +84,8 @@ module _ {s : State} {number : ℕ} {owns : List ℕ} {own : ℕ} {opposites : L
     elsewhere : inAuction (termsIn s o) ≡ false
     elsewhere = ne-eqb (termsIn s o .phase) 4 (rw is at e)
 
-    swept : enteredFor s number mine others o
-        ≡ enter (takerFor number (s .nextstamp) (termsIn s o) others o) (o .lots) (limitOf (o .condition)) (isGoodForDay (o .time)) (lastIn s o) mine others
+    swept : enteredFor s number quote mine others o
+        ≡ enter (takerFor number quote (s .nextstamp) (termsIn s o) others o) (o .lots) (limitOf (o .condition)) (isGoodForDay (o .time)) (lastIn s o) mine others
     swept = pick-false (inAuction (termsIn s o)) _ _ elsewhere
 
     pub enters : EntryReady t (o .lots) price day (getD (s .contracts) (k - 1) noContract .last) (s .accounts) owns own opposites opposite area (s .tradecount)
@@ -95,5 +95,5 @@ module _ {s : State} {number : ℕ} {owns : List ℕ} {own : ℕ} {opposites : L
 
     pub entered-swept : {r : Entry} {owns′ opposites′ area′ : List ℕ}
         → EntryIs (enter t (o .lots) price day (getD (s .contracts) (k - 1) noContract .last) (queueIn owns (t .contract) own) (queueIn opposites (t .contract) opposite)) (t .contract) owns own opposites opposite area (s .tradecount) (getD (s .contracts) (k - 1) noContract .last) (s .accounts) r owns′ opposites′ area′
-        → Arrived s number owns own opposites opposite area o r owns′ opposites′ area′
+        → Arrived s number quote owns own opposites opposite area o r owns′ opposites′ area′
     entered-swept is-entry = record { entry = rw swept (rw (taker-is, ep, ed, is) at is-entry) }

@@ -7,12 +7,12 @@ use Prim.Native.Nat.{ℕ, _+_, _-_, _*_, _<_, _≤_}
 use native.Mathlib.Omega.{arith}
 use borrow.Author.Tests.{le-ltb, ltb-false}
 use lib.ListN.{length, getD}
-use Rattle.laws.specs.Choice.{ap-pick, pick}
-use Rattle.rules.specs.Answers.{insertRefusals, listingOf, takerOf, tradesNeeded, tradesRefused}
+use Rattle.laws.specs.Choice.{ap-pick, pick, pick-false}
+use Rattle.rules.specs.Answers.{insertRefusals, listingOf, orderRefusals, takerOf, tradesNeeded, tradesRefused}
 use Rattle.rules.specs.Bounds.{inAuction, maxResting, maxTrades}
 use Rattle.rules.specs.Exchange.{Exchange, Listing, opposite, own, placeOf, withQueues}
 use Rattle.rules.specs.Kinds.{codeOf, decide, kindOf}
-use Rattle.rules.specs.Matching.{Entered, sweep}
+use Rattle.rules.specs.Matching.{Entered, enter, sweep}
 use Rattle.rules.specs.Memory.{Memory, WellFormedState, exchangeOf, memory, put, putQueue, queueIn, stepIn, tradeStride}
 use Rattle.rules.specs.Step.{enteredOf, exchangeAfter, inserted, listingAfter, withTrades}
 use Rattle.rules.specs.declared.Command.the-variants.{Insert}
@@ -28,8 +28,9 @@ use Rattle.matching.specs.Sweep.{SweepReady}
 use Rattle.matching.specs.declared.entry.Entry.{Entry}
 use Rattle.invariants.proofs.Accepted.{failed}
 use Rattle.invariants.proofs.Clauses.{Counted, WellFormed, well-formed, well-formed-test}
-use Rattle.invariants.proofs.Insert.{insert-counted, insert-keeps}
-use Rattle.invariants.proofs.InsertAccepted.{Passes, numbered, passes}
+use Rattle.invariants.proofs.Insert.{entered-counted, entered-keeps}
+use Rattle.invariants.proofs.InsertAccepted.{Given, Passes, next-given, numbered, passes}
+use Rattle.invariants.proofs.Marks.{Marks, no-mark}
 use Rattle.invariants.proofs.MemoryKeeps.{sound}
 use Rattle.invariants.proofs.Traded.{traded-counted}
 use Rattle.refusals.specs.Insertion.{Present, sideArea, sideCount, takerFor}
@@ -61,8 +62,8 @@ module _ (buys sells bought sold : List ℕ) (c : ℕ) (mine others : List Order
   put-sells true = refl
   put-sells false = refl
 
-module _ {s : State} {buys sells trades : List ℕ} (w : WellFormedState s buys sells trades) (o : NewOrder) (number next : ℕ)
-    (g : Enterable s buys sells trades o number next) where
+module _ {s : State} {buys sells trades : List ℕ} (w : WellFormedState s buys sells trades) (o : NewOrder) (number quote next : ℕ)
+    (g : Enterable s buys sells trades o number quote next) where
   abbrev m : Memory
   m = memory s buys sells trades
 
@@ -87,9 +88,9 @@ module _ {s : State} {buys sells trades : List ℕ} (w : WellFormedState s buys 
   others = queueIn (sideArea (not (o .sell)) buys sells) c (sideCount (not (o .sell)) s c)
 
   abbrev entered : Entered
-  entered = enteredFor s number mine others o
+  entered = enteredFor s number quote mine others o
 
-  taker-is : takerOf x number o ≡ takerFor number (s .nextstamp) (termsIn s o) others o
+  taker-is : takerOf x number quote o ≡ takerFor number quote (s .nextstamp) (termsIn s o) others o
   unfolding takerOf listingOf exchangeOf
   taker-is = rw (opposite-is m f c (here .contract) (o .sell), contract-is m f c (here .contract))
 
@@ -101,13 +102,13 @@ module _ {s : State} {buys sells trades : List ℕ} (w : WellFormedState s buys 
   unfolding listingOf
   terms-are = contract-is m f c (here .contract)
 
-  entered-is : enteredOf x number o ≡ entered
+  entered-is : enteredOf x number quote o ≡ entered
   unfolding enteredOf listingOf
   entered-is = rw (taker-is, last-is, terms-are, side-is m f c (here .contract) (o .sell), opposite-is m f c (here .contract) (o .sell))
 
-  trades-needed : inAuction (termsIn s o) ≡ false → tradesNeeded x number o ≡ length (sweep (takerFor number (s .nextstamp) (termsIn s o) others o) (o .lots) (lastIn s o) others .trades)
-  unfolding tradesNeeded listingOf
-  trades-needed e = rw (taker-is, last-is, terms-are, e, opposite-is m f c (here .contract) (o .sell))
+  trades-needed : inAuction (termsIn s o) ≡ false → tradesNeeded x number o ≡ length (sweep (takerFor number quote (s .nextstamp) (termsIn s o) others o) (o .lots) (lastIn s o) others .trades)
+  unfolding enter
+  trades-needed e = trades-entered x number quote o ∙ ap (λ (r : Entered). length (r .trades)) (entered-is ∙ pick-false (inAuction (termsIn s o)) _ _ e)
 
   -- ---- the state after it
 
@@ -127,7 +128,7 @@ module _ {s : State} {buys sells trades : List ℕ} (w : WellFormedState s buys 
   after-counted : Counted after
   after-counted =
       traded-counted x c listing (entered .trades) next (x .nextstamp + 1) (rw (contracts-count m f) (here .contract)) few
-      (rw (← entered-is) (omega (arith, trades-fit, trades-entered x number o)))
+      (rw (← entered-is) (omega (arith, trades-fit, trades-entered x number quote o)))
       (sound m (w .formed) .counts)
 
   after-formed : WellFormed after
@@ -141,7 +142,7 @@ module _ {s : State} {buys sells trades : List ℕ} (w : WellFormedState s buys 
   -- ---- ready for the book; k is the contract's number as the code widens it
 
   sweeps : inAuction (termsIn s o) ≡ false
-      → SweepReady (takerFor number (s .nextstamp) (termsIn s o) others o) (o .lots) (lastIn s o) (s .accounts) (sideArea (not (o .sell)) buys sells) (sideCount (not (o .sell)) s c) trades (s .tradecount)
+      → SweepReady (takerFor number quote (s .nextstamp) (termsIn s o) others o) (o .lots) (lastIn s o) (s .accounts) (sideArea (not (o .sell)) buys sells) (sideCount (not (o .sell)) s c) trades (s .tradecount)
   sweeps e =
       record {
         contract = omega (arith, here .contract, f .contracts-high);
@@ -160,7 +161,7 @@ module _ {s : State} {buys sells trades : List ℕ} (w : WellFormedState s buys 
       }
 
   pub arriving : (side : Bool) → o .sell ≡ side → {k : ℕ} → k ≡ o .contract
-      → Arriving s number (sideArea side buys sells) (sideCount side s (k - 1)) (sideArea (not side) buys sells) (sideCount (not side) s (k - 1)) trades o
+      → Arriving s number quote (sideArea side buys sells) (sideCount side s (k - 1)) (sideArea (not side) buys sells) (sideCount (not side) s (k - 1)) trades o
   arriving side es is =
       rw (← es, is)
       (record {
@@ -192,13 +193,13 @@ module _ {s : State} {buys sells trades : List ℕ} (w : WellFormedState s buys 
   -- ---- the outcome, for a side as the code calls it
 
   module _ (side : Bool) (es : o .sell ≡ side) {k : ℕ} (is : k ≡ o .contract) {r : Entry} {owns′ opposites′ area′ : List ℕ}
-      (arrived : Arrived s number (sideArea side buys sells) (sideCount side s (k - 1)) (sideArea (not side) buys sells) (sideCount (not side) s (k - 1)) trades o r owns′ opposites′ area′) where
+      (arrived : Arrived s number quote (sideArea side buys sells) (sideCount side s (k - 1)) (sideArea (not side) buys sells) (sideCount (not side) s (k - 1)) trades o r owns′ opposites′ area′) where
     entry : EntryIs entered c (sideArea (o .sell) buys sells) (sideCount (o .sell) s c) (sideArea (not (o .sell)) buys sells) (sideCount (not (o .sell)) s c) trades (s .tradecount) (lastIn s o) (s .accounts) r owns′ opposites′ area′
     entry = rw (← es, is) at (arrived .entry)
 
     pub order-entered : {left : State} {result : Outcome} → left ≡ withEntry s (k - 1) (pick side (r .opposite) (r .own)) (pick side (r .own) (r .opposite)) next r
         → result ≡ acceptedWith left number (r .traded) (r .rested)
-        → OutcomeIs (enteredIn m o number next) result (pick side opposites′ owns′) (pick side owns′ opposites′) area′
+        → OutcomeIs (enteredIn m o number quote next) result (pick side opposites′ owns′) (pick side owns′ opposites′) area′
     unfolding exchangeAfter
     order-entered el e =
         record {
@@ -207,6 +208,39 @@ module _ {s : State} {buys sells trades : List ℕ} (w : WellFormedState s buys 
               ap (λ (q : Outcome). memory (q .state) (pick side opposites′ owns′) (pick side owns′ opposites′) area′) e
               ∙ sym (rw (el, ← es, is, entered-is) (lies entry));
         }
+
+-- ---- an order that passes its tests may be entered
+
+module _ {s : State} {buys sells trades : List ℕ} (w : WellFormedState s buys sells trades) (o : NewOrder) (number quote next : ℕ)
+    (there : Present s o) (given : Given (exchangeOf (memory s buys sells trades)) number next) (passed : Passes (exchangeOf (memory s buys sells trades)) number o)
+    (marked : Marks (exchangeOf (memory s buys sells trades)) quote o) where
+  abbrev m₁ : Memory
+  m₁ = memory s buys sells trades
+
+  abbrev x₁ : Exchange
+  x₁ = exchangeOf m₁
+
+  leaves : WellFormed (exchangeAfter x₁ o (enteredOf x₁ number quote o) next)
+  leaves = entered-keeps x₁ (formed w .contents) number quote next given o passed marked
+
+  counted : Counted (exchangeAfter x₁ o (enteredOf x₁ number quote o) next)
+  counted = entered-counted x₁ (formed w .contents) number quote next given o passed marked (sound m₁ (w .formed) .counts)
+
+  few-left : (side : Bool) → length (own side (listingAfter (listingOf x₁ o) (o .sell) (enteredOf x₁ number quote o))) ≤ maxResting
+  unfolding exchangeAfter
+  few-left side = few-after m₁ (formed w) (placeOf (o .contract)) _ _ next (x₁ .nextstamp + 1) (there .contract) leaves counted side
+
+  pub may-enter : Enterable s buys sells trades o number quote next
+  unfolding exchangeOf tradesRefused
+  may-enter =
+      record {
+        present = there;
+        lots = passed .lots-high;
+        stamp = passed .stamp;
+        room = le-ltb _ _ (passed .trades);
+        few = few-left;
+        leaves = well-formed-test _ leaves;
+      }
 
 -- ---- an accepted insert
 
@@ -226,37 +260,19 @@ module _ {s : State} {buys sells trades : List ℕ} (w : WellFormedState s buys 
   unfolding codeOf kindOf exchangeOf
   next-low = numbered x′ o accepted
 
-  counted : Counted (exchangeAfter x′ o (enteredOf x′ (x′ .next) o) (x′ .next + 1))
-  unfolding codeOf kindOf inserted
-  counted = insert-counted x′ o accepted (formed w .contents) (sound m′ (w .formed) .counts)
-
-  leaves : WellFormed (exchangeAfter x′ o (enteredOf x′ (x′ .next) o) (x′ .next + 1))
-  unfolding codeOf kindOf inserted
-  leaves = insert-keeps x′ o accepted (formed w .contents)
-
   there : Present s o
-  unfolding codeOf kindOf insertRefusals
+  unfolding codeOf kindOf insertRefusals orderRefusals
   there =
       let tests = failed (insertRefusals x′ o) (omega arith) accepted in
       present w o (sym (no-account m′ (formed w) (o .account)) ∙ tests .0) (sym (no-contract m′ (formed w) (o .contract)) ∙ tests .1 .0)
 
-  few′ : (side : Bool) → length (own side (listingAfter (listingOf x′ o) (o .sell) (enteredOf x′ (x′ .next) o))) ≤ maxResting
-  unfolding exchangeAfter
-  few′ side = few-after m′ (formed w) (placeOf (o .contract)) _ _ (x′ .next + 1) (x′ .nextstamp + 1) (there .contract) leaves counted side
-
-  pub enterable : Enterable s buys sells trades o (s .next) (s .next + 1)
-  unfolding exchangeOf tradesRefused
+  pub enterable : Enterable s buys sells trades o (s .next) 0 (s .next + 1)
+  unfolding exchangeOf
   enterable =
-      record {
-        present = there;
-        lots = passed .lots-high;
-        stamp = passed .stamp;
-        room = le-ltb _ _ (passed .trades);
-        few = few′;
-        leaves = well-formed-test _ leaves;
-      }
+      may-enter w o (x′ .next) 0 (x′ .next + 1) there (next-given x′ (formed w .contents) next-low) passed
+      (no-mark x′ (formed w .contents) o (passed .account) (passed .contract))
 
-  pub insert-entered : {r : Outcome} {buys′ sells′ trades′ : List ℕ} → OutcomeIs (enteredIn m′ o (s .next) (s .next + 1)) r buys′ sells′ trades′
+  pub insert-entered : {r : Outcome} {buys′ sells′ trades′ : List ℕ} → OutcomeIs (enteredIn m′ o (s .next) 0 (s .next + 1)) r buys′ sells′ trades′
       → OutcomeIs (stepIn m′ (Insert o)) r buys′ sells′ trades′
   unfolding stepIn decide kindOf inserted exchangeOf
   insert-entered e = rw accepted e

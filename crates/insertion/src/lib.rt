@@ -1,4 +1,4 @@
-// An order entered with a number, and insert. For our own crates: each asks for a well-formed state.
+// An order entered with a number and a quote mark, and insert. For our own crates: each asks for a well-formed state.
 ghost use Prim.Native.Nat.{_<_};
 ghost use mathlib.Core.Path.{_≡_};
 ghost use Rattle.rules.specs.Memory.{stepIn, memory, WellFormedState};
@@ -25,15 +25,17 @@ fn enter(
     trades: &mut [u32],
     o: NewOrder,
     number: u32,
+    quote: u32,
 ) -> Entry
-    requires { ⌜ Arriving state number (now own) owncount (now opposite) oppositecount (now trades) o ⌝ }
-    ensures { λ r. ⌜ Arrived state number (now (own .entry)) owncount (now (opposite .entry)) oppositecount (now (trades .entry)) o r (now (own .exit)) (now (opposite .exit)) (now (trades .exit)) ⌝ }
+    requires { ⌜ Arriving state number quote (now own) owncount (now opposite) oppositecount (now trades) o ⌝ }
+    ensures { λ r. ⌜ Arrived state number quote (now (own .entry)) owncount (now (opposite .entry)) oppositecount (now (trades .entry)) o r (now (own .exit)) (now (opposite .exit)) (now (trades .exit)) ⌝ }
 {
     let c = laws::wide(o.contract) - 1;
     let contracts = state.contracts;
     let terms = contracts[c];
     let t = orders::taker_of(
         number,
+        quote,
         state.nextstamp,
         terms,
         &opposite[..],
@@ -101,7 +103,7 @@ fn with_entry(state: State, c: usize, bought: usize, sold: usize, next: u32, e: 
     }
 }
 
-// An order that is refused for nothing enters with its number; `next` is the next number after it.
+// An order that is refused for nothing enters with its number, marked where `quote` is 1; `next` is the next number after it.
 pub fn enter_order(
     state: State,
     buys: &mut [u32],
@@ -109,10 +111,11 @@ pub fn enter_order(
     trades: &mut [u32],
     o: NewOrder,
     number: u32,
+    quote: u32,
     next: u32,
 ) -> Outcome
-    requires { ⌜ WellFormedState state (now buys) (now sells) (now trades) × Enterable state (now buys) (now sells) (now trades) o number next ⌝ }
-    ensures { λ r. ⌜ OutcomeIs (enteredIn (memory state (now (buys .entry)) (now (sells .entry)) (now (trades .entry))) o number next) r (now (buys .exit)) (now (sells .exit)) (now (trades .exit)) ⌝ }
+    requires { ⌜ WellFormedState state (now buys) (now sells) (now trades) × Enterable state (now buys) (now sells) (now trades) o number quote next ⌝ }
+    ensures { λ r. ⌜ OutcomeIs (enteredIn (memory state (now (buys .entry)) (now (sells .entry)) (now (trades .entry))) o number quote next) r (now (buys .exit)) (now (sells .exit)) (now (trades .exit)) ⌝ }
 {
     // read before the first call: for what is read of the state after one, the compiler keeps a copy of the state
     let bids = state.buys;
@@ -121,11 +124,11 @@ pub fn enter_order(
     let bought = bids[c];
     let sold = offers[c];
     if o.sell {
-        let e = enter(state, sells, sold, buys, bought, trades, o, number);
+        let e = enter(state, sells, sold, buys, bought, trades, o, number, quote);
         let after = with_entry(state, c, e.opposite, e.own, next, e);
         return answers::accepted(after, number, e.traded, e.rested);
     }
-    let e = enter(state, buys, bought, sells, sold, trades, o, number);
+    let e = enter(state, buys, bought, sells, sold, trades, o, number, quote);
     let after = with_entry(state, c, e.own, e.opposite, next, e);
     answers::accepted(after, number, e.traded, e.rested)
 }
@@ -150,5 +153,5 @@ pub fn insert(
     if refusal != 0 {
         return answers::refused(state, refusal);
     }
-    enter_order(state, buys, sells, trades, o, state.next, state.next + 1)
+    enter_order(state, buys, sells, trades, o, state.next, 0, state.next + 1)
 }

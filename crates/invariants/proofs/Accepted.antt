@@ -1,6 +1,6 @@
 -- What an accepted command has passed: code 0 says that every refusal of its kind failed. Assumes nothing.
 use mathlib.Core.Bool.{true, false}
-use mathlib.Core.List.{List, [], _∷_}
+use mathlib.Core.List.{List, [], _∷_, _++_}
 use mathlib.Core.Logic.{_≢_}
 use mathlib.Core.Path.{_≡_, refl}
 use Prim.Native.Nat.{ℕ, _<_}
@@ -27,6 +27,11 @@ unfolding firstOf
 failed [] k e = tt
 failed ((code when true) ∷ rs) k e = absurd (omega arith)
 failed ((code when false) ∷ rs) k e = (refl, failed rs (k .1) e)
+
+-- of two lists, one after the other
+pub failed-both : (rs ss : List Refusal) → Failed (rs ++ ss) → Failed rs × Failed ss
+failed-both [] ss f = (tt, f)
+failed-both ((code when test) ∷ rs) ss f = let g = failed-both rs ss (f .1) in ((f .0, g .0), g .1)
 
 -- ---- a number that is not absent is that of a place
 

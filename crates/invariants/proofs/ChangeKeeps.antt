@@ -3,7 +3,7 @@
 -- kept that order has fewer lots. Assumes nothing.
 use mathlib.Core.Bool.{Bool, true, false, not, _&&_, _||_, true≢false, false≢true}
 use mathlib.Core.List.{List, [], _∷_, _++_}
-use mathlib.Core.Path.{_≡_, refl, sym, ap, subst}
+use mathlib.Core.Path.{_≡_, refl, sym, ap, subst, _∙_}
 use Prim.Native.Nat.{ℕ, _+_, _<_, _≤_}
 use native.Mathlib.Nat.{le-refl}
 use native.Mathlib.Omega.{arith}
@@ -15,21 +15,23 @@ use Rattle.laws.specs.Choice.{pick, allOf, allOf-append, both-true, true-both, 
 use Rattle.laws.specs.Sums.{sumOf, sumOf-append, sumOf-at, sumOf-set}
 use Rattle.rules.specs.Answers.{firstOf, holdingRefused, listingOf, noSuchOrder, numbered, restingOrder, stampsUsedUp, tradesRefused}
 use Rattle.rules.specs.Bounds.{allowedToday, maxLots, maxResting, numbersEnd}
-use Rattle.rules.specs.Change.{Asked, arriving, changeRefusals, changed, gone, isSell, lessened, listingFor, listingLessened, losesPlace, oldOrder, placeKept, placeLost, reentered, unchanged}
+use Rattle.rules.specs.Change.{Asked, arriving, changeRefusals, changed, gone, isSell, lessened, listingFor, listingLessened, losesPlace, oldOrder, placeKept, placeLost, reentered, unchanged, unmarked}
 use Rattle.rules.specs.Exchange.{Exchange, Listing, listingAt, noListing, noOrder, own, placeOf, lotsWhere, resting}
 use Rattle.rules.specs.Kinds.{lastOf}
+use Rattle.rules.specs.Matching.{withLots}
 use Rattle.rules.specs.Step.{cancelled, exchangeAfter, hasNumber, limitOf, listingWithout, removed, withListing, without}
-use Rattle.rules.specs.WellFormed.{allNumbers, numberOf, orderInRange}
+use Rattle.rules.specs.WellFormed.{allNumbers, numberOf, markAllowed, orderInRange}
 use Rattle.rules.specs.declared.Holding.{Holding}
 use Rattle.rules.specs.declared.Order.{Order}
 use Rattle.rules.proofs.Changes.{changed-either}
 use Rattle.rules.proofs.Lessened.{fits, less-all, less-length, less-sorted, less-sum, less-uncrossed, same-sum}
 use Rattle.rules.proofs.Stages.{Each}
 use Rattle.invariants.proofs.Accepted.{Failed, failed, present}
-use Rattle.invariants.proofs.Clauses.{ListingOk, HoldingOk, WellFormed, Counted, order-ok}
+use Rattle.invariants.proofs.Clauses.{ListingOk, HoldingOk, MarksOk, WellFormed, Counted, order-ok, order-test}
 use Rattle.invariants.proofs.Insert.{entered-counted, entered-keeps}
 use Rattle.invariants.proofs.InsertAccepted.{Given, Passes, both-failed, close-lots, open-lots}
 use Rattle.invariants.proofs.InsertQueues.{order-fewer}
+use Rattle.invariants.proofs.Marks.{Marks, allowed-unmarked, markOf, mark-dropped, marks-left, no-mark}
 use Rattle.invariants.proofs.Numbers.{KeptByLots, all-uses, occurs, once-count, uses, usesIn}
 use Rattle.invariants.proofs.OneListing.{relisted-counted, relisted-keeps}
 use Rattle.invariants.proofs.Removal.{removed-counted, removed-keeps}
@@ -287,13 +289,16 @@ module _ (x : Exchange) (w : WellFormed x) (k : Asked) (e : firstOf (changeRefus
           room = λ g full. absurd (omega (arith, has-room n, full));
         }
 
+    no-mark-left : Counted x → Marks (gone x k) 0 (arriving x k)
+    no-mark-left n = no-mark (gone x k) gone-keeps (arriving x k) (passes n .account) (passes n .contract)
+
     lost-keeps : Counted x → WellFormed (exchangeAfter (gone x k) (arriving x k) (reentered x k) (x .next))
     unfolding reentered
-    lost-keeps n = entered-keeps (gone x k) gone-keeps number (x .next) given (arriving x k) (passes n)
+    lost-keeps n = entered-keeps (gone x k) gone-keeps number 0 (x .next) given (arriving x k) (passes n) (no-mark-left n)
 
     lost-counted : Counted x → Counted (exchangeAfter (gone x k) (arriving x k) (reentered x k) (x .next))
     unfolding reentered
-    lost-counted n = entered-counted (gone x k) gone-keeps number (x .next) given (arriving x k) (passes n) (gone-counted n)
+    lost-counted n = entered-counted (gone x k) gone-keeps number 0 (x .next) given (arriving x k) (passes n) (no-mark-left n) (gone-counted n)
 
   -- ---- the place kept
 
@@ -334,6 +339,23 @@ module _ (x : Exchange) (w : WellFormed x) (k : Asked) (e : firstOf (changeRefus
     own-less true = refl
     own-less false = refl
 
+    in-range-unmarked : (o : Order) → inRange o ≡ true → inRange (unmarked o) ≡ true
+    in-range-unmarked o h =
+        let r = order-ok (length (x .accounts)) (x .next) (x .nextstamp) (listing .contract) o h in
+        order-test (length (x .accounts)) (x .next) (x .nextstamp) (listing .contract) (unmarked o)
+        (record {
+          lots-low = r .lots-low;
+          lots-high = r .lots-high;
+          account = r .account;
+          price = r .price;
+          number-low = r .number-low;
+          number-high = r .number-high;
+          close = r .close;
+          stamp-low = r .stamp-low;
+          stamp-high = r .stamp-high;
+          quote = omega arith;
+        })
+
     listing-less : ListingOk (length (x .accounts)) (x .next) (x .nextstamp) less
     listing-less =
         record {
@@ -342,14 +364,15 @@ module _ (x : Exchange) (w : WellFormed x) (k : Asked) (e : firstOf (changeRefus
           apart = λ q. rw (less-uncrossed number (k .lots) (listing .buys) (listing .sells)) (ok .apart q);
           orders =
               λ b. rw (own-less b)
-              (less-all number (k .lots) some-lots inRange (order-fewer (length (x .accounts)) (x .next) (x .nextstamp) (listing .contract)) (own b listing) (fit b) (ok .orders b));
+              (less-all number (k .lots) inRange (λ o high h. in-range-unmarked (withLots o (k .lots)) (order-fewer (length (x .accounts)) (x .next) (x .nextstamp) (listing .contract) o (k .lots) some-lots high h))
+              (own b listing) (fit b) (ok .orders b));
         }
 
     less-resting : (close a : ℕ) (b : Bool) → resting close a (own b less) ≤ resting close a (own b listing)
     unfolding resting lotsWhere
     less-resting close a b =
         rw (own-less b)
-        (less-sum number (k .lots) some-lots (λ o. pick (eqb (o .account) a && eqb (o .close) close) (o .lots) 0) (λ o m low high. fewer (eqb (o .account) a && eqb (o .close) close) m (o .lots) high)
+        (less-sum number (k .lots) (λ o. pick (eqb (o .account) a && eqb (o .close) close) (o .lots) 0) (λ o high. fewer (eqb (o .account) a && eqb (o .close) close) (k .lots) (o .lots) high)
         (own b listing) (fit b))
       where
         fewer : (b : Bool) (m n : ℕ) → m ≤ n → pick b m 0 ≤ pick b n 0
@@ -365,17 +388,24 @@ module _ (x : Exchange) (w : WellFormed x) (k : Asked) (e : firstOf (changeRefus
           closes = λ b. omega (arith, less-resting 1 a b, q .closes b);
         }
 
+    marks-less : (b : Bool) → MarksOk (x .accounts) (own b less)
+    marks-less b =
+        rw (own-less b)
+        (marks-left (x .accounts) (lessened number (k .lots) (own b listing)) (w .marks place there b)
+        (less-all number (k .lots) (markAllowed (x .accounts)) (λ o high h. allowed-unmarked (x .accounts) (withLots o (k .lots))) (own b listing) (fit b))
+        (λ a. less-sum number (k .lots) (markOf a) (λ o high. mark-dropped a (withLots o (k .lots)) (markOf a o)) (own b listing) (fit b)))
+
     less-uses : (field : Order → ℕ) → KeptByLots field → (n : ℕ) → usesIn field n less ≤ usesIn field n listing
     unfolding usesIn uses
     less-uses field same n =
         omega (
           arith,
-          same-sum number (k .lots) (λ o. pick (eqb n (field o)) 1 0) (λ o. ap (λ (v : ℕ). pick (eqb n v) 1 0) (same o (k .lots))) (listing .buys),
-          same-sum number (k .lots) (λ o. pick (eqb n (field o)) 1 0) (λ o. ap (λ (v : ℕ). pick (eqb n v) 1 0) (same o (k .lots))) (listing .sells),
+          same-sum number (k .lots) (λ o. pick (eqb n (field o)) 1 0) (λ o. ap (λ (v : ℕ). pick (eqb n v) 1 0) (same (withLots o (k .lots)) 0 .1 ∙ same o (k .lots) .0)) (listing .buys),
+          same-sum number (k .lots) (λ o. pick (eqb n (field o)) 1 0) (λ o. ap (λ (v : ℕ). pick (eqb n v) 1 0) (same (withLots o (k .lots)) 0 .1 ∙ same o (k .lots) .0)) (listing .sells),
         )
 
     kept-keeps : WellFormed (withListing x place less)
-    kept-keeps = relisted-keeps x w place there less listing-less (λ p h. h) holding-less less-uses
+    kept-keeps = relisted-keeps x w place there less listing-less (λ p h. h) holding-less marks-less less-uses
 
     kept-counted : Counted x → Counted (withListing x place less)
     kept-counted n = relisted-counted x place there less n (λ b. rw (own-less b, less-length number (k .lots) (own b listing)) (le-refl _))

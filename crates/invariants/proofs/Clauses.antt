@@ -5,7 +5,7 @@ use mathlib.Core.List.{List, [], _∷_}
 use mathlib.Core.Path.{_≡_, refl}
 use Prim.Native.Nat.{ℕ, _+_, _*_, _<_, _≤_}
 use native.Mathlib.Omega.{arith}
-use borrow.Author.Tests.{leb-true, ltb-true, le-leb, lt-ltb, eqb-true, eq-eqb}
+use borrow.Author.Tests.{leb-true, ltb-true, le-leb, lt-ltb}
 use lib.Dec.{leb, ltb, eqb}
 use lib.IntN.{natAbs}
 use lib.ListN.{length}
@@ -14,7 +14,8 @@ use Rattle.laws.specs.Chains.{passed, join}
 use Rattle.rules.specs.Bounds.{within, allowedToday, inAuction, numbersEnd, maxContracts, maxTrades, maxResting, maxLots, maxSettlements, maxBalance, maxDayProfit}
 use Rattle.rules.specs.Exchange.{Exchange, Listing, listingAt, accountAt, holdingAt, own, restingOpens, restingCloses, noListing, noAccount}
 use Rattle.rules.specs.Holdings.{bookTrades, neverBelowZero, startOfDay, sameHoldings}
-use Rattle.rules.specs.WellFormed.{contractInRange, countersInRange, sorted, uncrossed, orderInRange, listingInRange, allNumbers, allStamps, usedOnce, tradeInRange, replays, holdingInRange, holdingsInRange, balanceInRange, wellFormedContents}
+use Rattle.rules.specs.WellFormed.{contractInRange, countersInRange, sorted, uncrossed, orderInRange, listingInRange, allNumbers, allStamps, usedOnce, markAllowed, quotes, queueQuoted, listingQuoted, markInRange, tradeInRange, replays, holdingInRange, holdingsInRange, balanceInRange, wellFormedContents}
+use Rattle.rules.specs.declared.Account.{Account}
 use Rattle.rules.specs.declared.Contract.{Contract}
 use Rattle.rules.specs.declared.Holding.{Holding}
 use Rattle.rules.specs.declared.Order.{Order}
@@ -32,7 +33,7 @@ pub record OrderOk (accounts next nextstamp : ℕ) (c : Contract) (o : Order) : 
   pub close : o .close ≤ 1
   pub stamp-low : 1 ≤ o .stamp
   pub stamp-high : o .stamp < nextstamp
-  pub quote : o .quote ≡ 0
+  pub quote : o .quote ≤ 1
 
 module _ (accounts next nextstamp : ℕ) (c : Contract) (o : Order) where
   abbrev orderTests : List Bool
@@ -45,7 +46,7 @@ module _ (accounts next nextstamp : ℕ) (c : Contract) (o : Order) where
       ∷ leb (o .close) 1
       ∷ leb 1 (o .stamp)
       ∷ ltb (o .stamp) nextstamp
-      ∷ eqb (o .quote) 0
+      ∷ leb (o .quote) 1
       ∷ []
 
   pub order-ok : orderInRange accounts next nextstamp c o ≡ true → OrderOk accounts next nextstamp c o
@@ -62,7 +63,7 @@ module _ (accounts next nextstamp : ℕ) (c : Contract) (o : Order) where
         close = omega (arith, leb-true);
         stamp-low = omega (arith, leb-true);
         stamp-high = omega (arith, ltb-true);
-        quote = eqb-true (o .quote) 0 (p .1 .1 .1 .1 .1 .1 .1 .1 .1);
+        quote = leb-true _ _ (p .1 .1 .1 .1 .1 .1 .1 .1 .1);
       }
 
   pub order-test : OrderOk accounts next nextstamp c o → orderInRange accounts next nextstamp c o ≡ true
@@ -70,7 +71,7 @@ module _ (accounts next nextstamp : ℕ) (c : Contract) (o : Order) where
   order-test k =
       join (leb 1 (o .lots)) orderTests (
         omega (arith, le-leb),
-        (omega (arith, le-leb), (omega (arith, lt-ltb), (k .price, (omega (arith, le-leb), (omega (arith, lt-ltb), (omega (arith, le-leb), (omega (arith, le-leb), (omega (arith, lt-ltb), eq-eqb _ _ (k .quote))))))))),
+        (omega (arith, le-leb), (omega (arith, lt-ltb), (k .price, (omega (arith, le-leb), (omega (arith, lt-ltb), (omega (arith, le-leb), (omega (arith, le-leb), (omega (arith, lt-ltb), le-leb _ _ (k .quote))))))))),
       )
 
 -- ---- a contract with its queues; of a side, `sell` is false for the buys and true for the sells
@@ -116,6 +117,36 @@ module _ (accounts next nextstamp : ℕ) (m : Listing) where
   listing-test k =
       join (contractInRange (m .contract)) listingTests
       (k .contract, (k .order false, (k .order true, (or-else (inAuction (m .contract)) (uncrossed (m .buys) (m .sells)) (k .apart), (k .orders false, k .orders true)))))
+
+-- ---- the quote marks of a queue
+
+pub record MarksOk (accounts : List Account) (queue : List Order) : Type 0 where
+  pub allowed : allOf (markAllowed accounts) queue ≡ true
+  pub single : (a : ℕ) → a < length accounts → quotes a queue ≤ 1
+
+module _ (accounts : List Account) where
+  marks-ok : (queue : List Order) → queueQuoted accounts queue ≡ true → MarksOk accounts queue
+  unfolding queueQuoted
+  marks-ok queue h =
+      let p = both-true (allOf (markAllowed accounts) queue) (all (λ a. leb (quotes a queue) 1) (length accounts)) h in
+      record { allowed = p .0; single = λ a l. leb-true _ _ (all-at (λ a. leb (quotes a queue) 1) a (length accounts) (p .1) l) }
+
+  marks-test : (queue : List Order) → MarksOk accounts queue → queueQuoted accounts queue ≡ true
+  unfolding queueQuoted
+  marks-test queue k =
+      true-both (allOf (markAllowed accounts) queue) (all (λ a. leb (quotes a queue) 1) (length accounts)) (k .allowed)
+      (all-true (λ a. leb (quotes a queue) 1) (length accounts) (λ a l. le-leb _ _ (k .single a l)))
+
+  both-marks-ok : (m : Listing) → listingQuoted accounts m ≡ true → (sell : Bool) → MarksOk accounts (own sell m)
+  unfolding listingQuoted
+  both-marks-ok m h sell =
+      let p = both-true (queueQuoted accounts (m .buys)) (queueQuoted accounts (m .sells)) h in
+      elim sell [ false ↦ marks-ok (m .buys) (p .0) | true ↦ marks-ok (m .sells) (p .1) ]
+
+  both-marks-test : (m : Listing) → ((sell : Bool) → MarksOk accounts (own sell m)) → listingQuoted accounts m ≡ true
+  unfolding listingQuoted
+  both-marks-test m k =
+      true-both (queueQuoted accounts (m .buys)) (queueQuoted accounts (m .sells)) (marks-test (m .buys) (k false)) (marks-test (m .sells) (k true))
 
 -- ---- a recorded trade
 
@@ -260,6 +291,8 @@ pub record WellFormed (x : Exchange) : Type 0 where
   pub listing : (c : ℕ) → c < length (x .listings) → ListingOk (length (x .accounts)) (x .next) (x .nextstamp) (listingAt x c)
   pub once : usedOnce (allNumbers (x .listings)) ≡ true
   pub stamps-once : usedOnce (allStamps (x .listings)) ≡ true
+  pub marks : (c : ℕ) → c < length (x .listings) → (sell : Bool) → MarksOk (x .accounts) (own sell (listingAt x c))
+  pub makers : (a : ℕ) → a < length (x .accounts) → accountAt (x .accounts) a .maker ≤ 1
   pub trades : allOf (tradeInRange x) (x .trades) ≡ true
   pub covered : neverBelowZero (startOfDay (x .accounts)) (x .trades) ≡ true
   pub replay : sameHoldings (bookTrades (startOfDay (x .accounts)) (x .trades)) (x .accounts) ≡ true
@@ -272,6 +305,8 @@ module _ (x : Exchange) where
       allOf (listingInRange (length (x .accounts)) (x .next) (x .nextstamp)) (x .listings)
       ∷ usedOnce (allNumbers (x .listings))
       ∷ usedOnce (allStamps (x .listings))
+      ∷ allOf (listingQuoted (x .accounts)) (x .listings)
+      ∷ allOf markInRange (x .accounts)
       ∷ allOf (tradeInRange x) (x .trades)
       ∷ replays x
       ∷ all (holdingsInRange x) (length (x .accounts))
@@ -282,11 +317,11 @@ module _ (x : Exchange) where
   replayTests = sameHoldings (bookTrades (startOfDay (x .accounts)) (x .trades)) (x .accounts) ∷ []
 
   pub well-formed : wellFormedContents x ≡ true → WellFormed x
-  unfolding wellFormedContents countersInRange replays holdingsInRange balanceInRange listingAt accountAt
+  unfolding wellFormedContents countersInRange markInRange replays holdingsInRange balanceInRange listingAt accountAt
   well-formed h =
       let p = passed (countersInRange x) stateTests h in
       let q = passed (leb 1 (x .next)) (leb (x .next) numbersEnd ∷ within 1 numbersEnd (x .nextstamp) ∷ leb (x .settlements) maxSettlements ∷ []) (p .0) in
-      let r = passed (neverBelowZero (startOfDay (x .accounts)) (x .trades)) replayTests (p .1 .1 .1 .1 .1 .0) in
+      let r = passed (neverBelowZero (startOfDay (x .accounts)) (x .trades)) replayTests (p .1 .1 .1 .1 .1 .1 .1 .0) in
       let s = both-true (leb 1 (x .nextstamp)) (leb (x .nextstamp) numbersEnd) (q .1 .1 .0) in
       record {
         next-low = leb-true _ _ (q .0);
@@ -297,18 +332,20 @@ module _ (x : Exchange) where
         listing = λ c l. listing-ok _ _ _ _ (allOf-at (listingInRange (length (x .accounts)) (x .next) (x .nextstamp)) (x .listings) c noListing (p .1 .0) l);
         once = p .1 .1 .0;
         stamps-once = p .1 .1 .1 .0;
-        trades = p .1 .1 .1 .1 .0;
+        marks = λ c l. both-marks-ok (x .accounts) _ (allOf-at (listingQuoted (x .accounts)) (x .listings) c noListing (p .1 .1 .1 .1 .0) l);
+        makers = λ a l. leb-true _ _ (allOf-at markInRange (x .accounts) a noAccount (p .1 .1 .1 .1 .1 .0) l);
+        trades = p .1 .1 .1 .1 .1 .1 .0;
         covered = r .0;
         replay = r .1;
         holding =
             λ a c la lc. holding-ok _ _ _
             (all-at (λ c. holdingInRange (listingAt x c) a (holdingAt (x .accounts) a c)) c (length (x .listings))
-            (all-at (holdingsInRange x) a (length (x .accounts)) (p .1 .1 .1 .1 .1 .1 .0) la) lc);
-        balance = λ a l. leb-true _ _ (allOf-at (balanceInRange (x .settlements)) (x .accounts) a noAccount (p .1 .1 .1 .1 .1 .1 .1) l);
+            (all-at (holdingsInRange x) a (length (x .accounts)) (p .1 .1 .1 .1 .1 .1 .1 .1 .0) la) lc);
+        balance = λ a l. leb-true _ _ (allOf-at (balanceInRange (x .settlements)) (x .accounts) a noAccount (p .1 .1 .1 .1 .1 .1 .1 .1 .1) l);
       }
 
   pub well-formed-test : WellFormed x → wellFormedContents x ≡ true
-  unfolding wellFormedContents countersInRange replays holdingsInRange balanceInRange listingAt accountAt
+  unfolding wellFormedContents countersInRange markInRange replays holdingsInRange balanceInRange listingAt accountAt
   well-formed-test k =
       join (countersInRange x) stateTests (
         join (leb 1 (x .next)) (leb (x .next) numbersEnd ∷ within 1 numbersEnd (x .nextstamp) ∷ leb (x .settlements) maxSettlements ∷ [])
@@ -320,14 +357,20 @@ module _ (x : Exchange) where
             (
               k .stamps-once,
               (
-                k .trades,
+                allOf-true (listingQuoted (x .accounts)) (x .listings) noListing (λ c l. both-marks-test (x .accounts) _ (k .marks c l)),
                 (
-                  join (neverBelowZero (startOfDay (x .accounts)) (x .trades)) replayTests (k .covered, k .replay),
+                  allOf-true markInRange (x .accounts) noAccount (λ a l. le-leb _ _ (k .makers a l)),
                   (
-                    all-true (holdingsInRange x) (length (x .accounts))
-                        (λ a la. all-true (λ c. holdingInRange (listingAt x c) a (holdingAt (x .accounts) a c)) (length (x .listings))
-                        (λ c lc. holding-test _ _ _ (k .holding a c la lc))),
-                    allOf-true (balanceInRange (x .settlements)) (x .accounts) noAccount (λ a l. le-leb _ _ (k .balance a l)),
+                    k .trades,
+                    (
+                      join (neverBelowZero (startOfDay (x .accounts)) (x .trades)) replayTests (k .covered, k .replay),
+                      (
+                        all-true (holdingsInRange x) (length (x .accounts))
+                            (λ a la. all-true (λ c. holdingInRange (listingAt x c) a (holdingAt (x .accounts) a c)) (length (x .listings))
+                            (λ c lc. holding-test _ _ _ (k .holding a c la lc))),
+                        allOf-true (balanceInRange (x .settlements)) (x .accounts) noAccount (λ a l. le-leb _ _ (k .balance a l)),
+                      ),
+                    ),
                   ),
                 ),
               ),

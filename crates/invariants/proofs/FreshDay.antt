@@ -1,5 +1,5 @@
 -- A state at the start of a day, with no orders and no trades: after a settlement, or as a day file opens it. It is well formed
--- if its contracts, holdings and balances are in range. Assumes nothing.
+-- if its contracts, makers' marks, holdings and balances are in range. Assumes nothing.
 use mathlib.Core.Bool.{Bool, true, false}
 use mathlib.Core.List.{List, []}
 use mathlib.Core.Path.{_≡_, refl, sym, ap, _∙_}
@@ -19,7 +19,8 @@ use Rattle.rules.specs.declared.Contract.{Contract}
 use Rattle.rules.specs.declared.Holding.{Holding}
 use Rattle.rules.specs.declared.Order.{Order}
 use Rattle.rules.proofs.Holdings.{same-refl}
-use Rattle.invariants.proofs.Clauses.{ListingOk, HoldingOk, WellFormed, Counted}
+use Rattle.invariants.proofs.Clauses.{ListingOk, HoldingOk, MarksOk, WellFormed, Counted}
+use Rattle.invariants.proofs.Marks.{no-marks}
 
 abbrev pub quiet : Contract → Listing
 quiet c = record { contract = c; buys = []; sells = [] }
@@ -106,13 +107,13 @@ module _ (contracts : ℕ) (contract : ℕ → Contract) (accounts : ℕ) (accou
       none true = omega arith
       none false = omega arith
 
-  pub fresh-day : settlements ≤ maxSettlements →
+  pub fresh-day : settlements ≤ maxSettlements → ((a : ℕ) → a < accounts → account a .maker ≤ 1) →
       ((a c : ℕ) → a < accounts → c < contracts → getD (account a .holdings) c noHolding .long ≤ contract c .limit) →
       ((a c : ℕ) → a < accounts → c < contracts → getD (account a .holdings) c noHolding .short ≤ contract c .limit) →
       ((a : ℕ) → a < accounts → natAbs (account a .balance) ≤ maxBalance + settlements * maxDayProfit) →
       WellFormed day
   unfolding bookTrades neverBelowZero allOf
-  fresh-day few longs shorts balances =
+  fresh-day few makers longs shorts balances =
       let nc = length-tabulate contracts (λ c. quiet (contract c)) in
       let na = length-tabulate accounts account in
       record {
@@ -124,6 +125,8 @@ module _ (contracts : ℕ) (contract : ℕ → Contract) (accounts : ℕ) (accou
         listing = λ c l. let h : c < contracts = rw nc at l in rw (listing-at c h) (listing-quiet _ 1 1 (contract c) (in-range c h));
         once = rw (no-orders numberOf contracts contract) once-none;
         stamps-once = rw (no-orders stampOf contracts contract) once-none;
+        marks = λ c l sell. rw (listing-at c (rw nc at l)) (none sell);
+        makers = λ a l. let h : a < accounts = rw na at l in rw (account-at a h) (makers a h);
         trades = refl;
         covered = refl;
         replay = rw (same-start accounts account start) (same-refl (day .accounts));
@@ -133,3 +136,7 @@ module _ (contracts : ℕ) (contract : ℕ → Contract) (accounts : ℕ) (accou
             rw (listing-at c q, holding-at a c p) (holding-quiet (contract c) a _ (start-at a c) (longs a c p q) (shorts a c p q));
         balance = λ a l. let h : a < accounts = rw na at l in rw (account-at a h) (balances a h);
       }
+    where
+      none : (sell : Bool) → MarksOk (day .accounts) (pick {A = List Order} sell [] [])
+      none true = no-marks (day .accounts)
+      none false = no-marks (day .accounts)

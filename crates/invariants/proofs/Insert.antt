@@ -31,11 +31,12 @@ use Rattle.rules.proofs.Holdings.{booked-start-holding}
 use Rattle.rules.proofs.Prices.{method-rounds}
 use Rattle.rules.proofs.Rest.{rest-sum, length-rest}
 use Rattle.invariants.proofs.Carry.{Allows}
-use Rattle.invariants.proofs.Clauses.{held, HoldingOk, WellFormed, Counted}
+use Rattle.invariants.proofs.Clauses.{held, HoldingOk, MarksOk, WellFormed, Counted}
 use Rattle.invariants.proofs.InsertAccepted.{Given, Passes, next-given, numbered, passes}
 use Rattle.invariants.proofs.InsertListing.{allows-last, mark-low, contractOf, swept, rested, own-is, sides, last-on-tick, tick-low, contractAfter, rested-left, listing-after}
 use Rattle.invariants.proofs.InsertQueues.{rested-sum, rested-length, rested-length-one, rested-fewer}
 use Rattle.invariants.proofs.Legs.{resting-cons, KeptAt}
+use Rattle.invariants.proofs.Marks.{Marks, no-mark, rested-marks, swept-marks}
 use Rattle.invariants.proofs.Numbers.{KeptByLots, occurs, uses, usesIn, all-uses, once-count, given-unused}
 use Rattle.invariants.proofs.SweptHoldings.{SweptKept, swept-kept, untouched-kept, fewer-by}
 use Rattle.invariants.proofs.SweptTrades.{ofContract, swept-in-range, swept-contract}
@@ -63,6 +64,13 @@ holding-by sell c mine others d accounts a l s k =
       opens = λ side. elim side [ false ↦ k .buy-opens | true ↦ k .sell-opens ];
       closes = λ side. elim side [ false ↦ k .buy-closes | true ↦ k .sell-closes ];
     }
+
+-- what holds of its own queue and of the other holds of the queues of both sides
+each-side : (P : List Order → Type 0) (own-sell : Bool) (mine others : List Order) → P mine → P others → (sell : Bool) → P (pick sell (pick own-sell mine others) (pick own-sell others mine))
+each-side P true mine others p q true = p
+each-side P true mine others p q false = q
+each-side P false mine others p q true = q
+each-side P false mine others p q false = p
 
 -- the arriving lots count for one account, as an open or as a close
 own-opens : (b close : Bool) (lots h r limit : ℕ) → h + r ≤ limit → (b ≡ true → close ≡ false → h + r + lots ≤ limit) →
@@ -111,12 +119,13 @@ one-more used value once unused n = go (eqb n value) refl
         rw e (omega arith)
     go false e = rw e (omega (arith, once-count used once n))
 
-module _ (x : Exchange) (k : WellFormed x) (number next : ℕ) (g : Given x number next) (o : NewOrder) (p : Passes x number o) where
+module _ (x : Exchange) (k : WellFormed x) (number quote next : ℕ) (g : Given x number next) (o : NewOrder) (p : Passes x number o)
+    (z : Marks x quote o) where
   abbrev lots-swept : Swept
-  lots-swept = swept x k number next g o p
+  lots-swept = swept x k number quote next g o p z
 
   abbrev arrived : Order
-  arrived = remainder (takerOf x number o) (limitOf (o .condition)) (o .lots)
+  arrived = remainder (takerOf x number quote o) (limitOf (o .condition)) (o .lots)
 
   abbrev account : ℕ
   account = placeOf (o .account)
@@ -135,12 +144,12 @@ module _ (x : Exchange) (k : WellFormed x) (number next : ℕ) (g : Given x numb
   holding-before a l = k .holding a place l (p .contract)
 
   opens-start : (a : ℕ) → a < length (x .accounts) →
-      held (o .sell) (holdingAt (x .accounts) a place) + restingOpens a (arrived ∷ mine) ≤ contractOf x k number next g o p .limit
+      held (o .sell) (holdingAt (x .accounts) a place) + restingOpens a (arrived ∷ mine) ≤ contractOf x k number quote next g o p z .limit
   unfolding takerOf remainder
   opens-start a l =
       rw (resting-cons 0 a arrived mine)
       (own-opens (eqb account a) (o .close) (o .lots) (held (o .sell) (holdingAt (x .accounts) a place)) (restingOpens a mine)
-      (contractOf x k number next g o p .limit) (holding-before a l .opens (o .sell))
+      (contractOf x k number quote next g o p z .limit) (holding-before a l .opens (o .sell))
       (λ e q. rw (← eqb-true account a e) (p .opens q)))
 
   closes-start : (a : ℕ) → a < length (x .accounts) → restingCloses a (arrived ∷ mine) ≤ held (not (o .sell)) (holdingAt (x .accounts) a place)
@@ -152,25 +161,25 @@ module _ (x : Exchange) (k : WellFormed x) (number next : ℕ) (g : Given x numb
       (λ e q. rw (← eqb-true account a e) (p .closes q)))
 
   kept-before : (a : ℕ) → a < length (x .accounts) →
-      KeptAt (contractOf x k number next g o p .limit) place (x .accounts) (pick (o .sell) others (arrived ∷ mine)) (pick (o .sell) (arrived ∷ mine) others) a
+      KeptAt (contractOf x k number quote next g o p z .limit) place (x .accounts) (pick (o .sell) others (arrived ∷ mine)) (pick (o .sell) (arrived ∷ mine) others) a
   kept-before a l = kept-by (o .sell) (listingOf x o) place (x .accounts) a arrived (holding-before a l) (opens-start a l) (closes-start a l)
 
   -- so the order entered keeps them, and its trades close nothing that is not held
-  swept-holdings : SweptKept (length (x .accounts)) (contractOf x k number next g o p .limit) (limitOf (o .condition)) (takerOf x number o) mine (x .accounts) (o .lots) lots-swept
+  swept-holdings : SweptKept (length (x .accounts)) (contractOf x k number quote next g o p z .limit) (limitOf (o .condition)) (takerOf x number quote o) mine (x .accounts) (o .lots) lots-swept
   unfolding takerOf restWhole enter
   swept-holdings =
-      entered-either x number o
-      (λ e. SweptKept (length (x .accounts)) (contractOf x k number next g o p .limit) (limitOf (o .condition)) (takerOf x number o) mine (x .accounts) (o .lots)
+      entered-either x number quote o
+      (λ e. SweptKept (length (x .accounts)) (contractOf x k number quote next g o p z .limit) (limitOf (o .condition)) (takerOf x number quote o) mine (x .accounts) (o .lots)
       (record { trades = e .trades; rest = e .opposite }))
-      (λ e. untouched-kept (length (x .accounts)) (contractOf x k number next g o p .limit) (limitOf (o .condition)) (takerOf x number o) mine (x .accounts) (o .lots) others kept-before)
-      (λ e. swept-kept (length (x .accounts)) (contractOf x k number next g o p .limit) (limitOf (o .condition)) (x .next) (x .nextstamp) (contractOf x k number next g o p) (takerOf x number o) mine
+      (λ e. untouched-kept (length (x .accounts)) (contractOf x k number quote next g o p z .limit) (limitOf (o .condition)) (takerOf x number quote o) mine (x .accounts) (o .lots) others kept-before)
+      (λ e. swept-kept (length (x .accounts)) (contractOf x k number quote next g o p z .limit) (limitOf (o .condition)) (x .next) (x .nextstamp) (contractOf x k number quote next g o p z) (takerOf x number quote o) mine
       (p .account) (mark-low (o .close))
-      (o .lots) (contractOf x k number next g o p .last) others (x .accounts) (sides x k number next g o p .others-orders) kept-before)
+      (o .lots) (contractOf x k number quote next g o p z .last) others (x .accounts) (sides x k number quote next g o p z .others-orders) kept-before)
 
   -- ---- the parts of the state after it
 
   abbrev after : Listing
-  after = listingAfter (listingOf x o) (o .sell) (enteredOf x number o)
+  after = listingAfter (listingOf x o) (o .sell) (enteredOf x number quote o)
 
   abbrev accountsAfter : List Account
   accountsAfter = bookTrades (x .accounts) (lots-swept .trades)
@@ -180,37 +189,61 @@ module _ (x : Exchange) (k : WellFormed x) (number next : ℕ) (g : Given x numb
   holding-after a l =
       let s = booked-start-holding (x .accounts) (lots-swept .trades) a place in
       let q = holding-before a l in
-      rw (own-is x k number next g o p)
-      (holding-by (o .sell) (contractAfter x k number next g o p) (restLots (takerOf x number o) (limitOf (o .condition)) (rested x k number next g o p) mine)
+      rw (own-is x k number quote next g o p z)
+      (holding-by (o .sell) (contractAfter x k number quote next g o p z) (restLots (takerOf x number quote o) (limitOf (o .condition)) (rested x k number quote next g o p z) mine)
       (lots-swept .rest) place accountsAfter a
       (rw (ap (λ (h : Holding). h .startlong) s) (q .startlong)) (rw (ap (λ (h : Holding). h .startshort) s) (q .startshort))
-      (fewer-by (o .sell) (length (x .accounts)) (contractOf x k number next g o p .limit) place accountsAfter
-      (remainder (takerOf x number o) (limitOf (o .condition)) (o .lots - tradedLots (lots-swept .trades)) ∷ mine)
-      (restLots (takerOf x number o) (limitOf (o .condition)) (rested x k number next g o p) mine) (lots-swept .rest) (lots-swept .rest)
-      (rested-fewer (takerOf x number o) (limitOf (o .condition)) (rested x k number next g o p) (o .lots - tradedLots (lots-swept .trades)) mine
-      (rested-left x k number next g o p)) (λ close b. omega arith) (swept-holdings .kept) a l))
+      (fewer-by (o .sell) (length (x .accounts)) (contractOf x k number quote next g o p z .limit) place accountsAfter
+      (remainder (takerOf x number quote o) (limitOf (o .condition)) (o .lots - tradedLots (lots-swept .trades)) ∷ mine)
+      (restLots (takerOf x number quote o) (limitOf (o .condition)) (rested x k number quote next g o p z) mine) (lots-swept .rest) (lots-swept .rest)
+      (rested-fewer (takerOf x number quote o) (limitOf (o .condition)) (rested x k number quote next g o p z) (o .lots - tradedLots (lots-swept .trades)) mine
+      (rested-left x k number quote next g o p z)) (λ close b. omega arith) (swept-holdings .kept) a l))
+
+  -- the quote marks: one more, if it is marked
+  marks-before : (sell : Bool) → MarksOk (x .accounts) (own sell (listingOf x o))
+  unfolding listingOf
+  marks-before = k .marks place (p .contract)
+
+  others-marks : MarksOk (x .accounts) (lots-swept .rest)
+  unfolding restWhole enter
+  others-marks =
+      entered-either x number quote o (λ e. MarksOk (x .accounts) (e .opposite)) (λ a. other (o .sell))
+      (λ a. swept-marks (x .accounts) (takerOf x number quote o) (o .lots) (contractOf x k number quote next g o p z .last) others (other (o .sell)))
+    where
+      other : (b : Bool) → MarksOk (x .accounts) (opposite b (listingOf x o))
+      other true = marks-before false
+      other false = marks-before true
+
+  mine-marks : MarksOk (x .accounts) (restLots (takerOf x number quote o) (limitOf (o .condition)) (rested x k number quote next g o p z) mine)
+  unfolding takerOf
+  mine-marks =
+      rested-marks (x .accounts) (takerOf x number quote o) (limitOf (o .condition)) (rested x k number quote next g o p z) mine (z .allowed) (z .single) (marks-before (o .sell))
+
+  marks-after : (sell : Bool) → MarksOk (x .accounts) (own sell after)
+  unfolding listingAfter
+  marks-after = rw (own-is x k number quote next g o p z) (each-side (MarksOk (x .accounts)) (o .sell) _ _ mine-marks others-marks)
 
   -- the values of a field: one more, that of the order entered, if a remainder rests
   module _ (field : Order → ℕ) (kept : KeptByLots field) where
-    mine-uses : (n : ℕ) → uses field n (restLots (takerOf x number o) (limitOf (o .condition)) (rested x k number next g o p) mine) ≤ pick (eqb n (field arrived)) 1 0 + uses field n mine
+    mine-uses : (n : ℕ) → uses field n (restLots (takerOf x number quote o) (limitOf (o .condition)) (rested x k number quote next g o p z) mine) ≤ pick (eqb n (field arrived)) 1 0 + uses field n mine
     unfolding uses remainder
     mine-uses n =
-        rw (← kept arrived (rested x k number next g o p))
-        (rested-sum (takerOf x number o) (limitOf (o .condition)) (λ r. pick (eqb n (field r)) 1 0) (rested x k number next g o p) mine)
+        rw (← kept arrived (rested x k number quote next g o p z) .0)
+        (rested-sum (takerOf x number quote o) (limitOf (o .condition)) (λ r. pick (eqb n (field r)) 1 0) (rested x k number quote next g o p z) mine)
 
     others-uses : (n : ℕ) → uses field n (lots-swept .rest) ≤ uses field n others
     unfolding uses restWhole enter
     others-uses n =
-        entered-either x number o (λ e. uses field n (e .opposite) ≤ uses field n others) (λ e. omega arith)
-        (λ e. rest-sum (λ r. pick (eqb n (field r)) 1 0) (λ r m low high. rw (kept r m) (le-refl _)) (takerOf x number o) (o .lots) (contractOf x k number next g o p .last) others)
+        entered-either x number quote o (λ e. uses field n (e .opposite) ≤ uses field n others) (λ e. omega arith)
+        (λ e. rest-sum (λ r. pick (eqb n (field r)) 1 0) (λ r m low high. rw (kept r m .0) (le-refl _)) (takerOf x number quote o) (o .lots) (contractOf x k number quote next g o p z .last) others)
 
     uses-after : (n : ℕ) → usesIn field n after ≤ usesIn field n (listingOf x o) + pick (eqb n (field arrived)) 1 0
     unfolding usesIn listingAfter
     uses-after n =
-        rw (own-is x k number next g o p)
+        rw (own-is x k number quote next g o p z)
         (omega (
           arith,
-          uses-by field n (o .sell) (restLots (takerOf x number o) (limitOf (o .condition)) (rested x k number next g o p) mine) (lots-swept .rest),
+          uses-by field n (o .sell) (restLots (takerOf x number quote o) (limitOf (o .condition)) (rested x k number quote next g o p z) mine) (lots-swept .rest),
           own-uses field n (o .sell) (listingOf x o),
           mine-uses n,
           others-uses n,
@@ -225,9 +258,9 @@ module _ (x : Exchange) (k : WellFormed x) (number next : ℕ) (g : Given x numb
   abbrev afterwards : Exchange
   afterwards = withTrades x place after (lots-swept .trades) next (x .nextstamp + 1)
 
-  allows-here : Allows (contractOf x k number next g o p) (after .contract)
+  allows-here : Allows (contractOf x k number quote next g o p z) (after .contract)
   unfolding listingAfter
-  allows-here = allows-last (contractOf x k number next g o p) _
+  allows-here = allows-last (contractOf x k number quote next g o p z) _
 
   -- the orders that it meets have other numbers
   others-numbers : allOf (λ r. not (eqb number (r .number))) others ≡ true
@@ -241,19 +274,19 @@ module _ (x : Exchange) (k : WellFormed x) (number next : ℕ) (g : Given x numb
   new-trades =
       let listings = traded-listings x place after (lots-swept .trades) next (x .nextstamp + 1) in
       let accounts = traded-accounts x place after (lots-swept .trades) next (x .nextstamp + 1) in
-      entered-either x number o (λ e. allOf (tradeInRange afterwards) (e .trades) ≡ true) (λ e. refl)
-      (λ e. swept-in-range afterwards (takerOf x number o) (contractOf x k number next g o p) (omega (arith, p .contract))
+      entered-either x number quote o (λ e. allOf (tradeInRange afterwards) (e .trades) ≡ true) (λ e. refl)
+      (λ e. swept-in-range afterwards (takerOf x number quote o) (contractOf x k number quote next g o p z) (omega (arith, p .contract))
       (omega (arith, p .account)) (g .low) (g .below) (mark-low (o .close)) (p .price)
-      (tick-low x k number next g o p) (method-rounds (contractOf x k number next g o p)) (traded-allows x place after (lots-swept .trades) next (x .nextstamp + 1) (p .contract) allows-here place)
+      (tick-low x k number quote next g o p z) (method-rounds (contractOf x k number quote next g o p z)) (traded-allows x place after (lots-swept .trades) next (x .nextstamp + 1) (p .contract) allows-here place)
       (x .next) (x .nextstamp) (g .later)
-      (o .lots) (contractOf x k number next g o p .last) others (last-on-tick x k number next g o p)
-      (subst (λ (n : ℕ). allOf (orderInRange n (x .next) (x .nextstamp) (contractOf x k number next g o p)) others ≡ true) (sym accounts) (sides x k number next g o p .others-orders)) others-numbers)
+      (o .lots) (contractOf x k number quote next g o p z .last) others (last-on-tick x k number quote next g o p z)
+      (subst (λ (n : ℕ). allOf (orderInRange n (x .next) (x .nextstamp) (contractOf x k number quote next g o p z)) others ≡ true) (sym accounts) (sides x k number quote next g o p z .others-orders)) others-numbers)
 
   its-trades : allOf (ofContract place) (lots-swept .trades) ≡ true
   unfolding takerOf restWhole enter allOf
   its-trades =
-      entered-either x number o (λ e. allOf (ofContract place) (e .trades) ≡ true) (λ e. refl)
-      (λ e. swept-contract (takerOf x number o) (o .lots) (contractOf x k number next g o p .last) others)
+      entered-either x number quote o (λ e. allOf (ofContract place) (e .trades) ≡ true) (λ e. refl)
+      (λ e. swept-contract (takerOf x number quote o) (o .lots) (contractOf x k number quote next g o p z .last) others)
 
   trades-ok : TradesOk x place after (lots-swept .trades) next (x .nextstamp + 1)
   unfolding listingOf listingAt takerOf remainder
@@ -264,84 +297,83 @@ module _ (x : Exchange) (k : WellFormed x) (number next : ℕ) (g : Given x numb
         high = g .high;
         stamped = omega arith;
         stamps-high = omega (arith, p .stamp);
-        listing = listing-after x k number next g o p;
+        listing = listing-after x k number quote next g o p z;
         allows = allows-here;
-        numbers = once-more numberOf (λ r lots. refl) (k .once) (g .unused);
-        stamps = once-more stampOf (λ r lots. refl) (k .stamps-once) (given-unused stampOf (x .nextstamp) (length (x .accounts)) (x .next) (x .nextstamp) (λ c r q. q .stamp-high) (x .listings) (k .listing));
+        numbers = once-more numberOf (λ r lots. (refl, refl)) (k .once) (g .unused);
+        stamps = once-more stampOf (λ r lots. (refl, refl)) (k .stamps-once) (given-unused stampOf (x .nextstamp) (length (x .accounts)) (x .next) (x .nextstamp) (λ c r q. q .stamp-high) (x .listings) (k .listing));
         ranges = new-trades;
         here = its-trades;
         never = swept-holdings .never;
         holding = holding-after;
+        marks = marks-after;
       }
 
   -- ---- the counts
 
   -- fillable lots do not go by the number
-  fillable-is : fillable (takerOf x number o) others ≡ fillableLots x o
+  fillable-is : fillable (takerOf x number quote o) others ≡ fillableLots x o
   unfolding fillable takerOf fillableLots
   fillable-is = refl
 
-  filled : inAuction (contractOf x k number next g o p) ≡ false → o .lots ≤ fillableLots x o → tradedLots (lots-swept .trades) ≡ o .lots
+  filled : inAuction (contractOf x k number quote next g o p z) ≡ false → o .lots ≤ fillableLots x o → tradedLots (lots-swept .trades) ≡ o .lots
   unfolding takerOf enter
   filled a h =
-      rw (entered-elsewhere x number o a)
-      (omega (arith, swept-fillable (takerOf x number o) (o .lots) (contractOf x k number next g o p .last) others (sides x k number next g o p .others-sorted) refl, fillable-is))
+      rw (entered-elsewhere x number quote o a)
+      (omega (arith, swept-fillable (takerOf x number quote o) (o .lots) (contractOf x k number quote next g o p z .last) others (sides x k number quote next g o p z .others-sorted) refl, fillable-is))
 
-  none-rested : isGoodForDay (o .time) ≡ false → rested x k number next g o p ≡ 0
+  none-rested : isGoodForDay (o .time) ≡ false → rested x k number quote next g o p z ≡ 0
   unfolding restWhole enter restedLots
-  none-rested e = entered-either x number o (λ r. r .rested ≡ 0) (λ a. absurd (true≢false (sym (p .rests a) ∙ e))) (λ a. rw e)
+  none-rested e = entered-either x number quote o (λ r. r .rested ≡ 0) (λ a. absurd (true≢false (sym (p .rests a) ∙ e))) (λ a. rw e)
 
   -- code 13: with 64 on its own side nothing rests
-  none-rests : maxResting ≤ length mine → rested x k number next g o p ≡ 0
+  none-rests : maxResting ≤ length mine → rested x k number quote next g o p z ≡ 0
   none-rests full = go (isGoodForDay (o .time)) refl
     where
-      go : (b : Bool) → isGoodForDay (o .time) ≡ b → rested x k number next g o p ≡ 0
-      go true e = let r = p .room e full in omega (arith, rested-left x k number next g o p, filled (r .0) (r .1))
+      go : (b : Bool) → isGoodForDay (o .time) ≡ b → rested x k number quote next g o p z ≡ 0
+      go true e = let r = p .room e full in omega (arith, rested-left x k number quote next g o p z, filled (r .0) (r .1))
       go false e = none-rested e
 
-  mine-length : length mine ≤ maxResting → length (restLots (takerOf x number o) (limitOf (o .condition)) (rested x k number next g o p) mine) ≤ maxResting
+  mine-length : length mine ≤ maxResting → length (restLots (takerOf x number quote o) (limitOf (o .condition)) (rested x k number quote next g o p z) mine) ≤ maxResting
   mine-length h = go (leb maxResting (length mine)) refl
     where
-      go : (b : Bool) → leb maxResting (length mine) ≡ b → length (restLots (takerOf x number o) (limitOf (o .condition)) (rested x k number next g o p) mine) ≤ maxResting
-      go true e = omega (arith, rested-length (takerOf x number o) (limitOf (o .condition)) (rested x k number next g o p) mine, none-rests (leb-true _ _ e))
-      go false e = omega (arith, rested-length-one (takerOf x number o) (limitOf (o .condition)) (rested x k number next g o p) mine, leb-false maxResting (length mine) e)
+      go : (b : Bool) → leb maxResting (length mine) ≡ b → length (restLots (takerOf x number quote o) (limitOf (o .condition)) (rested x k number quote next g o p z) mine) ≤ maxResting
+      go true e = omega (arith, rested-length (takerOf x number quote o) (limitOf (o .condition)) (rested x k number quote next g o p z) mine, none-rests (leb-true _ _ e))
+      go false e = omega (arith, rested-length-one (takerOf x number quote o) (limitOf (o .condition)) (rested x k number quote next g o p z) mine, leb-false maxResting (length mine) e)
 
   others-length : length (lots-swept .rest) ≤ length others
   unfolding restWhole enter
   others-length =
-      entered-either x number o (λ e. length (e .opposite) ≤ length others) (λ e. omega arith)
-      (λ e. length-rest (takerOf x number o) (o .lots) (contractOf x k number next g o p .last) others)
+      entered-either x number quote o (λ e. length (e .opposite) ≤ length others) (λ e. omega arith)
+      (λ e. length-rest (takerOf x number quote o) (o .lots) (contractOf x k number quote next g o p z .last) others)
 
   queue-after : ((sell : Bool) → length (own sell (listingOf x o)) ≤ maxResting) → (sell : Bool) → length (own sell after) ≤ maxResting
   unfolding listingAfter
-  queue-after h = rw (own-is x k number next g o p) (by (o .sell) _ _ (mine-length (h (o .sell))) (omega (arith, others-length, either (o .sell))))
+  queue-after h =
+      rw (own-is x k number quote next g o p z)
+      (each-side (λ (queue : List Order). length queue ≤ maxResting) (o .sell) _ _ (mine-length (h (o .sell))) (omega (arith, others-length, either (o .sell))))
     where
-      by : (s : Bool) (us vs : List Order) → length us ≤ maxResting → length vs ≤ maxResting → (sell : Bool) →
-          length (pick sell (pick s us vs) (pick s vs us)) ≤ maxResting
-      by true us vs p q true = p
-      by true us vs p q false = q
-      by false us vs p q true = q
-      by false us vs p q false = p
-
       either : (s : Bool) → length (opposite s (listingOf x o)) ≤ maxResting
       either true = h false
       either false = h true
 
-  pub entered-keeps : WellFormed (exchangeAfter x o (enteredOf x number o) next)
+  pub entered-keeps : WellFormed (exchangeAfter x o (enteredOf x number quote o) next)
   unfolding exchangeAfter
   entered-keeps = traded-keeps x k place after (lots-swept .trades) next (x .nextstamp + 1) trades-ok
 
-  pub entered-counted : Counted x → Counted (exchangeAfter x o (enteredOf x number o) next)
+  pub entered-counted : Counted x → Counted (exchangeAfter x o (enteredOf x number quote o) next)
   unfolding exchangeAfter listingOf
   entered-counted n =
       traded-counted x place after (lots-swept .trades) next (x .nextstamp + 1) (p .contract) (queue-after (λ s. n .queues place s (p .contract)))
-      (omega (arith, p .trades, trades-needed x number o)) n
+      (omega (arith, p .trades, trades-needed x number quote o)) n
 
 module _ (x : Exchange) (o : NewOrder) (e : firstOf (insertRefusals x o) ≡ 0) (k : WellFormed x) where
+  unmarked : Marks x 0 o
+  unmarked = no-mark x k o (passes x o e .account) (passes x o e .contract)
+
   pub insert-keeps : WellFormed (lastOf x (inserted x o .stages))
   unfolding inserted
-  insert-keeps = entered-keeps x k (x .next) (x .next + 1) (next-given x k (numbered x o e)) o (passes x o e)
+  insert-keeps = entered-keeps x k (x .next) 0 (x .next + 1) (next-given x k (numbered x o e)) o (passes x o e) unmarked
 
   pub insert-counted : Counted x → Counted (lastOf x (inserted x o .stages))
   unfolding inserted
-  insert-counted = entered-counted x k (x .next) (x .next + 1) (next-given x k (numbered x o e)) o (passes x o e)
+  insert-counted = entered-counted x k (x .next) 0 (x .next + 1) (next-given x k (numbered x o e)) o (passes x o e) unmarked

@@ -8,7 +8,7 @@ use borrow.Author.Tests.{leb-true, leb-false, ltb-false, le-leb, not-false}
 use lib.Dec.{leb, ltb}
 use lib.ListN.{length}
 use Rattle.laws.specs.Choice.{pick, pick-true, pick-false, both-true, true-both, either-false}
-use Rattle.rules.specs.Answers.{firstOf, insertRefusals, isGoodForDay, isLimit, listingOf, priceRefusedBy, holdingRefused, overLimit, overHolding, fillableLots, tradesNeeded, tradesRefused, numbersUsedUp, stampsUsedUp, conditionsRefused, dayWithoutLimit}
+use Rattle.rules.specs.Answers.{firstOf, insertRefusals, orderRefusals, isGoodForDay, isLimit, listingOf, priceRefusedBy, holdingRefused, overLimit, overHolding, fillableLots, tradesNeeded, tradesRefused, numbersUsedUp, stampsUsedUp, conditionsRefused, dayWithoutLimit}
 use Rattle.rules.specs.Bounds.{within, allowedToday, numbersEnd, maxLots, maxTrades, maxResting, inAuction}
 use Rattle.rules.specs.Exchange.{Exchange, listingAt, placeOf, own, holdingAt, restingOpens, restingCloses}
 use Rattle.rules.specs.WellFormed.{allNumbers, numberOf}
@@ -18,7 +18,7 @@ use Rattle.rules.specs.declared.NewOrder.{NewOrder}
 use Rattle.rules.specs.declared.Order.{Order}
 use Rattle.rules.specs.declared.PriceCondition.{PriceCondition}
 use Rattle.rules.specs.declared.PriceCondition.the-variants.{Limit}
-use Rattle.invariants.proofs.Accepted.{failed, present}
+use Rattle.invariants.proofs.Accepted.{Failed, failed, present}
 use Rattle.invariants.proofs.Clauses.{held, WellFormed}
 use Rattle.invariants.proofs.Numbers.{occurs, given-unused}
 
@@ -124,26 +124,41 @@ counters x e =
     let p = either-false (numbersUsedUp x) (stampsUsedUp x) e in
     (leb-false _ _ (p .0), leb-false _ _ (p .1))
 
-pub numbered : (x : Exchange) (o : NewOrder) → firstOf (insertRefusals x o) ≡ 0 → x .next < numbersEnd
-unfolding insertRefusals
-numbered x o e = counters x (failed (insertRefusals x o) (omega arith) e .1 .1 .1 .1 .1 .1 .1 .1 .0) .0
+module _ (x : Exchange) (o : NewOrder) (f : Failed (orderRefusals x o)) where
+  pub numbers-left : x .next < numbersEnd
+  unfolding orderRefusals
+  numbers-left = counters x (f .1 .1 .1 .1 .1 .0) .0
 
-pub passes : (x : Exchange) (o : NewOrder) → firstOf (insertRefusals x o) ≡ 0 → Passes x (x .next) o
-unfolding insertRefusals tradesRefused
-passes x o e =
-    let f = failed (insertRefusals x o) (omega arith) e in
-    let lots = both-true (leb 1 (o .lots)) (leb (o .lots) maxLots) (not-false (within 1 maxLots (o .lots)) (f .1 .1 .1 .0)) in
-    record {
-      account = present (o .account) (x .accounts) (f .0);
-      contract = present (o .contract) (x .listings) (f .1 .0);
-      lots-low = leb-true _ _ (lots .0);
-      lots-high = leb-true _ _ (lots .1);
-      limited = day-limit (listingOf x o .contract) o (f .1 .1 .1 .1 .0);
-      rests = auction-day (listingOf x o .contract) o (f .1 .1 .1 .1 .0);
-      price = λ limit q. limit-allowed (listingOf x o .contract) (o .condition) (o .price) limit (f .1 .1 .1 .1 .1 .0) q;
-      opens = open-lots x o (f .1 .1 .1 .1 .1 .1 .0);
-      closes = close-lots x o (f .1 .1 .1 .1 .1 .1 .0);
-      stamp = counters x (f .1 .1 .1 .1 .1 .1 .1 .1 .0) .1;
-      trades = ltb-false _ _ (f .1 .1 .1 .1 .1 .1 .1 .1 .1 .1 .0);
-      room = has-room (listingOf x o .contract) (isGoodForDay (o .time)) (length (itsQueue x o)) (o .lots) (fillableLots x o) (f .1 .1 .1 .1 .1 .1 .1 .1 .1 .1 .1 .0);
-    }
+  -- its code "from 5 on" is 0
+  pub order-passes : placeOf (o .account) < length (x .accounts) → placeOf (o .contract) < length (x .listings) → Passes x (x .next) o
+  unfolding orderRefusals tradesRefused
+  order-passes account contract =
+      let lots = both-true (leb 1 (o .lots)) (leb (o .lots) maxLots) (not-false (within 1 maxLots (o .lots)) (f .0)) in
+      record {
+        account = account;
+        contract = contract;
+        lots-low = leb-true _ _ (lots .0);
+        lots-high = leb-true _ _ (lots .1);
+        limited = day-limit (listingOf x o .contract) o (f .1 .0);
+        rests = auction-day (listingOf x o .contract) o (f .1 .0);
+        price = λ limit q. limit-allowed (listingOf x o .contract) (o .condition) (o .price) limit (f .1 .1 .0) q;
+        opens = open-lots x o (f .1 .1 .1 .0);
+        closes = close-lots x o (f .1 .1 .1 .0);
+        stamp = counters x (f .1 .1 .1 .1 .1 .0) .1;
+        trades = ltb-false _ _ (f .1 .1 .1 .1 .1 .1 .1 .0);
+        room = has-room (listingOf x o .contract) (isGoodForDay (o .time)) (length (itsQueue x o)) (o .lots) (fillableLots x o) (f .1 .1 .1 .1 .1 .1 .1 .1 .0);
+      }
+
+-- an insert
+module _ (x : Exchange) (o : NewOrder) (e : firstOf (insertRefusals x o) ≡ 0) where
+  tests : Failed (insertRefusals x o)
+  unfolding insertRefusals orderRefusals
+  tests = failed (insertRefusals x o) (omega arith) e
+
+  pub numbered : x .next < numbersEnd
+  unfolding insertRefusals
+  numbered = numbers-left x o (tests .1 .1 .1)
+
+  pub passes : Passes x (x .next) o
+  unfolding insertRefusals
+  passes = order-passes x o (tests .1 .1 .1) (present (o .account) (x .accounts) (tests .0)) (present (o .contract) (x .listings) (tests .1 .0))

@@ -30,6 +30,7 @@ use Rattle.invariants.proofs.Carry.{Allows, orders-carried}
 use Rattle.invariants.proofs.Clauses.{order-ok, order-test, ListingOk, WellFormed}
 use Rattle.invariants.proofs.InsertAccepted.{Given, Passes}
 use Rattle.invariants.proofs.InsertQueues.{SidesOk, listing-sides, sides-listing, rested-all, rested-sorted, rest-orders}
+use Rattle.invariants.proofs.Marks.{Marks}
 use Rattle.invariants.proofs.Ticks.{allowed-multiple}
 
 -- ---- the contract with another last price
@@ -78,7 +79,8 @@ pub mark-low : (close : Bool) → mark close ≤ 1
 mark-low true = omega arith
 mark-low false = omega arith
 
-module _ (x : Exchange) (k : WellFormed x) (number next : ℕ) (g : Given x number next) (o : NewOrder) (p : Passes x number o) where
+module _ (x : Exchange) (k : WellFormed x) (number quote next : ℕ) (g : Given x number next) (o : NewOrder) (p : Passes x number o)
+    (z : Marks x quote o) where
   abbrev pub contractOf : Contract
   contractOf = listingOf x o .contract
 
@@ -90,15 +92,15 @@ module _ (x : Exchange) (k : WellFormed x) (number next : ℕ) (g : Given x numb
 
   -- its trades, the opposite queue after them, and the lots that rest
   abbrev pub swept : Swept
-  swept = record { trades = enteredOf x number o .trades; rest = enteredOf x number o .opposite }
+  swept = record { trades = enteredOf x number quote o .trades; rest = enteredOf x number quote o .opposite }
 
   abbrev pub rested : ℕ
-  rested = enteredOf x number o .rested
+  rested = enteredOf x number quote o .rested
 
   -- its own queue: in auction too, what rests does so at its place
-  pub own-is : enteredOf x number o .own ≡ restLots (takerOf x number o) (limitOf (o .condition)) rested mine
+  pub own-is : enteredOf x number quote o .own ≡ restLots (takerOf x number quote o) (limitOf (o .condition)) rested mine
   unfolding restWhole enter
-  own-is = entered-either x number o (λ e. e .own ≡ restLots (takerOf x number o) (limitOf (o .condition)) (e .rested) mine) (λ a. refl) (λ a. refl)
+  own-is = entered-either x number quote o (λ e. e .own ≡ restLots (takerOf x number quote o) (limitOf (o .condition)) (e .rested) mine) (λ a. refl) (λ a. refl)
 
   pub listing-ok : ListingOk (length (x .accounts)) (x .next) (x .nextstamp) (listingOf x o)
   unfolding listingOf
@@ -116,8 +118,8 @@ module _ (x : Exchange) (k : WellFormed x) (number next : ℕ) (g : Given x numb
   trade-prices : allOf (λ t. allowedToday contractOf (t .price)) (swept .trades) ≡ true
   unfolding restWhole enter allOf takerOf
   trade-prices =
-      entered-either x number o (λ e. allOf (λ t. allowedToday contractOf (t .price)) (e .trades) ≡ true) (λ a. refl)
-      (λ a. swept-allowed contractOf tick-low (takerOf x number o) (method-rounds contractOf) (o .lots) (contractOf .last) others (p .price) last-on-tick
+      entered-either x number quote o (λ e. allOf (λ t. allowedToday contractOf (t .price)) (e .trades) ≡ true) (λ a. refl)
+      (λ a. swept-allowed contractOf tick-low (takerOf x number quote o) (method-rounds contractOf) (o .lots) (contractOf .last) others (p .price) last-on-tick
       (allOf-imp (orderInRange (length (x .accounts)) (x .next) (x .nextstamp) contractOf) (λ r. allowedToday contractOf (r .price)) others
       (λ r h. order-ok (length (x .accounts)) (x .next) (x .nextstamp) contractOf r h .price) (sides .others-orders)))
 
@@ -131,21 +133,21 @@ module _ (x : Exchange) (k : WellFormed x) (number next : ℕ) (g : Given x numb
   limit-rests : 0 < rested → o .condition ≡ Limit (limitOf (o .condition))
   unfolding restWhole enter
   limit-rests =
-      entered-either x number o (λ e. 0 < e .rested → o .condition ≡ Limit (limitOf (o .condition)))
+      entered-either x number quote o (λ e. 0 < e .rested → o .condition ≡ Limit (limitOf (o .condition)))
       (λ a some. is-limit (o .condition) (p .limited (p .rests a)))
       (λ a some. is-limit (o .condition) (p .limited (rested-day (isGoodForDay (o .time)) (o .lots) _ some)))
 
   pub rested-left : rested ≤ o .lots - tradedLots (swept .trades)
   unfolding restWhole enter
   rested-left =
-      entered-either x number o (λ e. e .rested ≤ o .lots - tradedLots (e .trades)) (λ a. omega (arith, traded-nil))
+      entered-either x number quote o (λ e. e .rested ≤ o .lots - tradedLots (e .trades)) (λ a. omega (arith, traded-nil))
       (λ a. rested-most (isGoodForDay (o .time)) (o .lots) _)
 
   remainder-ok : 0 < rested →
-      orderInRange (length (x .accounts)) next (x .nextstamp + 1) contractAfter (remainder (takerOf x number o) (limitOf (o .condition)) rested) ≡ true
+      orderInRange (length (x .accounts)) next (x .nextstamp + 1) contractAfter (remainder (takerOf x number quote o) (limitOf (o .condition)) rested) ≡ true
   unfolding takerOf remainder
   remainder-ok some =
-      order-test (length (x .accounts)) next (x .nextstamp + 1) contractAfter (remainder (takerOf x number o) (limitOf (o .condition)) rested)
+      order-test (length (x .accounts)) next (x .nextstamp + 1) contractAfter (remainder (takerOf x number quote o) (limitOf (o .condition)) rested)
       (record {
         lots-low = some;
         lots-high = omega (arith, rested-left, p .lots-high);
@@ -158,7 +160,7 @@ module _ (x : Exchange) (k : WellFormed x) (number next : ℕ) (g : Given x numb
         close = mark-low (o .close);
         stamp-low = k .nextstamp-low;
         stamp-high = omega arith;
-        quote = refl;
+        quote = z .low;
       })
 
   carried : (queue : List Order) → allOf (orderInRange (length (x .accounts)) (x .next) (x .nextstamp) contractOf) queue ≡ true →
@@ -167,42 +169,42 @@ module _ (x : Exchange) (k : WellFormed x) (number next : ℕ) (g : Given x numb
       orders-carried (length (x .accounts)) (x .next) next (x .nextstamp) (x .nextstamp + 1) contractOf contractAfter (g .later) (omega arith)
       (allows-last contractOf (lastPrice (contractOf .last) (swept .trades)))
 
-  uncrossed-after : inAuction contractOf ≡ false → uncrossedFrom (o .sell) (restLots (takerOf x number o) (limitOf (o .condition)) rested mine) (swept .rest) ≡ true
+  uncrossed-after : inAuction contractOf ≡ false → uncrossedFrom (o .sell) (restLots (takerOf x number quote o) (limitOf (o .condition)) rested mine) (swept .rest) ≡ true
   unfolding takerOf restWhole enter
   uncrossed-after =
-      entered-either x number o
-      (λ e. inAuction contractOf ≡ false → uncrossedFrom (o .sell) (restLots (takerOf x number o) (limitOf (o .condition)) (e .rested) mine) (e .opposite) ≡ true)
+      entered-either x number quote o
+      (λ e. inAuction contractOf ≡ false → uncrossedFrom (o .sell) (restLots (takerOf x number quote o) (limitOf (o .condition)) (e .rested) mine) (e .opposite) ≡ true)
       (λ a b. absurd (true≢false (sym a ∙ b)))
-      (λ a b. entered-uncrossed (takerOf x number o) (o .lots) (limitOf (o .condition)) (isGoodForDay (o .time)) (contractOf .last) mine others
+      (λ a b. entered-uncrossed (takerOf x number quote o) (o .lots) (limitOf (o .condition)) (isGoodForDay (o .time)) (contractOf .last) mine others
       (λ g. is-limit (o .condition) (p .limited g)) (sides .others-sorted) (sides .sides-uncrossed b))
 
   left-sorted : sorted (not (o .sell)) (swept .rest) ≡ true
   unfolding restWhole enter
   left-sorted =
-      entered-either x number o (λ e. sorted (not (o .sell)) (e .opposite) ≡ true) (λ a. sides .others-sorted)
-      (λ a. rest-sorted (not (o .sell)) (takerOf x number o) (o .lots) (contractOf .last) others (sides .others-sorted))
+      entered-either x number quote o (λ e. sorted (not (o .sell)) (e .opposite) ≡ true) (λ a. sides .others-sorted)
+      (λ a. rest-sorted (not (o .sell)) (takerOf x number quote o) (o .lots) (contractOf .last) others (sides .others-sorted))
 
   left-orders : allOf (orderInRange (length (x .accounts)) (x .next) (x .nextstamp) contractOf) (swept .rest) ≡ true
   unfolding restWhole enter
   left-orders =
-      entered-either x number o (λ e. allOf (orderInRange (length (x .accounts)) (x .next) (x .nextstamp) contractOf) (e .opposite) ≡ true) (λ a. sides .others-orders)
-      (λ a. rest-orders (length (x .accounts)) (x .next) (x .nextstamp) contractOf (takerOf x number o) (o .lots) (contractOf .last) others (sides .others-orders))
+      entered-either x number quote o (λ e. allOf (orderInRange (length (x .accounts)) (x .next) (x .nextstamp) contractOf) (e .opposite) ≡ true) (λ a. sides .others-orders)
+      (λ a. rest-orders (length (x .accounts)) (x .next) (x .nextstamp) contractOf (takerOf x number quote o) (o .lots) (contractOf .last) others (sides .others-orders))
 
-  sides-after : SidesOk (length (x .accounts)) next (x .nextstamp + 1) contractAfter (o .sell) (restLots (takerOf x number o) (limitOf (o .condition)) rested mine) (swept .rest)
+  sides-after : SidesOk (length (x .accounts)) next (x .nextstamp + 1) contractAfter (o .sell) (restLots (takerOf x number quote o) (limitOf (o .condition)) rested mine) (swept .rest)
   unfolding takerOf
   sides-after =
       record {
-        mine-sorted = rested-sorted (takerOf x number o) (limitOf (o .condition)) rested mine (sides .mine-sorted)
+        mine-sorted = rested-sorted (takerOf x number quote o) (limitOf (o .condition)) rested mine (sides .mine-sorted)
             (allOf-imp (orderInRange (length (x .accounts)) (x .next) (x .nextstamp) contractOf) (λ r. ltb (r .stamp) (x .nextstamp)) mine
             (λ r h. lt-ltb (r .stamp) (x .nextstamp) (order-ok (length (x .accounts)) (x .next) (x .nextstamp) contractOf r h .stamp-high)) (sides .mine-orders));
         others-sorted = left-sorted;
         sides-uncrossed = uncrossed-after;
         mine-orders =
-            rested-all (takerOf x number o) (limitOf (o .condition)) _ rested mine remainder-ok
+            rested-all (takerOf x number quote o) (limitOf (o .condition)) _ rested mine remainder-ok
             (carried mine (sides .mine-orders));
         others-orders = carried (swept .rest) left-orders;
       }
 
-  pub listing-after : ListingOk (length (x .accounts)) next (x .nextstamp + 1) (listingAfter (listingOf x o) (o .sell) (enteredOf x number o))
+  pub listing-after : ListingOk (length (x .accounts)) next (x .nextstamp + 1) (listingAfter (listingOf x o) (o .sell) (enteredOf x number quote o))
   unfolding listingAfter
   listing-after = rw own-is (sides-listing (length (x .accounts)) next (x .nextstamp + 1) (o .sell) contractAfter _ _ contract-ok sides-after)

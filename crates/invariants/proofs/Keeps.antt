@@ -5,16 +5,18 @@ use mathlib.Core.Path.{_≡_}
 use Rattle.rules.specs.Change.{asked}
 use Rattle.rules.specs.Exchange.{Exchange}
 use Rattle.rules.specs.Kinds.{kindOf, codeOf, lastOf, step}
+use Rattle.rules.specs.Quote.{offered}
 use Rattle.rules.specs.Step.{deposited, withdrawn, inserted, removed, cancelled, pulled, phaseChanged, settledAll}
 use Rattle.rules.specs.WellFormed.{wellFormedContents}
 use Rattle.rules.specs.declared.Command.{Command}
-use Rattle.rules.specs.declared.Command.the-variants.{Malformed, Deposit, Withdraw, Insert, Cancel, Pull, Phase, Settle, Change}
+use Rattle.rules.specs.declared.Command.the-variants.{Malformed, Deposit, Withdraw, Insert, Cancel, Pull, Phase, Settle, Quote, Change}
 use Rattle.rules.proofs.Stages.{Each, each-last, decided}
 use Rattle.invariants.proofs.ChangeKeeps.{change-keeps, change-counted}
 use Rattle.invariants.proofs.Clauses.{WellFormed, Counted, well-formed, well-formed-test}
 use Rattle.invariants.proofs.Insert.{insert-keeps, insert-counted}
 use Rattle.invariants.proofs.Payments.{deposit-keeps, withdraw-keeps, deposit-counted, withdraw-counted}
 use Rattle.invariants.proofs.Phases.{phase-keeps, phase-counted}
+use Rattle.invariants.proofs.QuoteKeeps.{quote-keeps, quote-counted}
 use Rattle.invariants.proofs.Removal.{cancel-keeps, pull-keeps, cancel-counted, pull-counted}
 use Rattle.invariants.proofs.Settle.{settle-keeps, settle-counted}
 
@@ -34,6 +36,7 @@ kind-keeps x (Cancel account contract operator number) k e = cancel-keeps x acco
 kind-keeps x (Pull account contract operator) k e = pull-keeps x account contract operator e (k .contents)
 kind-keeps x (Phase contract phase) k e = phase-keeps x contract phase e (k .contents)
 kind-keeps x Settle k e = settle-keeps x e (k .contents) (k .counts)
+kind-keeps x (Quote account contract lots buy sell) k e = quote-keeps x (k .contents) (offered account contract lots buy sell) e
 kind-keeps x (Change account contract number lots price) k e = change-keeps x (k .contents) (asked account contract number lots price) e (k .counts)
 
 -- .. and each of them has its counts in range, so that it can be written
@@ -47,6 +50,7 @@ kind-counted x (Cancel account contract operator number) k e = (cancel-counted x
 kind-counted x (Pull account contract operator) k e = (pull-counted x account contract operator e (k .counts), tt)
 kind-counted x (Phase contract phase) k e = (phase-counted x contract phase e (k .contents) (k .counts), tt)
 kind-counted x Settle k e = (settle-counted x e (k .contents) (k .counts), tt)
+kind-counted x (Quote account contract lots buy sell) k e = quote-counted x (k .contents) (offered account contract lots buy sell) e (k .counts)
 kind-counted x (Change account contract number lots price) k e = change-counted x (k .contents) (asked account contract number lots price) e (k .counts)
 
 -- any command: a refusal changes nothing

@@ -2,6 +2,7 @@ pub mod Clauses
 pub mod Accepted
 pub mod Replay
 pub mod Carry
+pub mod Marks
 pub mod Payments
 pub mod Numbers
 pub mod OneListing
@@ -22,6 +23,10 @@ pub mod MatchedHoldings
 pub mod MatchedTrades
 pub mod Phases
 pub mod ChangeKeeps
+pub mod QuoteKeeps
+pub mod Singly
+pub mod QuoteAsOrders
+pub mod Makers
 pub mod Keeps
 pub mod Stamps
 pub mod MemoryRoom

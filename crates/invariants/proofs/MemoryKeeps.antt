@@ -15,7 +15,7 @@ use Rattle.rules.proofs.Codecs.{length-queue, length-trades}
 use Rattle.rules.proofs.Stages.{Each, decided}
 use Rattle.accounting.proofs.EachKind.{kind-shape}
 use Rattle.accounting.proofs.StepShape.{SameShape, shape-trans, shape-sym}
-use Rattle.invariants.proofs.Clauses.{Counted, well-formed, well-formed-test}
+use Rattle.invariants.proofs.Clauses.{Counted, WellFormed, well-formed, well-formed-test}
 use Rattle.invariants.proofs.Keeps.{Sound, kind-keeps, kind-counted}
 use Rattle.invariants.proofs.MemoryLaws.{exchange-put, length-buys, length-sells, length-tradeArea, put-room, put-counts}
 use Rattle.invariants.proofs.MemoryRoom.{CountsOk, RoomOk, memory-ok, memory-test}
@@ -91,6 +91,17 @@ stages-left m k r x e (y ∷ ys) h =
 both-each : (x : Exchange) (ys : List Exchange) → Each (SameShape x) ys → Each Counted ys → Each (Writable x) ys
 both-each x [] s c = tt
 both-each x (y ∷ ys) s c = ((s .0, c .0), both-each x ys (s .1) (c .1))
+
+-- a stage that is well formed, written over a well-formed memory
+module _ (m : Memory) (w : wellFormedMemory m ≡ true) (y : Exchange) (s : SameShape (exchangeOf m) y) (n : Counted y) where
+  pub stage-read : exchangeOf (put m y) ≡ y
+  stage-read = exchange-put m (memory-ok m w .counts) (memory-ok m w .room) y s n
+
+  pub stage-keeps : WellFormed y → wellFormedMemory (put m y) ≡ true
+  stage-keeps k =
+      let its = memory-ok m w in
+      memory-test (put m y)
+      (record { counts = put-counts m (its .counts) (its .room) y s n; room = put-room m (its .counts) (its .room) y s n; contents = rw stage-read (well-formed-test y k) })
 
 -- ---- one command
 

@@ -10,6 +10,7 @@ use lib.Dec.{eqb, ltb}
 use lib.ListN.{length, getD, set}
 use Rattle.laws.specs.Choice.{pick, allOf, allOf-imp, both-true, true-both}
 use Rattle.laws.specs.Sums.{sumOf, sumOf-append, sumOf-set, sumOf-bound}
+use Rattle.rules.specs.Change.{unmarked}
 use Rattle.rules.specs.Exchange.{Listing, noListing, own}
 use Rattle.rules.specs.Matching.{withLots}
 use Rattle.rules.specs.WellFormed.{orderInRange, listed, allListed, usedOnce}
@@ -72,9 +73,9 @@ occurs-append : (n : ℕ) (xs ys : List ℕ) → occurs n (xs ++ ys) ≡ occurs 
 unfolding occurs
 occurs-append n xs ys = sumOf-append (λ k. pick (eqb n k) 1 0) xs ys
 
--- a field that an order keeps with other lots
+-- a field that an order keeps with other lots and without its quote mark
 abbrev pub KeptByLots : (Order → ℕ) → Type 0
-KeptByLots field = (o : Order) (lots : ℕ) → field (withLots o lots) ≡ field o
+KeptByLots field = (o : Order) (lots : ℕ) → (field (withLots o lots) ≡ field o) × (field (unmarked o) ≡ field o)
 
 module _ (field : Order → ℕ) where
   listed-uses : (n : ℕ) (queue : List Order) → occurs n (listed field queue) ≡ uses field n queue

@@ -12,7 +12,7 @@ use Rattle.rules.specs.Step.{withListing}
 use Rattle.rules.specs.declared.Holding.{Holding}
 use Rattle.rules.specs.declared.Order.{Order}
 use Rattle.invariants.proofs.Carry.{Allows, trades-carried}
-use Rattle.invariants.proofs.Clauses.{ListingOk, HoldingOk, WellFormed, Counted}
+use Rattle.invariants.proofs.Clauses.{ListingOk, HoldingOk, MarksOk, WellFormed, Counted}
 use Rattle.invariants.proofs.Numbers.{KeptByLots, usesIn, once-count, once-changed}
 use Rattle.rules.specs.WellFormed.{allNumbers, allStamps, numberOf, stampOf}
 
@@ -20,6 +20,7 @@ module _ (x : Exchange) (k : WellFormed x) (c : ℕ) (there : c < length (x .lis
     (ok : ListingOk (length (x .accounts)) (x .next) (x .nextstamp) m)
     (allows : Allows (listingAt x c .contract) (m .contract))
     (holds : (a : ℕ) (h : Holding) → HoldingOk (listingAt x c) a h → HoldingOk m a h)
+    (marks : (sell : Bool) → MarksOk (x .accounts) (own sell m))
     (fewer : (field : Order → ℕ) → KeptByLots field → (n : ℕ) → usesIn field n m ≤ usesIn field n (listingAt x c)) where
   same-count : length (set (x .listings) c m) ≡ length (x .listings)
   same-count = length-set (x .listings) c m
@@ -36,8 +37,11 @@ module _ (x : Exchange) (k : WellFormed x) (c : ℕ) (there : c < length (x .lis
         listing =
             λ d l. at-set (λ (j : ℕ) (n : Listing). ListingOk (length (x .accounts)) (x .next) (x .nextstamp) n) (x .listings) c m noListing there ok d
             (λ n. k .listing d (rw same-count at l));
-        once = once-changed numberOf (x .listings) c m there (k .once) (λ n. omega (arith, fewer numberOf (λ o lots. refl) n, once-count (allNumbers (x .listings)) (k .once) n));
-        stamps-once = once-changed stampOf (x .listings) c m there (k .stamps-once) (λ n. omega (arith, fewer stampOf (λ o lots. refl) n, once-count (allStamps (x .listings)) (k .stamps-once) n));
+        once = once-changed numberOf (x .listings) c m there (k .once) (λ n. omega (arith, fewer numberOf (λ o lots. (refl, refl)) n, once-count (allNumbers (x .listings)) (k .once) n));
+        stamps-once = once-changed stampOf (x .listings) c m there (k .stamps-once) (λ n. omega (arith, fewer stampOf (λ o lots. (refl, refl)) n, once-count (allStamps (x .listings)) (k .stamps-once) n));
+        marks = λ d l sell. at-set (λ (j : ℕ) (n : Listing). MarksOk (x .accounts) (own sell n)) (x .listings) c m noListing there (marks sell) d
+            (λ n. k .marks d (rw same-count at l) sell);
+        makers = k .makers;
         trades = trades-carried x (withListing x c m) (sym same-count) refl (le-refl (x .next))
             (λ d. at-set (λ (j : ℕ) (n : Listing). Allows (listingAt x j .contract) (n .contract)) (x .listings) c m noListing there allows d
             (λ n p h. h))

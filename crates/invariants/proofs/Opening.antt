@@ -8,10 +8,10 @@ use borrow.Author.Tests.{leb-true, le-leb}
 use lib.Dec.{leb, eqb}
 use lib.IntN.{pos}
 use lib.ListN.{length, getD, replicate}
-use Rattle.laws.specs.Choice.{all, all-at, both-true}
+use Rattle.laws.specs.Choice.{pick, all, all-at, both-true}
 use Rattle.laws.specs.Chains.{passed, join}
 use Rattle.rules.specs.Bounds.{within, preOpen, maxPhase, termsInRange, tickMultiple, maxContracts, maxAccounts, maxBalance}
-use Rattle.rules.specs.DayFile.{maxCommands, contractsIn, contractPlace, accountsIn, commandsIn, commandPlace, contractFrom, contractSound, balanceFrom, accountSound, sound, openingListing, openingAccount, opening}
+use Rattle.rules.specs.DayFile.{maxCommands, contractsIn, contractPlace, accountsIn, accountPlace, commandsIn, commandPlace, contractFrom, contractSound, balanceFrom, makerBit, makerFrom, accountSound, sound, openingListing, openingAccount, opening, u64At}
 use Rattle.rules.specs.Exchange.{noHolding}
 use Rattle.rules.specs.Holdings.{startHolding, startAccount}
 use Rattle.rules.specs.WellFormed.{contractInRange, wellFormedContents}
@@ -57,7 +57,7 @@ module _ (file : List ℕ) (h : sound file ≡ true) where
 
   start : (a : ℕ) → startAccount (openingAccount file a) ≡ openingAccount file a
   unfolding openingAccount
-  start a = ap (λ (hs : List Holding). record { balance = pos (balanceFrom file a); maker = false; holdings = hs }) (none-start (contractsIn file))
+  start a = ap (λ (hs : List Holding). record { balance = pos (balanceFrom file a); maker = makerFrom file a; holdings = hs }) (none-start (contractsIn file))
 
   nothing-held : (a c : ℕ) → getD (openingAccount file a .holdings) c noHolding ≡ noHolding
   unfolding openingAccount
@@ -68,6 +68,14 @@ module _ (file : List ℕ) (h : sound file ≡ true) where
   balance-low a l =
       leb-true _ _ (all-at (accountSound file) a (accountsIn file) (passed (within 1 maxContracts (contractsIn file)) fileTests h .1 .1 .1 .1 .1) l)
 
+  mark-low : (a : ℕ) → openingAccount file a .maker ≤ 1
+  unfolding openingAccount makerFrom
+  mark-low a = by (leb makerBit (u64At file (accountPlace file a)))
+    where
+      by : (maker : Bool) → pick maker 1 0 ≤ 1
+      by true = omega arith
+      by false = omega arith
+
   pub opening-sound : Sound (opening file)
   unfolding opening openingListing
   opening-sound =
@@ -75,6 +83,7 @@ module _ (file : List ℕ) (h : sound file ≡ true) where
         contents =
             fresh-day (contractsIn file) (λ c. contractFrom file (contractPlace c)) (accountsIn file) (openingAccount file) 0 in-range start
             (omega arith)
+            (λ a l. mark-low a)
             (λ a c la lc. rw (nothing-held a c) (omega arith))
             (λ a c la lc. rw (nothing-held a c) (omega arith))
             (λ a l. unfold openingAccount in omega (arith, balance-low a l));

@@ -12,7 +12,7 @@ use lib.ListN.{length, getD, set, length-set, List·getD-map}
 use lib.Seq.{map-set-same}
 use Rattle.laws.specs.Bound.{within-abs, within-d, abs-within}
 use Rattle.laws.specs.Choice.{either-false}
-use Rattle.laws.specs.Lists.{map-set, at-set}
+use Rattle.laws.specs.Lists.{kept-at, map-set, at-set}
 use Rattle.laws.specs.Ring.{d, d-ind, posPart, negPart, split, ring, ltZ-d}
 use Rattle.rules.specs.Answers.{firstOf, depositRefusals, withdrawRefusals, liftsTooHigh, leavesTooLittle, amountRefused}
 use Rattle.rules.specs.Bounds.{maxBalance, maxDayProfit}
@@ -26,6 +26,7 @@ use Rattle.rules.specs.declared.Holding.{Holding}
 use Rattle.invariants.proofs.Accepted.{failed, present}
 use Rattle.invariants.proofs.Carry.{trades-carried}
 use Rattle.invariants.proofs.Clauses.{WellFormed, Counted}
+use Rattle.invariants.proofs.Marks.{marks-carried}
 use Rattle.invariants.proofs.Replay.{lotsOf, lotsOnly, same-holdings, holdings-same, book-same, never-same}
 
 module _ (x : Exchange) (k : WellFormed x) (a : ℕ) (there : a < length (x .accounts)) (balance : ℤ)
@@ -54,6 +55,10 @@ module _ (x : Exchange) (k : WellFormed x) (a : ℕ) (there : a < length (x .acc
       ∙ ap (λ (l : List (List Holding)). getD l b []) (map-set-same (λ (d : Account). d .holdings) (x .accounts) a _ noAccount refl)
       ∙ List·getD-map (λ (d : Account). d .holdings) (x .accounts) b noAccount)
 
+  same-maker : (b : ℕ) → accountAt after b .maker ≡ accountAt (x .accounts) b .maker
+  unfolding accountAt
+  same-maker b = kept-at (λ (d : Account). d .maker) (x .accounts) a _ noAccount refl b
+
   -- the state with one balance changed
   pub paid-keeps : WellFormed (paid x a balance)
   unfolding paid listingAt accountAt
@@ -67,6 +72,8 @@ module _ (x : Exchange) (k : WellFormed x) (a : ℕ) (there : a < length (x .acc
         listing = λ c l. rw same-count (k .listing c l);
         once = k .once;
         stamps-once = k .stamps-once;
+        marks = λ c l sell. marks-carried (x .accounts) after same-count same-maker (k .marks c l sell);
+        makers = λ b lb. rw (same-maker b) (k .makers b (rw same-count at lb));
         trades = trades-carried x (paid x a balance) refl (sym same-count) (le-refl (x .next)) (λ c p h. h) (x .trades) (k .trades);
         covered = never-same (startOfDay after) (startOfDay (x .accounts)) same-start (x .trades) ∙ k .covered;
         replay =

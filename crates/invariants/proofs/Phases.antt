@@ -21,7 +21,7 @@ use Rattle.rules.specs.Exchange.{Exchange, Listing, listingAt, holdingAt, noLis
 use Rattle.rules.specs.Holdings.{bookTrades}
 use Rattle.rules.specs.Kinds.{lastOf}
 use Rattle.rules.specs.Step.{withLast, withPhase, withTrades, listingMatched, exchangeMatched, phaseChanged}
-use Rattle.rules.specs.WellFormed.{allNumbers, allStamps, contractInRange, orderInRange, sorted, tradeInRange, uncrossed, numberOf, stampOf}
+use Rattle.rules.specs.WellFormed.{allNumbers, allStamps, contractInRange, markAllowed, orderInRange, sorted, tradeInRange, uncrossed, numberOf, stampOf}
 use Rattle.rules.specs.declared.Contract.{Contract}
 use Rattle.rules.specs.declared.Holding.{Holding}
 use Rattle.rules.specs.declared.Order.{Order}
@@ -33,10 +33,11 @@ use Rattle.rules.proofs.AuctionUncrossed.{hasLots}
 use Rattle.rules.proofs.Holdings.{booked-start-holding}
 use Rattle.invariants.proofs.Accepted.{failed, present}
 use Rattle.invariants.proofs.Carry.{Allows, orders-carried}
-use Rattle.invariants.proofs.Clauses.{order-ok, ListingOk, HoldingOk, WellFormed, Counted}
+use Rattle.invariants.proofs.Clauses.{order-ok, ListingOk, HoldingOk, MarksOk, WellFormed, Counted}
 use Rattle.invariants.proofs.InsertListing.{contract-traded}
 use Rattle.invariants.proofs.InsertQueues.{order-fewer}
 use Rattle.invariants.proofs.Legs.{Kept}
+use Rattle.invariants.proofs.Marks.{allowed-fewer, markOf, mark-fewer, marks-left}
 use Rattle.invariants.proofs.MatchedHoldings.{MatchKept, match-kept, unmatched-kept}
 use Rattle.invariants.proofs.MatchedTrades.{matched-in-range}
 use Rattle.invariants.proofs.Numbers.{KeptByLots, all-uses, once-count, uses, usesIn}
@@ -81,6 +82,7 @@ module _ (x : Exchange) (k : WellFormed x) (c : ℕ) (there : c < length (x .lis
     pub here : allOf (ofContract c) (m .trades) ≡ true
     pub holdings : MatchKept (length (x .accounts)) (before .contract .limit) c (x .accounts) m
     pub shorter : (sell : Bool) → length (left sell m) ≤ length (own sell before)
+    pub marks : (sell : Bool) → MarksOk (x .accounts) (left sell m)
 
   ok : ListingOk (length (x .accounts)) (x .next) (x .nextstamp) before
   ok = k .listing c there
@@ -104,6 +106,7 @@ module _ (x : Exchange) (k : WellFormed x) (c : ℕ) (there : c < length (x .lis
         here = refl;
         holdings = unmatched-kept (length (x .accounts)) (before .contract .limit) c (x .accounts) (before .buys) (before .sells) kept-now;
         shorter = λ sell. le-refl _;
+        marks = k .marks c there;
       }
 
   abbrev price : ℕ
@@ -134,7 +137,7 @@ module _ (x : Exchange) (k : WellFormed x) (c : ℕ) (there : c < length (x .lis
 
   fewer-uses : (field : Order → ℕ) → KeptByLots field → (sell : Bool) (n : ℕ) → uses field n (left sell matched) ≤ uses field n (own sell before)
   unfolding uses
-  fewer-uses field kept sell n = taken sell .1 .atmost (λ o. pick (eqb n (field o)) 1 0) (λ o m low high. rw (kept o m) (le-refl _))
+  fewer-uses field kept sell n = taken sell .1 .atmost (λ o. pick (eqb n (field o)) 1 0) (λ o m low high. rw (kept o m .0) (le-refl _))
 
   matched-ranges : (y : Exchange) → c < length (y .listings) → length (y .accounts) ≡ length (x .accounts) → x .next ≤ y .next →
       Allows (before .contract) (listingAt y c .contract) → allOf (tradeInRange y) (matched .trades) ≡ true
@@ -173,6 +176,9 @@ module _ (x : Exchange) (k : WellFormed x) (c : ℕ) (there : c < length (x .lis
             (λ some. match-kept (length (x .accounts)) (before .contract .limit) (x .next) (x .nextstamp) (before .contract) c price (before .buys) (before .sells) (x .accounts)
             (ok .orders false) (ok .orders true) kept-now);
         shorter = λ sell. taken sell .1 .shorter;
+        marks =
+            λ sell. marks-left (x .accounts) (left sell matched) (k .marks c there sell)
+            (taken sell .1 .kept (markAllowed (x .accounts)) (allowed-fewer (x .accounts))) (λ a. taken sell .1 .atmost (markOf a) (mark-fewer a));
       }
 
   match-ok : MatchOk (matchOf x c)
@@ -217,6 +223,10 @@ module _ (x : Exchange) (k : WellFormed x) (c : ℕ) (there : c < length (x .lis
     unfolding listingMatched usesIn
     uses-after field kept n = match-ok .values field kept n
 
+    marks-after : (sell : Bool) → MarksOk (x .accounts) (own sell after)
+    unfolding listingMatched
+    marks-after = match-ok .marks
+
     trades-ok : TradesOk x c after (matchOf x c .trades) (x .next) (x .nextstamp)
     trades-ok =
         record {
@@ -227,8 +237,8 @@ module _ (x : Exchange) (k : WellFormed x) (c : ℕ) (there : c < length (x .lis
           stamps-high = k .nextstamp-high;
           listing = listing-after;
           allows = allows-here;
-          numbers = λ n. omega (arith, uses-after numberOf (λ o lots. refl) n, once-count (allNumbers (x .listings)) (k .once) n);
-          stamps = λ n. omega (arith, uses-after stampOf (λ o lots. refl) n, once-count (allStamps (x .listings)) (k .stamps-once) n);
+          numbers = λ n. omega (arith, uses-after numberOf (λ o lots. (refl, refl)) n, once-count (allNumbers (x .listings)) (k .once) n);
+          stamps = λ n. omega (arith, uses-after stampOf (λ o lots. (refl, refl)) n, once-count (allStamps (x .listings)) (k .stamps-once) n);
           ranges =
               match-ok .ranges (withTrades x c after (matchOf x c .trades) (x .next) (x .nextstamp)) (omega (arith, traded-listings x c after (matchOf x c .trades) (x .next) (x .nextstamp)))
               (traded-accounts x c after (matchOf x c .trades) (x .next) (x .nextstamp)) (le-refl (x .next))
@@ -236,6 +246,7 @@ module _ (x : Exchange) (k : WellFormed x) (c : ℕ) (there : c < length (x .lis
           here = match-ok .here;
           never = match-ok .holdings .never;
           holding = holding-after;
+          marks = marks-after;
         }
 
     changed-keeps : WellFormed (exchangeMatched x c phase (matchOf x c))

@@ -13,13 +13,15 @@ use Rattle.rules.specs.Answers.{firstOf, cancelRefusals, pullRefusals}
 use Rattle.rules.specs.Exchange.{Exchange, Listing, listingAt, placeOf, own, lotsWhere, resting}
 use Rattle.rules.specs.Kinds.{lastOf}
 use Rattle.rules.specs.Step.{without, listingWithout, hasNumber, isOf, removed, cancelled, pulled}
-use Rattle.rules.specs.WellFormed.{ahead, sorted, orderInRange}
+use Rattle.rules.specs.WellFormed.{ahead, markAllowed, sorted, orderInRange}
+use Rattle.rules.specs.declared.Account.{Account}
 use Rattle.rules.specs.declared.Order.{Order}
 use Rattle.rules.specs.declared.Holding.{Holding}
 use Rattle.rules.proofs.Queue.{length-without}
 use Rattle.rules.proofs.Sorted.{sorted-tail}
 use Rattle.invariants.proofs.Accepted.{failed, present}
-use Rattle.invariants.proofs.Clauses.{ListingOk, HoldingOk, WellFormed, Counted}
+use Rattle.invariants.proofs.Clauses.{ListingOk, HoldingOk, MarksOk, WellFormed, Counted}
+use Rattle.invariants.proofs.Marks.{markOf, marks-left}
 use Rattle.invariants.proofs.Numbers.{uses, usesIn}
 use Rattle.invariants.proofs.OneListing.{relisted-keeps, relisted-counted}
 use Rattle.invariants.proofs.Sorting.{sorted-ahead, ahead-sorted, below, apart, uncrossed-apart, apart-uncrossed}
@@ -96,6 +98,11 @@ module _ (test : Order → Bool) where
         closes = λ sell. rw (own-without m sell) (omega (arith, without-resting 1 a (own sell m), k .closes sell));
       }
 
+  marks-without : (accounts : List Account) (m : Listing) (sell : Bool) → MarksOk accounts (own sell m) → MarksOk accounts (own sell (listingWithout test m))
+  marks-without accounts m sell k =
+      rw (own-without m sell)
+      (marks-left accounts (without test (own sell m)) k (without-all (markAllowed accounts) (own sell m)) (λ a. without-sum (markOf a) (own sell m)))
+
   fewer : (m : Listing) (field : Order → ℕ) (n : ℕ) → usesIn field n (listingWithout test m) ≤ usesIn field n m
   unfolding usesIn uses
   fewer m field n = omega (arith, without-sum (λ o. pick (eqb n (field o)) 1 0) (m .buys), without-sum (λ o. pick (eqb n (field o)) 1 0) (m .sells))
@@ -105,7 +112,7 @@ module _ (test : Order → Bool) where
     unfolding removed
     removed-keeps k =
         relisted-keeps x k c there (listingWithout test (listingAt x c)) (listing-without _ _ _ _ (k .listing c there)) (λ p h. h)
-        (λ a h. holding-without (listingAt x c) a h) (λ field kept. fewer (listingAt x c) field)
+        (λ a h. holding-without (listingAt x c) a h) (λ sell. marks-without (x .accounts) (listingAt x c) sell (k .marks c there sell)) (λ field kept. fewer (listingAt x c) field)
 
     pub removed-counted : Counted x → Counted (lastOf x (removed x c test number .stages))
     unfolding removed

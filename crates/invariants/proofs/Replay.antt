@@ -24,7 +24,7 @@ abbrev pub nowOnly : Holding → Holding
 nowOnly h = record { long = h .long; short = h .short; startlong = 0; startshort = 0 }
 
 abbrev pub lotsOf : Account → Account
-lotsOf a = record { balance = pos 0; maker = false; holdings = map nowOnly (a .holdings) }
+lotsOf a = record { balance = pos 0; maker = 0; holdings = map nowOnly (a .holdings) }
 
 unfoldable pub lotsOnly : List Account → List Account
 lotsOnly accounts = map lotsOf accounts
@@ -60,7 +60,7 @@ same-holdings [] (b ∷ bs) e = absurd (false≢true e)
 same-holdings (a ∷ as′) [] e = absurd (false≢true e)
 same-holdings (a ∷ as′) (b ∷ bs) e =
     let p = both-true (sameLots (a .holdings) (b .holdings)) (sameHoldings as′ bs) e in
-    ap₂ (λ (hs : List Holding) (ls : List Account). record { balance = pos 0; maker = false; holdings = hs } ∷ ls)
+    ap₂ (λ (hs : List Holding) (ls : List Account). record { balance = pos 0; maker = 0; holdings = hs } ∷ ls)
     (same-lots (a .holdings) (b .holdings) (p .0)) (same-holdings as′ bs (p .1))
 
 pub holdings-same : (as′ bs : List Account) → lotsOnly as′ ≡ lotsOnly bs → sameHoldings as′ bs ≡ true
@@ -103,7 +103,7 @@ module _ (accounts : List Account) (a c : ℕ) (sell : Bool) (close lots : ℕ) 
   book-lots =
       map-set lotsOf accounts a _
       ∙ rw (account-lots accounts a, holding-lots accounts a c, ← leg-lots (holdingAt accounts a c) sell close lots)
-      (ap (λ (hs : List Holding). set (map lotsOf accounts) a (record { balance = pos 0; maker = false; holdings = hs }))
+      (ap (λ (hs : List Holding). set (map lotsOf accounts) a (record { balance = pos 0; maker = 0; holdings = hs }))
       (map-set nowOnly (accountAt accounts a .holdings) c (afterLeg (holdingAt accounts a c) sell close lots)))
 
   covered-lots : legCovered (lotsOnly accounts) a c sell close lots ≡ legCovered accounts a c sell close lots

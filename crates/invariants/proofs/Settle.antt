@@ -159,11 +159,15 @@ module _ (x : Exchange) (k : WellFormed x) (n : Counted x) where
   unfolding settledContract
   short-kept a c la lc = rw (held-at a c) (omega (arith, k .holding a c la lc .opens true))
 
+  makers-kept : (a : ℕ) → a < length (x .accounts) → settledAccount x a .maker ≤ 1
+  unfolding settledAccount
+  makers-kept a l = k .makers a l
+
   pub settled-keeps : x .settlements < maxSettlements → WellFormed (settled x)
   unfolding settled settledListing
   settled-keeps few =
       fresh-day (length (x .listings)) contractAt (length (x .accounts)) (settledAccount x) (x .settlements + 1) in-range start
-      (omega arith) long-kept short-kept
+      (omega arith) makers-kept long-kept short-kept
       (λ a l. settled-balance-bound x (well-formed-test x k) (n .contracts) (n .trades) a l (k .balance a l))
 
   pub settled-counted : Counted (settled x)

@@ -1,7 +1,7 @@
 -- ORDER NUMBERS STAY, AND TIME STAMPS ARE NEVER GIVEN TWICE IN A DAY (document 02, ticket 8): after every command but a settlement an
 -- order that rests did so before with its number and its time stamp, or is the one that the command entered, with the next time stamp:
--- an insert's with the next order number, a changed one with the number that it had. Where every time stamp is the order's number, it
--- stays so under every command but a change. Assumes nothing.
+-- an insert's with the next order number, a changed one with the number that it had, a quote's two with the next numbers and time
+-- stamps. Where every time stamp is the order's number, it stays so under every command but a change. Assumes nothing.
 use mathlib.Core.Bool.{Bool, true, false, not, _&&_, _||_, true≢false, false≢true}
 use mathlib.Core.List.{List, [], _∷_}
 use mathlib.Core.Path.{_≡_, refl, sym, ap, _∙_}
@@ -20,11 +20,12 @@ use Rattle.rules.specs.Command.{isSettle, kindNumber}
 use Rattle.rules.specs.Exchange.{Exchange, Listing, listingAt, noListing, opposite, own, placeOf, worse}
 use Rattle.rules.specs.Kinds.{kindOf, lastOf, step}
 use Rattle.rules.specs.Matching.{enter, remainder, restLots, restWhole}
+use Rattle.rules.specs.Quote.{Offered, buyOf, offered, quoted, sellOf, withBuy, withSell, withoutQuote}
 use Rattle.rules.specs.Settlement.{settled, settledListing}
 use Rattle.rules.specs.Step.{cancelled, deposited, enteredOf, exchangeAfter, exchangeMatched, hasNumber, inserted, isOf, limitOf, listingAfter, listingMatched, listingWithout, paid, phaseChanged, pulled, removed, settledAll, withListing, withdrawn}
-use Rattle.rules.specs.WellFormed.{ahead}
+use Rattle.rules.specs.WellFormed.{ahead, isQuoteOf}
 use Rattle.rules.specs.declared.Command.{Command}
-use Rattle.rules.specs.declared.Command.the-variants.{Malformed, Deposit, Withdraw, Insert, Cancel, Pull, Phase, Settle, Change}
+use Rattle.rules.specs.declared.Command.the-variants.{Malformed, Deposit, Withdraw, Insert, Cancel, Pull, Phase, Settle, Quote, Change}
 use Rattle.rules.specs.declared.NewOrder.{NewOrder}
 use Rattle.rules.specs.declared.Order.{Order}
 use Rattle.rules.proofs.AuctionOutcome.{auction-either}
@@ -45,24 +46,42 @@ unfoldable pub restsIn : List Order → ℕ → ℕ → Bool
 restsIn [] number stamp = false
 restsIn (o ∷ os) number stamp = eqb (o .number) number && eqb (o .stamp) stamp || restsIn os number stamp
 
--- it rested before in its queue, or has this number and the next time stamp
-abbrev pub follows : Exchange → ℕ → ℕ → Bool → Order → Bool
-follows x number c sell o = restsIn (own sell (listingAt x c)) (o .number) (o .stamp) || eqb (o .number) number && eqb (o .stamp) (x .nextstamp)
+-- the order number and the time stamp that an order arrives with, and a test for one of those given
+infix 20 _stamped_
+pub data Arrival : Type 0 where
+  _stamped_ : ℕ → ℕ → Arrival
 
-abbrev pub Follow : Exchange → ℕ → Exchange → Type 0
-Follow x number y = (c : ℕ) (sell : Bool) → allOf (follows x number c sell) (own sell (listingAt y c)) ≡ true
+unfoldable pub among : List Arrival → ℕ → ℕ → Bool
+among [] number stamp = false
+among ((n stamped s) ∷ gs) number stamp = eqb number n && eqb stamp s || among gs number stamp
 
--- the number of the order that a command enters, and any number at all where it enters none
-abbrev pub enters : Exchange → ℕ → Command → ℕ
-enters x any Malformed = any
-enters x any (Deposit account amount) = any
-enters x any (Withdraw account amount) = any
-enters x any (Insert o) = x .next
-enters x any (Cancel account contract operator number) = any
-enters x any (Pull account contract operator) = any
-enters x any (Phase contract phase) = any
-enters x any Settle = any
-enters x any (Change account contract number lots price) = number
+-- it rested before in its queue, or has a number and a time stamp that the command gives
+abbrev pub follows : Exchange → List Arrival → ℕ → Bool → Order → Bool
+follows x new c sell o = restsIn (own sell (listingAt x c)) (o .number) (o .stamp) || among new (o .number) (o .stamp)
+
+abbrev pub Follow : Exchange → List Arrival → Exchange → Type 0
+Follow x new y = (c : ℕ) (sell : Bool) → allOf (follows x new c sell) (own sell (listingAt y c)) ≡ true
+
+-- the numbers and time stamps of the orders that a command enters
+abbrev pub enters : Exchange → Command → List Arrival
+enters x Malformed = []
+enters x (Deposit account amount) = []
+enters x (Withdraw account amount) = []
+enters x (Insert o) = (x .next stamped x .nextstamp) ∷ []
+enters x (Cancel account contract operator number) = []
+enters x (Pull account contract operator) = []
+enters x (Phase contract phase) = []
+enters x Settle = []
+enters x (Quote account contract lots buy sell) = (x .next stamped x .nextstamp) ∷ (x .next + 1 stamped x .nextstamp + 1) ∷ []
+enters x (Change account contract number lots price) = (number stamped x .nextstamp) ∷ []
+
+among-first : (n s : ℕ) (gs : List Arrival) → among ((n stamped s) ∷ gs) n s ≡ true
+unfolding among
+among-first n s gs = rw (eq-eqb n n refl, eq-eqb s s refl) refl
+
+among-later : (g : Arrival) (n s : ℕ) (gs : List Arrival) → among gs n s ≡ true → among (g ∷ gs) n s ≡ true
+unfolding among
+among-later (m stamped t) n s gs h = either-true (eqb n m && eqb s t) (among gs n s) h
 
 -- ---- those that rested before
 
@@ -76,14 +95,14 @@ all-rest (o ∷ os) =
     (allOf-imp (λ p. restsIn os (p .number) (p .stamp)) (λ p. restsIn (o ∷ os) (p .number) (p .stamp)) os
     (λ p h. either-true (eqb (o .number) (p .number) && eqb (o .stamp) (p .stamp)) (restsIn os (p .number) (p .stamp)) h) (all-rest os))
 
-module _ (x : Exchange) (number : ℕ) where
-  same-follow : Follow x number x
+module _ (x : Exchange) (new : List Arrival) where
+  same-follow : Follow x new x
   same-follow c sell =
-      allOf-imp (λ o. restsIn (own sell (listingAt x c)) (o .number) (o .stamp)) (follows x number c sell) (own sell (listingAt x c))
-      (λ o h. true-either (restsIn (own sell (listingAt x c)) (o .number) (o .stamp)) (eqb (o .number) number && eqb (o .stamp) (x .nextstamp)) h) (all-rest (own sell (listingAt x c)))
+      allOf-imp (λ o. restsIn (own sell (listingAt x c)) (o .number) (o .stamp)) (follows x new c sell) (own sell (listingAt x c))
+      (λ o h. true-either (restsIn (own sell (listingAt x c)) (o .number) (o .stamp)) (among new (o .number) (o .stamp)) h) (all-rest (own sell (listingAt x c)))
 
   -- neither number nor time stamp goes by the lots
-  follows-lots : (c : ℕ) (sell : Bool) → KeptWithFewer (follows x number c sell)
+  follows-lots : (c : ℕ) (sell : Bool) → KeptWithFewer (follows x new c sell)
   follows-lots c sell o n low high h = h
 
   -- one listing replaced
@@ -94,60 +113,59 @@ module _ (x : Exchange) (number : ℕ) where
   set-all P (l ∷ ls) (suc d) m h p zero = h zero
   set-all P (l ∷ ls) (suc d) m h p (suc c) = set-all (λ i n. P (suc i) n) ls d m (λ i. h (suc i)) p c
 
-  relisted-follow : (y z : Exchange) (d : ℕ) (m : Listing) → z .listings ≡ set (y .listings) d m → Follow x number y →
-      ((sell : Bool) → allOf (follows x number d sell) (own sell m) ≡ true) → Follow x number z
+  relisted-follow : (y z : Exchange) (d : ℕ) (m : Listing) → z .listings ≡ set (y .listings) d m → Follow x new y →
+      ((sell : Bool) → allOf (follows x new d sell) (own sell m) ≡ true) → Follow x new z
   unfolding listingAt
   relisted-follow y z d m e h p c sell =
-      rw e (set-all (λ (i : ℕ) (l : Listing). (side : Bool) → allOf (follows x number i side) (own side l) ≡ true) (y .listings) d m h p c sell)
+      rw e (set-all (λ (i : ℕ) (l : Listing). (side : Bool) → allOf (follows x new i side) (own side l) ≡ true) (y .listings) d m h p c sell)
 
   -- ---- orders taken out
 
-  without-follow : (d : ℕ) (test : Order → Bool) → Follow x number (withListing x d (listingWithout test (listingAt x d)))
+  without-follow : (d : ℕ) (test : Order → Bool) → Follow x new (withListing x d (listingWithout test (listingAt x d)))
   without-follow d test =
       relisted-follow x (withListing x d (listingWithout test (listingAt x d))) d (listingWithout test (listingAt x d)) refl same-follow by
     where
-      by : (sell : Bool) → allOf (follows x number d sell) (own sell (listingWithout test (listingAt x d))) ≡ true
-      by true = without-all test (follows x number d true) (listingAt x d .sells) (same-follow d true)
-      by false = without-all test (follows x number d false) (listingAt x d .buys) (same-follow d false)
+      by : (sell : Bool) → allOf (follows x new d sell) (own sell (listingWithout test (listingAt x d))) ≡ true
+      by true = without-all test (follows x new d true) (listingAt x d .sells) (same-follow d true)
+      by false = without-all test (follows x new d false) (listingAt x d .buys) (same-follow d false)
 
   -- ---- an order entered, in a state whose orders follow
 
-  module _ (y : Exchange) (h : Follow x number y) (stamps : y .nextstamp ≡ x .nextstamp) (o : NewOrder) where
+  module _ (y : Exchange) (h : Follow x new y) (number quote : ℕ) (given : among new number (y .nextstamp) ≡ true) (o : NewOrder) where
     abbrev place : ℕ
     place = placeOf (o .contract)
 
-    mine-follow : (lots price : ℕ) → allOf (follows x number place (o .sell)) (restLots (takerOf y number o) price lots (own (o .sell) (listingOf y o))) ≡ true
+    mine-follow : (lots price : ℕ) → allOf (follows x new place (o .sell)) (restLots (takerOf y number quote o) price lots (own (o .sell) (listingOf y o))) ≡ true
     unfolding takerOf remainder listingOf
     mine-follow lots price =
-        rested-all (takerOf y number o) price (follows x number place (o .sell)) lots (own (o .sell) (listingOf y o))
-        (λ some. either-true (restsIn (own (o .sell) (listingAt x place)) number (y .nextstamp)) _
-        (true-both (eqb number number) (eqb (y .nextstamp) (x .nextstamp)) (eq-eqb number number refl) (eq-eqb (y .nextstamp) (x .nextstamp) stamps)))
+        rested-all (takerOf y number quote o) price (follows x new place (o .sell)) lots (own (o .sell) (listingOf y o))
+        (λ some. either-true (restsIn (own (o .sell) (listingAt x place)) number (y .nextstamp)) (among new number (y .nextstamp)) given)
         (h place (o .sell))
 
-    others-follow : allOf (follows x number place (not (o .sell))) (opposite (o .sell) (listingOf y o)) ≡ true
+    others-follow : allOf (follows x new place (not (o .sell))) (opposite (o .sell) (listingOf y o)) ≡ true
     unfolding listingOf
     others-follow = rw (← other-own (o .sell) (listingAt y place)) (h place (not (o .sell)))
 
-    queues-follow : (mine others : List Order) → allOf (follows x number place (o .sell)) mine ≡ true → allOf (follows x number place (not (o .sell))) others ≡ true →
-        (sell : Bool) → allOf (follows x number place sell) (pick sell (pick (o .sell) mine others) (pick (o .sell) others mine)) ≡ true
+    queues-follow : (mine others : List Order) → allOf (follows x new place (o .sell)) mine ≡ true → allOf (follows x new place (not (o .sell))) others ≡ true →
+        (sell : Bool) → allOf (follows x new place sell) (pick sell (pick (o .sell) mine others) (pick (o .sell) others mine)) ≡ true
     queues-follow mine others p q = by (o .sell) p q
       where
-        by : (s : Bool) → allOf (follows x number place s) mine ≡ true → allOf (follows x number place (not s)) others ≡ true →
-            (sell : Bool) → allOf (follows x number place sell) (pick sell (pick s mine others) (pick s others mine)) ≡ true
+        by : (s : Bool) → allOf (follows x new place s) mine ≡ true → allOf (follows x new place (not s)) others ≡ true →
+            (sell : Bool) → allOf (follows x new place sell) (pick sell (pick s mine others) (pick s others mine)) ≡ true
         by true p q true = p
         by true p q false = q
         by false p q true = q
         by false p q false = p
 
-    entered-follow : (next : ℕ) → Follow x number (exchangeAfter y o (enteredOf y number o) next)
+    entered-follow : (next : ℕ) → Follow x new (exchangeAfter y o (enteredOf y number quote o) next)
     unfolding exchangeAfter listingAfter restWhole enter
     entered-follow next =
-        relisted-follow y (exchangeAfter y o (enteredOf y number o) next) place (listingAfter (listingOf y o) (o .sell) (enteredOf y number o)) refl h
-        (entered-either y number o
-        (λ e. (sell : Bool) → allOf (follows x number place sell) (own sell (listingAfter (listingOf y o) (o .sell) e)) ≡ true)
+        relisted-follow y (exchangeAfter y o (enteredOf y number quote o) next) place (listingAfter (listingOf y o) (o .sell) (enteredOf y number quote o)) refl h
+        (entered-either y number quote o
+        (λ e. (sell : Bool) → allOf (follows x new place sell) (own sell (listingAfter (listingOf y o) (o .sell) e)) ≡ true)
         (λ a. queues-follow _ _ (mine-follow (o .lots) (limitOf (o .condition))) others-follow)
         (λ a. queues-follow _ _ (mine-follow _ (limitOf (o .condition)))
-        (rest-all (follows x number place (not (o .sell))) (follows-lots place (not (o .sell))) (takerOf y number o) (o .lots) (listingOf y o .contract .last) (opposite (o .sell) (listingOf y o)) others-follow)))
+        (rest-all (follows x new place (not (o .sell))) (follows-lots place (not (o .sell))) (takerOf y number quote o) (o .lots) (listingOf y o .contract .last) (opposite (o .sell) (listingOf y o)) others-follow)))
 
   -- ---- the match of an auction
 
@@ -158,30 +176,30 @@ module _ (x : Exchange) (number : ℕ) where
       (λ bs ss a g h. (g, h))
       (λ b bs s ss m f r ih g h. ih (less-kept _ b bs p k g) (less-kept _ s ss q l h))
 
-  match-follow : (d phase : ℕ) → Follow x number (exchangeMatched x d phase (matchOf x d))
+  match-follow : (d phase : ℕ) → Follow x new (exchangeMatched x d phase (matchOf x d))
   unfolding exchangeMatched listingMatched
   match-follow d phase =
       relisted-follow x (exchangeMatched x d phase (matchOf x d)) d (listingMatched (listingAt x d) phase (matchOf x d)) refl same-follow (by both-sides)
     where
       Both : Matched → Type 0
-      Both m = (allOf (follows x number d false) (m .buys) ≡ true) × (allOf (follows x number d true) (m .sells) ≡ true)
+      Both m = (allOf (follows x new d false) (m .buys) ≡ true) × (allOf (follows x new d true) (m .sells) ≡ true)
 
       both-sides : Both (matchOf x d)
       both-sides =
           match-either x d Both
           (λ a. auction-either d (listingAt x d .contract .last) (listingAt x d .buys) (listingAt x d .sells) Both (λ z. (same-follow d false, same-follow d true))
-          (λ z. matched-all d _ (follows x number d false) (follows x number d true) (follows-lots d false) (follows-lots d true) (listingAt x d .buys) (listingAt x d .sells)
+          (λ z. matched-all d _ (follows x new d false) (follows x new d true) (follows-lots d false) (follows-lots d true) (listingAt x d .buys) (listingAt x d .sells)
           (same-follow d false) (same-follow d true)))
           (λ a. (same-follow d false, same-follow d true))
 
-      by : Both (matchOf x d) → (sell : Bool) → allOf (follows x number d sell) (own sell (listingMatched (listingAt x d) phase (matchOf x d))) ≡ true
+      by : Both (matchOf x d) → (sell : Bool) → allOf (follows x new d sell) (own sell (listingMatched (listingAt x d) phase (matchOf x d))) ≡ true
       by b true = b .1
       by b false = b .0
 
   -- ---- a change
 
   module _ (k : Asked) where
-    gone-follow : Follow x number (gone x k)
+    gone-follow : Follow x new (gone x k)
     unfolding gone
     gone-follow = without-follow (placeOf (k .contract)) (hasNumber (k .number))
 
@@ -189,37 +207,54 @@ module _ (x : Exchange) (number : ℕ) where
     unfolding gone
     gone-stamps = refl
 
-    kept-follow : Follow x number (lastOf x (placeKept x k .stages))
+    kept-follow : Follow x new (lastOf x (placeKept x k .stages))
     unfolding placeKept
     kept-follow =
         relisted-follow x (lastOf x (placeKept x k .stages)) (placeOf (k .contract)) _ refl same-follow by
       where
-        by : (sell : Bool) → allOf (follows x number (placeOf (k .contract)) sell) (own sell (listingLessened k (listingFor x k))) ≡ true
-        by true = rw (same-all (k .number) (k .lots) (follows x number (placeOf (k .contract)) true) (λ o. refl) (listingFor x k .sells)) (same-follow (placeOf (k .contract)) true)
-        by false = rw (same-all (k .number) (k .lots) (follows x number (placeOf (k .contract)) false) (λ o. refl) (listingFor x k .buys)) (same-follow (placeOf (k .contract)) false)
+        by : (sell : Bool) → allOf (follows x new (placeOf (k .contract)) sell) (own sell (listingLessened k (listingFor x k))) ≡ true
+        by true = rw (same-all (k .number) (k .lots) (follows x new (placeOf (k .contract)) true) (λ o. refl) (listingFor x k .sells)) (same-follow (placeOf (k .contract)) true)
+        by false = rw (same-all (k .number) (k .lots) (follows x new (placeOf (k .contract)) false) (λ o. refl) (listingFor x k .buys)) (same-follow (placeOf (k .contract)) false)
 
-change-follow : (x : Exchange) (k : Asked) → Follow x (k .number) (lastOf x (changed x k .stages))
+change-follow : (x : Exchange) (k : Asked) → Follow x ((k .number stamped x .nextstamp) ∷ []) (lastOf x (changed x k .stages))
 unfolding cancelled removed placeLost unchanged reentered
 change-follow x k =
-    changed-either x k (λ ts e. Follow x (k .number) (lastOf x (e .stages)))
-    (λ e. without-follow x (k .number) (placeOf (k .contract)) (hasNumber (k .number)))
-    (λ e. entered-follow x (k .number) (gone x k) (gone-follow x (k .number) k) (gone-stamps x (k .number) k) (arriving x k) (x .next))
-    (λ e f. same-follow x (k .number))
-    (λ e f g. kept-follow x (k .number) k)
+    changed-either x k (λ ts e. Follow x new (lastOf x (e .stages)))
+    (λ e. without-follow x new (placeOf (k .contract)) (hasNumber (k .number)))
+    (λ e. entered-follow x new (gone x k) (gone-follow x new k) (k .number) 0 (rw (gone-stamps x new k) (among-first (k .number) (x .nextstamp) [])) (arriving x k) (x .next))
+    (λ e f. same-follow x new)
+    (λ e f g. kept-follow x new k)
+  where
+    new : List Arrival
+    new = (k .number stamped x .nextstamp) ∷ []
+
+-- a quote: the old one gone, the buy entered, the sell entered
+quote-follow : (x : Exchange) (q : Offered) → Follow x ((x .next stamped x .nextstamp) ∷ (x .next + 1 stamped x .nextstamp + 1) ∷ []) (lastOf x (quoted x q .stages))
+unfolding quoted withSell withBuy withoutQuote exchangeAfter
+quote-follow x q =
+    entered-follow x new (withBuy x q)
+    (entered-follow x new (withoutQuote x q) (without-follow x new (placeOf (q .contract)) (isQuoteOf (placeOf (q .account)))) (x .next) 1
+    (among-first (x .next) (x .nextstamp) _) (buyOf q) (x .next + 1))
+    (x .next + 1) 1 (among-later (x .next stamped x .nextstamp) (x .next + 1) (x .nextstamp + 1) _ (among-first (x .next + 1) (x .nextstamp + 1) [])) (sellOf q) (x .next + 1 + 1)
+  where
+    new : List Arrival
+    new = (x .next stamped x .nextstamp) ∷ (x .next + 1 stamped x .nextstamp + 1) ∷ []
 
 -- ---- every kind
 
-kind-follow : (x : Exchange) (any : ℕ) (command : Command) → isSettle command ≡ false → Follow x (enters x any command) (lastOf x (kindOf x command .effect .stages))
+kind-follow : (x : Exchange) (command : Command) → isSettle command ≡ false → Follow x (enters x command) (lastOf x (kindOf x command .effect .stages))
 unfolding kindOf deposited withdrawn inserted cancelled pulled removed phaseChanged paid listingAt
-kind-follow x any Malformed n = same-follow x any
-kind-follow x any (Deposit account amount) n = same-follow x any
-kind-follow x any (Withdraw account amount) n = same-follow x any
-kind-follow x any (Insert o) n = entered-follow x (x .next) x (same-follow x (x .next)) refl o (x .next + 1)
-kind-follow x any (Cancel account contract operator number) n = without-follow x any (placeOf contract) (hasNumber number)
-kind-follow x any (Pull account contract operator) n = without-follow x any (placeOf contract) (isOf (placeOf account))
-kind-follow x any (Phase contract phase) n = match-follow x any (placeOf contract) phase
-kind-follow x any Settle n = absurd (true≢false n)
-kind-follow x any (Change account contract number lots price) n = change-follow x (asked account contract number lots price)
+kind-follow x Malformed n = same-follow x []
+kind-follow x (Deposit account amount) n = same-follow x []
+kind-follow x (Withdraw account amount) n = same-follow x []
+kind-follow x (Insert o) n =
+    entered-follow x ((x .next stamped x .nextstamp) ∷ []) x (same-follow x ((x .next stamped x .nextstamp) ∷ [])) (x .next) 0 (among-first (x .next) (x .nextstamp) []) o (x .next + 1)
+kind-follow x (Cancel account contract operator number) n = without-follow x [] (placeOf contract) (hasNumber number)
+kind-follow x (Pull account contract operator) n = without-follow x [] (placeOf contract) (isOf (placeOf account))
+kind-follow x (Phase contract phase) n = match-follow x [] (placeOf contract) phase
+kind-follow x Settle n = absurd (true≢false n)
+kind-follow x (Quote account contract lots buy sell) n = quote-follow x (offered account contract lots buy sell)
+kind-follow x (Change account contract number lots price) n = change-follow x (asked account contract number lots price)
 
 change-rises : (x : Exchange) (k : Asked) → x .nextstamp ≤ lastOf x (changed x k .stages) .nextstamp
 unfolding cancelled removed placeLost unchanged placeKept exchangeAfter gone
@@ -237,14 +272,15 @@ kind-rises x (Cancel account contract operator number) n = le-refl (x .nextstamp
 kind-rises x (Pull account contract operator) n = le-refl (x .nextstamp)
 kind-rises x (Phase contract phase) n = le-refl (x .nextstamp)
 kind-rises x Settle n = absurd (true≢false n)
+kind-rises x (Quote account contract lots buy sell) n = unfold quoted withSell withBuy withoutQuote in omega arith
 kind-rises x (Change account contract number lots price) n = change-rises x (asked account contract number lots price)
 
 -- NUMBERS STAY: every order resting after a command but a settlement rested before, with its number and its time stamp, or was entered
--- by it, with the next time stamp and the number of `enters`
-pub numbers-stay : (x : Exchange) (any : ℕ) (command : Command) → isSettle command ≡ false → Follow x (enters x any command) (step x command)
+-- by it, with the number and the time stamp of `enters`
+pub numbers-stay : (x : Exchange) (command : Command) → isSettle command ≡ false → Follow x (enters x command) (step x command)
 unfolding step
-numbers-stay x any command n =
-    decided (λ d. Follow x (enters x any command) (lastOf x (d .stages))) x command (λ e. kind-follow x any command n) (λ e. same-follow x (enters x any command))
+numbers-stay x command n =
+    decided (λ d. Follow x (enters x command) (lastOf x (d .stages))) x command (λ e. kind-follow x command n) (λ e. same-follow x (enters x command))
 
 -- .. and the next time stamp never falls within a day, so that none is given twice
 pub stamps-rise : (x : Exchange) (command : Command) → isSettle command ≡ false → x .nextstamp ≤ step x command .nextstamp
@@ -279,16 +315,29 @@ rests-stamped (o ∷ os) number stamp h e = go (eqb (o .number) number && eqb (o
         eq-eqb stamp number (sym (eqb-true (o .stamp) stamp (p .1)) ∙ eqb-true (o .stamp) (o .number) (q .0) ∙ eqb-true (o .number) number (p .0))
     go false f ih e = ih e
 
-follow-stamped : (x y : Exchange) → StampsAsNumbers x → Follow x (x .next) y → (c : ℕ) (sell : Bool) → allOf stampIsNumber (own sell (listingAt y c)) ≡ true
-follow-stamped x y h f c sell =
-    allOf-imp (follows x (x .next) c sell) stampIsNumber (own sell (listingAt y c))
-    (λ o e. go o (restsIn (own sell (listingAt x c)) (o .number) (o .stamp)) refl e) (f c sell)
+-- each number given is its time stamp
+abbrev Alike : List Arrival → Type 0
+Alike [] = Unit {0}
+Alike ((n stamped s) ∷ gs) = (s ≡ n) × Alike gs
+
+among-alike : (gs : List Arrival) → Alike gs → (number stamp : ℕ) → among gs number stamp ≡ true → eqb stamp number ≡ true
+unfolding among
+among-alike [] a number stamp e = absurd (false≢true e)
+among-alike ((n stamped s) ∷ gs) a number stamp e = go (eqb number n && eqb stamp s) refl (among-alike gs (a .1) number stamp) e
   where
-    go : (o : Order) (b : Bool) → restsIn (own sell (listingAt x c)) (o .number) (o .stamp) ≡ b → (b || eqb (o .number) (x .next) && eqb (o .stamp) (x .nextstamp)) ≡ true → stampIsNumber o ≡ true
+    go : (b : Bool) → (eqb number n && eqb stamp s) ≡ b → (among gs number stamp ≡ true → eqb stamp number ≡ true) → (b || among gs number stamp) ≡ true → eqb stamp number ≡ true
+    go true f ih e =
+        let p = both-true (eqb number n) (eqb stamp s) f in
+        eq-eqb stamp number (eqb-true stamp s (p .1) ∙ a .0 ∙ sym (eqb-true number n (p .0)))
+    go false f ih e = ih e
+
+follow-stamped : (x y : Exchange) → StampsAsNumbers x → (new : List Arrival) → Alike new → Follow x new y → (c : ℕ) (sell : Bool) → allOf stampIsNumber (own sell (listingAt y c)) ≡ true
+follow-stamped x y h new alike f c sell =
+    allOf-imp (follows x new c sell) stampIsNumber (own sell (listingAt y c)) (λ o e. go o (restsIn (own sell (listingAt x c)) (o .number) (o .stamp)) refl e) (f c sell)
+  where
+    go : (o : Order) (b : Bool) → restsIn (own sell (listingAt x c)) (o .number) (o .stamp) ≡ b → (b || among new (o .number) (o .stamp)) ≡ true → stampIsNumber o ≡ true
     go o true r e = rests-stamped (own sell (listingAt x c)) (o .number) (o .stamp) (h .orders c sell) r
-    go o false r e =
-        let p = both-true (eqb (o .number) (x .next)) (eqb (o .stamp) (x .nextstamp)) e in
-        eq-eqb (o .stamp) (o .number) (eqb-true (o .stamp) (x .nextstamp) (p .1) ∙ h .next ∙ sym (eqb-true (o .number) (x .next) (p .0)))
+    go o false r e = among-alike new alike (o .number) (o .stamp) e
 
 -- a settlement leaves no order
 settled-none : (n : ℕ) (f : ℕ → Listing) (c : ℕ) (sell : Bool) → ((i : ℕ) → own sell (f i) ≡ []) → own sell (getD (tabulate n f) c noListing) ≡ []
@@ -307,19 +356,25 @@ settled-stamped x =
     none true = refl
     none false = refl
 
-entered-stamped : (x y : Exchange) → StampsAsNumbers x → y .nextstamp ≡ y .next → Follow x (x .next) y → StampsAsNumbers y
-entered-stamped x y h e f = record { next = e; orders = follow-stamped x y h f }
+entered-stamped : (x y : Exchange) → StampsAsNumbers x → y .nextstamp ≡ y .next → (new : List Arrival) → Alike new → Follow x new y → StampsAsNumbers y
+entered-stamped x y h e new alike f = record { next = e; orders = follow-stamped x y h new alike f }
+
+quote-stamped : (x : Exchange) (q : Offered) → StampsAsNumbers x → StampsAsNumbers (lastOf x (quoted x q .stages))
+unfolding quoted withSell withBuy withoutQuote exchangeAfter
+quote-stamped x q h =
+    entered-stamped x (withSell x q) h (ap (λ (i : ℕ). i + 1 + 1) (h .next)) _ (h .next, (ap (λ (i : ℕ). i + 1) (h .next), tt)) (quote-follow x q)
 
 kind-stamped : (x : Exchange) (command : Command) → isChange command ≡ false → StampsAsNumbers x → StampsAsNumbers (lastOf x (kindOf x command .effect .stages))
 unfolding kindOf deposited withdrawn inserted cancelled pulled removed phaseChanged settledAll paid exchangeAfter exchangeMatched
 kind-stamped x Malformed n h = h
-kind-stamped x (Deposit account amount) n h = entered-stamped x _ h (h .next) (kind-follow x (x .next) (Deposit account amount) refl)
-kind-stamped x (Withdraw account amount) n h = entered-stamped x _ h (h .next) (kind-follow x (x .next) (Withdraw account amount) refl)
-kind-stamped x (Insert o) n h = entered-stamped x _ h (ap (λ (i : ℕ). i + 1) (h .next)) (kind-follow x (x .next) (Insert o) refl)
-kind-stamped x (Cancel account contract operator number) n h = entered-stamped x _ h (h .next) (kind-follow x (x .next) (Cancel account contract operator number) refl)
-kind-stamped x (Pull account contract operator) n h = entered-stamped x _ h (h .next) (kind-follow x (x .next) (Pull account contract operator) refl)
-kind-stamped x (Phase contract phase) n h = entered-stamped x _ h (h .next) (kind-follow x (x .next) (Phase contract phase) refl)
+kind-stamped x (Deposit account amount) n h = entered-stamped x _ h (h .next) [] tt (kind-follow x (Deposit account amount) refl)
+kind-stamped x (Withdraw account amount) n h = entered-stamped x _ h (h .next) [] tt (kind-follow x (Withdraw account amount) refl)
+kind-stamped x (Insert o) n h = entered-stamped x _ h (ap (λ (i : ℕ). i + 1) (h .next)) _ (h .next, tt) (kind-follow x (Insert o) refl)
+kind-stamped x (Cancel account contract operator number) n h = entered-stamped x _ h (h .next) [] tt (kind-follow x (Cancel account contract operator number) refl)
+kind-stamped x (Pull account contract operator) n h = entered-stamped x _ h (h .next) [] tt (kind-follow x (Pull account contract operator) refl)
+kind-stamped x (Phase contract phase) n h = entered-stamped x _ h (h .next) [] tt (kind-follow x (Phase contract phase) refl)
 kind-stamped x Settle n h = settled-stamped x
+kind-stamped x (Quote account contract lots buy sell) n h = quote-stamped x (offered account contract lots buy sell) h
 kind-stamped x (Change account contract number lots price) n h = absurd (true≢false n)
 
 -- EVERY COMMAND BUT A CHANGE LEAVES TIME STAMPS AS NUMBERS

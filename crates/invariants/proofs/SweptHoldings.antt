@@ -37,10 +37,10 @@ pub record TradeKept (accounts limit : ℕ) (t : Taker) (price : ℕ) (own : Lis
       KeptBy (t .sell) accounts limit (t .contract) (bookTrade l (tradeWith t o left last)) (remainder t price (left - min left (o .lots)) ∷ own)
       (withLots o (o .lots - min left (o .lots)) ∷ os)
 
-module _ (accounts limit price : ℕ) (account contract close number stamp best : ℕ) (condition : PriceCondition) (method : PairingMethod) (own : List Order) (l : List Account)
+module _ (accounts limit price : ℕ) (account contract close number stamp quote best : ℕ) (condition : PriceCondition) (method : PairingMethod) (own : List Order) (l : List Account)
     (here : account < accounts) (mark : close ≤ 1) where
   abbrev taker : Bool → Taker
-  taker sell = record { account = account; contract = contract; sell = sell; close = close; number = number; stamp = stamp; condition = condition; method = method; best = best }
+  taker sell = record { account = account; contract = contract; sell = sell; close = close; number = number; stamp = stamp; quote = quote; condition = condition; method = method; best = best }
 
   turn-by : (sell : Bool) (left last : ℕ) (o : Order) (os : List Order) → o .account < accounts → o .close ≤ 1 →
       KeptBy sell accounts limit contract l (remainder (taker sell) price left ∷ own) (o ∷ os) → TradeKept accounts limit
@@ -48,7 +48,7 @@ module _ (accounts limit price : ℕ) (account contract close number stamp best 
   unfolding remainder tradeWith bookTrade
   turn-by false left last o os there its-mark kept =
       let k = min left (o .lots) in
-      let b : Order = record { price = price; number = number; account = account; lots = left; close = close; stamp = stamp; quote = 0 } in
+      let b : Order = record { price = price; number = number; account = account; lots = left; close = close; stamp = stamp; quote = quote } in
       record {
         buy = buyer-covered accounts limit contract l b o own os k (omega arith) (omega arith) mark its-mark here there kept;
         sell = seller-covered accounts limit contract l b o own os k (omega arith) (omega arith) mark its-mark here there kept;
@@ -56,7 +56,7 @@ module _ (accounts limit price : ℕ) (account contract close number stamp best 
       }
   turn-by true left last o os there its-mark kept =
       let k = min left (o .lots) in
-      let s : Order = record { price = price; number = number; account = account; lots = left; close = close; stamp = stamp; quote = 0 } in
+      let s : Order = record { price = price; number = number; account = account; lots = left; close = close; stamp = stamp; quote = quote } in
       record {
         buy = buyer-covered accounts limit contract l o s os own k (omega arith) (omega arith) its-mark mark there here kept;
         sell = seller-covered accounts limit contract l o s os own k (omega arith) (omega arith) its-mark mark there here kept;
@@ -114,7 +114,7 @@ module _ (accounts limit price next nextstamp : ℕ) (contract : Contract) (t : 
   unfolding allOf
   turn l left last o os h =
       let k = order-ok accounts next nextstamp contract o (both-true (test o) (allOf test os) h .0) in
-      turn-by accounts limit price (t .account) (t .contract) (t .close) (t .number) (t .stamp) (t .best) (t .condition) (t .method) own l here mark
+      turn-by accounts limit price (t .account) (t .contract) (t .close) (t .number) (t .stamp) (t .quote) (t .best) (t .condition) (t .method) own l here mark
       (t .sell) left last o os (k .account) (k .close)
 
   module _ (l : List Account) (left last : ℕ) (o : Order) (os : List Order) (q : TradeKept accounts limit t price own l left last o os) where

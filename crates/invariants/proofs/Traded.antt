@@ -14,9 +14,10 @@ use Rattle.rules.specs.Holdings.{bookTrades, neverBelowZero}
 use Rattle.rules.specs.Step.{withTrades}
 use Rattle.rules.specs.WellFormed.{allNumbers, allStamps, tradeInRange, numberOf, stampOf}
 use Rattle.rules.specs.declared.Trade.{Trade}
-use Rattle.rules.proofs.Holdings.{length-bookTrades, booked-balance, replay-more, never-more}
+use Rattle.rules.proofs.Holdings.{length-bookTrades, booked-balance, booked-maker, replay-more, never-more}
 use Rattle.invariants.proofs.Carry.{Allows, orders-carried, trades-carried}
-use Rattle.invariants.proofs.Clauses.{ListingOk, HoldingOk, WellFormed, Counted}
+use Rattle.invariants.proofs.Clauses.{ListingOk, HoldingOk, MarksOk, WellFormed, Counted}
+use Rattle.invariants.proofs.Marks.{marks-carried}
 use Rattle.invariants.proofs.Numbers.{occurs, usesIn, once-changed}
 use Rattle.invariants.proofs.SweptTrades.{ofContract, other-holding}
 
@@ -35,6 +36,7 @@ pub record TradesOk (x : Exchange) (c : ℕ) (m : Listing) (ts : List Trade) (n 
   pub here : allOf (ofContract c) ts ≡ true
   pub never : neverBelowZero (x .accounts) ts ≡ true
   pub holding : (a : ℕ) → a < length (x .accounts) → HoldingOk m a (holdingAt (bookTrades (x .accounts) ts) a c)
+  pub marks : (sell : Bool) → MarksOk (x .accounts) (own sell m)
 
 module _ (x : Exchange) (c : ℕ) (m : Listing) (ts : List Trade) (n s : ℕ) where
   pub traded-listings : length (withTrades x c m ts n s .listings) ≡ length (x .listings)
@@ -91,6 +93,12 @@ module _ (x : Exchange) (k : WellFormed x) (c : ℕ) (m : Listing) (ts : List Tr
       (at-set (λ (j : ℕ) (o : Listing). ListingOk (length (x .accounts)) n s o) (x .listings) c m noListing (ok .there) (ok .listing) d
       (λ e. listing-later (length (x .accounts)) (x .next) n (x .nextstamp) s (listingAt x d) (ok .later) (ok .stamped) (k .listing d l)))
 
+  marks-after : (d : ℕ) → d < length (x .listings) → (sell : Bool) → MarksOk (bookTrades (x .accounts) ts) (own sell (listingAt afterwards d))
+  unfolding listingAt
+  marks-after d l sell =
+      marks-carried (x .accounts) (bookTrades (x .accounts) ts) (traded-accounts x c m ts n s) (booked-maker (x .accounts) ts)
+      (at-set (λ (j : ℕ) (o : Listing). MarksOk (x .accounts) (own sell o)) (x .listings) c m noListing (ok .there) (ok .marks sell) d (λ e. k .marks d l sell))
+
   pub traded-keeps : WellFormed (withTrades x c m ts n s)
   unfolding listingAt
   traded-keeps =
@@ -103,6 +111,8 @@ module _ (x : Exchange) (k : WellFormed x) (c : ℕ) (m : Listing) (ts : List Tr
         listing = λ d l. listings-after d (omega (arith, traded-listings x c m ts n s));
         once = once-changed numberOf (x .listings) c m (ok .there) (k .once) (ok .numbers);
         stamps-once = once-changed stampOf (x .listings) c m (ok .there) (k .stamps-once) (ok .stamps);
+        marks = λ d l. marks-after d (omega (arith, traded-listings x c m ts n s));
+        makers = λ a l. rw (booked-maker (x .accounts) ts a) (k .makers a (omega (arith, traded-accounts x c m ts n s)));
         trades =
             rw (allOf-append (tradeInRange afterwards) (x .trades) ts)
             (true-both (allOf (tradeInRange afterwards) (x .trades)) (allOf (tradeInRange afterwards) ts) old-trades (ok .ranges));

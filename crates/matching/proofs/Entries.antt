@@ -27,7 +27,7 @@ unfolding restLots
 rests-not t price lots queue e = rw e
 
 rests-in : (t : Taker) (price lots : ℕ) (queue : List Order) → (lots ≡ 0 → ⊥)
-    → restLots t price lots queue ≡ restIn (t .sell) (record { price = price; number = t .number; account = t .account; lots = lots; close = t .close; stamp = t .stamp; quote = 0 }) queue
+    → restLots t price lots queue ≡ restIn (t .sell) (record { price = price; number = t .number; account = t .account; lots = lots; close = t .close; stamp = t .stamp; quote = t .quote }) queue
 unfolding restLots remainder
 rests-in t price zero queue some = absurd (some refl)
 rests-in t price (suc n) queue some = refl
@@ -48,7 +48,7 @@ module _ (t : Taker) (price lots : ℕ) (owns : List ℕ) (c count : ℕ) where
     rest-room room = omega (arith, length-rests)
 
     pub some-rests : {owns′ : List ℕ}
-        → owns′ ≡ putQueue owns c count (restIn (t .sell) (record { price = price; number = t .number; account = t .account; lots = lots; close = t .close; stamp = t .stamp; quote = 0 }) (queueIn owns c count))
+        → owns′ ≡ putQueue owns c count (restIn (t .sell) (record { price = price; number = t .number; account = t .account; lots = lots; close = t .close; stamp = t .stamp; quote = t .quote }) (queueIn owns c count))
         → (count + 1 ≡ length (restLots t price lots (queueIn owns c count))) × (owns′ ≡ putQueue owns c count (restLots t price lots (queueIn owns c count)))
     some-rests e = (sym length-rests, e ∙ ap (putQueue owns c count) (sym (rests-in t price lots (queueIn owns c count) some)))
 

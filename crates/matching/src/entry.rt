@@ -49,7 +49,7 @@ pub fn rest(own: &mut [u32], c: usize, count: usize, t: Taker, price: u32, lots:
         lots,
         close: t.close,
         stamp: t.stamp,
-        quote: 0,
+        quote: t.quote,
     };
     queue::insert(own, c, count, t.sell, o);
     count + 1

@@ -68,11 +68,11 @@ module _ {s : State} {buys sells trades : List ℕ} (w : WellFormedState s buys 
 
       module _ {area : List ℕ} {count : ℕ} (ea : area ≡ sideArea (not (o .sell)) buys sells) (ec : count ≡ sideCount (not (o .sell)) s (k - 1)) where
         pub room : QueueRoom area (o .contract - 1) count
-        room = rw (ec, ea, is) (opposite-facing m f c (p .contract) (s .next) (s .nextstamp) (listingAt x c .contract) o .queue)
+        room = rw (ec, ea, is) (opposite-facing m f c (p .contract) (s .next) 0 (s .nextstamp) (listingAt x c .contract) o .queue)
 
-        module _ {t : Taker} (et : t ≡ takerFor (s .next) (s .nextstamp) (getD (s .contracts) (k - 1) noContract) (queueIn area (o .contract - 1) count) o) where
+        module _ {t : Taker} (et : t ≡ takerFor (s .next) 0 (s .nextstamp) (getD (s .contracts) (k - 1) noContract) (queueIn area (o .contract - 1) count) o) where
           pub facing : Facing t area (k - 1) count
-          facing = rw (et, ec, ea, is) (opposite-facing m f c (p .contract) (s .next) (s .nextstamp) _ o)
+          facing = rw (et, ec, ea, is) (opposite-facing m f c (p .contract) (s .next) 0 (s .nextstamp) _ o)
 
           pub answered : fields ≡ 0 → {r : Gathered} → GatheredIs t (o .lots) (queueIn area (k - 1) count) r
               → record { code = 0; lots = r .lots; read = r .read } ≡ orderReading x o
@@ -81,10 +81,10 @@ module _ {s : State} {buys sells trades : List ℕ} (w : WellFormedState s buys 
               rw (gathered .lots, gathered .read, et, ec, ea, is) (sym (rw (code-is, passed, opposite-is m f c (p .contract) (o .sell), contract-is m f c (p .contract))))
 
   -- the lots to be had are those that the sweep would trade, whatever the last price
-  pub would-trade : Present s o → (last : ℕ) → tradedLots (sweep (takerOf x (x .next) o) (o .lots) last (opposite (o .sell) (listingOf x o)) .trades) ≡ lotsNow x o
+  pub would-trade : Present s o → (last : ℕ) → tradedLots (sweep (takerOf x (x .next) 0 o) (o .lots) last (opposite (o .sell) (listingOf x o)) .trades) ≡ lotsNow x o
   unfolding lotsNow fillableLots takerOf listingOf
   would-trade p last =
-      let met = opposite-facing m f c (p .contract) (x .next) (x .nextstamp) (listingAt x c .contract) o in
+      let met = opposite-facing m f c (p .contract) (x .next) 0 (x .nextstamp) (listingAt x c .contract) o in
       rw (opposite-is m f c (p .contract) (o .sell)) (swept-fillable _ (o .lots) last _ (met .order) (met .best))
 
 -- ---- 24 bytes on any state

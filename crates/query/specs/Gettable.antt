@@ -33,7 +33,7 @@ ordersRead t left [] = 0
 ordersRead t left (o ∷ os) = pick (ltb 0 left) (1 + pick (counterpart t o) (ordersRead t (left - o .lots) os) 0) 0
 
 unfoldable pub readNow : Exchange → NewOrder → ℕ
-readNow x o = ordersRead (takerOf x (x .next) o) (o .lots) (opposite (o .sell) (listingOf x o))
+readNow x o = ordersRead (takerOf x (x .next) 0 o) (o .lots) (opposite (o .sell) (listingOf x o))
 
 -- ---- the refusals, "as for insert, in that order, with no state test"
 

@@ -18,7 +18,7 @@ use Rattle.rules.specs.Command.{bits, commandOf, insertFlags, insertOf, newOrde
 use Rattle.rules.specs.Holdings.{afterLeg, bookLeg, bookTrade, bookTrades, legCovered, neverBelowZero, sameHoldings, sameLots, startOfDay}
 use Rattle.rules.specs.Matching.{fillable, meets}
 use Rattle.rules.specs.Memory.{Memory, countsInRange, exchangeOf, hasRoom, listingIn, queueIn, recordedTrades, wellFormedMemory, queueStride, tradeStride}
-use Rattle.rules.specs.WellFormed.{ahead, aheadOfFirst, balanceInRange, contractInRange, countersInRange, holdingInRange, holdingsInRange, listingInRange, numbers, orderInRange, replays, sorted, tradeInRange, uncrossed, usedOnce, wellFormedContents, listed, allListed}
+use Rattle.rules.specs.WellFormed.{ahead, aheadOfFirst, balanceInRange, contractInRange, countersInRange, holdingInRange, holdingsInRange, listingInRange, numbers, orderInRange, replays, sorted, tradeInRange, uncrossed, usedOnce, quotes, markAllowed, queueQuoted, listingQuoted, markInRange, wellFormedContents, listed, allListed}
 use Rattle.rules.specs.declared.NewOrder.{NewOrder}
 use Rattle.rules.specs.declared.Order.{Order}
 use Rattle.rules.specs.declared.PriceCondition.{PriceCondition}
@@ -41,7 +41,7 @@ book phase sells =
         buys = order 4 109 3 ∷ [];
         sells = sells;
       } ∷ [];
-      accounts = record { balance = pos 0; maker = false; holdings = noHolding ∷ [] } ∷ record { balance = pos 0; maker = false; holdings = noHolding ∷ [] } ∷ [];
+      accounts = record { balance = pos 0; maker = 0; holdings = noHolding ∷ [] } ∷ record { balance = pos 0; maker = 0; holdings = noHolding ∷ [] } ∷ [];
       trades = [];
       next = 5;
       nextstamp = 1;
@@ -82,7 +82,7 @@ memoryOf contracts =
     record {
       state = record {
         contracts = record { multiplier = 10; tick = 1; reference = 110; band = 10; limit = 1_000; rate = 1_000; method = 0; phase = preOpen; last = 110 } ∷ [];
-        accounts = record { balance = pos 0; maker = false; holdings = noHolding ∷ [] } ∷ [];
+        accounts = record { balance = pos 0; maker = 0; holdings = noHolding ∷ [] } ∷ [];
         buys = 0 ∷ [];
         sells = 0 ∷ [];
         contractcount = contracts;
@@ -176,5 +176,5 @@ table =
     ∷ []
 
 pub gettable-examples : allRight table ≡ true
-unfolding allRight table order book sells asking buyAt sellAt market best from now′ memoryOf bytes absent accountAt afterLeg ahead aheadOfFirst all allListed allOf allowedToday askRefusals balanceInRange bestPrice bits bookLeg bookTrade bookTrades commandOf contractInRange countersInRange countsInRange dayHigh dayLow decode exchangeOf fillable fillableLots firstOf gettableNow hasRoom holdingAt holdingInRange holdingsInRange insertFlags insertOf legCovered listingAt listingIn listingInRange listingOf lotsNow lotsWhere meets neverBelowZero newOrder listed onTick orderInRange orderReading orderRefusals ordersRead priceCondition priceRefusedBy pullOf queueIn readNow readingWith recordedTrades records replays resting sameHoldings sameLots sorted startOfDay sumOf tabulate takerOf termsInRange tickMultiple timeCondition tradeInRange uncrossed usedOnce wellFormedContents wellFormedMemory zeros
+unfolding allRight table order book sells asking buyAt sellAt market best from now′ memoryOf bytes absent accountAt afterLeg ahead aheadOfFirst all allListed allOf allowedToday askRefusals balanceInRange bestPrice bits bookLeg bookTrade bookTrades commandOf contractInRange countersInRange countsInRange dayHigh dayLow decode exchangeOf fillable fillableLots firstOf gettableNow hasRoom holdingAt holdingInRange holdingsInRange insertFlags insertOf legCovered listingAt listingIn listingInRange listingOf lotsNow lotsWhere meets neverBelowZero newOrder listed onTick orderInRange orderReading orderRefusals ordersRead priceCondition priceRefusedBy pullOf queueIn readNow readingWith recordedTrades records replays resting sameHoldings sameLots sorted startOfDay sumOf tabulate takerOf termsInRange tickMultiple timeCondition tradeInRange uncrossed usedOnce quotes markAllowed queueQuoted listingQuoted markInRange wellFormedContents wellFormedMemory zeros
 gettable-examples = refl

@@ -73,7 +73,7 @@ fn reading_of<'a>(
     }
     let area = orders::side_area(!o.sell, buys, sells);
     let count = orders::side_count(!o.sell, state, c);
-    let t = orders::taker_of(state.next, state.nextstamp, terms, area, count, o);
+    let t = orders::taker_of(state.next, 0, state.nextstamp, terms, area, count, o);
     let g = scan::gather(area, c, count, t, o.lots);
     Reading {
         code: 0,

@@ -41,7 +41,7 @@ module _ (area : List ℕ) (c count : ℕ) where
 
 -- ---- the trades: at most one with each order
 
-count-within : (t : Taker) (left : ℕ) (os : List Order) → countTrades t left os ≤ length os
+pub count-within : (t : Taker) (left : ℕ) (os : List Order) → countTrades t left os ≤ length os
 unfolding countTrades
 count-within t left [] = omega arith
 count-within t left (o ∷ os) = go (ltb 0 left && counterpart t o) (count-within t (left - o .lots) os)

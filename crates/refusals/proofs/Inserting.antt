@@ -1,4 +1,5 @@
--- An insert's code: the tests as the code makes them, one part after the other, are the rules' list. Assumes nothing.
+-- An order's code from 5 on, and an insert's: the tests as the code makes them, one part after the other, are the rules' list. Assumes
+-- nothing.
 use mathlib.Core.Bool.{Bool, true, false, not}
 use mathlib.Core.List.{List, _++_}
 use mathlib.Core.Path.{_≡_, refl, sym, _∙_}
@@ -9,7 +10,7 @@ use lib.Dec.{eqb, leb, ltb}
 use lib.ListN.{length, getD}
 use Rattle.laws.specs.Choice.{both-true, pick}
 use Rattle.rules.specs.Kinds.{codeOf, kindOf}
-use Rattle.rules.specs.Answers.{Refusal, firstOf, fillableLots, holdingRefused, insertRefusals, listingOf, mark, moneyRefused, overHolding, overLimit, takerOf, tradesNeeded, tradesRefused}
+use Rattle.rules.specs.Answers.{Refusal, conditionsRefused, firstOf, fillableLots, holdingRefused, insertRefusals, listingOf, mark, moneyRefused, orderRefusals, overHolding, overLimit, takerOf, takesOrders, tradesNeeded, tradesRefused}
 use Rattle.rules.specs.Bounds.{inAuction, maxLots, termsInRange, within, maxResting, maxTrades}
 use Rattle.rules.specs.Exchange.{Exchange, accountAt, holdingAt, noAccount, noContract, noHolding, opposite, own, placeOf, resting}
 use Rattle.rules.specs.Memory.{Memory, exchangeOf, queueIn, memory, WellFormedState, firstWord}
@@ -22,7 +23,7 @@ use Rattle.rules.specs.declared.Taker.{Taker}
 use Rattle.rules.proofs.Codecs.{length-queue}
 use Rattle.rules.proofs.Fillable.{trades-counted}
 use Rattle.invariants.proofs.Accepted.{failed}
-use Rattle.refusals.specs.Insertion.{Facing, Present, QueueRoom, accountRefusals, bookRefusals, lotsRefused, sideArea, sideCount, takerFor, termsRefusals}
+use Rattle.refusals.specs.Insertion.{Facing, Present, QueueRoom, accountRefusals, bookRefusals, fieldsRefusals, lotsRefused, sideArea, sideCount, takerFor}
 use Rattle.engine.specs.Outcome.{isAbsent}
 use Rattle.engine.proofs.Formed.{Formed, formed, holding-at, no-account, no-contract}
 use Rattle.engine.proofs.Puts.{trades-count}
@@ -55,32 +56,39 @@ module _ {s : State} {buys sells trades : List ℕ} (w : WellFormedState s buys 
 
   -- ---- the list in its parts
 
-  termsPart : List Refusal
-  termsPart = termsRefusals (listingOf x o .contract) o
+  fieldsPart : List Refusal
+  fieldsPart = fieldsRefusals (conditionsRefused (listingOf x o .contract) o) (listingOf x o .contract) o
 
   bookPart : List Refusal
   bookPart =
-      bookRefusals (inAuction (listingOf x o .contract)) (x .next) (x .nextstamp) (length (x .trades)) (length (own (o .sell) (listingOf x o))) (takerOf x (x .next) o) (opposite (o .sell) (listingOf x o)) o
+      bookRefusals (inAuction (listingOf x o .contract)) (x .next) (x .nextstamp) (length (x .trades)) (length (own (o .sell) (listingOf x o))) (takerOf x (x .next) 0 o) (opposite (o .sell) (listingOf x o)) o
 
-  in-parts : codeOf x (Insert o) ≡ pick (isAbsent (o .account) (s .accountcount)) 2 (pick (isAbsent (o .contract) (s .contractcount)) 3 (firstOf (termsPart ++ (accountRefusals x o ++ bookPart))))
-  unfolding codeOf kindOf insertRefusals firstOf termsRefusals accountRefusals bookRefusals fillableLots tradesRefused tradesNeeded termsPart bookPart
-  in-parts = rw (no-account m f (o .account), no-contract m f (o .contract), trades-counted)
+  abbrev code : ℕ
+  code = firstOf (orderRefusals x o)
 
-  terms-first : firstOf (termsPart ++ (accountRefusals x o ++ bookPart)) ≡ pick (eqb (firstOf termsPart) 0) (firstOf (accountRefusals x o ++ bookPart)) (firstOf termsPart)
-  unfolding termsPart termsRefusals
-  terms-first = first-append termsPart (accountRefusals x o ++ bookPart) (omega arith)
+  in-parts : code ≡ firstOf (fieldsPart ++ (accountRefusals x o ++ bookPart))
+  unfolding orderRefusals firstOf accountRefusals bookRefusals fillableLots tradesRefused tradesNeeded fieldsPart bookPart
+  in-parts = rw trades-counted
+
+  fields-first : firstOf (fieldsPart ++ (accountRefusals x o ++ bookPart)) ≡ pick (eqb (firstOf fieldsPart) 0) (firstOf (accountRefusals x o ++ bookPart)) (firstOf fieldsPart)
+  unfolding fieldsPart
+  fields-first = first-append fieldsPart (accountRefusals x o ++ bookPart) (omega arith)
 
   account-first : firstOf (accountRefusals x o ++ bookPart) ≡ pick (eqb (firstOf (accountRefusals x o)) 0) (firstOf bookPart) (firstOf (accountRefusals x o))
   unfolding accountRefusals
   account-first = first-append (accountRefusals x o) bookPart (omega arith)
 
-  -- ---- 2 and 3
+  -- ---- 2, 3 and 4
+
+  insert-parts : codeOf x (Insert o) ≡ pick (isAbsent (o .account) (s .accountcount)) 2 (pick (isAbsent (o .contract) (s .contractcount)) 3 (pick (not (takesOrders (listingOf x o .contract))) 4 code))
+  unfolding codeOf kindOf insertRefusals firstOf
+  insert-parts = rw (no-account m f (o .account), no-contract m f (o .contract))
 
   pub code-account : isAbsent (o .account) (s .accountcount) ≡ true → 2 ≡ codeOf x (Insert o)
-  code-account e = sym (rw (in-parts, e))
+  code-account e = sym (rw (insert-parts, e))
 
   pub code-contract : isAbsent (o .account) (s .accountcount) ≡ false → isAbsent (o .contract) (s .contractcount) ≡ true → 3 ≡ codeOf x (Insert o)
-  code-contract e g = sym (rw (in-parts, e, g))
+  code-contract e g = sym (rw (insert-parts, e, g))
 
   -- the account's place; j is its number as the code widens it
   pub holder-low : isAbsent (o .account) (s .accountcount) ≡ false → {j : ℕ} → j ≡ o .account → 1 ≤ j
@@ -144,51 +152,66 @@ module _ {s : State} {buys sells trades : List ℕ} (w : WellFormedState s buys 
             unfolding firstOf accountRefusals
             account-clear u = rw (← holding-is, t, ← eq, u)
 
+    -- ---- 4 of an insert, and on to its order
+
+    module _ (e : isAbsent (o .account) (s .accountcount) ≡ false) (g : isAbsent (o .contract) (s .contractcount) ≡ false) {t : Bool} (et : t ≡ takesOrders (getD (s .contracts) (k - 1) noContract)) where
+      takes-is : takesOrders (listingOf x o .contract) ≡ t
+      unfolding listingOf
+      takes-is = rw (contract-is m f c (p .contract)) (sym (rw is at et))
+
+      pub code-phase : t ≡ false → 4 ≡ codeOf x (Insert o)
+      code-phase n = sym (rw (insert-parts, e, g, takes-is, n))
+
+      pub code-order : {r : ℕ} → t ≡ true → r ≡ code → r ≡ codeOf x (Insert o)
+      code-order y h = h ∙ sym (rw (insert-parts, e, g, takes-is, y))
+
     -- ---- the parts one after the other
 
-    module _ (e : isAbsent (o .account) (s .accountcount) ≡ false) (g : isAbsent (o .contract) (s .contractcount) ≡ false) where
-      terms-is : firstOf (termsRefusals (getD (s .contracts) (k - 1) noContract) o) ≡ firstOf termsPart
-      unfolding termsPart listingOf
-      terms-is = rw (is, contract-is m f c (p .contract))
+    fields-is : firstOf (fieldsRefusals (conditionsRefused (getD (s .contracts) (k - 1) noContract) o) (getD (s .contracts) (k - 1) noContract) o) ≡ firstOf fieldsPart
+    unfolding fieldsPart listingOf
+    fields-is = rw (is, contract-is m f c (p .contract))
 
-      -- 4 to 7
-      module _ {fields : ℕ} (et : fields ≡ firstOf (termsRefusals (getD (s .contracts) (k - 1) noContract) o)) where
-        pub code-terms : (fields ≡ 0 → ⊥) → fields ≡ codeOf x (Insert o)
-        code-terms some = sym (rw (in-parts, e, g, terms-first, ← terms-is, ← et, ne-eqb fields 0 some))
+    -- 5 to 7
+    module _ {conditions : Bool} (en : conditions ≡ conditionsRefused (getD (s .contracts) (k - 1) noContract) o)
+        {fields : ℕ} (et : fields ≡ firstOf (fieldsRefusals conditions (getD (s .contracts) (k - 1) noContract) o)) where
+      fields-are : fields ≡ firstOf fieldsPart
+      fields-are = et ∙ rw en fields-is
 
-        -- 5
-        pub lots-few : fields ≡ 0 → o .lots ≤ 1_000
-        unfolding termsRefusals
-        lots-few passed =
-            let tests = failed (termsRefusals (getD (s .contracts) (k - 1) noContract) o) (omega arith) (sym et ∙ passed) in
-            leb-true (o .lots) maxLots (both-true (leb 1 (o .lots)) (leb (o .lots) maxLots) (not-false (within 1 maxLots (o .lots)) (tests .1 .0)) .1)
+      pub code-fields : (fields ≡ 0 → ⊥) → fields ≡ code
+      code-fields some = sym (in-parts ∙ rw (fields-first, ← fields-are, ne-eqb fields 0 some))
 
-        -- 8 and 9
-        module _ (passed : fields ≡ 0) {account : ℕ} (ex : account ≡ firstOf (accountRefusals x o)) where
-          on-to-account : codeOf x (Insert o) ≡ firstOf (accountRefusals x o ++ bookPart)
-          on-to-account = rw (in-parts, e, g, terms-first, ← terms-is, ← et, passed)
+      -- 5
+      pub lots-few : fields ≡ 0 → o .lots ≤ 1_000
+      lots-few passed =
+          let tests = failed (fieldsRefusals conditions (getD (s .contracts) (k - 1) noContract) o) (omega arith) (sym et ∙ passed) in
+          leb-true (o .lots) maxLots (both-true (leb 1 (o .lots)) (leb (o .lots) maxLots) (not-false (within 1 maxLots (o .lots)) (tests .0)) .1)
 
-          pub code-lots-or-money : (account ≡ 0 → ⊥) → account ≡ codeOf x (Insert o)
-          code-lots-or-money some = sym (on-to-account ∙ rw (account-first, ← ex, ne-eqb account 0 some))
+      -- 8 and 9
+      module _ (passed : fields ≡ 0) {account : ℕ} (ex : account ≡ firstOf (accountRefusals x o)) where
+        on-to-account : code ≡ firstOf (accountRefusals x o ++ bookPart)
+        on-to-account = in-parts ∙ rw (fields-first, ← fields-are, passed)
 
-          -- 10 to 13
-          module _ (clear : account ≡ 0) {own₁ count : ℕ} {area : List ℕ} (eo : own₁ ≡ sideCount (o .sell) s (k - 1)) (ea : area ≡ sideArea (not (o .sell)) buys sells)
-              (ec : count ≡ sideCount (not (o .sell)) s (k - 1)) where
-            pub opposite-room : QueueRoom area (o .contract - 1) count
-            opposite-room = rw (ec, ea, is) (side-room m f c (p .contract) (not (o .sell)))
+        pub code-lots-or-money : (account ≡ 0 → ⊥) → account ≡ code
+        code-lots-or-money some = sym (on-to-account ∙ rw (account-first, ← ex, ne-eqb account 0 some))
 
-            module _ {t : Taker} (er : t ≡ takerFor (s .next) (s .nextstamp) (getD (s .contracts) (k - 1) noContract) (queueIn area (o .contract - 1) count) o) where
-              pub facing : Facing t area (k - 1) count
-              facing = rw (er, ec, ea, is) (opposite-facing m f c (p .contract) (s .next) (s .nextstamp) _ o)
+        -- 10 to 13
+        module _ (clear : account ≡ 0) {own₁ count : ℕ} {area : List ℕ} (eo : own₁ ≡ sideCount (o .sell) s (k - 1)) (ea : area ≡ sideArea (not (o .sell)) buys sells)
+            (ec : count ≡ sideCount (not (o .sell)) s (k - 1)) where
+          pub opposite-room : QueueRoom area (o .contract - 1) count
+          opposite-room = rw (ec, ea, is) (side-room m f c (p .contract) (not (o .sell)))
 
-              pub recorded-few : s .tradecount ≤ maxTrades
-              recorded-few = f .trades-high
+          module _ {t : Taker} (er : t ≡ takerFor (s .next) 0 (s .nextstamp) (getD (s .contracts) (k - 1) noContract) (queueIn area (o .contract - 1) count) o) where
+            pub facing : Facing t area (k - 1) count
+            facing = rw (er, ec, ea, is) (opposite-facing m f c (p .contract) (s .next) 0 (s .nextstamp) _ o)
 
-              book-is : firstOf (bookRefusals (inAuction (getD (s .contracts) (k - 1) noContract)) (s .next) (s .nextstamp) (s .tradecount) own₁ t (queueIn area (k - 1) count) o) ≡ firstOf bookPart
-              unfolding bookPart listingOf takerOf exchangeOf
-              book-is =
-                  rw (er, eo, ec, ea, is, trades-count m f, side-is m f c (p .contract) (o .sell), length-queue, opposite-is m f c (p .contract) (o .sell), contract-is m f c (p .contract))
+            pub recorded-few : s .tradecount ≤ maxTrades
+            recorded-few = f .trades-high
 
-              pub code-book : {book : ℕ} → book ≡ firstOf (bookRefusals (inAuction (getD (s .contracts) (k - 1) noContract)) (s .next) (s .nextstamp) (s .tradecount) own₁ t (queueIn area (k - 1) count) o)
-                  → book ≡ codeOf x (Insert o)
-              code-book eb = eb ∙ book-is ∙ sym (on-to-account ∙ rw (account-first, ← ex, clear))
+            book-is : firstOf (bookRefusals (inAuction (getD (s .contracts) (k - 1) noContract)) (s .next) (s .nextstamp) (s .tradecount) own₁ t (queueIn area (k - 1) count) o) ≡ firstOf bookPart
+            unfolding bookPart listingOf takerOf exchangeOf
+            book-is =
+                rw (er, eo, ec, ea, is, trades-count m f, side-is m f c (p .contract) (o .sell), length-queue, opposite-is m f c (p .contract) (o .sell), contract-is m f c (p .contract))
+
+            pub code-book : {book : ℕ} → book ≡ firstOf (bookRefusals (inAuction (getD (s .contracts) (k - 1) noContract)) (s .next) (s .nextstamp) (s .tradecount) own₁ t (queueIn area (k - 1) count) o)
+                → book ≡ code
+            code-book eb = eb ∙ book-is ∙ sym (on-to-account ∙ rw (account-first, ← ex, clear))

@@ -64,7 +64,7 @@ module _ {s : State} {buys sells trades : List ℕ} (w : WellFormedState s buys 
         pub reentry-room : QueueRoom area (o .contract - 1) count
         reentry-room = rw (ec, ea, is) (side-room m f c (p .contract) (not (o .sell)))
 
-        module _ {t : Taker} (et : t ≡ takerFor number (s .nextstamp) (getD (s .contracts) (k - 1) noContract) (queueIn area (o .contract - 1) count) o) {r : Bool}
+        module _ {t : Taker} (et : t ≡ takerFor number 0 (s .nextstamp) (getD (s .contracts) (k - 1) noContract) (queueIn area (o .contract - 1) count) o) {r : Bool}
             (er : r ≡ tradesRefused (inAuction (getD (s .contracts) (k - 1) noContract)) (s .tradecount) t (queueIn area (k - 1) count) (o .lots)) where
           trades-is : r ≡ rules.tradesRefused x number o
           unfolding rules.tradesRefused tradesNeeded listingOf takerOf exchangeOf

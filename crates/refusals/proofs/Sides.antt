@@ -59,8 +59,8 @@ module _ (m : Memory) (f : Formed m) (c : ℕ) (h : c < m .state .contractcount)
   side-sorted side = rw (← side-is side) (listing .order side)
 
   -- an order meets the queue opposite it, best price first
-  pub opposite-facing : (number stamp : ℕ) (terms : Contract) (o : NewOrder) → Facing (takerFor number stamp terms (queueOf (not (o .sell))) o) (sideArea (not (o .sell)) (m .buys) (m .sells)) c (sideCount (not (o .sell)) (m .state) c)
-  opposite-facing number stamp terms o = record { queue = side-room (not (o .sell)); order = side-sorted (not (o .sell)); best = refl }
+  pub opposite-facing : (number quote stamp : ℕ) (terms : Contract) (o : NewOrder) → Facing (takerFor number quote stamp terms (queueOf (not (o .sell))) o) (sideArea (not (o .sell)) (m .buys) (m .sells)) c (sideCount (not (o .sell)) (m .state) c)
+  opposite-facing number quote stamp terms o = record { queue = side-room (not (o .sell)); order = side-sorted (not (o .sell)); best = refl }
 
   pub side-account : (side : Bool) (i : ℕ) → i < sideCount side (m .state) c → getD (queueOf side) i noOrder .account < m .state .accountcount
   side-account side i l =

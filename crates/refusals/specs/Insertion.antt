@@ -1,5 +1,5 @@
--- An insert's refusals in the parts in which the code tries them, over plain values, and those of an order that is entered again; the
--- side of a contract as it lies; and the order as it meets the book. Together with codes 2 and 3 the parts are the rules' list
+-- An order's refusals from 5 on in the parts in which the code tries them, over plain values, and those of an order that is entered
+-- again; the side of a contract as it lies; and the order as it meets the book. Together the parts are the rules' list
 -- (proofs/Inserting.antt). Assumes nothing.
 use mathlib.Core.Bool.{Bool, true, false, not, _&&_, _||_}
 use mathlib.Core.List.{List, [], _∷_}
@@ -8,7 +8,7 @@ use Prim.Native.Nat.{ℕ, _+_, _*_, _<_, _≤_}
 use lib.Dec.{leb, ltb}
 use lib.ListN.{length, getD}
 use Rattle.laws.specs.Choice.{pick}
-use Rattle.rules.specs.Answers.{Refusal, _when_, conditionsRefused, holdingRefused, moneyRefused, isFillOrKill, isGoodForDay, mark, priceRefused, takesOrders, stampsUsedUp}
+use Rattle.rules.specs.Answers.{Refusal, _when_, holdingRefused, moneyRefused, isFillOrKill, isGoodForDay, mark, priceRefused, stampsUsedUp}
 use Rattle.rules.specs.Answers as rules
 use Rattle.rules.specs.Bounds.{inAuction, within, maxLots, maxResting, maxTrades, numbersEnd}
 use Rattle.rules.specs.EarlyStop.{countTrades}
@@ -36,10 +36,6 @@ fieldsRefusals conditions c o =
     ∷ (6 when conditions)
     ∷ (7 when priceRefused c o)
     ∷ []
-
--- 4 to 7: the contract's phase, then the fields
-unfoldable pub termsRefusals : Contract → NewOrder → List Refusal
-termsRefusals c o = (4 when not (takesOrders c)) ∷ fieldsRefusals (conditionsRefused c o) c o
 
 -- 8, with the account's resting lots on the order's own side: opens of an open, closes of a close
 unfoldable pub lotsRefused : Contract → Holding → ℕ → NewOrder → Bool
@@ -116,9 +112,9 @@ pub record OwnedBy (s : State) (o : NewOrder) (who : Account) : Type 0 where
 
 -- ---- the order as it meets the book
 
--- the order with its number and the time stamp it gets, in a contract with these terms, against the opposite queue
-abbrev pub takerFor : ℕ → ℕ → Contract → List Order → NewOrder → Taker
-takerFor number stamp terms queue o =
+-- the order with its number, the quote mark and the time stamp it gets, in a contract with these terms, against the opposite queue
+abbrev pub takerFor : ℕ → ℕ → ℕ → Contract → List Order → NewOrder → Taker
+takerFor number quote stamp terms queue o =
     record {
       account = placeOf (o .account);
       contract = placeOf (o .contract);
@@ -126,6 +122,7 @@ takerFor number stamp terms queue o =
       close = mark (o .close);
       number = number;
       stamp = stamp;
+      quote = quote;
       condition = o .condition;
       method = methodOf terms;
       best = bestPrice queue;

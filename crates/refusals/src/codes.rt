@@ -1,6 +1,6 @@
-// The code of an insert: the refusals 3 to 13 in their order; and of an order that is entered again, which some of them test. For our
-// own crates: `code_of` and `reentry_code` ask for a well-formed state and an order whose account is in use, the others for what they
-// read of it.
+// The code of an insert: the refusals 3 to 13 in their order, those from 5 on as a call of its own; and of an order that is entered
+// again, which some of them test. For our own crates: `code_of`, `order_code` and `reentry_code` ask for a well-formed state and an
+// order whose account is in use, the others for what they read of it.
 ghost use mathlib.Core.Bool.{true, _&&_, _||_};
 ghost use mathlib.Core.Path.{_≡_};
 ghost use Prim.Native.Nat.{_-_, _≤_};
@@ -13,7 +13,7 @@ ghost use Rattle.rules.specs.Matching as matching;
 ghost use Rattle.rules.specs.Kinds.{codeOf};
 ghost use Rattle.rules.specs.Memory.{exchangeOf, queueIn, memory, WellFormedState};
 ghost use Rattle.rules.specs.declared.Command.the-variants.{Insert};
-ghost use Rattle.refusals.specs.Insertion.{fieldsRefusals, termsRefusals, lotsRefused, killRefused, tradesRefused, fullRefused, accountRefusals, bookRefusals, reentryRefusals, Present, OwnedBy, QueueRoom, Facing};
+ghost use Rattle.refusals.specs.Insertion.{fieldsRefusals, lotsRefused, killRefused, tradesRefused, fullRefused, accountRefusals, bookRefusals, reentryRefusals, Present, OwnedBy, QueueRoom, Facing};
 use crate::orders;
 use engine::answers;
 use rules::AUCTION;
@@ -98,18 +98,6 @@ pub fn fields_code(terms: Contract, conditions: bool, o: NewOrder) -> u32
         return 7;
     }
     0
-}
-
-// Codes 4 to 7, 0 where none holds.
-fn terms_code(terms: Contract, o: NewOrder) -> u32
-    requires { ⌜ termsInRange terms ≡ true ⌝ }
-    ensures { λ r. ⌜ r ≡ answer.firstOf (termsRefusals terms o) ⌝ }
-{
-    if !takes_orders(terms) {
-        return 4;
-    }
-    let conditions = conditions_refused(terms, o);
-    fields_code(terms, conditions, o)
 }
 
 // 8: an open may not lift holding and resting opens above the limit, a close may not exceed what is held less resting closes.
@@ -311,8 +299,40 @@ fn book_code(
     0
 }
 
-// The code of the first refusal that holds, 0 where none does. `who` is the order's account, which its caller has read: no copy of all
+// An order's code "from 5 on", 0 where no refusal holds. `who` is the order's account, which its caller has read: no copy of all
 // accounts is made to read one.
+pub fn order_code<'a>(
+    state: State,
+    who: Account,
+    buys: &'a [u32],
+    sells: &'a [u32],
+    trades: &'a [u32],
+    o: NewOrder,
+) -> u32
+    requires { ⌜ WellFormedState state (now buys) (now sells) (now trades) × Present state o × (getD (state .accounts) (o .account - 1) noAccount ≡ who) ⌝ }
+    ensures { λ r. ⌜ r ≡ answer.firstOf (answer.orderRefusals (exchangeOf (memory state (now (buys .entry)) (now (sells .entry)) (now (trades .entry)))) o) ⌝ }
+{
+    let c = laws::wide(o.contract) - 1;
+    let contracts = state.contracts;
+    let terms = contracts[c];
+    let conditions = conditions_refused(terms, o);
+    let fields = fields_code(terms, conditions, o);
+    if fields != 0 {
+        return fields;
+    }
+    // read before margin is charged, as in `enter_order`
+    let own = orders::side_count(o.sell, state, c);
+    let count = orders::side_count(!o.sell, state, c);
+    let account = account_code(state, who, buys, sells, trades, o);
+    if account != 0 {
+        return account;
+    }
+    let area = orders::side_area(!o.sell, buys, sells);
+    let t = orders::taker_of(state.next, 0, state.nextstamp, terms, area, count, o);
+    book_code(state, terms, own, area, c, count, t, o)
+}
+
+// The code of the first refusal that holds, 0 where none does. `who` is the order's account.
 pub fn code_of<'a>(
     state: State,
     who: Account,
@@ -330,20 +350,10 @@ pub fn code_of<'a>(
     let c = laws::wide(o.contract) - 1;
     let contracts = state.contracts;
     let terms = contracts[c];
-    let fields = terms_code(terms, o);
-    if fields != 0 {
-        return fields;
+    if !takes_orders(terms) {
+        return 4;
     }
-    // read before margin is charged, as in `insert`
-    let own = orders::side_count(o.sell, state, c);
-    let count = orders::side_count(!o.sell, state, c);
-    let account = account_code(state, who, buys, sells, trades, o);
-    if account != 0 {
-        return account;
-    }
-    let area = orders::side_area(!o.sell, buys, sells);
-    let t = orders::taker_of(state.next, state.nextstamp, terms, area, count, o);
-    book_code(state, terms, own, area, c, count, t, o)
+    order_code(state, who, buys, sells, trades, o)
 }
 
 // The code of an order that is entered again with its number, 0 where no refusal holds: 8 and 9, 10 of time stamps alone, and 12.
@@ -372,7 +382,7 @@ pub fn reentry_code<'a>(
     let terms = contracts[c];
     let area = orders::side_area(!o.sell, buys, sells);
     let count = orders::side_count(!o.sell, state, c);
-    let t = orders::taker_of(number, state.nextstamp, terms, area, count, o);
+    let t = orders::taker_of(number, 0, state.nextstamp, terms, area, count, o);
     let auction = terms.phase == AUCTION;
     if trades_refused(auction, state.tradecount, area, c, count, t, o.lots) {
         return 12;

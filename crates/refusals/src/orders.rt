@@ -120,9 +120,11 @@ fn method_of(terms: Contract) -> PairingMethod
     PairingMethod::FirstIn
 }
 
-// The order with its number and the time stamp it gets, its contract's pairing method and the best opposite price standing.
+// The order with its number, the quote mark and the time stamp it gets, its contract's pairing method and the best opposite price
+// standing.
 pub fn taker_of(
     number: u32,
+    quote: u32,
     stamp: u32,
     terms: Contract,
     area: &[u32],
@@ -130,7 +132,7 @@ pub fn taker_of(
     o: NewOrder,
 ) -> Taker
     requires { ⌜ (1 ≤ o .account) × (1 ≤ o .contract) × QueueRoom (now area) (o .contract - 1) count ⌝ }
-    ensures { λ r. ⌜ r ≡ takerFor number stamp terms (queueIn (now (area .entry)) (o .contract - 1) count) o ⌝ }
+    ensures { λ r. ⌜ r ≡ takerFor number quote stamp terms (queueIn (now (area .entry)) (o .contract - 1) count) o ⌝ }
 {
     let c = laws::wide(o.contract) - 1;
     let best = best_price(area, c, count);
@@ -143,6 +145,7 @@ pub fn taker_of(
         close: mark(o.close),
         number,
         stamp,
+        quote,
         condition,
         method,
         best,

@@ -1,9 +1,10 @@
 -- What auction changes of an insert and of a change of state. In every other state the order is entered by the sweep, and a change of
 -- state changes nothing else. Assumes nothing.
-use mathlib.Core.Bool.{Bool, true, false}
-use mathlib.Core.List.{List, append-nil}
+use mathlib.Core.Bool.{Bool, true, false, _&&_}
+use mathlib.Core.List.{List, [], _∷_, append-nil}
 use mathlib.Core.Path.{_≡_, refl, ap}
-use Prim.Native.Nat.{ℕ}
+use Prim.Native.Nat.{ℕ, _-_, min}
+use lib.Dec.{ltb}
 use lib.ListN.{length}
 use Rattle.laws.specs.Choice.{pick, pick-either, pick-true, pick-false}
 use Rattle.rules.specs.Answers.{isGoodForDay, listingOf, takerOf, tradesNeeded}
@@ -11,47 +12,58 @@ use Rattle.rules.specs.Auction.{Matched, auctionMatch, matchOf, unmatche
 use Rattle.rules.specs.Bounds.{inAuction}
 use Rattle.rules.specs.Exchange.{Exchange, listingAt, opposite, own}
 use Rattle.rules.specs.Holdings.{bookTrades}
-use Rattle.rules.specs.Matching.{Entered, enter, lastPrice, restWhole}
+use Rattle.rules.specs.Matching.{Entered, Swept, afterTrade, counterpart, enter, lastPrice, restWhole, stays, sweep, tradePrice, tradeWith, untouched}
 use Rattle.rules.specs.Step.{accepted, enteredOf, exchangeMatched, limitOf, listingMatched, phaseChanged, withContract, withListing, withPhase}
 use Rattle.rules.specs.declared.NewOrder.{NewOrder}
+use Rattle.rules.specs.declared.Order.{Order}
 use Rattle.rules.specs.declared.Trade.{Trade}
 use Rattle.rules.proofs.Fillable.{traded-nil}
 
 -- ---- an insert
 
-module _ (x : Exchange) (number : ℕ) (o : NewOrder) where
+-- the quote mark plays no part in what an order trades
+unmarked-sweep : (x : Exchange) (number quote : ℕ) (o : NewOrder) (left last : ℕ) (queue : List Order) → sweep (takerOf x number 0 o) left last queue ≡ sweep (takerOf x number quote o) left last queue
+unfolding sweep takerOf tradeWith
+unmarked-sweep x number quote o left last [] = refl
+unmarked-sweep x number quote o left last (p ∷ ps) =
+    ap
+    (λ (s : Swept). pick (ltb 0 left && counterpart (takerOf x number 0 o) p) (afterTrade (tradeWith (takerOf x number 0 o) p left last) (stays p (p .lots - min left (p .lots))) s) (untouched (p ∷ ps)))
+    (unmarked-sweep x number quote o (left - min left (p .lots)) (tradePrice (takerOf x number 0 o .method) (takerOf x number 0 o .condition) (p .price) last) ps)
+
+module _ (x : Exchange) (number quote : ℕ) (o : NewOrder) where
   -- the order at rest with all its lots, and the order entered by the sweep
   abbrev pub restedWhole : Entered
-  restedWhole = restWhole (takerOf x number o) (o .lots) (limitOf (o .condition)) (own (o .sell) (listingOf x o)) (opposite (o .sell) (listingOf x o))
+  restedWhole = restWhole (takerOf x number quote o) (o .lots) (limitOf (o .condition)) (own (o .sell) (listingOf x o)) (opposite (o .sell) (listingOf x o))
 
   abbrev pub enteredBySweep : Entered
   enteredBySweep =
-      enter (takerOf x number o) (o .lots) (limitOf (o .condition)) (isGoodForDay (o .time)) (listingOf x o .contract .last)
+      enter (takerOf x number quote o) (o .lots) (limitOf (o .condition)) (isGoodForDay (o .time)) (listingOf x o .contract .last)
       (own (o .sell) (listingOf x o))
       (opposite (o .sell) (listingOf x o))
 
-  pub entered-in-auction : inAuction (listingOf x o .contract) ≡ true → enteredOf x number o ≡ restedWhole
+  pub entered-in-auction : inAuction (listingOf x o .contract) ≡ true → enteredOf x number quote o ≡ restedWhole
   unfolding enteredOf
   entered-in-auction e = pick-true (inAuction (listingOf x o .contract)) restedWhole enteredBySweep e
 
-  pub entered-elsewhere : inAuction (listingOf x o .contract) ≡ false → enteredOf x number o ≡ enteredBySweep
+  pub entered-elsewhere : inAuction (listingOf x o .contract) ≡ false → enteredOf x number quote o ≡ enteredBySweep
   unfolding enteredOf
   entered-elsewhere e = pick-false (inAuction (listingOf x o .contract)) restedWhole enteredBySweep e
 
   -- what holds of both holds of the order entered
   pub entered-either : (P : Entered → Type 0) → (inAuction (listingOf x o .contract) ≡ true → P restedWhole)
-      → (inAuction (listingOf x o .contract) ≡ false → P enteredBySweep) → P (enteredOf x number o)
+      → (inAuction (listingOf x o .contract) ≡ false → P enteredBySweep) → P (enteredOf x number quote o)
   unfolding enteredOf
   entered-either P = pick-either P (inAuction (listingOf x o .contract)) restedWhole enteredBySweep
 
   -- 12 counts the trades that are made
-  pub trades-needed : tradesNeeded x number o ≡ length (enteredOf x number o .trades)
+  pub trades-needed : tradesNeeded x number o ≡ length (enteredOf x number quote o .trades)
   unfolding tradesNeeded enteredOf restWhole enter
   trades-needed = cases (inAuction (listingOf x o .contract))
     where
-      cases : (b : Bool) → pick b 0 (length (enteredBySweep .trades)) ≡ length (pick b restedWhole enteredBySweep .trades)
+      cases : (b : Bool)
+          → pick b 0 (length (sweep (takerOf x number 0 o) (o .lots) (listingOf x o .contract .last) (opposite (o .sell) (listingOf x o)) .trades)) ≡ length (pick b restedWhole enteredBySweep .trades)
       cases true = refl
-      cases false = refl
+      cases false = ap (λ (s : Swept). length (s .trades)) (unmarked-sweep x number quote o (o .lots) (listingOf x o .contract .last) (opposite (o .sell) (listingOf x o)))
 
 -- ---- a change of state
 

@@ -105,7 +105,7 @@ module _ (x : Exchange) (account contract number lots price : ℕ) where
         decided (λ d. lastOf x (d .stages) ≡ x) x (Change account contract number lots price)
         (λ a. ap (λ (f : Effect). lastOf x (f .stages)) (equal-unchanged x its some same e)) (λ r. refl)
 
-    -- FEWER LOTS AT THE SAME PRICE ALTER THAT ORDER'S LOTS AND NOTHING ELSE (`less-at` has the places of its queue)
+    -- FEWER LOTS AT THE SAME PRICE ALTER THAT ORDER'S LOTS, DROP ITS MARK, AND DO NOTHING ELSE (`less-at` has the places of its queue)
     pub fewer-step : lots < oldOrder x its .lots → codeOf x (Change account contract number lots price) ≡ 0 →
         step x (Change account contract number lots price) ≡ withListing x (placeOf contract) (listingLessened its (listingFor x its))
     unfolding step kindOf placeKept

@@ -10,18 +10,14 @@ use lib.Dec.{T, eqb}
 use mir.Val.{hasKey}
 use types.Run.{OneOf, miss}
 use Rattle.laws.specs.Choice.{ap-pick, pick, pick-same}
-use Rattle.rules.specs.Command.{cancelOf, changeOf, commandOf, depositOf, insertOf, isSettle, kindNumber, newOrder, phaseOf, pullOf, settleOf, withdrawOf}
+use Rattle.rules.specs.Command.{cancelOf, changeOf, commandOf, depositOf, insertOf, isSettle, kindNumber, newOrder, phaseOf, pullOf, quoteOf, settleOf, withdrawOf}
 use Rattle.rules.specs.declared.Command.{Command}
-use Rattle.rules.specs.declared.Command.the-variants.{Malformed, Deposit, Withdraw, Insert, Cancel, Pull, Phase, Settle, Change}
+use Rattle.rules.specs.declared.Command.the-variants.{Malformed, Deposit, Withdraw, Insert, Cancel, Pull, Phase, Settle, Quote, Change}
 use Rattle.rules.specs.declared.NewOrder.{NewOrder}
 use Rattle.rules.specs.declared.Record.{Record}
 use Rattle.rules.proofs.Command.{the-type}
 
--- a kind's tag is its number; a change's, 9, stands behind the 7 of a settlement, since there is no kind 8
-abbrev tagFor : ℕ → ℕ
-tagFor kind = pick (eqb kind 9) 8 kind
-
-tag-is : (d : Command) → tagOf the-type d ≡ tagFor (kindNumber d)
+tag-is : (d : Command) → tagOf the-type d ≡ kindNumber d
 tag-is Malformed = refl
 tag-is (Deposit account amount) = refl
 tag-is (Withdraw account amount) = refl
@@ -30,6 +26,7 @@ tag-is (Cancel account contract operator number) = refl
 tag-is (Pull account contract operator) = refl
 tag-is (Phase contract phase) = refl
 tag-is Settle = refl
+tag-is (Quote account contract lots buy sell) = refl
 tag-is (Change account contract number lots price) = refl
 
 -- the tags of all kinds but one: what is known of a command where a `match` or a `let .. else` has that one apart
@@ -38,11 +35,11 @@ but n [] = []
 but n (k ∷ ks) = pick (eqb k n) (but n ks) (k ∷ but n ks)
 
 abbrev pub allBut : ℕ → List ℕ
-allBut kind = but (tagFor kind) (0 ∷ 1 ∷ 2 ∷ 3 ∷ 4 ∷ 5 ∷ 6 ∷ 7 ∷ 8 ∷ [])
+allBut kind = but kind (0 ∷ 1 ∷ 2 ∷ 3 ∷ 4 ∷ 5 ∷ 6 ∷ 7 ∷ 8 ∷ 9 ∷ [])
 
-pub other-kind : (n : ℕ) → T (not (hasKey (allBut n) (tagFor n))) → (d : Command) → OneOf (allBut n) (tagOf the-type d) → eqb (kindNumber d) n ≡ false
+pub other-kind : (n : ℕ) → T (not (hasKey (allBut n) n)) → (d : Command) → OneOf (allBut n) (tagOf the-type d) → eqb (kindNumber d) n ≡ false
 other-kind n h d o =
-    ne-eqb (kindNumber d) n (λ (e : kindNumber d ≡ n). miss (allBut n) (tagFor n) h (subst (OneOf (allBut n)) (tag-is d ∙ ap tagFor e) o))
+    ne-eqb (kindNumber d) n (λ (e : kindNumber d ≡ n). miss (allBut n) n h (subst (OneOf (allBut n)) (tag-is d ∙ e) o))
 
 pub settle-is : (d : Command) → isSettle d ≡ true → d ≡ Settle
 settle-is Malformed e = absurd (false≢true e)
@@ -53,6 +50,7 @@ settle-is (Cancel account contract operator number) e = absurd (false≢true e)
 settle-is (Pull account contract operator) e = absurd (false≢true e)
 settle-is (Phase contract phase) e = absurd (false≢true e)
 settle-is Settle e = refl
+settle-is (Quote account contract lots buy sell) e = absurd (false≢true e)
 settle-is (Change account contract number lots price) e = absurd (false≢true e)
 
 -- an insert's order is the one that its bytes hold
@@ -65,13 +63,14 @@ orderIn o (Cancel account contract operator number) = o
 orderIn o (Pull account contract operator) = o
 orderIn o (Phase contract phase) = o
 orderIn o Settle = o
+orderIn o (Quote account contract lots buy sell) = o
 orderIn o (Change account contract number lots price) = o
 
 either-order : (o : NewOrder) (test : Bool) (d e : Command) → orderIn o (pick test d e) ≡ pick test (orderIn o d) (orderIn o e)
 either-order o test d e = ap-pick (orderIn o) test d e
 
 order-in-bytes : (r : Record) → orderIn (newOrder r) (commandOf r) ≡ newOrder r
-unfolding commandOf depositOf withdrawOf insertOf cancelOf pullOf phaseOf settleOf changeOf
+unfolding commandOf depositOf withdrawOf insertOf cancelOf pullOf phaseOf settleOf quoteOf changeOf
 order-in-bytes r = simp (either-order, pick-same)
 
 pub inserts-its-order : (r : Record) {o : NewOrder} → commandOf r ≡ Insert o → o ≡ newOrder r

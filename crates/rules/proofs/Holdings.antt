@@ -7,6 +7,7 @@ use native.Mathlib.Nat.{mul-suc}
 use native.Mathlib.Omega.{arith}
 use borrow.Author.Tests.{eqb-true, eq-eqb, ne-eqb, leb-true, le-leb}
 use lib.Dec.{eqb, leb}
+use lib.IntN.{ℤ}
 use lib.ListN.{length, getD, set, drop, length-set, List·getD-map}
 use lib.Seq.{getD-set-same, getD-set-other, map-set-same}
 use Rattle.laws.specs.Choice.{pick, pick-same, allOf, both-true}
@@ -30,6 +31,10 @@ each-set P (x ∷ xs) (suc i) y d h p zero = h zero
 each-set P (x ∷ xs) (suc i) y d h p (suc k) = each-set P xs i y d (λ j. h (suc j)) p k
 
 -- ---- one leg
+
+-- what an account has beside its holdings
+abbrev heldBy : {A : Type 0} → (ℤ → ℕ → A) → List Account → ℕ → A
+heldBy f l b = f (accountAt l b .balance) (accountAt l b .maker)
 
 -- the start of the day is as it was
 after-leg-start : (h : Holding) (sell : Bool) (close lots : ℕ) → startHolding (afterLeg h sell close lots) ≡ startHolding h
@@ -76,9 +81,10 @@ module _ (l : List Account) (a c : ℕ) (sell : Bool) (close lots : ℕ) where
   unfolding bookLeg holdingAt accountAt
   holding-other-contract b d apart = kept-at (λ x. getD (x .holdings) d noHolding) l a _ noAccount (getD-set-other (getD l a noAccount .holdings) c d _ noHolding apart) b
 
-  leg-balance : (b : ℕ) → accountAt (bookLeg l a c sell close lots) b .balance ≡ accountAt l b .balance
+  -- it changes neither a balance nor a maker mark
+  leg-kept : {A : Type 0} (f : ℤ → ℕ → A) (b : ℕ) → heldBy f (bookLeg l a c sell close lots) b ≡ heldBy f l b
   unfolding bookLeg accountAt
-  leg-balance b = kept-at (λ x. x .balance) l a _ noAccount refl b
+  leg-kept f b = kept-at (λ x. f (x .balance) (x .maker)) l a _ noAccount refl b
 
   leg-contracts : (b : ℕ) → length (accountAt (bookLeg l a c sell close lots) b .holdings) ≡ length (accountAt l b .holdings)
   unfolding bookLeg accountAt
@@ -95,9 +101,9 @@ module _ (l : List Account) (t : Trade) where
   unfolding bookTrade
   length-bookTrade = length-bookLeg (bookBuyer l t) (t .seller) (t .contract) true (t .sellclose) (t .lots) ∙ length-bookLeg l (t .buyer) (t .contract) false (t .buyclose) (t .lots)
 
-  trade-balance : (b : ℕ) → accountAt (bookTrade l t) b .balance ≡ accountAt l b .balance
+  trade-kept : {A : Type 0} (f : ℤ → ℕ → A) (b : ℕ) → heldBy f (bookTrade l t) b ≡ heldBy f l b
   unfolding bookTrade
-  trade-balance b = leg-balance (bookBuyer l t) (t .seller) (t .contract) true (t .sellclose) (t .lots) b ∙ leg-balance l (t .buyer) (t .contract) false (t .buyclose) (t .lots) b
+  trade-kept f b = leg-kept (bookBuyer l t) (t .seller) (t .contract) true (t .sellclose) (t .lots) f b ∙ leg-kept l (t .buyer) (t .contract) false (t .buyclose) (t .lots) f b
 
   trade-contracts : (b : ℕ) → length (accountAt (bookTrade l t) b .holdings) ≡ length (accountAt l b .holdings)
   unfolding bookTrade
@@ -132,10 +138,16 @@ unfolding bookTrades
 length-bookTrades l [] = refl
 length-bookTrades l (t ∷ ts) = length-bookTrades (bookTrade l t) ts ∙ length-bookTrade l t
 
-pub booked-balance : (l : List Account) (ts : List Trade) (b : ℕ) → accountAt (bookTrades l ts) b .balance ≡ accountAt l b .balance
+booked-kept : {A : Type 0} (f : ℤ → ℕ → A) (l : List Account) (ts : List Trade) (b : ℕ) → heldBy f (bookTrades l ts) b ≡ heldBy f l b
 unfolding bookTrades
-booked-balance l [] b = refl
-booked-balance l (t ∷ ts) b = booked-balance (bookTrade l t) ts b ∙ trade-balance l t b
+booked-kept f l [] b = refl
+booked-kept f l (t ∷ ts) b = booked-kept f (bookTrade l t) ts b ∙ trade-kept l t f b
+
+pub booked-balance : (l : List Account) (ts : List Trade) (b : ℕ) → accountAt (bookTrades l ts) b .balance ≡ accountAt l b .balance
+booked-balance = booked-kept (λ balance maker. balance)
+
+pub booked-maker : (l : List Account) (ts : List Trade) (b : ℕ) → accountAt (bookTrades l ts) b .maker ≡ accountAt l b .maker
+booked-maker = booked-kept (λ balance maker. maker)
 
 pub booked-contracts : (l : List Account) (ts : List Trade) (b : ℕ)
     → length (accountAt (bookTrades l ts) b .holdings) ≡ length (accountAt l b .holdings)

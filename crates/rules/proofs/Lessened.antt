@@ -1,5 +1,5 @@
--- A queue in which the order with a number has fewer lots: it keeps its order, its tests and every field but the lots. Assumes
--- nothing.
+-- A queue in which the order with a number has fewer lots and no quote mark: it keeps its order, its tests and every other field.
+-- Assumes nothing.
 use mathlib.Core.Bool.{Bool, true, false}
 use mathlib.Core.List.{List, [], _∷_}
 use mathlib.Core.Path.{_≡_, refl}
@@ -11,18 +11,20 @@ use lib.Dec.{leb}
 use lib.ListN.{length, getD}
 use Rattle.laws.specs.Choice.{pick, allOf, both-true, true-both}
 use Rattle.laws.specs.Sums.{sumOf}
-use Rattle.rules.specs.Change.{lessened}
+use Rattle.rules.specs.Change.{lessened, unmarked}
 use Rattle.rules.specs.Exchange.{noOrder}
 use Rattle.rules.specs.Matching.{withLots}
 use Rattle.rules.specs.Step.{hasNumber}
 use Rattle.rules.specs.WellFormed.{ahead, aheadOfFirst, sorted, uncrossed}
 use Rattle.rules.specs.declared.Order.{Order}
-use Rattle.rules.proofs.AuctionTaken.{KeptWithFewer, LessWithFewer}
 
 module _ (number lots : ℕ) where
-  -- one order of the queue
+  -- the order with the number, and any order of the queue
+  abbrev pub lesser : Order → Order
+  lesser o = unmarked (withLots o lots)
+
   abbrev pub lessOne : Order → Order
-  lessOne o = pick (hasNumber number o) (withLots o lots) o
+  lessOne o = pick (hasNumber number o) (lesser o) o
 
   -- the order with the number has at least these lots
   abbrev pub fits : Order → Bool
@@ -33,7 +35,7 @@ module _ (number lots : ℕ) where
   less-length [] = refl
   less-length (o ∷ os) = rw (less-length os)
 
-  -- the order with the number has other lots, and every other is as it was
+  -- the order with the number has other lots and no quote mark, and every other is as it was
   pub less-at : (os : List Order) (i : ℕ) → i < length os → getD (lessened number lots os) i noOrder ≡ lessOne (getD os i noOrder)
   unfolding lessened
   less-at [] i h = absurd (omega arith)
@@ -45,7 +47,7 @@ module _ (number lots : ℕ) where
   unfolding ahead
   less-ahead sell o p = go (hasNumber number o) (hasNumber number p)
     where
-      go : (a b : Bool) → ahead sell (pick a (withLots o lots) o) (pick b (withLots p lots) p) ≡ ahead sell o p
+      go : (a b : Bool) → ahead sell (pick a (lesser o) o) (pick b (lesser p) p) ≡ ahead sell o p
       go true true = refl
       go true false = refl
       go false true = refl
@@ -63,57 +65,58 @@ module _ (number lots : ℕ) where
   less-uncrossed (b ∷ bs) [] = refl
   less-uncrossed (b ∷ bs) (s ∷ ss) = go (hasNumber number b) (hasNumber number s)
     where
-      go : (x y : Bool) → uncrossed (pick x (withLots b lots) b ∷ bs) (pick y (withLots s lots) s ∷ ss) ≡ uncrossed (b ∷ bs) (s ∷ ss)
+      go : (x y : Bool) → uncrossed (pick x (lesser b) b ∷ bs) (pick y (lesser s) s ∷ ss) ≡ uncrossed (b ∷ bs) (s ∷ ss)
       go true true = refl
       go true false = refl
       go false true = refl
       go false false = refl
 
-  -- a function of an order that does not go by the lots adds up to the same
-  pub same-sum : (f : Order → ℕ) → ((o : Order) → f (withLots o lots) ≡ f o) → (os : List Order) → sumOf f (lessened number lots os) ≡ sumOf f os
+  -- a function of an order that goes by neither the lots nor the mark adds up to the same
+  pub same-sum : (f : Order → ℕ) → ((o : Order) → f (lesser o) ≡ f o) → (os : List Order) → sumOf f (lessened number lots os) ≡ sumOf f os
   unfolding lessened sumOf
   same-sum f same [] = refl
   same-sum f same (o ∷ os) = go (hasNumber number o) (same-sum f same os)
     where
-      go : (b : Bool) → sumOf f (lessened number lots os) ≡ sumOf f os → f (pick b (withLots o lots) o) + sumOf f (lessened number lots os) ≡ f o + sumOf f os
+      go : (b : Bool) → sumOf f (lessened number lots os) ≡ sumOf f os → f (pick b (lesser o) o) + sumOf f (lessened number lots os) ≡ f o + sumOf f os
       go true ih = rw (same o, ih)
       go false ih = rw ih
 
   -- and a test of it is passed as before
-  pub same-all : (test : Order → Bool) → ((o : Order) → test (withLots o lots) ≡ test o) → (os : List Order) → allOf test (lessened number lots os) ≡ allOf test os
+  pub same-all : (test : Order → Bool) → ((o : Order) → test (lesser o) ≡ test o) → (os : List Order) → allOf test (lessened number lots os) ≡ allOf test os
   unfolding lessened allOf
   same-all test same [] = refl
   same-all test same (o ∷ os) = go (hasNumber number o) (same-all test same os)
     where
-      go : (b : Bool) → allOf test (lessened number lots os) ≡ allOf test os → allOf test (pick b (withLots o lots) o ∷ lessened number lots os) ≡ allOf test (o ∷ os)
+      go : (b : Bool) → allOf test (lessened number lots os) ≡ allOf test os → allOf test (pick b (lesser o) o ∷ lessened number lots os) ≡ allOf test (o ∷ os)
       go true ih = rw (same o, ih)
       go false ih = rw ih
 
-  module _ (some : 1 ≤ lots) where
-    pub less-all : (test : Order → Bool) → KeptWithFewer test → (os : List Order) → allOf fits os ≡ true → allOf test os ≡ true → allOf test (lessened number lots os) ≡ true
-    unfolding lessened allOf
-    less-all test kept [] f h = refl
-    less-all test kept (o ∷ os) f h = go (hasNumber number o) (p .0) (less-all test kept os (p .1) (q .1))
-      where
-        p : (fits o ≡ true) × (allOf fits os ≡ true)
-        p = both-true (fits o) (allOf fits os) f
+  pub less-all : (test : Order → Bool) → ((o : Order) → lots ≤ o .lots → test o ≡ true → test (lesser o) ≡ true) → (os : List Order) →
+      allOf fits os ≡ true → allOf test os ≡ true → allOf test (lessened number lots os) ≡ true
+  unfolding lessened allOf
+  less-all test kept [] f h = refl
+  less-all test kept (o ∷ os) f h = go (hasNumber number o) (p .0) (less-all test kept os (p .1) (q .1))
+    where
+      p : (fits o ≡ true) × (allOf fits os ≡ true)
+      p = both-true (fits o) (allOf fits os) f
 
-        q : (test o ≡ true) × (allOf test os ≡ true)
-        q = both-true (test o) (allOf test os) h
+      q : (test o ≡ true) × (allOf test os ≡ true)
+      q = both-true (test o) (allOf test os) h
 
-        go : (b : Bool) → pick b (leb lots (o .lots)) true ≡ true → allOf test (lessened number lots os) ≡ true → allOf test (pick b (withLots o lots) o ∷ lessened number lots os) ≡ true
-        go true e ih = true-both (test (withLots o lots)) (allOf test (lessened number lots os)) (kept o lots some (leb-true lots (o .lots) e) (q .0)) ih
-        go false e ih = true-both (test o) (allOf test (lessened number lots os)) (q .0) ih
+      go : (b : Bool) → pick b (leb lots (o .lots)) true ≡ true → allOf test (lessened number lots os) ≡ true → allOf test (pick b (lesser o) o ∷ lessened number lots os) ≡ true
+      go true e ih = true-both (test (lesser o)) (allOf test (lessened number lots os)) (kept o (leb-true lots (o .lots) e) (q .0)) ih
+      go false e ih = true-both (test o) (allOf test (lessened number lots os)) (q .0) ih
 
-    pub less-sum : (f : Order → ℕ) → LessWithFewer f → (os : List Order) → allOf fits os ≡ true → sumOf f (lessened number lots os) ≤ sumOf f os
-    unfolding lessened allOf sumOf
-    less-sum f less [] h = omega arith
-    less-sum f less (o ∷ os) h = go (hasNumber number o) (p .0) (less-sum f less os (p .1))
-      where
-        p : (fits o ≡ true) × (allOf fits os ≡ true)
-        p = both-true (fits o) (allOf fits os) h
+  pub less-sum : (f : Order → ℕ) → ((o : Order) → lots ≤ o .lots → f (lesser o) ≤ f o) → (os : List Order) → allOf fits os ≡ true →
+      sumOf f (lessened number lots os) ≤ sumOf f os
+  unfolding lessened allOf sumOf
+  less-sum f less [] h = omega arith
+  less-sum f less (o ∷ os) h = go (hasNumber number o) (p .0) (less-sum f less os (p .1))
+    where
+      p : (fits o ≡ true) × (allOf fits os ≡ true)
+      p = both-true (fits o) (allOf fits os) h
 
-        go : (b : Bool) → pick b (leb lots (o .lots)) true ≡ true → sumOf f (lessened number lots os) ≤ sumOf f os →
-            f (pick b (withLots o lots) o) + sumOf f (lessened number lots os) ≤ f o + sumOf f os
-        go true e ih = omega (arith, less o lots some (leb-true lots (o .lots) e))
-        go false e ih = omega arith
+      go : (b : Bool) → pick b (leb lots (o .lots)) true ≡ true → sumOf f (lessened number lots os) ≤ sumOf f os →
+          f (pick b (lesser o) o) + sumOf f (lessened number lots os) ≤ f o + sumOf f os
+      go true e ih = omega (arith, less o (leb-true lots (o .lots) e))
+      go false e ih = omega arith

@@ -21,3 +21,4 @@ pub mod AuctionOutcome
 pub mod AuctionSteps
 pub mod Changes
 pub mod Lessened
+pub mod WithoutMarks

@@ -58,9 +58,10 @@ mark false = 0
 unfoldable pub listingOf : Exchange → NewOrder → Listing
 listingOf x o = listingAt x (placeOf (o .contract))
 
--- the order with the number that it has, and the next time stamp: "new at insert and at each loss of place" (02, ticket 8)
-unfoldable pub takerOf : Exchange → ℕ → NewOrder → Taker
-takerOf x number o =
+-- the order with the number that it has, its quote mark (02, ticket 7), and the next time stamp: "new at insert and at each loss of
+-- place" (02, ticket 8)
+unfoldable pub takerOf : Exchange → ℕ → ℕ → NewOrder → Taker
+takerOf x number quote o =
     record {
       account = placeOf (o .account);
       contract = placeOf (o .contract);
@@ -68,19 +69,20 @@ takerOf x number o =
       close = mark (o .close);
       number = number;
       stamp = x .nextstamp;
+      quote = quote;
       condition = o .condition;
       method = methodOf (listingOf x o .contract);
       best = bestPrice (opposite (o .sell) (listingOf x o));
     }
 
 unfoldable pub fillableLots : Exchange → NewOrder → ℕ
-fillableLots x o = fillable (takerOf x (x .next) o) (opposite (o .sell) (listingOf x o))
+fillableLots x o = fillable (takerOf x (x .next) 0 o) (opposite (o .sell) (listingOf x o))
 
 -- how many trades the order would make: in auction none, since orders "rest without matching" (02, ticket 4)
 unfoldable pub tradesNeeded : Exchange → ℕ → NewOrder → ℕ
 tradesNeeded x number o =
     pick (inAuction (listingOf x o .contract)) 0
-    (length (sweep (takerOf x number o) (o .lots) (listingOf x o .contract .last) (opposite (o .sell) (listingOf x o)) .trades))
+    (length (sweep (takerOf x number 0 o) (o .lots) (listingOf x o .contract .last) (opposite (o .sell) (listingOf x o)) .trades))
 
 -- ---- the tests of an insert
 
@@ -143,16 +145,11 @@ tradesRefused x number o = ltb maxTrades (length (x .trades) + tradesNeeded x nu
 
 -- ---- the refusals of each kind, "Order: 21, 1, then .."
 
--- "for insert 2 to 13 rising"
-unfoldable pub insertRefusals : Exchange → NewOrder → List Refusal
-insertRefusals x o =
-    -- "account 0 or absent"; "contract 0 or absent"
-    (2 when absent (o .account) (x .accounts))
-    ∷ (3 when absent (o .contract) (x .listings))
-    -- "contract state forbids it"
-    ∷ (4 when not (takesOrders (listingOf x o .contract)))
+-- an order's code "from 5 on" (02, ticket 7)
+unfoldable pub orderRefusals : Exchange → NewOrder → List Refusal
+orderRefusals x o =
     -- "lots outside 1 to 1,000"
-    ∷ (5 when not (within 1 maxLots (o .lots)))
+    (5 when not (within 1 maxLots (o .lots)))
     ∷ (6 when conditionsRefused (listingOf x o .contract) o)
     ∷ (7 when priceRefused (listingOf x o .contract) o)
     ∷ (8 when holdingRefused x o)
@@ -164,6 +161,16 @@ insertRefusals x o =
     -- "good for day, own side has 64, fillable lots below lots"; in auction "13 whenever the own side has 64" (02, ticket 4)
     ∷ (13 when (isGoodForDay (o .time) && leb maxResting (length (own (o .sell) (listingOf x o))) && (inAuction (listingOf x o .contract) || ltb (fillableLots x o) (o .lots))))
     ∷ []
+
+-- "for insert 2 to 13 rising"
+unfoldable pub insertRefusals : Exchange → NewOrder → List Refusal
+insertRefusals x o =
+    -- "account 0 or absent"; "contract 0 or absent"
+    (2 when absent (o .account) (x .accounts))
+    ∷ (3 when absent (o .contract) (x .listings))
+    -- "contract state forbids it"
+    ∷ (4 when not (takesOrders (listingOf x o .contract)))
+    ∷ orderRefusals x o
 
 -- 4: "Cancel and pull need continuous, or no trading with the operator bit (001, table 2)." In auction "cancel and pull work"
 -- (02, ticket 4), with the operator bit or without.

@@ -81,7 +81,7 @@ of : Order → ℕ → ℕ → Order
 of o account close = record { price = o .price; number = o .number; account = account; lots = o .lots; close = close; stamp = o .stamp; quote = 0 }
 
 account : ℕ → Account
-account long = record { balance = pos 0; maker = false; holdings = record { long = long; short = 0; startlong = long; startshort = 0 } ∷ noHolding ∷ [] }
+account long = record { balance = pos 0; maker = 0; holdings = record { long = long; short = 0; startlong = long; startshort = 0 } ∷ noHolding ∷ [] }
 
 listing : ℕ → List Order → Listing
 listing phase buys =
@@ -105,7 +105,7 @@ asked phase buys =
 -- the order of account 2 as it arrives
 entered : ℕ → Entered
 entered phase =
-    enteredOf (asked phase []) 3
+    enteredOf (asked phase []) 3 0
     (record { account = 2; contract = 1; sell = false; close = false; lots = 2; price = 105; condition = Limit 105; time = GoodForDay })
 
 -- the change to continuous with these buys resting

@@ -60,9 +60,9 @@ arriving x k =
       time = GoodForDay;
     }
 
--- "The number stays."
+-- "The number stays." "In a quote, any other change of an order drops that order's mark."
 unfoldable pub reentered : Exchange → Asked → Entered
-reentered x k = enteredOf (gone x k) (k .number) (arriving x k)
+reentered x k = enteredOf (gone x k) (k .number) 0 (arriving x k)
 
 -- ---- "Refusals: 21, 1, 2, 3, 4, 14, 15; then, unless lots are zero, 5 and 7 as for insert, and where the place is lost 8, 9, 10
 -- (stamps used up ..) and 12. 13 never occurs here."
@@ -101,10 +101,14 @@ placeLost x k =
 unfoldable pub unchanged : Exchange → Asked → Effect
 unchanged x k = record { number = k .number; traded = 0; lots = k .lots; stages = [] }
 
--- fewer lots at the same price: that order's lots alone
+-- fewer lots at the same price: that order's lots alone, and its mark
+abbrev pub unmarked : Order → Order
+unmarked o =
+    record { price = o .price; number = o .number; account = o .account; lots = o .lots; close = o .close; stamp = o .stamp; quote = 0 }
+
 unfoldable pub lessened : ℕ → ℕ → List Order → List Order
 lessened number lots [] = []
-lessened number lots (o ∷ os) = pick (hasNumber number o) (withLots o lots) o ∷ lessened number lots os
+lessened number lots (o ∷ os) = pick (hasNumber number o) (unmarked (withLots o lots)) o ∷ lessened number lots os
 
 abbrev pub listingLessened : Asked → Listing → Listing
 listingLessened k l =

@@ -29,7 +29,7 @@ order number price account lots close =
 
 account : ℕ → ℕ → ℕ → Account
 account balance long short =
-    record { balance = pos balance; maker = false; holdings = record { long = long; short = short; startlong = long; startshort = short } ∷ [] }
+    record { balance = pos balance; maker = 0; holdings = record { long = long; short = short; startlong = long; startshort = short } ∷ [] }
 
 contract : ℕ → ℕ → ℕ → ℕ → Contract
 contract tick method phase last =

@@ -9,7 +9,7 @@ use lib.ListN.{replicate}
 use Rattle.laws.specs.Choice.{all, allOf}
 use Rattle.laws.specs.Sums.{sumOf}
 use Rattle.laws.specs.Tabulate.{tabulate}
-use Rattle.rules.specs.Answers.{amountRefused, cancelRefusals, changeListed, depositRefusals, fillableLots, firstOf, insertRefusals, leavesTooLittle, liftsTooHigh, listingOf, holdingRefused, moneyRefused, noSuchOrder, numbered, ofAnother, overHolding, overLimit, phaseRefusals, priceRefusedBy, pullRefusals, removalRefused, restingOrder, settleRefusals, takerOf, tradesNeeded, tradesRefused, withdrawRefusals, conditionsRefused, takesOrders}
+use Rattle.rules.specs.Answers.{amountRefused, cancelRefusals, changeListed, depositRefusals, fillableLots, firstOf, insertRefusals, leavesTooLittle, liftsTooHigh, listingOf, holdingRefused, moneyRefused, noSuchOrder, numbered, ofAnother, overHolding, overLimit, phaseRefusals, priceRefusedBy, pullRefusals, removalRefused, restingOrder, settleRefusals, takerOf, tradesNeeded, tradesRefused, withdrawRefusals, conditionsRefused, takesOrders, orderRefusals}
 use Rattle.rules.specs.Bounds.{allowedToday, dayHigh, dayLow, onTick, auction, closed, continuous, noTrading, preOpen}
 use Rattle.rules.specs.Auction.{auctionMatch, bestFrom, bestOf, better, chosenPrice, lotsReaching, matchAt, matchIn, matchOf, prices, surplus, tradeAt, volume}
 use Rattle.rules.specs.Change.{changeRefusals}
@@ -41,10 +41,10 @@ order : ℕ → ℕ → ℕ → Order
 order number price lots = record { price = price; number = number; account = 0; lots = lots; close = 0; stamp = number; quote = 0 }
 
 rich : Account
-rich = record { balance = pos 1_100_000; maker = false; holdings = noHolding ∷ [] }
+rich = record { balance = pos 1_100_000; maker = 0; holdings = noHolding ∷ [] }
 
 poor : Account
-poor = record { balance = pos 109_780; maker = false; holdings = record { long = 0; short = 995; startlong = 0; startshort = 995 } ∷ [] }
+poor = record { balance = pos 109_780; maker = 0; holdings = record { long = 0; short = 995; startlong = 0; startshort = 995 } ∷ [] }
 
 -- a contract in a phase, so many buys resting at 100, so many trades made, a next number, so many settlements
 asked : ℕ → ℕ → ℕ → ℕ → ℕ → Exchange
@@ -222,7 +222,7 @@ codes =
     ∷ (codeOf open′ (commandOf (raw 3 0 0 12 0)) gives 1)
     ∷ (codeOf open′ (commandOf (raw 3 0 0 42 0)) gives 2)
     ∷ (codeOf open′ (commandOf (raw 7 0 0 0 1)) gives 1)
-    ∷ (codeOf open′ (commandOf (raw 8 1 1 0 0)) gives 1)
+    ∷ (codeOf open′ (commandOf (raw 10 1 1 0 0)) gives 1)
     -- a change: its flags and its amount are unused
     ∷ (codeOf open′ (commandOf (raw 9 1 1 0 5)) gives 14)
     ∷ (codeOf open′ (commandOf (raw 9 1 1 1 5)) gives 1)
@@ -230,5 +230,5 @@ codes =
     ∷ []
 
 pub code-examples : allRight codes ≡ true
-unfolding allRight codes contract order rich poor asked open′ stamps buy sell raw absent accountAt afterLeg all allOf allowedToday amountRefused bestPrice bits bookLeg cancelRefusals changeListed changeOf changeRefusals chargeOf chargedLots chargedTo codeOf commandOf dayHigh dayLow depositRefusals fillable fillableLots firstOf holdingAt insertFlags insertOf insertRefusals kindOf leavesTooLittle liftsTooHigh listingAt listingOf holdingRefused lotsWhere meets methodOf middle pairedPrice moneyRefused newOrder noSuchOrder numbered ofAnother onTick overHolding overLimit phaseOf phaseRefusals priceCondition priceRefusedBy pullRefusals removalRefused resting restingOrder settleOf settleRefusals stays sumOf sweep tabulate takerOf timeCondition tradePrice tradeWith tradesNeeded tradesRefused withdrawRefusals zeros crossed auctionMatch bestFrom bestOf better chosenPrice conditionsRefused lotsReaching matchAt matchIn matchOf prices surplus takesOrders tradeAt volume
+unfolding allRight codes contract order rich poor asked open′ stamps buy sell raw absent accountAt afterLeg all allOf allowedToday amountRefused bestPrice bits bookLeg cancelRefusals changeListed changeOf changeRefusals chargeOf chargedLots chargedTo codeOf commandOf dayHigh dayLow depositRefusals fillable fillableLots firstOf holdingAt insertFlags insertOf insertRefusals kindOf leavesTooLittle liftsTooHigh listingAt listingOf holdingRefused lotsWhere meets methodOf middle pairedPrice moneyRefused newOrder noSuchOrder numbered ofAnother onTick overHolding overLimit phaseOf phaseRefusals priceCondition priceRefusedBy pullRefusals removalRefused resting restingOrder settleOf settleRefusals stays sumOf sweep tabulate takerOf timeCondition tradePrice tradeWith tradesNeeded tradesRefused withdrawRefusals zeros crossed auctionMatch bestFrom bestOf better chosenPrice conditionsRefused lotsReaching matchAt matchIn matchOf prices surplus takesOrders tradeAt volume orderRefusals
 code-examples = refl

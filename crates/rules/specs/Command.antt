@@ -12,7 +12,7 @@ use Rattle.rules.specs.declared.PriceCondition.the-variants.{Limit, Mark
 use Rattle.rules.specs.declared.TimeCondition.{TimeCondition}
 use Rattle.rules.specs.declared.TimeCondition.the-variants.{GoodForDay, ImmediateOrCancel, FillOrKill}
 use Rattle.rules.specs.declared.Command.{Command}
-use Rattle.rules.specs.declared.Command.the-variants.{Malformed, Deposit, Withdraw, Insert, Cancel, Pull, Phase, Settle, Change}
+use Rattle.rules.specs.declared.Command.the-variants.{Malformed, Deposit, Withdraw, Insert, Cancel, Pull, Phase, Settle, Quote, Change}
 
 -- "Fields not used are zero."
 unfoldable pub zeros : List ℕ → Bool
@@ -89,6 +89,11 @@ unfoldable pub settleOf : Record → Command
 settleOf r =
     pick (zeros (r .account ∷ r .contract ∷ r .flags ∷ r .lots ∷ r .price ∷ r .number ∷ r .amount ∷ [])) Settle Malformed
 
+-- "the price field holds the buy price, the order number field the sell price" (02, ticket 7)
+unfoldable pub quoteOf : Record → Command
+quoteOf r =
+    pick (zeros (r .flags ∷ r .amount ∷ [])) (Quote (r .account) (r .contract) (r .lots) (r .price) (r .number)) Malformed
+
 -- "Kind 9 .. gives account, contract, order number, the new remaining lots and the price" (02, ticket 8)
 unfoldable pub changeOf : Record → Command
 changeOf r =
@@ -104,7 +109,8 @@ commandOf r =
     (pick (eqb (r .kind) 5) (pullOf r)
     (pick (eqb (r .kind) 6) (phaseOf r)
     (pick (eqb (r .kind) 7) (settleOf r)
-    (pick (eqb (r .kind) 9) (changeOf r) Malformed)))))))
+    (pick (eqb (r .kind) 8) (quoteOf r)
+    (pick (eqb (r .kind) 9) (changeOf r) Malformed))))))))
 
 -- the kind's number, 0 for what is no command
 abbrev pub kindNumber : Command → ℕ
@@ -116,6 +122,7 @@ kindNumber (Cancel account contract operator number) = 4
 kindNumber (Pull account contract operator) = 5
 kindNumber (Phase contract phase) = 6
 kindNumber Settle = 7
+kindNumber (Quote account contract lots buy sell) = 8
 kindNumber (Change account contract number lots price) = 9
 
 abbrev pub isMalformed : Command → Bool

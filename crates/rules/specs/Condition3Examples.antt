@@ -23,7 +23,7 @@ use Rattle.rules.specs.declared.Trade.{Trade}
 
 -- two accounts with 10,000 each in one contract, multiplier 10, reference 100; the first long and the second short so many lots
 account : ℕ → ℕ → Account
-account long short = record { balance = pos 10_000; maker = false; holdings = record { long = long; short = short; startlong = long; startshort = short } ∷ [] }
+account long short = record { balance = pos 10_000; maker = 0; holdings = record { long = long; short = short; startlong = long; startshort = short } ∷ [] }
 
 start : ℕ → Memory
 start lots =

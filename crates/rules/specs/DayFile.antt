@@ -1,11 +1,11 @@
 -- "The day file": when it is sound, the state its run opens with, and its commands. Assumes nothing.
-use mathlib.Core.Bool.{Bool, false, _&&_}
+use mathlib.Core.Bool.{Bool, _&&_}
 use mathlib.Core.List.{List, []}
-use Prim.Native.Nat.{ℕ, _+_, _*_, _^_}
+use Prim.Native.Nat.{ℕ, _+_, _*_, _%_, _^_}
 use lib.Dec.{leb, eqb}
 use lib.IntN.{pos}
 use lib.ListN.{length, getD, replicate}
-use Rattle.laws.specs.Choice.{all}
+use Rattle.laws.specs.Choice.{all, pick}
 use Rattle.laws.specs.Tabulate.{tabulate}
 use Rattle.rules.specs.Bounds.{within, maxContracts, maxAccounts, maxBalance, termsInRange, preOpen}
 use Rattle.rules.specs.Command.{commandOf}
@@ -77,9 +77,16 @@ contractFrom file at =
 unfoldable pub contractSound : List ℕ → ℕ → Bool
 contractSound file c = termsInRange (contractFrom file (contractPlace c))
 
--- "An account is 8 bytes: opening balance, 0 to 10^18."
+-- "An account is 8 bytes: opening balance, 0 to 10^18." "Bit 63 of an account's opening balance in the file marks a maker." (02,
+-- ticket 7)
+abbrev pub makerBit : ℕ
+makerBit = 2 ^ 63
+
 unfoldable pub balanceFrom : List ℕ → ℕ → ℕ
-balanceFrom file a = u64At file (accountPlace file a)
+balanceFrom file a = u64At file (accountPlace file a) % makerBit
+
+unfoldable pub makerFrom : List ℕ → ℕ → ℕ
+makerFrom file a = pick (leb makerBit (u64At file (accountPlace file a))) 1 0
 
 unfoldable pub accountSound : List ℕ → ℕ → Bool
 accountSound file a = leb (balanceFrom file a) maxBalance
@@ -122,7 +129,7 @@ unfoldable pub openingListing : List ℕ → ℕ → Listing
 openingListing file c = record { contract = contractFrom file (contractPlace c); buys = []; sells = [] }
 
 unfoldable pub openingAccount : List ℕ → ℕ → Account
-openingAccount file a = record { balance = pos (balanceFrom file a); maker = false; holdings = replicate (contractsIn file) noHolding }
+openingAccount file a = record { balance = pos (balanceFrom file a); maker = makerFrom file a; holdings = replicate (contractsIn file) noHolding }
 
 unfoldable pub opening : List ℕ → Exchange
 opening file =

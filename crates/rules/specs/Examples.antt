@@ -38,7 +38,7 @@ trade lots price =
     record { contract = 0; price = price; lots = lots; buyorder = 1; sellorder = 2; buyer = 0; seller = 1; buyclose = 0; sellclose = 0 }
 
 limitBuy : ℕ → Taker
-limitBuy price = record { account = 0; contract = 0; sell = false; close = 0; number = 3; stamp = 3; condition = Limit price; method = Middle; best = 110 }
+limitBuy price = record { account = 0; contract = 0; sell = false; close = 0; number = 3; stamp = 3; quote = 0; condition = Limit price; method = Middle; best = 110 }
 
 sells : List Order
 sells = order 110 7 ∷ order 111 5 ∷ []

@@ -41,7 +41,7 @@ abbrev pub noHolding : Holding
 noHolding = record { long = 0; short = 0; startlong = 0; startshort = 0 }
 
 abbrev pub noAccount : Account
-noAccount = record { balance = pos 0; maker = false; holdings = [] }
+noAccount = record { balance = pos 0; maker = 0; holdings = [] }
 
 abbrev pub noListing : Listing
 noListing = record { contract = noContract; buys = []; sells = [] }

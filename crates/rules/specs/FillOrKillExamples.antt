@@ -8,7 +8,7 @@ use lib.IntN.{pos}
 use lib.ListN.{length, getD}
 use Rattle.laws.specs.Choice.{all, allOf}
 use Rattle.laws.specs.Sums.{sumOf}
-use Rattle.rules.specs.Answers.{conditionsRefused, fillableLots, firstOf, holdingRefused, insertRefusals, listingOf, moneyRefused, overHolding, overLimit, priceRefusedBy, takerOf, takesOrders, tradesNeeded, tradesRefused}
+use Rattle.rules.specs.Answers.{conditionsRefused, fillableLots, firstOf, holdingRefused, insertRefusals, listingOf, moneyRefused, orderRefusals, overHolding, overLimit, priceRefusedBy, takerOf, takesOrders, tradesNeeded, tradesRefused}
 use Rattle.rules.specs.Bounds.{allowedToday, dayHigh, dayLow, onTick, termsInRange, tickMultiple}
 use Rattle.rules.specs.Examples.{Row, _gives_, allRight}
 use Rattle.rules.specs.Exchange.{Exchange, absent, accountAt, bestPrice, holdingAt, listingAt, lotsWhere, noHolding, noTrade, resting}
@@ -17,7 +17,7 @@ use Rattle.rules.specs.Kinds.{codeOf, decide, kindOf, step}
 use Rattle.rules.specs.Margin.{chargeOf, chargedLots, chargedTo}
 use Rattle.rules.specs.Matching.{enter, fillable, lastPrice, meets, methodOf, middle, pairedPrice, remainder, restIn, restLots, restedLots, stays, sweep, tradePrice, tradeWith, tradedLots}
 use Rattle.rules.specs.Step.{enteredOf, exchangeAfter, inserted, listingAfter}
-use Rattle.rules.specs.WellFormed.{ahead, aheadOfFirst, allListed, balanceInRange, contractInRange, countersInRange, holdingInRange, holdingsInRange, listed, listingInRange, orderInRange, replays, sorted, tradeInRange, uncrossed, usedOnce, wellFormedContents}
+use Rattle.rules.specs.WellFormed.{ahead, aheadOfFirst, allListed, balanceInRange, contractInRange, countersInRange, holdingInRange, holdingsInRange, listed, listingInRange, listingQuoted, markAllowed, markInRange, orderInRange, queueQuoted, quotes, replays, sorted, tradeInRange, uncrossed, usedOnce, wellFormedContents}
 use Rattle.rules.specs.declared.Account.{Account}
 use Rattle.rules.specs.declared.Command.{Command}
 use Rattle.rules.specs.declared.Command.the-variants.{Insert}
@@ -30,7 +30,7 @@ unfoldable pub order : ℕ → ℕ → ℕ → Order
 order number price lots = record { price = price; number = number; account = 0; lots = lots; close = 0; stamp = number; quote = 0 }
 
 unfoldable pub account : Account
-account = record { balance = pos 100_000; maker = false; holdings = noHolding ∷ [] }
+account = record { balance = pos 100_000; maker = 0; holdings = noHolding ∷ [] }
 
 unfoldable pub book : Exchange
 book =
@@ -83,10 +83,10 @@ table =
     ∷ []
 
 pub fill-or-kill-examples : allRight table ≡ true
-unfolding allRight table order account book fillOrKill after absent accountAt afterLeg allowedToday bestPrice bookLeg bookTrade bookTrades chargeOf chargedLots chargedTo codeOf conditionsRefused dayHigh dayLow decide enter enteredOf exchangeAfter fillable fillableLots firstOf holdingAt holdingRefused insertRefusals inserted kindOf lastPrice listingAfter listingAt listingOf lotsWhere meets methodOf middle moneyRefused onTick overHolding overLimit pairedPrice priceRefusedBy remainder restIn restLots restedLots resting stays step sumOf sweep takerOf takesOrders tradePrice tradeWith tradedLots tradesNeeded tradesRefused
+unfolding allRight table order account book fillOrKill after absent accountAt afterLeg allowedToday bestPrice bookLeg bookTrade bookTrades chargeOf chargedLots chargedTo codeOf conditionsRefused dayHigh dayLow decide enter enteredOf exchangeAfter fillable fillableLots firstOf holdingAt holdingRefused insertRefusals inserted kindOf lastPrice listingAfter listingAt listingOf lotsWhere meets methodOf middle moneyRefused onTick orderRefusals overHolding overLimit pairedPrice priceRefusedBy remainder restIn restLots restedLots resting stays step sumOf sweep takerOf takesOrders tradePrice tradeWith tradedLots tradesNeeded tradesRefused
 fill-or-kill-examples = refl
 
 -- the state that it is asked of is well formed
 pub book-well-formed : wellFormedContents book ≡ true
-unfolding order account book all allOf sumOf accountAt afterLeg ahead aheadOfFirst allListed allowedToday balanceInRange bookLeg bookTrade bookTrades contractInRange countersInRange dayHigh dayLow holdingAt holdingInRange holdingsInRange legCovered listed listingAt listingInRange lotsWhere neverBelowZero onTick orderInRange replays resting sameHoldings sameLots sorted startOfDay termsInRange tickMultiple tradeInRange uncrossed usedOnce wellFormedContents
+unfolding order account book all allOf sumOf accountAt afterLeg ahead aheadOfFirst allListed allowedToday balanceInRange bookLeg bookTrade bookTrades contractInRange countersInRange dayHigh dayLow holdingAt holdingInRange holdingsInRange legCovered listed listingAt listingInRange listingQuoted markAllowed markInRange queueQuoted quotes lotsWhere neverBelowZero onTick orderInRange replays resting sameHoldings sameLots sorted startOfDay termsInRange tickMultiple tradeInRange uncrossed usedOnce wellFormedContents
 book-well-formed = refl

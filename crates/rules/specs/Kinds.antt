@@ -11,12 +11,13 @@ use Rattle.rules.specs.Auction.{matchOf}
 use Rattle.rules.specs.Change.{asked, changeRefusals, changed, changeTrades}
 use Rattle.rules.specs.Command.{phaseKnown}
 use Rattle.rules.specs.Exchange.{Exchange, placeOf}
+use Rattle.rules.specs.Quote.{offered, quoteRefusals, quoted, quoteTrades}
 use Rattle.rules.specs.Settlement.{settlementPrice}
 use Rattle.rules.specs.Step.{Effect, answerOf, deposited, withdrawn, enteredOf, inserted, cancelled, pulled, phaseChanged, settledAll}
 use Rattle.rules.specs.declared.Answer.{Answer}
 use Rattle.rules.specs.declared.Trade.{Trade}
 use Rattle.rules.specs.declared.Command.{Command}
-use Rattle.rules.specs.declared.Command.the-variants.{Malformed, Deposit, Withdraw, Insert, Cancel, Pull, Phase, Settle, Change}
+use Rattle.rules.specs.declared.Command.the-variants.{Malformed, Deposit, Withdraw, Insert, Cancel, Pull, Phase, Settle, Quote, Change}
 
 -- what moves money: an account is paid an amount, or pays it; trades are made; all is settled, at a price for each contract
 pub data Move : Type 0 where
@@ -62,7 +63,7 @@ kindOf x (Insert o) =
     record {
       refusals = insertRefusals x o;
       effect = inserted x o;
-      moves = makes (enteredOf x (x .next) o .trades);
+      moves = makes (enteredOf x (x .next) 0 o .trades);
     }
 -- 4 cancel
 kindOf x (Cancel account contract operator number) =
@@ -91,6 +92,13 @@ kindOf x Settle =
       refusals = settleRefusals x;
       effect = settledAll x;
       moves = settles (settlementPrice x);
+    }
+-- 8 quote
+kindOf x (Quote account contract lots buy sell) =
+    record {
+      refusals = quoteRefusals x (offered account contract lots buy sell);
+      effect = quoted x (offered account contract lots buy sell);
+      moves = makes (quoteTrades x (offered account contract lots buy sell));
     }
 -- 9 change
 kindOf x (Change account contract number lots price) =

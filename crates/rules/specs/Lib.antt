@@ -3,6 +3,7 @@ pub mod Exchange
 pub mod Holdings
 pub mod WellFormed
 pub mod Change
+pub mod Quote
 pub mod Command
 pub mod Matching
 pub mod Between
@@ -21,6 +22,7 @@ pub mod Lines
 pub mod Examples
 pub mod CodeExamples
 pub mod ChangeExamples
+pub mod QuoteExamples
 pub mod Condition3Examples
 pub mod MarginExamples
 pub mod MatchingExamples

@@ -125,10 +125,10 @@ pub record Entered : Type 0 where
   pub own : List Order
   pub opposite : List Order
 
--- the order that rests, at its limit, with its time stamp
+-- the order that rests, at its limit, with its time stamp and quote mark
 unfoldable pub remainder : Taker → ℕ → ℕ → Order
 remainder t price lots =
-    record { price = price; number = t .number; account = t .account; lots = lots; close = t .close; stamp = t .stamp; quote = 0 }
+    record { price = price; number = t .number; account = t .account; lots = lots; close = t .close; stamp = t .stamp; quote = t .quote }
 
 unfoldable pub restLots : Taker → ℕ → ℕ → List Order → List Order
 restLots t price zero queue = queue

@@ -23,7 +23,7 @@ sells : List Order
 sells = order 1 110 7 ∷ order 2 111 5 ∷ order 3 112 4 ∷ []
 
 buyer : PriceCondition → Taker
-buyer condition = record { account = 0; contract = 0; sell = false; close = 0; number = 9; stamp = 9; condition = condition; method = Middle; best = 110 }
+buyer condition = record { account = 0; contract = 0; sell = false; close = 0; number = 9; stamp = 9; quote = 0; condition = condition; method = Middle; best = 110 }
 
 -- a buy of so many lots, the last price 109
 swept : PriceCondition → ℕ → Swept

@@ -31,7 +31,7 @@ order number price lots = record { price = price; number = number; account = 1; 
 
 taker : ℕ → Bool → PriceCondition → Taker
 taker method sell condition =
-    record { account = 0; contract = 0; sell = sell; close = 0; number = 9; stamp = 9; condition = condition; method = methodOf (contract method 1); best = 110 }
+    record { account = 0; contract = 0; sell = sell; close = 0; number = 9; stamp = 9; quote = 0; condition = condition; method = methodOf (contract method 1); best = 110 }
 
 -- the price of the trade at a place: 12 lots bought of sells 7 at 110, 5 at 111 and 4 at 112, the last price 109
 bought : ℕ → PriceCondition → ℕ → ℕ

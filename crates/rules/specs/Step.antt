@@ -96,11 +96,11 @@ limitOf Market = 0
 limitOf Best = 0
 
 -- "In auction, limit good-for-day orders rest without matching" (02, ticket 4)
-unfoldable pub enteredOf : Exchange → ℕ → NewOrder → Entered
-enteredOf x number o =
+unfoldable pub enteredOf : Exchange → ℕ → ℕ → NewOrder → Entered
+enteredOf x number quote o =
     pick (inAuction (listingOf x o .contract))
-    (restWhole (takerOf x number o) (o .lots) (limitOf (o .condition)) (own (o .sell) (listingOf x o)) (opposite (o .sell) (listingOf x o)))
-    (enter (takerOf x number o) (o .lots) (limitOf (o .condition)) (isGoodForDay (o .time)) (listingOf x o .contract .last)
+    (restWhole (takerOf x number quote o) (o .lots) (limitOf (o .condition)) (own (o .sell) (listingOf x o)) (opposite (o .sell) (listingOf x o)))
+    (enter (takerOf x number quote o) (o .lots) (limitOf (o .condition)) (isGoodForDay (o .time)) (listingOf x o .contract .last)
     (own (o .sell) (listingOf x o))
     (opposite (o .sell) (listingOf x o)))
 
@@ -116,8 +116,8 @@ exchangeAfter x o e next =
 -- "given to accepted orders in turn over all contracts": the next number is one more
 unfoldable pub inserted : Exchange → NewOrder → Effect
 inserted x o =
-    accepted (x .next) (tradedLots (enteredOf x (x .next) o .trades)) (enteredOf x (x .next) o .rested)
-    (exchangeAfter x o (enteredOf x (x .next) o) (x .next + 1))
+    accepted (x .next) (tradedLots (enteredOf x (x .next) 0 o .trades)) (enteredOf x (x .next) 0 o .rested)
+    (exchangeAfter x o (enteredOf x (x .next) 0 o) (x .next + 1))
 
 -- ---- cancel and pull
 

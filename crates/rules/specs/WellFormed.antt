@@ -6,9 +6,10 @@ use Prim.Native.Nat.{ℕ, _+_, _*_}
 use lib.Dec.{leb, ltb, eqb}
 use lib.IntN.{natAbs}
 use lib.ListN.{length}
-use Rattle.laws.specs.Choice.{all, allOf}
+use Rattle.laws.specs.Choice.{pick, all, allOf}
+use Rattle.laws.specs.Sums.{sumOf}
 use Rattle.rules.specs.Bounds.{within, inAuction, termsInRange, tickMultiple, allowedToday, maxPhase, numbersEnd, maxLots, maxSettlements, maxBalance, maxDayProfit}
-use Rattle.rules.specs.Exchange.{Exchange, Listing, listingAt, holdingAt, worse, restingOpens, restingCloses}
+use Rattle.rules.specs.Exchange.{Exchange, Listing, listingAt, accountAt, holdingAt, worse, restingOpens, restingCloses}
 use Rattle.rules.specs.Holdings.{bookTrades, neverBelowZero, startOfDay, sameHoldings}
 use Rattle.rules.specs.declared.Account.{Account}
 use Rattle.rules.specs.declared.Contract.{Contract}
@@ -58,8 +59,7 @@ orderInRange accounts next nextstamp c o =
     && leb (o .close) 1
     && leb 1 (o .stamp)
     && ltb (o .stamp) nextstamp
-    -- no order has a quote mark yet (decision 34)
-    && eqb (o .quote) 0
+    && leb (o .quote) 1
 
 unfoldable pub listingInRange : ℕ → ℕ → ℕ → Listing → Bool
 listingInRange accounts next nextstamp l =
@@ -97,6 +97,31 @@ allStamps ls = allListed stampOf ls
 unfoldable pub usedOnce : List ℕ → Bool
 usedOnce [] = true
 usedOnce (n ∷ ns) = allOf (λ k. not (eqb n k)) ns && usedOnce ns
+
+-- ---- "marked in the book (at most one for each contract, account and side, on a maker's open only; well-formed rule too)" (02,
+-- ticket 7)
+
+-- an account's order that is part of a quote
+abbrev pub isQuoteOf : ℕ → Order → Bool
+isQuoteOf a o = eqb (o .account) a && eqb (o .quote) 1
+
+unfoldable pub quotes : ℕ → List Order → ℕ
+quotes a queue = sumOf (λ o. pick (isQuoteOf a o) 1 0) queue
+
+-- "on a maker's open only"
+unfoldable pub markAllowed : List Account → Order → Bool
+markAllowed accounts o = eqb (o .quote) 0 || eqb (accountAt accounts (o .account) .maker) 1 && eqb (o .close) 0
+
+-- "at most one for each .. account and side"
+unfoldable pub queueQuoted : List Account → List Order → Bool
+queueQuoted accounts queue = allOf (markAllowed accounts) queue && all (λ a. leb (quotes a queue) 1) (length accounts)
+
+unfoldable pub listingQuoted : List Account → Listing → Bool
+listingQuoted accounts l = queueQuoted accounts (l .buys) && queueQuoted accounts (l .sells)
+
+-- "maker mark 1, its value 0 or 1" (02, ticket 10)
+unfoldable pub markInRange : Account → Bool
+markInRange a = leb (a .maker) 1
 
 -- ---- "recorded trades have existing contract and accounts, two different order numbers below the next, a price allowed
 -- today, 1 to 1,000 lots, and for each leg open or close"
@@ -151,6 +176,8 @@ wellFormedContents x =
     && allOf (listingInRange (length (x .accounts)) (x .next) (x .nextstamp)) (x .listings)
     && usedOnce (allNumbers (x .listings))
     && usedOnce (allStamps (x .listings))
+    && allOf (listingQuoted (x .accounts)) (x .listings)
+    && allOf markInRange (x .accounts)
     && allOf (tradeInRange x) (x .trades)
     && replays x
     && all (holdingsInRange x) (length (x .accounts))

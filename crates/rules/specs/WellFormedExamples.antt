@@ -1,6 +1,6 @@
 -- A state that is well formed, and near misses that are not, a clause each. One table, one statement, as in Examples.antt.
 -- Assumes nothing.
-use mathlib.Core.Bool.{true, false}
+use mathlib.Core.Bool.{Bool, true, false}
 use mathlib.Core.List.{List, [], _∷_}
 use mathlib.Core.Path.{_≡_, refl}
 use Prim.Native.Nat.{ℕ, _+_, _*_, _^_}
@@ -14,7 +14,7 @@ use Rattle.rules.specs.Exchange.{Exchange, accountAt, holdingAt, listing
 use Rattle.rules.specs.Holdings.{afterLeg, bookLeg, bookTrade, bookTrades, legCovered, neverBelowZero, sameHoldings, sameLots, startOfDay}
 use Rattle.rules.specs.Answers.{mark}
 use Rattle.rules.specs.Memory.{Memory, countsInRange, hasRoom}
-use Rattle.rules.specs.WellFormed.{ahead, aheadOfFirst, balanceInRange, contractInRange, countersInRange, holdingInRange, holdingsInRange, listingInRange, orderInRange, replays, sorted, tradeInRange, uncrossed, usedOnce, wellFormedContents, listed, allListed}
+use Rattle.rules.specs.WellFormed.{ahead, aheadOfFirst, balanceInRange, contractInRange, countersInRange, holdingInRange, holdingsInRange, listingInRange, orderInRange, replays, sorted, tradeInRange, uncrossed, usedOnce, wellFormedContents, listed, allListed, quotes, markAllowed, queueQuoted, listingQuoted, markInRange}
 use Rattle.rules.specs.declared.Account.{Account}
 use Rattle.rules.specs.declared.Contract.{Contract}
 use Rattle.rules.specs.declared.Order.{Order}
@@ -38,7 +38,7 @@ trade price lots sellorder =
 
 account : ℤ → ℕ → ℕ → ℕ → ℕ → Account
 account balance long short startlong startshort =
-    record { balance = balance; maker = false; holdings = record { long = long; short = short; startlong = startlong; startshort = startshort } ∷ [] }
+    record { balance = balance; maker = 0; holdings = record { long = long; short = short; startlong = startlong; startshort = startshort } ∷ [] }
 
 -- account 1 starts with 2 long, account 2 with 2 short
 asked : ℕ → ℕ → List Order → List Order → List Trade → ℕ → ℕ → ℤ → Exchange
@@ -112,7 +112,7 @@ table =
     ∷ []
 
 pub well-formed-examples : allRight table ≡ true
-unfolding allRight table contract order stamped trade account asked buys sells trades test testIn all allOf sumOf accountAt afterLeg ahead aheadOfFirst allListed allowedToday balanceInRange bookLeg bookTrade bookTrades contractInRange countersInRange dayHigh dayLow holdingAt holdingInRange holdingsInRange legCovered listingAt listingInRange lotsWhere neverBelowZero listed onTick orderInRange replays resting sameHoldings sameLots sorted startOfDay termsInRange tickMultiple tradeInRange uncrossed usedOnce wellFormedContents
+unfolding allRight table contract order stamped trade account asked buys sells trades test testIn all allOf sumOf accountAt afterLeg ahead aheadOfFirst allListed allowedToday balanceInRange bookLeg bookTrade bookTrades contractInRange countersInRange dayHigh dayLow holdingAt holdingInRange holdingsInRange legCovered listingAt listingInRange lotsWhere neverBelowZero listed onTick orderInRange replays resting sameHoldings sameLots sorted startOfDay termsInRange tickMultiple tradeInRange uncrossed usedOnce wellFormedContents quotes markAllowed queueQuoted listingQuoted markInRange
 well-formed-examples = refl
 
 -- ---- counts and room, on a state as it lies, and the replay of closes
@@ -169,11 +169,12 @@ laid =
     -- a close of what is held, and of one lot more: the short lots do not cover it
     ∷ (mark (replays (replayed 2)) gives 1)
     ∷ (mark (replays (replayed 3)) gives 0)
-    -- a time stamp from 1 and below the next one, whatever the next number; no order has a quote mark yet
+    -- a time stamp from 1 and below the next one, whatever the next number; a quote mark is 0 or 1
     ∷ (mark (orderInRange 2 9 8 (contract continuous 110) (marked 7 0)) gives 1)
     ∷ (mark (orderInRange 2 9 8 (contract continuous 110) (marked 8 0)) gives 0)
     ∷ (mark (orderInRange 2 9 8 (contract continuous 110) (marked 0 0)) gives 0)
-    ∷ (mark (orderInRange 2 9 8 (contract continuous 110) (marked 7 1)) gives 0)
+    ∷ (mark (orderInRange 2 9 8 (contract continuous 110) (marked 7 1)) gives 1)
+    ∷ (mark (orderInRange 2 9 8 (contract continuous 110) (marked 7 2)) gives 0)
     -- the next number and the next time stamp are each 1 to 1,000,000
     ∷ (mark (countersInRange (counting 1_000_000 1_000_000)) gives 1)
     ∷ (mark (countersInRange (counting 1_000_001 1)) gives 0)
@@ -184,3 +185,46 @@ laid =
 pub laid-examples : allRight laid ≡ true
 unfolding allRight laid contract account counted lying replayed marked counting all sumOf accountAt afterLeg allowedToday bookLeg bookTrade bookTrades countersInRange countsInRange dayHigh dayLow hasRoom holdingAt legCovered neverBelowZero onTick orderInRange replays sameHoldings sameLots startOfDay
 laid-examples = refl
+
+-- ---- quote marks: accounts 1 and 2, each long 2 lots, makers or not
+
+quoting : ℕ → ℕ → List Order → List Order → ℕ
+quoting first second b s =
+    mark (wellFormedContents record {
+      listings = record { contract = contract continuous 110; buys = b; sells = s } ∷ [];
+      accounts = maker first ∷ maker second ∷ [];
+      trades = [];
+      next = 9;
+      nextstamp = 9;
+      settlements = 0;
+    })
+  where
+    maker : ℕ → Account
+    maker m = record { balance = pos 0; maker = m; holdings = record { long = 2; short = 0; startlong = 2; startshort = 0 } ∷ [] }
+
+-- an order of one lot, its number its time stamp too
+quoteAt : ℕ → ℕ → ℕ → ℕ → ℕ → Order
+quoteAt number price account close quote =
+    record { price = price; number = number; account = account; lots = 1; close = close; stamp = number; quote = quote }
+
+pub quoted : List Row
+quoted =
+    -- a buy and a sell of each maker, beside an order of its own
+    (quoting 1 1 (quoteAt 1 108 0 0 1 ∷ quoteAt 3 108 1 0 1 ∷ quoteAt 5 108 0 0 0 ∷ []) (quoteAt 2 110 0 0 1 ∷ quoteAt 4 110 1 0 1 ∷ []) gives 1)
+    -- two of one account on one side, the buys and the sells
+    ∷ (quoting 1 1 (quoteAt 1 108 0 0 1 ∷ quoteAt 3 108 0 0 1 ∷ []) [] gives 0)
+    ∷ (quoting 1 1 [] (quoteAt 1 108 1 0 1 ∷ quoteAt 3 108 1 0 1 ∷ []) gives 0)
+    -- of an account that is no maker, buy and sell
+    ∷ (quoting 1 0 (quoteAt 1 108 1 0 1 ∷ []) [] gives 0)
+    ∷ (quoting 0 1 [] (quoteAt 1 108 0 0 1 ∷ []) gives 0)
+    -- a close, marked and not
+    ∷ (quoting 1 1 [] (quoteAt 1 108 0 1 1 ∷ []) gives 0)
+    ∷ (quoting 1 1 [] (quoteAt 1 108 0 1 0 ∷ []) gives 1)
+    -- a maker mark of 2, of either account
+    ∷ (quoting 2 0 [] [] gives 0)
+    ∷ (quoting 1 2 [] [] gives 0)
+    ∷ []
+
+pub quoted-examples : allRight quoted ≡ true
+unfolding allRight quoted quoting quoteAt contract all allOf sumOf accountAt afterLeg ahead aheadOfFirst allListed allowedToday balanceInRange bookLeg bookTrade bookTrades contractInRange countersInRange dayHigh dayLow holdingAt holdingInRange holdingsInRange legCovered listingAt listingInRange lotsWhere neverBelowZero listed onTick orderInRange replays resting sameHoldings sameLots sorted startOfDay termsInRange tickMultiple tradeInRange uncrossed usedOnce wellFormedContents quotes markAllowed queueQuoted listingQuoted markInRange
+quoted-examples = refl

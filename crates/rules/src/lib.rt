@@ -76,15 +76,15 @@ pub struct Holding {
     pub startshort: u32,
 }
 
-// `maker` marks a market maker: no rule looks at it yet (decision 34).
+// `maker` is 1 for a market maker and 0 for others.
 pub struct Account {
     pub balance: i64,
     pub holdings: [Holding; MAX_CONTRACTS],
-    pub maker: bool,
+    pub maker: u64,
 }
 
-// A resting order: its remaining lots, the account's place, 1 for a close and 0 for an open, its time stamp. `quote` is its quote
-// mark; no rule gives an order one yet, so it is 0 (decision 34).
+// A resting order: its remaining lots, the account's place, 1 for a close and 0 for an open, its time stamp, 1 where it is part of
+// a quote and 0 elsewhere.
 pub struct Order {
     pub price: u32,
     pub number: u32,
@@ -197,6 +197,13 @@ pub enum Command {
         phase: u32,
     },
     Settle,
+    Quote {
+        account: u32,
+        contract: u32,
+        lots: u32,
+        buy: u32,
+        sell: u32,
+    },
     Change {
         account: u32,
         contract: u32,
@@ -206,8 +213,8 @@ pub enum Command {
     },
 }
 
-// An accepted order as it meets the book: account and contract by place, its number, the time stamp that it gets, its contract's
-// pairing method, and the best opposite price standing on its arrival (0 where the opposite side is empty).
+// An accepted order as it meets the book: account and contract by place, its number, the time stamp and the quote mark that it gets, its
+// contract's pairing method, and the best opposite price standing on its arrival (0 where the opposite side is empty).
 pub struct Taker {
     pub account: u32,
     pub contract: u32,
@@ -215,6 +222,7 @@ pub struct Taker {
     pub close: u32,
     pub number: u32,
     pub stamp: u32,
+    pub quote: u32,
     pub condition: PriceCondition,
     pub method: PairingMethod,
     pub best: u32,

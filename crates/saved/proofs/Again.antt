@@ -19,7 +19,7 @@ use Rattle.mending.specs.Mend.{four}
 use Rattle.statements.specs.Statement.{holdingBytes, section}
 use Rattle.saved.specs.Saved.{accountPlace, accountsIn, allEqual, asleep, contractPlace, countsRight, loadedFrom, markSound, rowPlace, savedBytes, savedContract, savedSound, settlementsPlace, shaped, writable}
 use Rattle.saved.proofs.Fields.{Entry, entry, entryBytes, entryOf, holding, listing, listingBytes, listingFrom}
-use Rattle.saved.proofs.Lists.{accounts-are, accountsOf, entries-again, entriesOf, listings-are, listingsOf, marks-are, rows-again, rowsOf, savedRow}
+use Rattle.saved.proofs.Lists.{accounts-are, accountsOf, entries-again, entriesOf, listings-are, listingsOf, rows-again, rowsOf, savedRow}
 use Rattle.saved.proofs.Numbers.{Bytes, four-forth, parts}
 use Rattle.saved.proofs.Reading.{entries-encoded, rows-encoded}
 use Rattle.saved.proofs.Rows.{Field, length-records, records-all, records-forth, row}
@@ -100,9 +100,8 @@ module _ (bs : List ℕ) where
   loaded-accounts =
       ap length (accounts-are bs) ∙ length-accounts (entriesOf bs) (rowsOf bs) same-lengths ∙ length-records entry bs (contractPlace c + 4) a
 
-  loaded-entries : all (markSound bs) a ≡ true → map entryOf (loadedFrom bs .accounts) ≡ entriesOf bs
-  loaded-entries m =
-      ap (map entryOf) (accounts-are bs) ∙ entries-again (entriesOf bs) (rowsOf bs) same-lengths (marks-are bs ∙ m)
+  loaded-entries : map entryOf (loadedFrom bs .accounts) ≡ entriesOf bs
+  loaded-entries = ap (map entryOf) (accounts-are bs) ∙ entries-again (entriesOf bs) (rowsOf bs) same-lengths
 
   loaded-rows : map (λ o. o .holdings) (loadedFrom bs .accounts) ≡ rowsOf bs
   loaded-rows = ap (map (λ o. o .holdings)) (accounts-are bs) ∙ rows-again (entriesOf bs) (rowsOf bs) same-lengths
@@ -153,16 +152,16 @@ module _ (bs : List ℕ) where
         )
         (take-append-drop (contractPlace c) bs)
 
-    pub write-again : all (markSound bs) a ≡ true → savedBytes (loadedFrom bs) ≡ bs
+    pub write-again : savedBytes (loadedFrom bs) ≡ bs
     unfolding savedBytes
-    write-again m =
+    write-again =
         rw (
           entries-encoded (loadedFrom bs .accounts),
           rows-encoded (loadedFrom bs .accounts),
           loaded-contracts,
           loaded-accounts,
           listings-are bs,
-          loaded-entries m,
+          loaded-entries,
           loaded-rows,
           loaded-settlements,
         ) whole

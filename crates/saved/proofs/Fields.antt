@@ -116,7 +116,7 @@ pub record Entry : Type 0 where
   pub mark : ℕ
 
 abbrev pub entryOf : Account → Entry
-entryOf a = record { balance = a .balance; mark = pick (a .maker) 1 0 }
+entryOf a = record { balance = a .balance; mark = a .maker }
 
 abbrev pub entryBytes : Entry → List ℕ
 entryBytes e = eight (unsigned (e .balance)) ++ (e .mark ∷ [])

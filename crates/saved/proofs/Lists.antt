@@ -1,15 +1,14 @@
 -- The state that a file gives, by lists of records: its contracts, its accounts' entries, their rows of holdings. Assumes nothing.
-use mathlib.Core.Bool.{Bool, true, false}
+use mathlib.Core.Bool.{Bool}
 use mathlib.Core.List.{List, [], _∷_, map}
 use mathlib.Core.Path.{_≡_, refl, sym, ap, ap₂, _∙_}
-use Prim.Native.Nat.{ℕ, zero, suc, _+_, _*_, _≤_}
+use Prim.Native.Nat.{ℕ, zero, suc, _+_, _*_}
 use native.Mathlib.Nat.{zero-add}
 use native.Mathlib.Omega.{arith}
-use lib.Dec.{leb, eqb}
+use lib.Dec.{leb}
 use lib.ListN.{length, getD, drop}
 use lib.Seq.{drop-drop}
-use borrow.Author.Tests.{leb-true}
-use Rattle.laws.specs.Choice.{all, all-ext, allOf, allOf-all, both-true, pick}
+use Rattle.laws.specs.Choice.{all, all-ext, allOf, allOf-all}
 use Rattle.laws.specs.Tabulate.{tabulate, tabulate-ext, getD-tabulate, length-tabulate}
 use Rattle.areas.specs.Records.{records}
 use Rattle.rules.specs.DayFile.{u8At, u64At, contractsIn}
@@ -23,7 +22,7 @@ use Rattle.saved.proofs.Rows.{records-table}
 -- ---- an account of its entry and its row
 
 abbrev pub accountOf : Entry → List Holding → Account
-accountOf e row = record { balance = e .balance; maker = eqb (e .mark) 1; holdings = row }
+accountOf e row = record { balance = e .balance; maker = e .mark; holdings = row }
 
 unfoldable pub accountsOf : List Entry → List (List Holding) → List Account
 accountsOf [] rows = []
@@ -39,30 +38,14 @@ accounts-table (suc n) f g = ap (λ (l : List Account). accountOf (f 0) (g 0) �
 pub accounts-again : (accounts : List Account) → accountsOf (map entryOf accounts) (map (λ a. a .holdings) accounts) ≡ accounts
 unfolding accountsOf
 accounts-again [] = refl
-accounts-again (a ∷ accounts) = ap₂ (λ (o : Account) (l : List Account). o ∷ l) (account-again (a .maker)) (accounts-again accounts)
-  where
-    account-again : (m : Bool) → _≡_ {A = Account}
-        (record { balance = a .balance; maker = eqb (pick m 1 0) 1; holdings = a .holdings }) (record { balance = a .balance; maker = m; holdings = a .holdings })
-    account-again true = refl
-    account-again false = refl
+accounts-again (a ∷ accounts) = ap (λ (l : List Account). a ∷ l) (accounts-again accounts)
 
--- and the accounts made of them have them, where the marks are 0 or 1
-abbrev pub marked : Entry → Bool
-marked e = leb (e .mark) 1
-
-mark-again : (n : ℕ) → n ≤ 1 → pick (eqb n 1) 1 0 ≡ n
-mark-again zero h = refl
-mark-again (suc zero) h = refl
-mark-again (suc (suc n)) h = absurd (omega arith)
-
-pub entries-again : (es : List Entry) (rows : List (List Holding)) → length es ≡ length rows → allOf marked es ≡ true
-    → map entryOf (accountsOf es rows) ≡ es
-unfolding accountsOf allOf
-entries-again [] rows e h = refl
-entries-again (o ∷ es) [] e h = absurd (omega arith)
-entries-again (o ∷ es) (r ∷ rows) e h =
-    let p = both-true (marked o) (allOf marked es) h in
-    rw (entries-again es rows (omega arith) (p .1), mark-again (o .mark) (leb-true (o .mark) 1 (p .0)))
+-- and the accounts made of them have them
+pub entries-again : (es : List Entry) (rows : List (List Holding)) → length es ≡ length rows → map entryOf (accountsOf es rows) ≡ es
+unfolding accountsOf
+entries-again [] rows e = refl
+entries-again (o ∷ es) [] e = absurd (omega arith)
+entries-again (o ∷ es) (r ∷ rows) e = ap (λ (l : List Entry). o ∷ l) (entries-again es rows (omega arith))
 
 pub rows-again : (es : List Entry) (rows : List (List Holding)) → length es ≡ length rows → map (λ a. a .holdings) (accountsOf es rows) ≡ rows
 unfolding accountsOf
@@ -70,6 +53,9 @@ rows-again [] [] e = refl
 rows-again [] (r ∷ rows) e = absurd (omega arith)
 rows-again (o ∷ es) [] e = absurd (omega arith)
 rows-again (o ∷ es) (r ∷ rows) e = ap (λ (l : List (List Holding)). r ∷ l) (rows-again es rows (omega arith))
+
+abbrev pub marked : Entry → Bool
+marked e = leb (e .mark) 1
 
 -- ---- the file's lists
 

@@ -73,7 +73,7 @@ module _ (m : Memory) (d : Declared (m .state)) (bs : List ℕ) (e : readCode m 
     pub same-bytes : savedBytes (exchangeOf (loadedInto m bs)) ≡ bs
     same-bytes =
         let s = sound-parts bs (read m bs e .sound) in
-        ap savedBytes read-in-use ∙ write-again bs b (s .shape-is) (s .marks)
+        ap savedBytes read-in-use ∙ write-again bs b (s .shape-is)
 
     pub writes-again : (room : ℕ) → length bs ≤ room → writeCode (loadedInto m bs) room ≡ 0
     writes-again room h =

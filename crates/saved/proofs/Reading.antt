@@ -1,5 +1,5 @@
 -- The length of a saved state's file, and "Reading back what was written gives the same state in every place in use". Assumes nothing.
-use mathlib.Core.Bool.{Bool, true, false}
+use mathlib.Core.Bool.{Bool, true}
 use mathlib.Core.List.{List, [], _∷_, _++_, map, append-assoc, append-nil}
 use mathlib.Core.Path.{_≡_, refl, sym, ap, ap₂, _∙_}
 use Prim.Native.Nat.{ℕ, _+_, _*_}
@@ -7,14 +7,15 @@ use native.Mathlib.Omega.{arith}
 use lib.Dec.{leb}
 use lib.ListN.{length, getD, length-append, length-map}
 use lib.Seq.{drop-at, drop-drop}
-use borrow.Author.Tests.{eq-eqb}
-use Rattle.laws.specs.Choice.{all, allOf, allOf-true, pick}
+use borrow.Author.Tests.{eq-eqb, le-leb}
+use Rattle.laws.specs.Choice.{all, allOf, allOf-true}
 use Rattle.areas.specs.Records.{encode, records}
 use Rattle.rules.specs.DayFile.{u32At, contractsIn}
-use Rattle.rules.specs.Exchange.{Exchange, Listing, noAccount}
+use Rattle.rules.specs.Exchange.{Exchange, Listing, accountAt, noAccount}
 use Rattle.rules.specs.declared.Account.{Account}
 use Rattle.rules.specs.declared.Holding.{Holding}
 use Rattle.rules.specs.declared.Trade.{Trade}
+use Rattle.invariants.proofs.Clauses.{well-formed}
 use Rattle.mending.specs.Mend.{two, four}
 use Rattle.mending.proofs.Writing.{length-four}
 use Rattle.statements.specs.Statement.{holdingBytes, section}
@@ -56,10 +57,6 @@ entries-encoded accounts = sym (encode-map entryBytes entryOf accounts)
 pub rows-encoded : (accounts : List Account) → encode rowBytes accounts ≡ encode (λ r. encode holdingBytes r) (map (λ a. a .holdings) accounts)
 unfolding rowBytes
 rows-encoded accounts = sym (encode-map (λ r. encode holdingBytes r) (λ a. a .holdings) accounts)
-
-mark-back : (m : Bool) → leb (pick m 1 0) 1 ≡ true
-mark-back true = refl
-mark-back false = refl
 
 exchange-again : (x : Exchange) (ls : List Listing) (accounts : List Account) (ts : List Trade) (n stamp s : ℕ) → ls ≡ x .listings
     → accounts ≡ x .accounts → ts ≡ x .trades → n ≡ x .next → stamp ≡ x .nextstamp → s ≡ x .settlements
@@ -200,9 +197,10 @@ module _ (x : Exchange) (s : Savable x) where
       )
 
   marks-back : all (markSound file) (accountsIn file) ≡ true
+  unfolding accountAt
   marks-back =
       sym (marks-are file) ∙ ap (allOf marked) entries-back
-      ∙ allOf-map marked entryOf (x .accounts) ∙ allOf-true (λ o. marked (entryOf o)) (x .accounts) noAccount (λ i h. mark-back (getD (x .accounts) i noAccount .maker))
+      ∙ allOf-map marked entryOf (x .accounts) ∙ allOf-true (λ o. marked (entryOf o)) (x .accounts) noAccount (λ i h. le-leb _ _ (well-formed x (s .formed) .makers i h))
 
   pub sound-back : savedSound file ≡ true
   unfolding savedSound

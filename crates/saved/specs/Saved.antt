@@ -37,7 +37,7 @@ contractBytes c =
 
 -- "accounts (signed balance 8, maker mark 1, its value 0 or 1)"
 unfoldable pub accountBytes : Account → List ℕ
-accountBytes a = eight (unsigned (a .balance)) ++ (pick (a .maker) 1 0 ∷ [])
+accountBytes a = eight (unsigned (a .balance)) ++ (a .maker ∷ [])
 
 -- "holdings (long 4, short 4, by account then contract)"
 unfoldable pub rowBytes : Account → List ℕ
@@ -118,7 +118,7 @@ unfoldable pub savedAccount : List ℕ → ℕ → ℕ → ℕ → Account
 savedAccount bs contracts at row =
     record {
       balance = signedOf (u64At bs at);
-      maker = eqb (u8At bs (at + 8)) 1;
+      maker = u8At bs (at + 8);
       holdings = tabulate contracts (λ c. savedHolding bs (row + 8 * c));
     }
 

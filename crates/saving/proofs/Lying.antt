@@ -162,3 +162,10 @@ module _ (m : Memory) (d : Declared (m .state)) (w : wellFormedMemory m ≡ true
       let t = contract-terms (listingAt (exchangeOf m) i .contract) (well-formed (exchangeOf m) (memory-ok m w .contents) .listing i k .contract) in
       let e = ap (λ n. n .contract) (listing-in-use m i l) in
       (omega (arith, t .multiplier-high, ap (λ n. n .multiplier) e), omega (arith, t .tick-high, ap (λ n. n .tick) e))
+
+  -- ---- a maker's mark is 0 or 1
+
+  pub low-marks : (i : ℕ) → i < a → getD (m .state .accounts) i noAccount .maker ≤ 1
+  low-marks i l =
+      let k : i < length (exchangeOf m .accounts) = rw account-count l in
+      omega (arith, well-formed (exchangeOf m) (memory-ok m w .contents) .makers i k, ap (λ n. n .maker) (account-in-use m i l))

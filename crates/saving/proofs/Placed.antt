@@ -25,11 +25,11 @@ use Rattle.saving.proofs.Shapes.{few-bytes}
 
 pub account-made : (bs : List ℕ) (n at row : ℕ) (room : Account) {z : ℤ} {m : ℕ} {hs : List Holding} → z ≡ signedOf (u64At bs at) → m ≡ u8At bs (at + 8)
     → hs ≡ written (λ c. savedHolding bs (row + 8 * c)) (room .holdings) n
-    → record { balance = z; maker = eqb m 1; holdings = hs } ≡ putAccount (savedAccount bs n at row) room
+    → record { balance = z; maker = m; holdings = hs } ≡ putAccount (savedAccount bs n at row) room
 unfolding savedAccount
 account-made bs n at row room e f g =
     let h = g ∙ sym (written-first (λ c. savedHolding bs (row + 8 * c)) (room .holdings) n) in
-    λ i. record { balance = e i; maker = eqb (f i) 1; holdings = h i }
+    λ i. record { balance = e i; maker = f i; holdings = h i }
 
 -- ---- all of them
 

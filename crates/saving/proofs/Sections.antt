@@ -56,7 +56,7 @@ pub length-contract : (c : Contract) → length (contractBytes c) ≡ 24
 unfolding contractBytes four two
 length-contract c = refl
 
-pub account-written : {before middle after : List ℕ} {at j next : ℕ} (a : Account) (n m : ℕ) → n ≡ unsigned (a .balance) → m ≡ pick (a .maker) 1 0
+pub account-written : {before middle after : List ℕ} {at j next : ℕ} (a : Account) (n m : ℕ) → n ≡ unsigned (a .balance) → m ≡ a .maker
     → Written 8 before at (eight n) middle j → Written 1 middle j (m ∷ []) after next → Written 9 before at (accountBytes a) after next
 unfolding accountBytes
 account-written a n m e f w v = rw (← e, ← f) (then w v)

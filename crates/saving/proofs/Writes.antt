@@ -16,7 +16,7 @@ use Rattle.saved.specs.Saved.{WrittenIs, savedBytes, settlementsPlace, writable
 use Rattle.saved.proofs.Continued.{savable, writes}
 use Rattle.saved.proofs.Reading.{length-saved}
 use Rattle.saving.specs.Parts.{Fitting, stateBytes, stateWritable}
-use Rattle.saving.proofs.Lying.{account-count, bytes-are, short-terms, writable-is}
+use Rattle.saving.proofs.Lying.{account-count, bytes-are, low-marks, short-terms, writable-is}
 
 not-written : (m : Memory) (out : List ℕ) (code : ℕ) → code ≡ writeCode m (length out) → eqb code 0 ≡ false → WrittenIs m out code 0 out
 not-written m out code e h = record { code-is = e; length-is = rw (← e, h); out-is = rw (← e, h) }
@@ -53,6 +53,7 @@ module _ (m : Memory) (d : Declared (m .state)) (w : wellFormedMemory m ≡ true
             contracts = few .contracts-high;
             accounts = few .accounts-high;
             short = short-terms m d w;
+            marks = low-marks m d w;
             room = omega (arith, size, ap length (bytes-are m d w));
           }
 

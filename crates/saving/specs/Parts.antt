@@ -51,6 +51,7 @@ pub record Fitting (s : State) (out : List ℕ) : Type 0 where
   pub contracts : s .contractcount ≤ 4
   pub accounts : s .accountcount ≤ 32
   pub short : (c : ℕ) → c < s .contractcount → Short (getD (s .contracts) c noContract)
+  pub marks : (a : ℕ) → a < s .accountcount → getD (s .accounts) a noAccount .maker ≤ 1
   pub room : length (stateBytes s) ≤ length out
 
 -- ---- whether it may be written

@@ -101,7 +101,7 @@ fn account_over(file: &[u8], at: usize, row: usize, n: usize, room: Account) -> 
     let holdings = holdings_over(file, row, n, places);
     Account {
         balance,
-        maker: mark == 1,
+        maker: mark as u64,
         holdings,
     }
 }

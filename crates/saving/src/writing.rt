@@ -3,11 +3,10 @@
 ghost use mathlib.Core.Path.{_≡_};
 ghost use Prim.Native.Nat.{ℕ, _+_, _*_, _<_, _≤_};
 ghost use lib.ListN.{length, getD};
-ghost use Rattle.laws.specs.Choice.{pick};
 ghost use Rattle.areas.specs.Lists.{over};
 ghost use Rattle.mending.specs.Mend.{four};
 ghost use Rattle.lines.specs.Written.{Written};
-ghost use Rattle.rules.specs.Exchange.{noContract};
+ghost use Rattle.rules.specs.Exchange.{noAccount, noContract};
 ghost use Rattle.statements.specs.Statement.{section};
 ghost use Rattle.saved.specs.Saved.{contractBytes, accountBytes};
 ghost use Rattle.saving.specs.Parts.{Short, Fitting, contractRow, accountRow, contractSection, accountSection, holdingSection, stateBytes};
@@ -56,23 +55,18 @@ fn put_contracts(
     next
 }
 
-fn mark(maker: bool) -> u8
-    ensures { λ r. ⌜ r ≡ pick maker 1 0 ⌝ }
-{
-    if maker { 1 } else { 0 }
-}
-
 // "signed balance 8, maker mark 1"
 fn put_account(out: &mut [u8], at: usize, a: Account) -> usize
-    requires { ⌜ at + 9 ≤ length (now out) ⌝ }
+    requires { ⌜ (at + 9 ≤ length (now out)) × (a .maker ≤ 1) ⌝ }
     ensures { λ r. ⌜ Written 9 (now (out .entry)) at (accountBytes a) (now (out .exit)) r ⌝ }
 {
     let next = put_u64(out, at, unsigned(a.balance));
-    put_byte(out, next, mark(a.maker))
+    put_byte(out, next, a.maker as u8)
 }
 
 fn put_accounts(out: &mut [u8], at: usize, list: [Account; rules::MAX_ACCOUNTS], n: usize) -> usize
     requires { ⌜ (n ≤ 32) × (at + length (accountRow list n) ≤ length (now out)) ⌝ }
+    requires { ⌜ ((a : ℕ) → a < n → getD list a noAccount .maker ≤ 1) ⌝ }
     ensures { λ r. ⌜ Written (length (accountRow list n)) (now (out .entry)) at (accountRow list n) (now (out .exit)) r ⌝ }
 {
     let mut next = at;
@@ -107,6 +101,7 @@ fn put_account_section(
     n: usize,
 ) -> usize
     requires { ⌜ (n ≤ 32) × (at + length (accountSection list n) ≤ length (now out)) ⌝ }
+    requires { ⌜ ((a : ℕ) → a < n → getD list a noAccount .maker ≤ 1) ⌝ }
     ensures { λ r. ⌜ Written (length (accountSection list n)) (now (out .entry)) at (accountSection list n) (now (out .exit)) r ⌝ }
 {
     let next = put_u32(out, at, n as u32);

@@ -20,7 +20,7 @@ use Rattle.rules.specs.Holdings.{afterLeg, bookLeg, bookTrade, bookTrades, legC
 use Rattle.rules.specs.Matching.{tradedLots}
 use Rattle.rules.specs.Memory.{Memory, countsInRange, hasRoom, wellFormedMemory}
 use Rattle.rules.specs.Settlement.{afterDayLeg, afterLegs, closingProfit, dayOf, dayStart, firstLots, gain, holdingGain, holdingProfit, legs, only, otherLots, priceFrom, settlementPrice, tradedValue, tradesIn, weightedPrice}
-use Rattle.rules.specs.WellFormed.{ahead, aheadOfFirst, allListed, balanceInRange, contractInRange, countersInRange, holdingInRange, holdingsInRange, listed, listingInRange, orderInRange, replays, sorted, tradeInRange, uncrossed, usedOnce, wellFormedContents}
+use Rattle.rules.specs.WellFormed.{ahead, aheadOfFirst, allListed, balanceInRange, contractInRange, countersInRange, holdingInRange, holdingsInRange, listed, listingInRange, orderInRange, replays, sorted, tradeInRange, uncrossed, usedOnce, quotes, markAllowed, queueQuoted, listingQuoted, markInRange, wellFormedContents}
 use Rattle.rules.specs.declared.Trade.{Trade}
 use Rattle.mending.specs.Mend.{two, four, eight}
 use Rattle.clients.specs.Clients.{Clients, clientAccount, clientExchange, clientPlace, clientTrade, holdingsNow, inRow, isPosted, legCount, legsIn, neverClosesMore, posted, postedTo, startsAddUp, total, tradePosted}
@@ -49,8 +49,8 @@ dayWith short startlong long trades =
         buys = [];
         sells = [];
       } ∷ [];
-      accounts = record { balance = pos 0; maker = false; holdings = record { long = 0; short = short; startlong = 0; startshort = 0 } ∷ [] }
-          ∷ record { balance = pos 0; maker = false; holdings = record { long = long; short = 0; startlong = startlong; startshort = 0 } ∷ [] }
+      accounts = record { balance = pos 0; maker = 0; holdings = record { long = 0; short = short; startlong = 0; startshort = 0 } ∷ [] }
+          ∷ record { balance = pos 0; maker = 0; holdings = record { long = long; short = 0; startlong = startlong; startshort = 0 } ∷ [] }
           ∷ [];
       trades = trades;
       next = 7;
@@ -142,11 +142,11 @@ shortDay =
       } ∷ [];
       accounts = record {
         balance = pos 0;
-        maker = false;
+        maker = 0;
         holdings = record { long = 2; short = 0; startlong = 0; startshort = 0 } ∷ record { long = 0; short = 3; startlong = 0; startshort = 0 } ∷ [];
       } ∷ record {
         balance = pos 0;
-        maker = false;
+        maker = 0;
         holdings = record { long = 0; short = 2; startlong = 0; startshort = 0 } ∷ record { long = 0; short = 3; startlong = 0; startshort = 6 } ∷ [];
       } ∷ [];
       trades = inSecond (trade 54 3 1 2 1 0 1 0) ∷ trade 101 2 3 4 0 1 0 0 ∷ [];
@@ -182,7 +182,7 @@ second-example = refl
 
 pub well-formed-days : (wellFormedContents day ≡ true) × (wellFormedContents shortDay ≡ true) × (wellFormedContents (dayWith 0 0 0 []) ≡ true)
     × (wellFormedContents (dayWith 0 1 1 []) ≡ true)
-unfolding day dayWith shortDay inSecond trade all allOf sumOf accountAt afterLeg ahead aheadOfFirst allListed allowedToday balanceInRange bookLeg bookTrade bookTrades contractInRange countersInRange dayHigh dayLow holdingAt holdingInRange holdingsInRange legCovered listed listingAt listingInRange lotsWhere neverBelowZero onTick orderInRange replays resting sameHoldings sameLots sorted startOfDay termsInRange tickMultiple tradeInRange uncrossed usedOnce wellFormedContents
+unfolding day dayWith shortDay inSecond trade all allOf sumOf accountAt afterLeg ahead aheadOfFirst allListed allowedToday balanceInRange bookLeg bookTrade bookTrades contractInRange countersInRange dayHigh dayLow holdingAt holdingInRange holdingsInRange legCovered listed listingAt listingInRange lotsWhere neverBelowZero onTick orderInRange replays resting sameHoldings sameLots sorted startOfDay termsInRange tickMultiple tradeInRange uncrossed usedOnce quotes markAllowed queueQuoted listingQuoted markInRange wellFormedContents
 well-formed-days = (refl, refl, refl, refl)
 
 -- ---- refusals: a day, an account's number, clients, room, and the code they must get; the statement above is 124 bytes long

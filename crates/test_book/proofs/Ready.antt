@@ -39,7 +39,7 @@ none-held : (b a c : ℕ) → HoldingWithin b (holdingAt noHoldings a c)
 unfolding noHoldings accountAt holdingAt
 none-held b =
     getD-copies (λ (x : Account). (c : ℕ) → HoldingWithin b (getD (x .holdings) c noHolding)) 32
-    (record { balance = pos 0; maker = false; holdings = replicate 4 noHolding }) noAccount
+    (record { balance = pos 0; maker = 0; holdings = replicate 4 noHolding }) noAccount
     (getD-copies (HoldingWithin b) 4 noHolding noHolding nothing nothing) (λ c. nothing)
   where
     nothing : HoldingWithin b noHolding

@@ -28,10 +28,10 @@ legs-are = refl
 -- ---- two accounts, two contracts: account 0 has 5 long of contract 1
 
 abbrev holder : ℕ → Account
-holder long = record { balance = pos 100; maker = false; holdings = noHolding ∷ has long 0 ∷ [] }
+holder long = record { balance = pos 100; maker = 0; holdings = noHolding ∷ has long 0 ∷ [] }
 
 abbrev other : ℕ → Account
-other long = record { balance = pos 70; maker = false; holdings = noHolding ∷ record { long = long; short = 0; startlong = 0; startshort = 0 } ∷ [] }
+other long = record { balance = pos 70; maker = 0; holdings = noHolding ∷ record { long = long; short = 0; startlong = 0; startshort = 0 } ∷ [] }
 
 -- account 1 opens 3 lots, which account 0 closes; then account 0 meets its own order: it opens 3 and closes 3
 abbrev trades : List Trade

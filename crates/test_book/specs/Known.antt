@@ -14,4 +14,4 @@ pub record AccountsKnown (area : List ℕ) (count : ℕ) : Type 0 where
 
 -- 32 accounts that hold nothing
 unfoldable pub noHoldings : List Account
-noHoldings = replicate 32 (record { balance = pos 0; maker = false; holdings = replicate 4 noHolding })
+noHoldings = replicate 32 (record { balance = pos 0; maker = 0; holdings = replicate 4 noHolding })

@@ -36,7 +36,7 @@ fn no_holdings() -> [Account; rules::MAX_ACCOUNTS]
     };
     let empty = Account {
         balance: 0,
-        maker: false,
+        maker: 0,
         holdings: [none; rules::MAX_CONTRACTS],
     };
     [empty; rules::MAX_ACCOUNTS]
@@ -53,6 +53,7 @@ fn limit_order(sell: bool, number: u32, limit: u32) -> Taker
         close: 0,
         number,
         stamp: number,
+        quote: 0,
         condition: PriceCondition::Limit(limit),
         method: PairingMethod::Middle,
         best: 0,

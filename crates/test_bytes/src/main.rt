@@ -23,11 +23,13 @@
 //   20  limit 100,001
 //   21  rate 10,001 in the second contract
 //   22  a balance of 10^18 + 1
-//   23  a balance with bit 63 set
+//   23  a balance with bit 62 set
 //   24  a balance of 10^18, no commands
 //   25  every term at its largest, band above reference
 //   26  every term at its smallest
 //   27  each kind, well formed and malformed
+//   28  a maker with a balance of 10^18
+//   29  a maker with a balance of 10^18 + 1
 ghost use mathlib.Core.Bool.{true};
 ghost use mathlib.Core.Path.{_≡_};
 ghost use Prim.Native.Nat.{_<_};
@@ -46,9 +48,9 @@ fn say(byte: u8) {
     io::write_all(STDOUT_FILENO, &[byte]);
 }
 
-// A letter for each kind, by its number; no kind has number 8.
+// A letter for each kind, by its number.
 fn letter(command: Command) -> u8 {
-    let letters = b"-dwicpse?h";
+    let letters = b"-dwicpseqh";
     let kind = commands::kind_of(command) as usize;
     if kind < letters.len() {
         letters[kind]
@@ -139,7 +141,7 @@ fn say_lines() {
 
 fn main() {
     let mut i: u8 = 1;
-    while i < 28 {
+    while i < 30 {
         run_case(i);
         i += 1;
     }

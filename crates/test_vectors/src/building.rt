@@ -63,7 +63,7 @@ fn filling() -> State {
     let account = Account {
         balance: -4611686018427387904,
         holdings: [holding; 4],
-        maker: true,
+        maker: 1,
     };
     let contract = Contract {
         multiplier: 2779096485,
@@ -165,7 +165,7 @@ fn with_account(state: State, v: [u64; 16]) -> State {
     if place < 32 {
         let mut account = s.accounts[place];
         account.balance = balance;
-        account.maker = v[2] == 1;
+        account.maker = v[2];
         s.accounts[place] = account;
     }
     s

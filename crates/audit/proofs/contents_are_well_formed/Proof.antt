@@ -22,88 +22,85 @@ counters-in-range-requires : tie.Need-counters-in-range-requires
 counters-in-range-requires c κs = search needs
 
 returns : tie.Need-returns
-returns c =
-    fails (contents-chain _ _ _ _ (fit (c .before .before .before .before .before))) 0 (refused (c .before .counters-in-range .ensures) (c .if1 .taken))
+returns c = fails (contents-chain _ _ _ _ (fit (c .before .before .before .before .before))) 0 (refused (c .before .counters-in-range .ensures) (c .if1 .taken))
 
 listings-in-range-requires : tie.Need-listings-in-range-requires
 listings-in-range-requires c κs =
-    ready _ _ _ _ (c .before .before .before .before .before .pre .0) (c .before .before .before .before .before .pre .1)
+    let p = c .before .before .before .before .before .pre in
+    ready _ _ _ _ (p .0) (p .1)
 
 returns-2 : tie.Need-returns-2
-returns-2 c =
-    fails (contents-chain _ _ _ _ (fit (c .before .before .before .before .before .before .before))) 1 (refused (c .before .listings-in-range .ensures) (c .if2 .taken))
+returns-2 c = fails (contents-chain _ _ _ _ (fit (c .before .before .before .before .before .before .before))) 1 (refused (c .before .listings-in-range .ensures) (c .if2 .taken))
 
 used-once-requires : tie.Need-used-once-requires
 used-once-requires c κs =
-    (ready _ _ _ _ (c .before .before .before .before .before .before .before .pre .0) (c .before .before .before .before .before .before .before .pre .1), omega arith)
+    let p = c .before .before .before .before .before .before .before .pre in
+    (ready _ _ _ _ (p .0) (p .1), omega arith)
 
 returns-3 : tie.Need-returns-3
-returns-3 c =
-    fails (contents-chain _ _ _ _ (fit (c .before .before .before .before .before .before .before .before .before))) 2 (refused (c .before .used-once .ensures) (c .if3 .taken))
+returns-3 c = fails (contents-chain _ _ _ _ (fit (c .before .before .before .before .before .before .before .before .before))) 2 (refused (c .before .used-once .ensures) (c .if3 .taken))
 
 used-once-requires-2 : tie.Need-used-once-requires-2
 used-once-requires-2 c κs =
-    (ready _ _ _ _ (c .before .before .before .before .before .before .before .before .before .pre .0) (c .before .before .before .before .before .before .before .before .before .pre .1), omega arith)
+    let p = c .before .before .before .before .before .before .before .before .before .pre in
+    (ready _ _ _ _ (p .0) (p .1), omega arith)
 
 returns-4 : tie.Need-returns-4
-returns-4 c =
-    fails (contents-chain _ _ _ _ (fit (c .before .before .before .before .before .before .before .before .before .before .before))) 3 (refused (c .before .used-once2 .ensures) (c .if4 .taken))
+returns-4 c = fails (contents-chain _ _ _ _ (fit (c .before .before .before .before .before .before .before .before .before .before .before))) 3 (refused (c .before .used-once2 .ensures) (c .if4 .taken))
+
+listings-quoted-requires : tie.Need-listings-quoted-requires
+listings-quoted-requires c κs =
+    let p = c .before .before .before .before .before .before .before .before .before .before .before .pre in
+    (ready _ _ _ _ (p .0) (p .1), passed (c .before .before .before .before .before .listings-in-range .ensures) (c .before .before .before .before .if2 .left))
+
+returns-5 : tie.Need-returns-5
+returns-5 c = fails (contents-chain _ _ _ _ (fit (c .before .before .before .before .before .before .before .before .before .before .before .before .before))) 4 (refused (c .before .listings-quoted .ensures) (c .if5 .taken))
+
+marks-in-range-requires : tie.Need-marks-in-range-requires
+marks-in-range-requires c κs = counts-ok _ (c .before .before .before .before .before .before .before .before .before .before .before .before .before .before .pre .0) .accounts-high
+
+returns-6 : tie.Need-returns-6
+returns-6 c = fails (contents-chain _ _ _ _ (fit (c .before .before .before .before .before .before .before .before .before .before .before .before .before .before .before .before))) 5 (refused (c .before .marks-in-range .ensures) (c .if6 .taken))
 
 trades-in-range-requires : tie.Need-trades-in-range-requires
 trades-in-range-requires c κs =
-    let p = c .before .before .before .before .before .before .before .before .before .before .before .before .pre in
-    ((counts-ok _ (p .0) .contracts-high, terms-tested _ _ _ _ (p .0) (p .1) (passed (c .before .before .before .before .before .before .listings-in-range .ensures) (c .before .before .before .before .before .if2 .left))), trades-words _ _ _ _ (p .0) (p .1))
+    let p = c .before .before .before .before .before .before .before .before .before .before .before .before .before .before .before .before .before .pre in
+    ((counts-ok _ (p .0) .contracts-high, terms-tested _ _ _ _ (p .0) (p .1) (passed (c .before .before .before .before .before .before .before .before .before .before .before .listings-in-range .ensures) (c .before .before .before .before .before .before .before .before .before .before .if2 .left))), trades-words _ _ _ _ (p .0) (p .1))
 
-returns-5 : tie.Need-returns-5
-returns-5 c =
-    fails (contents-chain _ _ _ _ (fit (c .before .before .before .before .before .before .before .before .before .before .before .before .before .before))) 4 (refused (c .before .trades-in-range .ensures) (c .if5 .taken))
+returns-7 : tie.Need-returns-7
+returns-7 c = fails (contents-chain _ _ _ _ (fit (c .before .before .before .before .before .before .before .before .before .before .before .before .before .before .before .before .before .before .before))) 6 (refused (c .before .trades-in-range .ensures) (c .if7 .taken))
 
 holdings-in-range-requires : tie.Need-holdings-in-range-requires
 holdings-in-range-requires c κs =
-    ready _ _ _ _ (c .before .before .before .before .before .before .before .before .before .before .before .before .before .before .pre .0) (c .before .before .before .before .before .before .before .before .before .before .before .before .before .before .pre .1)
+    let p = c .before .before .before .before .before .before .before .before .before .before .before .before .before .before .before .before .before .before .before .pre in
+    ready _ _ _ _ (p .0) (p .1)
 
-returns-6 : tie.Need-returns-6
-returns-6 c =
-    fails (contents-chain _ _ _ _ (fit (c .before .before .before .before .before .before .before .before .before .before .before .before .before .before .before .before))) 6 (refused (c .before .holdings-in-range .ensures) (c .if6 .taken))
+returns-8 : tie.Need-returns-8
+returns-8 c = fails (contents-chain _ _ _ _ (fit (c .before .before .before .before .before .before .before .before .before .before .before .before .before .before .before .before .before .before .before .before .before))) 8 (refused (c .before .holdings-in-range .ensures) (c .if8 .taken))
 
 replays-requires : tie.Need-replays-requires
 replays-requires c κs =
-    let p = c .before .before .before .before .before .before .before .before .before .before .before .before .before .before .before .before .before .pre in
+    let p = c .before .before .before .before .before .before .before .before .before .before .before .before .before .before .before .before .before .before .before .before .before .pre in
     let k = counts-ok _ (p .0) in (
       (k .contracts-high, k .accounts-high, k .trades, trades-words _ _ _ _ (p .0) (p .1)),
       (
-        trades-tested _ _ _ _ (p .0) (p .1) (passed (c .before .before .before .before .trades-in-range .ensures) (c .before .before .before .if5 .left)),
-        starts-tested _ _ _ _ (p .0) (p .1) (passed (c .before .before .before .before .before .before .before .before .before .before .before .listings-in-range .ensures) (c .before .before .before .before .before .before .before .before .before .before .if2 .left)) (passed (c .before .before .holdings-in-range .ensures) (c .before .if6 .left)),
+        trades-tested _ _ _ _ (p .0) (p .1) (passed (c .before .before .before .trades-in-range .ensures) (c .before .before .if7 .left)),
+        starts-tested _ _ _ _ (p .0) (p .1) (passed (c .before .before .before .before .before .before .before .before .before .before .before .before .before .before .before .listings-in-range .ensures) (c .before .before .before .before .before .before .before .before .before .before .before .before .before .before .if2 .left)) (passed (c .before .holdings-in-range .ensures) (c .if8 .left)),
       ),
     )
 
-returns-7 : tie.Need-returns-7
-returns-7 c =
-    fails (contents-chain _ _ _ _ (fit (c .before .before .before .before .before .before .before .before .before .before .before .before .before .before .before .before .before .before .before))) 5 (refused (c .before .replays .ensures) (c .if7 .taken))
+returns-9 : tie.Need-returns-9
+returns-9 c = fails (contents-chain _ _ _ _ (fit (c .before .before .before .before .before .before .before .before .before .before .before .before .before .before .before .before .before .before .before .before .before .before .before))) 7 (refused (c .before .replays .ensures) (c .if9 .taken))
 
 balances-in-range-requires : tie.Need-balances-in-range-requires
 balances-in-range-requires c κs =
-    (counts-ok _ (c .before .before .before .before .before .before .before .before .before .before .before .before .before .before .before .before .before .before .before .pre .0) .accounts-high, few-settlements _ _ _ _ (c .before .before .before .before .before .before .before .before .before .before .before .before .before .before .before .before .before .before .before .pre .0) (c .before .before .before .before .before .before .before .before .before .before .before .before .before .before .before .before .before .before .before .pre .1) (passed (c .before .before .before .before .before .before .before .before .before .before .before .before .before .before .before .counters-in-range .ensures) (c .before .before .before .before .before .before .before .before .before .before .before .before .before .before .if1 .left)))
+    let p = c .before .before .before .before .before .before .before .before .before .before .before .before .before .before .before .before .before .before .before .before .before .before .before .pre in
+    (counts-ok _ (p .0) .accounts-high, few-settlements _ _ _ _ (p .0) (p .1) (passed (c .before .before .before .before .before .before .before .before .before .before .before .before .before .before .before .before .before .before .before .counters-in-range .ensures) (c .before .before .before .before .before .before .before .before .before .before .before .before .before .before .before .before .before .before .if1 .left)))
 
-returns-8 : tie.Need-returns-8
-returns-8 c =
+returns-10 : tie.Need-returns-10
+returns-10 c =
     c .balances-in-range .ensures
-    ∙ last (contents-chain _ _ _ _ (fit (c .before .before .before .before .before .before .before .before .before .before .before .before .before .before .before .before .before .before .before .before))) (
-      passed (c .before .before .before .before .before .before .before .before .before .before .before .before .before .before .before .before .counters-in-range .ensures) (c .before .before .before .before .before .before .before .before .before .before .before .before .before .before .before .if1 .left),
-      (
-        passed (c .before .before .before .before .before .before .before .before .before .before .before .before .before .before .listings-in-range .ensures) (c .before .before .before .before .before .before .before .before .before .before .before .before .before .if2 .left),
-        (
-          passed (c .before .before .before .before .before .before .before .before .before .before .before .before .used-once .ensures) (c .before .before .before .before .before .before .before .before .before .before .before .if3 .left),
-          (
-            passed (c .before .before .before .before .before .before .before .before .before .before .used-once2 .ensures) (c .before .before .before .before .before .before .before .before .before .if4 .left),
-            (
-              passed (c .before .before .before .before .before .before .before .trades-in-range .ensures) (c .before .before .before .before .before .before .if5 .left),
-              (passed (c .before .before .replays .ensures) (c .before .if7 .left), (passed (c .before .before .before .before .before .holdings-in-range .ensures) (c .before .before .before .before .if6 .left), tt)),
-            ),
-          ),
-        ),
-      ),
-    )
+    ∙ last (contents-chain _ _ _ _ (fit (c .before .before .before .before .before .before .before .before .before .before .before .before .before .before .before .before .before .before .before .before .before .before .before .before))) (passed (c .before .before .before .before .before .before .before .before .before .before .before .before .before .before .before .before .before .before .before .before .counters-in-range .ensures) (c .before .before .before .before .before .before .before .before .before .before .before .before .before .before .before .before .before .before .before .if1 .left), (passed (c .before .before .before .before .before .before .before .before .before .before .before .before .before .before .before .before .before .before .listings-in-range .ensures) (c .before .before .before .before .before .before .before .before .before .before .before .before .before .before .before .before .before .if2 .left), (passed (c .before .before .before .before .before .before .before .before .before .before .before .before .before .before .before .before .used-once .ensures) (c .before .before .before .before .before .before .before .before .before .before .before .before .before .before .before .if3 .left), (passed (c .before .before .before .before .before .before .before .before .before .before .before .before .before .before .used-once2 .ensures) (c .before .before .before .before .before .before .before .before .before .before .before .before .before .if4 .left), (passed (c .before .before .before .before .before .before .before .before .before .before .before .before .listings-quoted .ensures) (c .before .before .before .before .before .before .before .before .before .before .before .if5 .left), (passed (c .before .before .before .before .before .before .before .before .before .marks-in-range .ensures) (c .before .before .before .before .before .before .before .before .if6 .left), (passed (c .before .before .before .before .before .before .trades-in-range .ensures) (c .before .before .before .before .before .if7 .left), (passed (c .before .before .replays .ensures) (c .before .if9 .left), (passed (c .before .before .before .before .holdings-in-range .ensures) (c .before .before .before .if8 .left), tt)))))))))
 
 pub contents-are-well-formed-spec : {M : Type 1} → statement M
 contents-are-well-formed-spec =
@@ -117,11 +114,15 @@ contents-are-well-formed-spec =
     returns-3
     used-once-requires-2
     returns-4
-    trades-in-range-requires
+    listings-quoted-requires
     returns-5
-    holdings-in-range-requires
+    marks-in-range-requires
     returns-6
-    replays-requires
+    trades-in-range-requires
     returns-7
+    holdings-in-range-requires
+    returns-8
+    replays-requires
+    returns-9
     balances-in-range-requires
-    returns-8)
+    returns-10)

@@ -4,8 +4,8 @@ use borrow.Author.Needs.{needs}
 use Rattle.changing.proofs.lessen.Statement.{statement}
 use Rattle.changing.proofs.lessen.Tie as tie
 
-set-lots-requires : tie.Need-set-lots-requires
-set-lots-requires c κs =
+set-lots-unmarked-requires : tie.Need-set-lots-unmarked-requires
+set-lots-unmarked-requires c κs =
     let start = c .before .before .before .before in
     (start .pre .0, rw (c .before .if1 .taken) at (start .pre .1))
 
@@ -13,10 +13,10 @@ same-length : tie.Need-same-length
 same-length c = search needs
 
 returns : tie.Need-returns
-returns c = rw (c .before .before .before .before .if1 .taken) (refl, c .before .before .set-lots .ensures)
+returns c = rw (c .before .before .before .before .if1 .taken) (refl, c .before .before .set-lots-unmarked .ensures)
 
-set-lots-requires-2 : tie.Need-set-lots-requires-2
-set-lots-requires-2 c κs =
+set-lots-unmarked-requires-2 : tie.Need-set-lots-unmarked-requires-2
+set-lots-unmarked-requires-2 c κs =
     let start = c .before .before .before .before in
     (start .pre .0, rw (c .before .if1 .left) at (start .pre .1))
 
@@ -24,9 +24,9 @@ same-length-2 : tie.Need-same-length-2
 same-length-2 c = search needs
 
 returns-2 : tie.Need-returns-2
-returns-2 c = rw (c .before .before .before .before .if1 .left) (c .before .before .set-lots2 .ensures, refl)
+returns-2 c = rw (c .before .before .before .before .if1 .left) (c .before .before .set-lots-unmarked2 .ensures, refl)
 
 pub lessen-spec : {M : Type 1} → statement M
 lessen-spec =
     tie.close
-    (tie.spec set-lots-requires same-length returns set-lots-requires-2 same-length-2 returns-2)
+    (tie.spec set-lots-unmarked-requires same-length returns set-lots-unmarked-requires-2 same-length-2 returns-2)

@@ -26,6 +26,9 @@ phase-of-requires c κs = search needs
 settle-of-requires : tie.Need-settle-of-requires
 settle-of-requires c κs = search needs
 
+quote-of-requires : tie.Need-quote-of-requires
+quote-of-requires c κs = search needs
+
 change-of-requires : tie.Need-change-of-requires
 change-of-requires c κs = search needs
 
@@ -59,13 +62,18 @@ returns-7 c = rw (c .settle-of .ensures, c .before .match .keys7)
 
 returns-8 : tie.Need-returns-8
 unfolding commandOf
-returns-8 c = rw (c .change-of .ensures, c .before .match .keys8)
+returns-8 c = rw (c .quote-of .ensures, c .before .match .keys8)
 
 returns-9 : tie.Need-returns-9
 unfolding commandOf
-returns-9 c =
+returns-9 c = rw (c .change-of .ensures, c .before .match .keys9)
+
+returns-10 : tie.Need-returns-10
+unfolding commandOf
+returns-10 c =
     let rest = c .match .rest in
     simp (
+      ne-eqb _ _ (rest .0 .0 .0 .0 .0 .0 .0 .0 .1),
       ne-eqb _ _ (rest .0 .0 .0 .0 .0 .0 .0 .1),
       ne-eqb _ _ (rest .0 .0 .0 .0 .0 .0 .1),
       ne-eqb _ _ (rest .0 .0 .0 .0 .0 .1),
@@ -87,6 +95,7 @@ command-of-spec =
     pull-of-requires
     phase-of-requires
     settle-of-requires
+    quote-of-requires
     change-of-requires
     returns
     returns-2
@@ -96,4 +105,5 @@ command-of-spec =
     returns-6
     returns-7
     returns-8
-    returns-9)
+    returns-9
+    returns-10)

@@ -33,7 +33,7 @@ array-read-sold c = place c
 enter-requires : tie.Need-enter-requires
 enter-requires c κs =
     let start = c .before .before .before .before .before .before .before .before .before .before in
-    arriving (start .pre .0) (start .args .o) (start .args .number) (start .args .next) (start .pre .1) true (c .before .before .before .if1 .taken) (c .before .before .before .before .wide .ensures)
+    arriving (start .pre .0) (start .args .o) (start .args .number) (start .args .quote) (start .args .next) (start .pre .1) true (c .before .before .before .if1 .taken) (c .before .before .before .before .wide .ensures)
 
 with-entry-requires : tie.Need-with-entry-requires
 with-entry-requires c κs =
@@ -55,12 +55,12 @@ same-length-3 c = search needs
 returns : tie.Need-returns
 returns c =
     let start = c .before .before .before .before .before .before .before .before .before .before .before .before .before .before .before .before .before .before .before in
-    order-entered (start .pre .0) (start .args .o) (start .args .number) (start .args .next) (start .pre .1) true (c .before .before .before .before .before .before .before .before .before .before .before .before .if1 .taken) (c .before .before .before .before .before .before .before .before .before .before .before .before .before .wide .ensures) (c .before .before .before .before .before .before .before .before .enter .ensures) (c .before .with-entry .ensures) (c .accepted .ensures)
+    order-entered (start .pre .0) (start .args .o) (start .args .number) (start .args .quote) (start .args .next) (start .pre .1) true (c .before .before .before .before .before .before .before .before .before .before .before .before .if1 .taken) (c .before .before .before .before .before .before .before .before .before .before .before .before .before .wide .ensures) (c .before .before .before .before .before .before .before .before .enter .ensures) (c .before .with-entry .ensures) (c .accepted .ensures)
 
 enter-requires-2 : tie.Need-enter-requires-2
 enter-requires-2 c κs =
     let start = c .before .before .before .before .before .before .before .before .before .before in
-    arriving (start .pre .0) (start .args .o) (start .args .number) (start .args .next) (start .pre .1) false (c .before .before .before .if1 .left) (c .before .before .before .before .wide .ensures)
+    arriving (start .pre .0) (start .args .o) (start .args .number) (start .args .quote) (start .args .next) (start .pre .1) false (c .before .before .before .if1 .left) (c .before .before .before .before .wide .ensures)
 
 with-entry-requires-2 : tie.Need-with-entry-requires-2
 with-entry-requires-2 c κs =
@@ -82,7 +82,7 @@ same-length-6 c = search needs
 returns-2 : tie.Need-returns-2
 returns-2 c =
     let start = c .before .before .before .before .before .before .before .before .before .before .before .before .before .before .before .before .before .before .before in
-    order-entered (start .pre .0) (start .args .o) (start .args .number) (start .args .next) (start .pre .1) false (c .before .before .before .before .before .before .before .before .before .before .before .before .if1 .left) (c .before .before .before .before .before .before .before .before .before .before .before .before .before .wide .ensures) (c .before .before .before .before .before .before .before .before .enter2 .ensures) (c .before .with-entry2 .ensures) (c .accepted2 .ensures)
+    order-entered (start .pre .0) (start .args .o) (start .args .number) (start .args .quote) (start .args .next) (start .pre .1) false (c .before .before .before .before .before .before .before .before .before .before .before .before .if1 .left) (c .before .before .before .before .before .before .before .before .before .before .before .before .before .wide .ensures) (c .before .before .before .before .before .before .before .before .enter2 .ensures) (c .before .with-entry2 .ensures) (c .accepted2 .ensures)
 
 pub enter-order-spec : {M : Type 1} → statement M
 enter-order-spec =

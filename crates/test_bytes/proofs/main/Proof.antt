@@ -5,10 +5,10 @@ use Rattle.test_bytes.proofs.main.Statement.{statement}
 use Rattle.test_bytes.proofs.main.Tie as tie
 
 abbrev Inv-loop : tie.InvT-loop
-Inv-loop i₀ i = i ≤ 28
+Inv-loop i₀ i = i ≤ 30
 
 abbrev μ-loop : tie.MeasureT-loop
-μ-loop i₀ i = 28 - i
+μ-loop i₀ i = 30 - i
 
 loop-holds : tie.Need-loop-holds Inv-loop μ-loop
 loop-holds c = search needs

@@ -1,18 +1,19 @@
 -- `book::removal::pull` meets its contract: its loop keeps `Pulling`, and clearing the freed places ends it. Assumes nothing.
-use mathlib.Core.Path.{refl, _∙_}
+use mathlib.Core.Path.{refl, sym, _∙_}
 use Prim.Native.Nat.{_-_}
 use native.Mathlib.Omega.{arith}
 use borrow.Author.Needs.{needs}
 use lib.ListN.{length-take, length-drop}
+use Rattle.book.specs.Removal.{isPulled}
 use Rattle.book.proofs.Pulls.{Pulling, pull-start, pull-out, pull-past, pull-end}
 use Rattle.book.proofs.removal.pull.Statement.{statement}
 use Rattle.book.proofs.removal.pull.Tie as tie
 
 abbrev Inv-loop : tie.InvT-loop
-Inv-loop area₀ c count account kept₀ lots₀ i₀ area kept lots i = Pulling account area₀ c count area kept lots i
+Inv-loop area₀ c count account quote kept₀ lots₀ i₀ area kept lots i = Pulling (isPulled quote account) area₀ c count area kept lots i
 
 abbrev μ-loop : tie.MeasureT-loop
-μ-loop area₀ c count account kept₀ lots₀ i₀ area kept lots i = count - i
+μ-loop area₀ c count account quote kept₀ lots₀ i₀ area kept lots i = count - i
 
 loop-holds : tie.Need-loop-holds Inv-loop μ-loop
 loop-holds c = pull-start _ _ _ _
@@ -22,6 +23,9 @@ order-at-requires c κs = omega arith
 
 add-i : tie.Need-add-i Inv-loop μ-loop
 add-i c = omega arith
+
+is-pulled-requires : tie.Need-is-pulled-requires Inv-loop μ-loop
+is-pulled-requires c κs = search needs
 
 wide32-requires : tie.Need-wide32-requires Inv-loop μ-loop
 wide32-requires c κs = search needs
@@ -36,7 +40,7 @@ loop-again : tie.Need-loop-again Inv-loop μ-loop
 loop-again c =
     let read = c .before .before .before in
     let at = read .before .before .before in
-    pull-out _ _ _ _ (at .before .before .pre .1) _ _ _ _ (at .loop .inv) _ (read .before .before .loop-test .taken) (read .order-at .ensures) _ (c .wide32 .ensures) (omega arith) (c .before .if1 .taken)
+    pull-out _ _ _ _ (at .before .before .pre .1) _ _ _ _ (at .loop .inv) _ (read .before .before .loop-test .taken) (read .order-at .ensures) _ (c .wide32 .ensures) (omega arith) (sym (c .before .before .is-pulled .ensures) ∙ c .before .if1 .taken)
 
 mul-at : tie.Need-mul-at Inv-loop μ-loop
 mul-at c = omega arith
@@ -73,7 +77,7 @@ loop-again-2 c =
     let put = c .before .before in
     let read = put .before .before .before .before in
     let at = read .before .before .before in
-    pull-past _ _ _ _ (at .before .before .pre .1) _ _ _ _ (at .loop .inv) _ (read .before .before .loop-test .taken) (read .order-at .ensures) _ _ (put .before .before .if1 .left) refl (put .put .ensures)
+    pull-past _ _ _ _ (at .before .before .pre .1) _ _ _ _ (at .loop .inv) _ (read .before .before .loop-test .taken) (read .order-at .ensures) _ _ (sym (put .before .before .before .is-pulled .ensures) ∙ put .before .before .if1 .left) refl (put .put .ensures)
 
 mul-a : tie.Need-mul-a Inv-loop μ-loop
 mul-a c = omega arith
@@ -126,6 +130,7 @@ pull-spec =
     loop-holds
     order-at-requires
     add-i
+    is-pulled-requires
     wide32-requires
     add-lots
     loop-less

@@ -6,7 +6,7 @@ use Prim.Native.Nat.{_≤_, _-_}
 use native.Mathlib.Omega.{arith}
 use Rattle.laws.specs.Choice.{all, all-none, all-more, all-stop}
 use Rattle.rules.specs.DayFile.{accountSound}
-use Rattle.dayfile.proofs.Places.{balance-at, account-passes, account-fails}
+use Rattle.dayfile.proofs.Places.{balance-read, account-passes, account-fails}
 use Rattle.dayfile.proofs.file.accounts_sound.Statement.{statement}
 use Rattle.dayfile.proofs.file.accounts_sound.Tie as tie
 
@@ -19,19 +19,19 @@ abbrev μ-loop : tie.MeasureT-loop
 loop-holds : tie.Need-loop-holds Inv-loop μ-loop
 loop-holds c = (omega arith, all-none _)
 
-mul-u64-at : tie.Need-mul-u64-at Inv-loop μ-loop
-mul-u64-at c = omega arith
+mul-balance-at : tie.Need-mul-balance-at Inv-loop μ-loop
+mul-balance-at c = omega arith
 
-add-u64-at : tie.Need-add-u64-at Inv-loop μ-loop
-add-u64-at c = omega arith
+add-balance-at : tie.Need-add-balance-at Inv-loop μ-loop
+add-balance-at c = omega arith
 
-u64-at-requires : tie.Need-u64-at-requires Inv-loop μ-loop
-u64-at-requires c κs = omega arith
+balance-at-requires : tie.Need-balance-at-requires Inv-loop μ-loop
+balance-at-requires c κs = omega arith
 
 returns : tie.Need-returns Inv-loop μ-loop
 returns c =
     let b = c .before .before in
-    let e = c .before .u64-at .ensures ∙ sym (balance-at _ _ _ (b .before .before .before .pre .1)) in
+    let e = c .before .balance-at .ensures ∙ sym (balance-read _ _ _ (b .before .before .before .pre .1)) in
     sym (all-stop _ _ _ (b .loop-test .taken) (account-fails _ _ _ e (c .if1 .taken)))
 
 add-a : tie.Need-add-a Inv-loop μ-loop
@@ -43,7 +43,7 @@ loop-less c = omega arith
 loop-again : tie.Need-loop-again Inv-loop μ-loop
 loop-again c =
     let b = c .before .before .before in
-    let e = c .before .u64-at .ensures ∙ sym (balance-at _ _ _ (b .before .before .pre .1)) in
+    let e = c .before .balance-at .ensures ∙ sym (balance-read _ _ _ (b .before .before .pre .1)) in
     (omega arith, all-more _ _ (b .loop .inv .1) (account-passes _ _ _ e (c .if1 .left)))
 
 returns-2 : tie.Need-returns-2 Inv-loop μ-loop
@@ -58,9 +58,9 @@ accounts-sound-spec =
     Inv-loop
     μ-loop
     loop-holds
-    mul-u64-at
-    add-u64-at
-    u64-at-requires
+    mul-balance-at
+    add-balance-at
+    balance-at-requires
     returns
     add-a
     loop-less

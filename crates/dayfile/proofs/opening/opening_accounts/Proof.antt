@@ -1,16 +1,16 @@
 -- `dayfile::opening::opening_accounts` meets its contract. The places below a are filled; the measure is what is left.
 -- Assumes nothing.
-use mathlib.Core.Path.{_≡_, sym, _∙_, ap}
+use mathlib.Core.Path.{_≡_, sym, _∙_, ap₂}
 use Prim.Native.Nat.{_≤_, _-_}
 use native.Mathlib.Omega.{arith}
 use Rattle.dayfile.specs.Opening.{accountWith, openingHolder, openingAccounts}
 use Rattle.dayfile.proofs.Filled.{filled, filled-none, fill}
-use Rattle.dayfile.proofs.Places.{account-place, balance-at, balance-most, sound-layout}
+use Rattle.dayfile.proofs.Places.{account-place, balance-read, balance-most, maker-read, sound-layout}
 use Rattle.dayfile.proofs.opening.opening_accounts.Statement.{statement}
 use Rattle.dayfile.proofs.opening.opening_accounts.Tie as tie
 
 abbrev Inv-loop : tie.InvT-loop
-Inv-loop file start accounts places₀ a₀ places a = (a ≤ accounts) × (places ≡ filled 32 (accountWith 0) (openingHolder file) a)
+Inv-loop file start accounts places₀ a₀ places a = (a ≤ accounts) × (places ≡ filled 32 (accountWith 0 0) (openingHolder file) a)
 
 abbrev μ-loop : tie.MeasureT-loop
 μ-loop file start accounts places₀ a₀ places a = accounts - a
@@ -21,52 +21,68 @@ account-with-requires c κs = omega arith
 loop-holds : tie.Need-loop-holds Inv-loop μ-loop
 loop-holds c =
     let f = c .before .before .args .file .now in
-    (omega arith, rw (c .account-with .ensures) (sym (filled-none 32 (accountWith 0) (openingHolder f))))
+    (omega arith, rw (c .account-with .ensures) (sym (filled-none 32 (accountWith 0 0) (openingHolder f))))
 
-mul-u64-at : tie.Need-mul-u64-at Inv-loop μ-loop
-mul-u64-at c = let l = sound-layout _ (c .before .before .before .before .pre .0) in omega arith
+mul-balance-at : tie.Need-mul-balance-at Inv-loop μ-loop
+mul-balance-at c = let l = sound-layout _ (c .before .before .before .before .pre .0) in omega arith
 
-add-u64-at : tie.Need-add-u64-at Inv-loop μ-loop
-add-u64-at c =
+add-balance-at : tie.Need-add-balance-at Inv-loop μ-loop
+add-balance-at c =
     let s = c .before .before .before .before in
     let l = sound-layout _ (s .pre .0) in
     omega (arith, account-place (s .args .file .now) 0)
 
-u64-at-requires : tie.Need-u64-at-requires Inv-loop μ-loop
-u64-at-requires c κs =
+balance-at-requires : tie.Need-balance-at-requires Inv-loop μ-loop
+balance-at-requires c κs =
     let s = c .before .before .before .before in
+    let l = sound-layout _ (s .pre .0) in
+    omega (arith, account-place (s .args .file .now) 0)
+
+mul-maker-at : tie.Need-mul-maker-at Inv-loop μ-loop
+mul-maker-at c = let l = sound-layout _ (c .before .before .before .before .before .pre .0) in omega arith
+
+add-maker-at : tie.Need-add-maker-at Inv-loop μ-loop
+add-maker-at c =
+    let s = c .before .before .before .before .before in
+    let l = sound-layout _ (s .pre .0) in
+    omega (arith, account-place (s .args .file .now) 0)
+
+maker-at-requires : tie.Need-maker-at-requires Inv-loop μ-loop
+maker-at-requires c κs =
+    let s = c .before .before .before .before .before in
     let l = sound-layout _ (s .pre .0) in
     omega (arith, account-place (s .args .file .now) 0)
 
 account-with-requires-2 : tie.Need-account-with-requires-2 Inv-loop μ-loop
 account-with-requires-2 c κs =
-    let s = c .before .before .before .before .before in
+    let s = c .before .before .before .before .before .before in
     let f = s .args .file .now in
-    let a = c .before .before .loop .a in
-    omega (arith, c .u64-at .ensures, balance-at f (s .args .start) a (s .pre .1), balance-most f (s .pre .0) a (omega arith))
+    let a = c .before .before .before .loop .a in
+    omega (arith, c .before .balance-at .ensures, balance-read f (s .args .start) a (s .pre .1), balance-most f (s .pre .0) a (omega arith))
 
 mul-places : tie.Need-mul-places Inv-loop μ-loop
-mul-places c = let l = sound-layout _ (c .before .before .before .before .before .before .pre .0) in omega arith
+mul-places c = let l = sound-layout _ (c .before .before .before .before .before .before .before .pre .0) in omega arith
 
 array-set-from-places : tie.Need-array-set-from-places Inv-loop μ-loop
-array-set-from-places c = let l = sound-layout _ (c .before .before .before .before .before .before .pre .0) in omega arith
+array-set-from-places c = let l = sound-layout _ (c .before .before .before .before .before .before .before .pre .0) in omega arith
 
 add-a : tie.Need-add-a Inv-loop μ-loop
-add-a c = let l = sound-layout _ (c .before .before .before .before .before .before .pre .0) in omega arith
+add-a c = let l = sound-layout _ (c .before .before .before .before .before .before .before .pre .0) in omega arith
 
 loop-less : tie.Need-loop-less Inv-loop μ-loop
 loop-less c = omega arith
 
 loop-again : tie.Need-loop-again Inv-loop μ-loop
 loop-again c =
-    let b = c .before .before .before in
+    let b = c .before .before .before .before in
     let s = b .before .before .before in
     let l = sound-layout _ (s .pre .0) in
     let f = s .args .file .now in
     let a = b .loop .a in
-    let balance = c .before .u64-at .ensures ∙ sym (balance-at f (s .args .start) a (s .pre .1)) in
-    let holder = c .account-with2 .ensures ∙ ap accountWith balance in
-    (omega arith, fill 32 (accountWith 0) (openingHolder f) a (omega arith) (b .loop .inv .1) holder)
+    let balance = c .before .before .balance-at .ensures ∙ sym (balance-read f (s .args .start) a (s .pre .1)) in
+    let maker = c .before .maker-at .ensures ∙ sym (maker-read f (s .args .start) a (s .pre .1)) in
+    let holder = c .account-with2 .ensures ∙ ap₂ accountWith balance maker in
+    (omega arith, fill 32 (accountWith 0 0) (openingHolder f) a (omega arith) (b .loop .inv .1) holder)
 
 returns : tie.Need-returns Inv-loop μ-loop
 unfolding openingAccounts
@@ -82,9 +98,12 @@ opening-accounts-spec =
     μ-loop
     account-with-requires
     loop-holds
-    mul-u64-at
-    add-u64-at
-    u64-at-requires
+    mul-balance-at
+    add-balance-at
+    balance-at-requires
+    mul-maker-at
+    add-maker-at
+    maker-at-requires
     account-with-requires-2
     mul-places
     array-set-from-places

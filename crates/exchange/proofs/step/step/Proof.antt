@@ -79,11 +79,20 @@ settle-requires c κs = search needs
 enum-known-command-7 : tie.Need-enum-known-command-7
 enum-known-command-7 c = search needs
 
-change-requires-2 : tie.Need-change-requires-2
-change-requires-2 c κs = search needs
+quote-requires : tie.Need-quote-requires
+quote-requires c κs = search needs
 
 plain-requires-8 : tie.Need-plain-requires-8
 plain-requires-8 c κs = search needs
+
+enum-known-command-8 : tie.Need-enum-known-command-8
+enum-known-command-8 c = search needs
+
+change-requires-2 : tie.Need-change-requires-2
+change-requires-2 c κs = search needs
+
+plain-requires-9 : tie.Need-plain-requires-9
+plain-requires-9 c κs = search needs
 
 returns : tie.Need-returns
 returns c = malformed-as (c .before .before .before .before .before .before .before .args .state) _ _ _ (c .before .refused .result) (c .before .before .enum-told .given .1) (c .before .refused .ensures) (c .plain .ensures)
@@ -182,7 +191,19 @@ same-length-24 : tie.Need-same-length-24
 same-length-24 c = search needs
 
 returns-9 : tie.Need-returns-9
-returns-9 c = plain-as (memory (c .before .before .before .before .before .before .before .before .before .before .before .before .before .before .before .before .before .args .state) (now (c .before .before .before .before .before .before .before .before .before .before .before .before .before .before .before .before .before .args .buys)) (now (c .before .before .before .before .before .before .before .before .before .before .before .before .before .before .before .before .before .args .sells)) (now (c .before .before .before .before .before .before .before .before .before .before .before .before .before .before .before .before .before .args .trades))) (c .before .before .before .before .before .before .before .change2 .result) (c .before .before .before .before .before .before .before .before .before .before .before .before .command7 .given .1) refl (c .before .before .before .before .before .before .before .change2 .ensures) (c .plain8 .ensures)
+returns-9 c = plain-as (memory (c .before .before .before .before .before .before .before .before .before .before .before .before .before .before .before .before .before .args .state) (now (c .before .before .before .before .before .before .before .before .before .before .before .before .before .before .before .before .before .args .buys)) (now (c .before .before .before .before .before .before .before .before .before .before .before .before .before .before .before .before .before .args .sells)) (now (c .before .before .before .before .before .before .before .before .before .before .before .before .before .before .before .before .before .args .trades))) (c .before .before .before .before .before .before .before .quote .result) (c .before .before .before .before .before .before .before .before .before .before .before .before .command7 .given .1) refl (c .before .before .before .before .before .before .before .quote .ensures) (c .plain8 .ensures)
+
+same-length-25 : tie.Need-same-length-25
+same-length-25 c = search needs
+
+same-length-26 : tie.Need-same-length-26
+same-length-26 c = search needs
+
+same-length-27 : tie.Need-same-length-27
+same-length-27 c = search needs
+
+returns-10 : tie.Need-returns-10
+returns-10 c = plain-as (memory (c .before .before .before .before .before .before .before .before .before .before .before .before .before .before .before .before .before .args .state) (now (c .before .before .before .before .before .before .before .before .before .before .before .before .before .before .before .before .before .args .buys)) (now (c .before .before .before .before .before .before .before .before .before .before .before .before .before .before .before .before .before .args .sells)) (now (c .before .before .before .before .before .before .before .before .before .before .before .before .before .before .before .before .before .args .trades))) (c .before .before .before .before .before .before .before .change2 .result) (c .before .before .before .before .before .before .before .before .before .before .before .before .command8 .given .1) refl (c .before .before .before .before .before .before .before .change2 .ensures) (c .plain9 .ensures)
 
 pub step-spec : {M : Type 1} → statement M
 step-spec =
@@ -212,8 +233,11 @@ step-spec =
     enum-told-2
     settle-requires
     enum-known-command-7
-    change-requires-2
+    quote-requires
     plain-requires-8
+    enum-known-command-8
+    change-requires-2
+    plain-requires-9
     returns
     same-length
     same-length-2
@@ -246,4 +270,8 @@ step-spec =
     same-length-22
     same-length-23
     same-length-24
-    returns-9)
+    returns-9
+    same-length-25
+    same-length-26
+    same-length-27
+    returns-10)

@@ -15,11 +15,11 @@ best-price-requires c κs = search needs
 method-of-requires : tie.Need-method-of-requires
 method-of-requires c κs = search needs
 
-sub-t12 : tie.Need-sub-t12
-sub-t12 c = search needs
-
 sub-t13 : tie.Need-sub-t13
 sub-t13 c = search needs
+
+sub-t14 : tie.Need-sub-t14
+sub-t14 c = search needs
 
 mark-requires : tie.Need-mark-requires
 mark-requires c κs = search needs
@@ -35,7 +35,7 @@ taker-of-spec =
     sub-c
     best-price-requires
     method-of-requires
-    sub-t12
     sub-t13
+    sub-t14
     mark-requires
     returns)

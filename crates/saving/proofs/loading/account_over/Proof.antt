@@ -29,6 +29,9 @@ u8-at-requires c κs = search needs
 holdings-over-requires : tie.Need-holdings-over-requires
 holdings-over-requires c κs = search needs
 
+cast-t10 : tie.Need-cast-t10
+cast-t10 c = search needs
+
 returns : tie.Need-returns
 returns c = account-made _ _ _ _ (c .before .before .before .before .before .before .args .room) (toZ-ofZ {w = w64} (record { sfits = c .before .before .before .signed .ok }) ∙ c .before .before .before .signed .ensures ∙ ap signedOf (c .before .before .before .before .u64-at .ensures)) (c .before .before .u8-at .ensures) (c .holdings-over .ensures)
 
@@ -41,4 +44,5 @@ account-over-spec =
     add-u8-at
     u8-at-requires
     holdings-over-requires
+    cast-t10
     returns)

@@ -1,5 +1,6 @@
 -- `writing::put_account` meets its contract. Assumes nothing.
-use mathlib.Core.Path.{ap, _∙_}
+use mathlib.Core.Path.{refl, ap, _∙_}
+use native.Mathlib.Omega.{arith}
 use mir.Facts.{toZ-ofZ}
 use mir.Syntax.{w64}
 use Rattle.statements.specs.Statement.{unsigned}
@@ -11,7 +12,6 @@ use Rattle.saving.proofs.writing.put_account.Reads as reads
 use Rattle.saving.proofs.writing.put_account.Lts as lts
 use Rattle.lines.proofs.number.put_byte.Reads as put-byte-reads
 use Rattle.mending.proofs.bytes.put_u64.Reads as put-u64-reads
-use Rattle.saving.proofs.writing.mark.Reads as mark-reads
 use Rattle.statements.proofs.writing.unsigned.Reads as unsigned-reads
 
 unsigned-requires : tie.Need-unsigned-requires
@@ -20,8 +20,8 @@ unsigned-requires c κs = search needs
 put-u64-requires : tie.Need-put-u64-requires
 put-u64-requires c κs = search needs
 
-mark-requires : tie.Need-mark-requires
-mark-requires c κs = search needs
+cast-put-byte : tie.Need-cast-put-byte
+cast-put-byte c = omega (arith, c .before .before .before .before .before .before .before .before .before .pre .1)
 
 put-byte-requires : tie.Need-put-byte-requires
 put-byte-requires c κs = search needs
@@ -30,7 +30,7 @@ same-length : tie.Need-same-length
 same-length c = search needs
 
 returns : tie.Need-returns
-returns c = account-written (c .before .before .before .before .before .before .before .before .before .before .before .before .args .a) _ _ (c .before .before .before .before .before .before .before .before .unsigned .ensures ∙ ap unsigned (toZ-ofZ {w = w64} (record { sfits = c .before .before .before .before .before .before .before .before .before .struct-told .given .0 .1 }))) (c .before .before .before .mark .ensures) (c .before .before .before .before .before .before .before .put-u64 .ensures) (c .before .before .put-byte .ensures)
+returns c = account-written (c .before .before .before .before .before .before .before .before .before .before .before .before .args .a) _ _ (c .before .before .before .before .before .before .before .before .unsigned .ensures ∙ ap unsigned (toZ-ofZ {w = w64} (record { sfits = c .before .before .before .before .before .before .before .before .before .struct-told .given .0 .1 }))) refl (c .before .before .before .before .before .before .before .put-u64 .ensures) (c .before .before .put-byte .ensures)
 
 pub put-account-spec : {M : Type 1} → statement M
 put-account-spec =
@@ -38,7 +38,7 @@ put-account-spec =
     (tie.spec
     unsigned-requires
     put-u64-requires
-    mark-requires
+    cast-put-byte
     put-byte-requires
     same-length
     returns)

@@ -13,10 +13,10 @@ cast-put-u32 : tie.Need-cast-put-u32
 cast-put-u32 c = search needs
 
 put-u32-requires : tie.Need-put-u32-requires
-put-u32-requires c κs = count-room (c .before .before .args .n) (accountRow (c .before .before .args .list) (c .before .before .args .n)) _ _ (c .before .before .pre .1)
+put-u32-requires c κs = count-room (c .before .before .args .n) (accountRow (c .before .before .args .list) (c .before .before .args .n)) _ _ (c .before .before .pre .0 .1)
 
 put-accounts-requires : tie.Need-put-accounts-requires
-put-accounts-requires c κs = (c .before .before .before .before .before .before .pre .0, second-room _ _ (c .before .before .before .put-u32 .ensures) (c .before .before .before .before .before .before .pre .1))
+put-accounts-requires c κs = ((c .before .before .before .before .before .before .pre .0 .0, second-room _ _ (c .before .before .before .put-u32 .ensures) (c .before .before .before .before .before .before .pre .0 .1)), c .before .before .before .before .before .before .pre .1)
 
 same-length : tie.Need-same-length
 same-length c = search needs

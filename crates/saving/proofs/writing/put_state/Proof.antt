@@ -14,7 +14,7 @@ put-contract-section-requires : tie.Need-put-contract-section-requires
 put-contract-section-requires c κs = ((c .before .before .before .before .pre .contracts, room-first (c .before .before .before .before .args .state) (c .before .before .before .before .args .out .now) (c .before .before .before .before .pre .room)), c .before .before .before .before .pre .short)
 
 put-account-section-requires : tie.Need-put-account-section-requires
-put-account-section-requires c κs = (c .before .before .before .before .before .before .before .before .pre .accounts, room-second (c .before .before .before .before .before .before .before .before .args .state) (c .before .before .before .before .before .before .before .before .args .out .now) (c .before .before .before .before .before .before .before .before .pre .room) (c .before .before .before .put-contract-section .ensures))
+put-account-section-requires c κs = ((c .before .before .before .before .before .before .before .before .pre .accounts, room-second (c .before .before .before .before .before .before .before .before .args .state) (c .before .before .before .before .before .before .before .before .args .out .now) (c .before .before .before .before .before .before .before .before .pre .room) (c .before .before .before .put-contract-section .ensures)), c .before .before .before .before .before .before .before .before .pre .marks)
 
 put-holding-section-requires : tie.Need-put-holding-section-requires
 put-holding-section-requires c κs = (c .before .before .before .before .before .before .before .before .before .before .before .before .pre .accounts, c .before .before .before .before .before .before .before .before .before .before .before .before .pre .contracts, room-third (c .before .before .before .before .before .before .before .before .before .before .before .before .args .state) (c .before .before .before .before .before .before .before .before .before .before .before .before .args .out .now) (c .before .before .before .before .before .before .before .before .before .before .before .before .pre .room) (c .before .before .before .before .before .before .before .put-contract-section .ensures) (c .before .before .before .put-account-section .ensures))

@@ -1,0 +1,138 @@
+-- `audit::quotes::queue_quoted` meets its contract. The invariant: the orders before place i may stand, and `seen` counts the marked ones.
+-- Assumes nothing.
+use mathlib.Core.Path.{_≡_, sym, ap, _∙_}
+use Prim.Native.Nat.{_-_, _<_, _≤_}
+use native.Mathlib.Omega.{arith}
+use borrow.Author.Needs.{needs}
+use lib.ListN.{length, getD, take}
+use lib.Seq.{getD-take, length-take-le}
+use Rattle.laws.specs.Lists.{unmapped}
+use Rattle.rules.specs.Exchange.{accountAt, noAccount, noOrder}
+use Rattle.rules.specs.Memory.{queueIn}
+use Rattle.rules.specs.declared.Account.{Account}
+use Rattle.rules.specs.declared.Order.{Order}
+use Rattle.rules.proofs.Codecs.{length-queue, order-at}
+use Rattle.audit.specs.Parts.{Markable}
+use Rattle.audit.proofs.MarkedOrders.{Met, all-met, met-again, met-close, met-marked, met-no-maker, met-none, met-unmarked}
+use Rattle.audit.proofs.quotes.queue_quoted.Statement.{statement}
+use Rattle.audit.proofs.quotes.queue_quoted.Tie as tie
+
+abbrev Inv-loop : tie.InvT-loop
+Inv-loop area c count state seen₀ i₀ seen i = (i ≤ count) × Met (take (state .accountcount) (state .accounts)) (queueIn area c count) i seen
+
+abbrev μ-loop : tie.MeasureT-loop
+μ-loop area c count state seen₀ i₀ seen i = count - i
+
+-- the accounts in use
+in-use : (c : tie.Start Inv-loop μ-loop) → length (take (c .args .t1 .accountcount) (c .args .t1 .accounts)) ≡ c .args .t1 .accountcount
+in-use c =
+    let e : length (c .args .t1 .accounts) ≡ 32 = search (needs, unmapped) in
+    length-take-le (c .args .t1 .accountcount) (c .args .t1 .accounts) (omega (arith, c .pre .0))
+
+few : (c : tie.Start Inv-loop μ-loop) → length (take (c .args .t1 .accountcount) (c .args .t1 .accounts)) ≤ 32
+few c = omega (arith, in-use c, c .pre .0)
+
+-- the order met, which may have a mark
+it : (c : tie.After-order-at Inv-loop μ-loop) → getD (queueIn (c .before .before .before .before .args .area .now) (c .before .before .before .before .args .c) (c .before .before .before .before .args .count)) (c .before .before .loop .i) noOrder ≡ c .order-at .result
+it c = order-at _ _ _ _ (c .before .loop-test .taken) ∙ sym (c .order-at .ensures)
+
+may : (c : tie.After-order-at Inv-loop μ-loop) → Markable (length (take (c .before .before .before .before .args .t1 .accountcount) (c .before .before .before .before .args .t1 .accounts))) (c .order-at .result)
+may c =
+    let m = c .before .before .before .before .pre .2 (c .before .before .loop .i) (c .before .loop-test .taken) in
+    record { account = omega (arith, m .account, ap (λ (o : Order). o .account) (it c), in-use (c .before .before .before .before)); quote = omega (arith, m .quote, ap (λ (o : Order). o .quote) (it c)) }
+
+there : (c : tie.After-order-at Inv-loop μ-loop) → c .before .before .loop .i < length (queueIn (c .before .before .before .before .args .area .now) (c .before .before .before .before .args .c) (c .before .before .before .before .args .count))
+there c = rw (length-queue (c .before .before .before .before .args .area .now) (c .before .before .before .before .args .c) (c .before .before .before .before .args .count)) (c .before .loop-test .taken)
+
+-- its account, as it is read
+maker : (c : tie.After-wide Inv-loop μ-loop) →
+    accountAt (take (c .before .before .before .before .before .before .before .args .t1 .accountcount) (c .before .before .before .before .before .before .before .args .t1 .accounts)) (c .wide .result) .maker
+    ≡ getD (c .before .before .before .before .before .before .before .args .t1 .accounts) (c .wide .result) noAccount .maker
+unfolding accountAt
+maker c =
+    let s = c .before .before .before .before .before .before .before in
+    ap (λ (v : Account). v .maker)
+    (getD-take (s .args .t1 .accountcount) (s .args .t1 .accounts) (c .wide .result) noAccount (omega (arith, may (c .before .before .before) .account, c .wide .ensures, in-use s)))
+
+loop-holds : tie.Need-loop-holds Inv-loop μ-loop
+loop-holds c = (omega arith, met-none _ (few (c .before)) _)
+
+order-at-requires : tie.Need-order-at-requires Inv-loop μ-loop
+order-at-requires c κs = omega (arith, c .before .before .before .pre .1)
+
+add-i : tie.Need-add-i Inv-loop μ-loop
+add-i c = omega arith
+
+loop-less : tie.Need-loop-less Inv-loop μ-loop
+loop-less c = omega arith
+
+loop-again : tie.Need-loop-again Inv-loop μ-loop
+loop-again c = (omega arith, met-unmarked _ (few (c .before .before .before .before .before .before)) _ (c .before .before .before .before .loop .inv .1) (there (c .before .before)) (it (c .before .before)) (c .if1 .taken))
+
+wide-requires : tie.Need-wide-requires Inv-loop μ-loop
+wide-requires c κs = search needs
+
+mul-who : tie.Need-mul-who Inv-loop μ-loop
+mul-who c = omega (arith, may (c .before .before .before) .account, c .wide .ensures, few (c .before .before .before .before .before .before .before))
+
+element-copy-out-who : tie.Need-element-copy-out-who Inv-loop μ-loop
+element-copy-out-who c = omega (arith, may (c .before .before .before) .account, c .wide .ensures, few (c .before .before .before .before .before .before .before))
+
+returns : tie.Need-returns Inv-loop μ-loop
+returns c = met-no-maker _ (few (c .before .before .before .before .before .before .before .before .before .before)) _ (c .before .before .before .before .before .before .before .before .loop .inv .1) (there (c .before .before .before .before .before .before)) (it (c .before .before .before .before .before .before)) (c .before .before .before .wide .ensures) (may (c .before .before .before .before .before .before)) (c .before .before .before .before .if1 .left) (λ e. c .if2 .taken (sym (maker (c .before .before .before)) ∙ e))
+
+returns-2 : tie.Need-returns-2 Inv-loop μ-loop
+returns-2 c = met-close _ (few (c .before .before .before .before .before .before .before .before .before .before .before .before)) _ (c .before .before .before .before .before .before .before .before .before .before .loop .inv .1) (there (c .before .before .before .before .before .before .before .before)) (it (c .before .before .before .before .before .before .before .before)) (c .before .before .before .before .before .wide .ensures) (may (c .before .before .before .before .before .before .before .before)) (c .before .before .before .before .before .before .if1 .left) (c .if3 .taken)
+
+mul-if4 : tie.Need-mul-if4 Inv-loop μ-loop
+mul-if4 c = omega (arith, may (c .before .before .before .before .before .before .before .before) .account, c .before .before .before .before .before .wide .ensures, few (c .before .before .before .before .before .before .before .before .before .before .before .before))
+
+array-read-if4 : tie.Need-array-read-if4 Inv-loop μ-loop
+array-read-if4 c = omega (arith, may (c .before .before .before .before .before .before .before .before) .account, c .before .before .before .before .before .wide .ensures, few (c .before .before .before .before .before .before .before .before .before .before .before .before))
+
+returns-3 : tie.Need-returns-3 Inv-loop μ-loop
+returns-3 c = met-again _ (few (c .before .before .before .before .before .before .before .before .before .before .before .before .before)) _ (c .before .before .before .before .before .before .before .before .before .before .before .loop .inv .1) (there (c .before .before .before .before .before .before .before .before .before)) (it (c .before .before .before .before .before .before .before .before .before)) (c .before .before .before .before .before .before .wide .ensures) (may (c .before .before .before .before .before .before .before .before .before)) (c .before .before .before .before .before .before .before .if1 .left) (c .if4 .taken)
+
+mul-seen : tie.Need-mul-seen Inv-loop μ-loop
+mul-seen c = omega (arith, may (c .before .before .before .before .before .before .before .before .before) .account, c .before .before .before .before .before .before .wide .ensures, few (c .before .before .before .before .before .before .before .before .before .before .before .before .before))
+
+array-write-seen : tie.Need-array-write-seen Inv-loop μ-loop
+array-write-seen c = omega (arith, may (c .before .before .before .before .before .before .before .before .before) .account, c .before .before .before .before .before .before .wide .ensures, few (c .before .before .before .before .before .before .before .before .before .before .before .before .before))
+
+add-i-2 : tie.Need-add-i-2 Inv-loop μ-loop
+add-i-2 c = omega arith
+
+loop-less-2 : tie.Need-loop-less-2 Inv-loop μ-loop
+loop-less-2 c = omega arith
+
+loop-again-2 : tie.Need-loop-again-2 Inv-loop μ-loop
+loop-again-2 c = (omega arith, met-marked _ (few (c .before .before .before .before .before .before .before .before .before .before .before .before .before)) _ (c .before .before .before .before .before .before .before .before .before .before .before .loop .inv .1) (there (c .before .before .before .before .before .before .before .before .before)) (it (c .before .before .before .before .before .before .before .before .before)) (c .before .before .before .before .before .before .wide .ensures) (may (c .before .before .before .before .before .before .before .before .before)) (c .before .before .before .before .before .before .before .if1 .left) (maker (c .before .before .before .before .before .before) ∙ c .before .before .before .if2 .left) (c .before .if3 .left) (c .if4 .left))
+
+returns-4 : tie.Need-returns-4 Inv-loop μ-loop
+returns-4 c = all-met _ (few (c .before .before .before)) _ (c .before .loop .inv .1) (omega (arith, length-queue (c .before .before .before .args .area .now) (c .before .before .before .args .c) (c .before .before .before .args .count)))
+
+pub queue-quoted-spec : {M : Type 1} → statement M
+queue-quoted-spec =
+    tie.close
+    (tie.spec
+    Inv-loop
+    μ-loop
+    loop-holds
+    order-at-requires
+    add-i
+    loop-less
+    loop-again
+    wide-requires
+    mul-who
+    element-copy-out-who
+    returns
+    returns-2
+    mul-if4
+    array-read-if4
+    returns-3
+    mul-seen
+    array-write-seen
+    add-i-2
+    loop-less-2
+    loop-again-2
+    returns-4)

@@ -1,0 +1,188 @@
+-- An accepted quote keeps a state well formed: what is left of the old quote is removed, so that the account has no marked order in the
+-- contract; the buy is entered, marked; the sell is entered, marked, on the state that the buy leaves. Assumes nothing.
+use mathlib.Core.Bool.{Bool, true, false}
+use mathlib.Core.List.{List, [], _∷_}
+use mathlib.Core.Path.{_≡_, refl, _∙_}
+use Prim.Native.Nat.{ℕ, _+_, _<_, _≤_}
+use native.Mathlib.Omega.{arith}
+use borrow.Author.Tests.{eqb-true, not-false}
+use lib.Dec.{eqb}
+use lib.ListN.{length, length-set}
+use lib.Seq.{getD-set-same}
+use Rattle.laws.specs.Choice.{pick}
+use Rattle.laws.specs.Sums.{sumOf}
+use Rattle.rules.specs.Answers.{firstOf, listingOf, orderRefusals, takerOf}
+use Rattle.rules.specs.Exchange.{Exchange, Listing, accountAt, listingAt, noListing, own, placeOf}
+use Rattle.rules.specs.Kinds.{lastOf}
+use Rattle.rules.specs.Matching.{enter, restWhole}
+use Rattle.rules.specs.Quote.{Offered, buyEntered, buyOf, half, quoteRefusals, quoted, sellOf, withBuy, withSell, withoutQuote}
+use Rattle.rules.specs.Step.{exchangeAfter, listingAfter, listingWithout, removed, without}
+use Rattle.rules.specs.WellFormed.{isQuoteOf, quotes}
+use Rattle.rules.specs.declared.Order.{Order}
+use Rattle.rules.proofs.AuctionSteps.{entered-either}
+use Rattle.rules.proofs.Holdings.{booked-maker, length-bookTrades}
+use Rattle.rules.proofs.Rest.{rest-sum}
+use Rattle.rules.proofs.Stages.{Each}
+use Rattle.invariants.proofs.Accepted.{Failed, failed, failed-both, present}
+use Rattle.invariants.proofs.Clauses.{WellFormed, Counted}
+use Rattle.invariants.proofs.Insert.{entered-counted, entered-keeps}
+use Rattle.invariants.proofs.InsertAccepted.{Given, Passes, next-given, numbers-left, order-passes}
+use Rattle.invariants.proofs.Marks.{Marks, markOf, mark-fewer}
+use Rattle.invariants.proofs.Removal.{removed-counted, removed-keeps}
+
+-- no order of the old quote is left
+none-left : (a : ℕ) (os : List Order) → quotes a (without (isQuoteOf a) os) ≡ 0
+unfolding quotes sumOf without
+none-left a [] = refl
+none-left a (o ∷ os) = go (isQuoteOf a o) refl (none-left a os)
+  where
+    go : (b : Bool) → isQuoteOf a o ≡ b → quotes a (without (isQuoteOf a) os) ≡ 0 → quotes a (pick b (without (isQuoteOf a) os) (o ∷ without (isQuoteOf a) os)) ≡ 0
+    go true e ih = ih
+    go false e ih = rw e (omega (arith, ih))
+
+-- account and contract are in use
+module _ (x : Exchange) (w : WellFormed x) (q : Offered) (account-there : placeOf (q .account) < length (x .accounts)) (there : placeOf (q .contract) < length (x .listings)) where
+  abbrev account : ℕ
+  account = placeOf (q .account)
+
+  abbrev place : ℕ
+  place = placeOf (q .contract)
+
+  -- ---- the old quote gone
+
+  abbrev left : Listing
+  left = listingWithout (isQuoteOf account) (listingAt x place)
+
+  pub gone-keeps : WellFormed (withoutQuote x q)
+  unfolding withoutQuote removed
+  gone-keeps = removed-keeps (isQuoteOf account) x place there 0 w
+
+  pub gone-counted : Counted x → Counted (withoutQuote x q)
+  unfolding withoutQuote removed
+  gone-counted = removed-counted (isQuoteOf account) x place there 0
+
+  pub gone-listing : listingAt (withoutQuote x q) place ≡ left
+  unfolding withoutQuote listingAt
+  gone-listing = getD-set-same (x .listings) place left noListing there
+
+  pub gone-there : place < length (withoutQuote x q .listings)
+  unfolding withoutQuote
+  gone-there = rw (length-set (x .listings) place left) there
+
+  pub gone-accounts : withoutQuote x q .accounts ≡ x .accounts
+  unfolding withoutQuote
+  gone-accounts = refl
+
+  pub none-marked : (sell : Bool) → quotes account (own sell (listingAt (withoutQuote x q) place)) ≡ 0
+  none-marked sell = rw gone-listing (by sell)
+    where
+      by : (b : Bool) → quotes account (own b left) ≡ 0
+      by true = none-left account (listingAt x place .sells)
+      by false = none-left account (listingAt x place .buys)
+
+  -- ---- the buy, which passes its tests
+
+  module _ (is-maker : accountAt (x .accounts) (placeOf (q .account)) .maker ≡ 1) (bought : Failed (orderRefusals (withoutQuote x q) (buyOf q))) where
+    pub buy-passes : Passes (withoutQuote x q) (withoutQuote x q .next) (buyOf q)
+    unfolding half
+    buy-passes = order-passes (withoutQuote x q) (buyOf q) bought (rw gone-accounts account-there) gone-there
+
+    pub buy-given : Given (withoutQuote x q) (withoutQuote x q .next) (withoutQuote x q .next + 1)
+    buy-given = next-given (withoutQuote x q) gone-keeps (numbers-left (withoutQuote x q) (buyOf q) bought)
+
+    pub buy-marks : Marks (withoutQuote x q) 1 (buyOf q)
+    unfolding half listingOf
+    buy-marks = record { low = omega arith; allowed = rw (gone-accounts, is-maker) refl; single = omega (arith, none-marked false) }
+
+    pub buy-keeps : WellFormed (withBuy x q)
+    unfolding withBuy
+    buy-keeps = entered-keeps (withoutQuote x q) gone-keeps (withoutQuote x q .next) 1 (withoutQuote x q .next + 1) buy-given (buyOf q) buy-passes buy-marks
+
+    pub buy-counted : Counted x → Counted (withBuy x q)
+    unfolding withBuy
+    buy-counted n =
+        entered-counted (withoutQuote x q) gone-keeps (withoutQuote x q .next) 1 (withoutQuote x q .next + 1) buy-given (buyOf q) buy-passes buy-marks (gone-counted n)
+
+    -- ---- what it leaves
+
+    pub buy-accounts : length (withBuy x q .accounts) ≡ length (x .accounts)
+    unfolding withBuy exchangeAfter withoutQuote
+    buy-accounts = length-bookTrades (x .accounts) (buyEntered x q .trades)
+
+    pub buy-listings : length (withBuy x q .listings) ≡ length (withoutQuote x q .listings)
+    unfolding withBuy exchangeAfter
+    buy-listings = length-set (withoutQuote x q .listings) (placeOf (buyOf q .contract)) _
+
+    pub still-maker : accountAt (withBuy x q .accounts) account .maker ≡ 1
+    unfolding withBuy exchangeAfter withoutQuote
+    still-maker = booked-maker (x .accounts) (buyEntered x q .trades) account ∙ is-maker
+
+    -- the buy may trade with the sells, and adds none
+    pub buy-sells : listingAt (withBuy x q) place .sells ≡ buyEntered x q .opposite
+    unfolding withBuy exchangeAfter listingAt listingAfter half
+    buy-sells = rw (getD-set-same (withoutQuote x q .listings) place (listingAfter (listingOf (withoutQuote x q) (buyOf q)) false (buyEntered x q)) noListing gone-there)
+
+    pub sells-unmarked : quotes account (buyEntered x q .opposite) ≤ 0
+    unfolding quotes half listingOf restWhole enter
+    sells-unmarked =
+        entered-either (withoutQuote x q) (withoutQuote x q .next) 1 (buyOf q) (λ r. quotes account (r .opposite) ≤ 0)
+        (λ a. omega (arith, none-marked true))
+        (λ a. omega (
+          arith,
+          none-marked true,
+          rest-sum (markOf account) (mark-fewer account) (takerOf (withoutQuote x q) (withoutQuote x q .next) 1 (buyOf q)) (q .lots) (listingAt (withoutQuote x q) place .contract .last) (listingAt (withoutQuote x q) place .sells),
+        ))
+
+    -- ---- the sell, which passes its own
+
+    module _ (sold : Failed (orderRefusals (withBuy x q) (sellOf q))) where
+      pub sell-passes : Passes (withBuy x q) (withBuy x q .next) (sellOf q)
+      unfolding half
+      sell-passes = order-passes (withBuy x q) (sellOf q) sold (rw buy-accounts account-there) (rw buy-listings gone-there)
+
+      pub sell-given : Given (withBuy x q) (withBuy x q .next) (withBuy x q .next + 1)
+      sell-given = next-given (withBuy x q) buy-keeps (numbers-left (withBuy x q) (sellOf q) sold)
+
+      pub sell-marks : Marks (withBuy x q) 1 (sellOf q)
+      unfolding half listingOf
+      sell-marks = record { low = omega arith; allowed = rw still-maker refl; single = rw buy-sells (omega (arith, sells-unmarked)) }
+
+      pub sell-keeps : WellFormed (withSell x q)
+      unfolding withSell
+      sell-keeps = entered-keeps (withBuy x q) buy-keeps (withBuy x q .next) 1 (withBuy x q .next + 1) sell-given (sellOf q) sell-passes sell-marks
+
+      pub sell-counted : Counted x → Counted (withSell x q)
+      unfolding withSell
+      sell-counted n = entered-counted (withBuy x q) buy-keeps (withBuy x q .next) 1 (withBuy x q .next + 1) sell-given (sellOf q) sell-passes sell-marks (buy-counted n)
+
+-- ---- a quote that is refused for nothing
+
+module _ (x : Exchange) (w : WellFormed x) (q : Offered) (e : firstOf (quoteRefusals x q) ≡ 0) where
+  tests : Failed (quoteRefusals x q)
+  unfolding quoteRefusals orderRefusals
+  tests = failed (quoteRefusals x q) (omega arith) e
+
+  holder : placeOf (q .account) < length (x .accounts)
+  unfolding quoteRefusals
+  holder = present (q .account) (x .accounts) (tests .0)
+
+  listed : placeOf (q .contract) < length (x .listings)
+  unfolding quoteRefusals
+  listed = present (q .contract) (x .listings) (tests .1 .0)
+
+  maker : accountAt (x .accounts) (placeOf (q .account)) .maker ≡ 1
+  unfolding quoteRefusals
+  maker = eqb-true (accountAt (x .accounts) (placeOf (q .account)) .maker) 1 (not-false (eqb (accountAt (x .accounts) (placeOf (q .account)) .maker) 1) (tests .1 .1 .1 .0))
+
+  codes : Failed (orderRefusals (withoutQuote x q) (buyOf q)) × Failed (orderRefusals (withBuy x q) (sellOf q))
+  unfolding quoteRefusals
+  codes = failed-both (orderRefusals (withoutQuote x q) (buyOf q)) (orderRefusals (withBuy x q) (sellOf q)) (tests .1 .1 .1 .1 .1)
+
+  pub quote-keeps : WellFormed (lastOf x (quoted x q .stages))
+  unfolding quoted
+  quote-keeps = sell-keeps x w q holder listed maker (codes .0) (codes .1)
+
+  pub quote-counted : Counted x → Each Counted (quoted x q .stages)
+  unfolding quoted
+  quote-counted n =
+      (gone-counted x w q holder listed n, (buy-counted x w q holder listed maker (codes .0) n, (sell-counted x w q holder listed maker (codes .0) (codes .1) n, tt)))

@@ -1,0 +1,3 @@
+pub mod Undo
+pub mod Marking
+pub mod Placing

@@ -1,0 +1,89 @@
+-- `quoting::enter_marked` meets its contract: refused with its code, or entered marked. Assumes nothing.
+use native.Mathlib.Omega.{arith}
+use Rattle.quoting.proofs.Marking.{marked-enterable, marked-entered, marked-fits, marked-low, marked-refused, numbers-low}
+use borrow.Author.Needs.{needs}
+use Rattle.quoting.proofs.enter_marked.Statement.{statement}
+use Rattle.quoting.proofs.enter_marked.Tie as tie
+
+wide-requires : tie.Need-wide-requires
+wide-requires c κs = search needs
+
+sub-a : tie.Need-sub-a
+sub-a c =
+    let start = c .before .before .before .before in
+    marked-low (start .pre .0) (start .args .o) (start .pre .1) (c .wide .ensures)
+
+mul-who : tie.Need-mul-who
+mul-who c = search needs
+
+element-copy-out-who : tie.Need-element-copy-out-who
+element-copy-out-who c =
+    let start = c .before .before .before .before in
+    marked-fits (start .pre .0) (start .args .o) (start .pre .1) (c .wide .ensures)
+
+order-code-requires : tie.Need-order-code-requires
+order-code-requires c κs =
+    let start = c .before .before .before .before .before .before .before .before in
+    (start .pre .0, start .pre .1 .present, rw (c .before .before .before .before .wide .ensures))
+
+refused-requires : tie.Need-refused-requires
+refused-requires c κs = search needs
+
+same-length : tie.Need-same-length
+same-length c = search needs
+
+same-length-2 : tie.Need-same-length-2
+same-length-2 c = search needs
+
+same-length-3 : tie.Need-same-length-3
+same-length-3 c = search needs
+
+returns : tie.Need-returns
+returns c =
+    let start = c .before .before .before .before .before .before .before .before .before .before .before in
+    marked-refused (start .pre .0) (start .args .o) (start .pre .1) (c .before .before .order-code .ensures) (c .before .if1 .taken) (c .refused .ensures)
+
+add-enter-order : tie.Need-add-enter-order
+add-enter-order c =
+    let start = c .before .before .before .before .before .before .before .before .before .before .before .before .before in
+    omega (arith, numbers-low (start .pre .0) (start .args .o) (start .pre .1) (c .before .before .before .before .order-code .ensures) (c .before .before .before .if1 .left))
+
+enter-order-requires : tie.Need-enter-order-requires
+enter-order-requires c κs =
+    let start = c .before .before .before .before .before .before .before .before .before .before .before .before .before in
+    (start .pre .0, marked-enterable (start .pre .0) (start .args .o) (start .pre .1) (c .before .before .before .before .order-code .ensures) (c .before .before .before .if1 .left))
+
+same-length-4 : tie.Need-same-length-4
+same-length-4 c = search needs
+
+same-length-5 : tie.Need-same-length-5
+same-length-5 c = search needs
+
+same-length-6 : tie.Need-same-length-6
+same-length-6 c = search needs
+
+returns-2 : tie.Need-returns-2
+returns-2 c =
+    let start = c .before .before .before .before .before .before .before .before .before .before .before .before .before .before .before .before .before .before .before .before in
+    marked-entered (start .pre .0) (start .args .o) (start .pre .1) (c .before .before .before .before .before .before .before .before .before .before .before .order-code .ensures) (c .before .before .before .before .before .before .before .before .before .before .if1 .left) (c .before .before .before .before .before .before .enter-order .ensures)
+
+pub enter-marked-spec : {M : Type 1} → statement M
+enter-marked-spec =
+    tie.close
+    (tie.spec
+    wide-requires
+    sub-a
+    mul-who
+    element-copy-out-who
+    order-code-requires
+    refused-requires
+    same-length
+    same-length-2
+    same-length-3
+    returns
+    add-enter-order
+    enter-order-requires
+    same-length-4
+    same-length-5
+    same-length-6
+    returns-2)

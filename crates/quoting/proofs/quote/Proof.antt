@@ -1,0 +1,149 @@
+-- `quoting::quote` meets its contract: refused by the tests on the state alone, or placed; where an order is refused, the areas as they
+-- were. Assumes nothing.
+use mathlib.Core.Path.{refl, sym, _∙_}
+use native.Mathlib.Omega.{arith}
+use Rattle.quoting.proofs.Placing.{buys-again, buys-room, early-refused, few-accounts, few-contracts, kept-room, place-low, quote-undone, sells-again, sells-room, traded-few, trades-again}
+use borrow.Author.Needs.{needs}
+use Rattle.quoting.proofs.quote.Statement.{statement}
+use Rattle.quoting.proofs.quote.Tie as tie
+
+early-code-requires : tie.Need-early-code-requires
+early-code-requires c κs =
+    let start = c .before .before .before in
+    (few-contracts (start .pre) (start .args .account) (start .args .contract) (start .args .lots) (start .args .buy) (start .args .sell), few-accounts (start .pre) (start .args .account) (start .args .contract) (start .args .lots) (start .args .buy) (start .args .sell))
+
+refused-requires : tie.Need-refused-requires
+refused-requires c κs = search needs
+
+returns : tie.Need-returns
+returns c =
+    let start = c .before .before .before .before .before .before in
+    early-refused (start .pre) (start .args .account) (start .args .contract) (start .args .lots) (start .args .buy) (start .args .sell) (c .before .before .early-code .ensures) (c .before .if1 .taken) (c .refused .ensures)
+
+wide-requires : tie.Need-wide-requires
+wide-requires c κs = search needs
+
+sub-queue : tie.Need-sub-queue
+sub-queue c =
+    let start = c .before .before .before .before .before .before in
+    place-low (start .pre) (start .args .account) (start .args .contract) (start .args .lots) (start .args .buy) (start .args .sell) (sym (c .before .before .early-code .ensures) ∙ c .before .if1 .left) (c .wide .ensures)
+
+mul-queue : tie.Need-mul-queue
+mul-queue c = search needs
+
+first-made-requires : tie.Need-first-made-requires
+first-made-requires c κs =
+    let start = c .before .before .before .before .before .before in
+    traded-few (start .pre) (start .args .account) (start .args .contract) (start .args .lots) (start .args .buy) (start .args .sell) (sym (c .before .before .early-code .ensures) ∙ c .before .if1 .left)
+
+slice-aggregate-keep : tie.Need-slice-aggregate-keep
+slice-aggregate-keep c = search needs
+
+keep-requires : tie.Need-keep-requires
+keep-requires c κs =
+    let start = c .before .before .before .before .before .before .before .before .before in
+    buys-room (start .pre) (start .args .account) (start .args .contract) (start .args .lots) (start .args .buy) (start .args .sell) (sym (c .before .before .before .before .before .early-code .ensures) ∙ c .before .before .before .before .if1 .left) (c .before .before .before .wide .ensures) refl
+
+slice-aggregate-keep-2 : tie.Need-slice-aggregate-keep-2
+slice-aggregate-keep-2 c = search needs
+
+keep-requires-2 : tie.Need-keep-requires-2
+keep-requires-2 c κs =
+    let start = c .before .before .before .before .before .before .before .before .before .before .before .before .before in
+    sells-room (start .pre) (start .args .account) (start .args .contract) (start .args .lots) (start .args .buy) (start .args .sell) (sym (c .before .before .before .before .before .before .before .before .before .early-code .ensures) ∙ c .before .before .before .before .before .before .before .before .if1 .left) (c .before .before .before .before .before .before .before .wide .ensures) refl
+
+slice-aggregate-keep-3 : tie.Need-slice-aggregate-keep-3
+slice-aggregate-keep-3 c = search needs
+
+keep-requires-3 : tie.Need-keep-requires-3
+keep-requires-3 c κs =
+    let start = c .before .before .before .before .before .before .before .before .before .before .before .before .before .before .before .before .before in
+    kept-room (start .pre) (start .args .account) (start .args .contract) (start .args .lots) (start .args .buy) (start .args .sell) (sym (c .before .before .before .before .before .before .before .before .before .before .before .before .before .early-code .ensures) ∙ c .before .before .before .before .before .before .before .before .before .before .before .before .if1 .left) (c .before .before .before .before .before .before .before .before .before .before .first-made .ensures) refl
+
+place-requires : tie.Need-place-requires
+place-requires c κs =
+    let start = c .before .before .before .before .before .before .before .before .before .before .before .before .before .before .before .before .before .before .before .before .before .before in
+    (start .pre, sym (c .before .before .before .before .before .before .before .before .before .before .before .before .before .before .before .before .before .before .early-code .ensures) ∙ c .before .before .before .before .before .before .before .before .before .before .before .before .before .before .before .before .before .if1 .left)
+
+slice-aggregate-put-back : tie.Need-slice-aggregate-put-back
+slice-aggregate-put-back c = omega (arith, c .before .before .before .before .before .before .before .before .before .before .before .before .before .before .before .before .before .before .before .before .before .before .before .bids2 .given)
+
+put-back-requires : tie.Need-put-back-requires
+put-back-requires c κs =
+    let start = c .before .before .before .before .before .before .before .before .before .before .before .before .before .before .before .before .before .before .before .before .before .before .before .before .before .before .before .before .before .before .before .before .before .before in
+    omega (arith, c .before .before .before .before .before .before .before .before .before .before .before .before .before .before .before .before .before .before .before .before .before .before .before .bids2 .given, buys-room (start .pre) (start .args .account) (start .args .contract) (start .args .lots) (start .args .buy) (start .args .sell) (sym (c .before .before .before .before .before .before .before .before .before .before .before .before .before .before .before .before .before .before .before .before .before .before .before .before .before .before .before .before .before .before .early-code .ensures) ∙ c .before .before .before .before .before .before .before .before .before .before .before .before .before .before .before .before .before .before .before .before .before .before .before .before .before .before .before .before .before .if1 .left) (c .before .before .before .before .before .before .before .before .before .before .before .before .before .before .before .before .before .before .before .before .before .before .before .before .before .before .before .before .wide .ensures) refl, c .before .before .before .before .before .before .before .before .before .before .before .place .ensures .buys-back (c .before .before .if2 .taken) .long)
+
+slice-aggregate-put-back-2 : tie.Need-slice-aggregate-put-back-2
+slice-aggregate-put-back-2 c = search needs
+
+put-back-requires-2 : tie.Need-put-back-requires-2
+put-back-requires-2 c κs =
+    let start = c .before .before .before .before .before .before .before .before .before .before .before .before .before .before .before .before .before .before .before .before .before .before .before .before .before .before .before .before .before .before .before .before .before .before .before .before .before .before .before in
+    omega (arith, c .before .before .before .before .before .before .before .before .before .before .before .before .before .before .before .before .before .before .before .before .before .before .before .before .offers2 .given, sells-room (start .pre) (start .args .account) (start .args .contract) (start .args .lots) (start .args .buy) (start .args .sell) (sym (c .before .before .before .before .before .before .before .before .before .before .before .before .before .before .before .before .before .before .before .before .before .before .before .before .before .before .before .before .before .before .before .before .before .before .before .early-code .ensures) ∙ c .before .before .before .before .before .before .before .before .before .before .before .before .before .before .before .before .before .before .before .before .before .before .before .before .before .before .before .before .before .before .before .before .before .before .if1 .left) (c .before .before .before .before .before .before .before .before .before .before .before .before .before .before .before .before .before .before .before .before .before .before .before .before .before .before .before .before .before .before .before .before .before .wide .ensures) refl, c .before .before .before .before .before .before .before .before .before .before .before .before .before .before .before .before .place .ensures .sells-back (c .before .before .before .before .before .before .before .if2 .taken) .long)
+
+slice-aggregate-put-back-3 : tie.Need-slice-aggregate-put-back-3
+slice-aggregate-put-back-3 c = search needs
+
+put-back-requires-3 : tie.Need-put-back-requires-3
+put-back-requires-3 c κs =
+    let start = c .before .before .before .before .before .before .before .before .before .before .before .before .before .before .before .before .before .before .before .before .before .before .before .before .before .before .before .before .before .before .before .before .before .before .before .before .before .before .before .before .before .before .before .before in
+    omega (arith, c .before .before .before .before .before .before .before .before .before .before .before .before .before .before .before .before .before .before .before .before .before .before .before .before .before .made2 .given, kept-room (start .pre) (start .args .account) (start .args .contract) (start .args .lots) (start .args .buy) (start .args .sell) (sym (c .before .before .before .before .before .before .before .before .before .before .before .before .before .before .before .before .before .before .before .before .before .before .before .before .before .before .before .before .before .before .before .before .before .before .before .before .before .before .before .before .early-code .ensures) ∙ c .before .before .before .before .before .before .before .before .before .before .before .before .before .before .before .before .before .before .before .before .before .before .before .before .before .before .before .before .before .before .before .before .before .before .before .before .before .before .before .if1 .left) (c .before .before .before .before .before .before .before .before .before .before .before .before .before .before .before .before .before .before .before .before .before .before .before .before .before .before .before .before .before .before .before .before .before .before .before .before .before .first-made .ensures) refl, c .before .before .before .before .before .before .before .before .before .before .before .before .before .before .before .before .before .before .before .before .before .place .ensures .trades-back (c .before .before .before .before .before .before .before .before .before .before .before .before .if2 .taken) .long)
+
+same-length : tie.Need-same-length
+same-length c = search needs
+
+same-length-2 : tie.Need-same-length-2
+same-length-2 c = search needs
+
+same-length-3 : tie.Need-same-length-3
+same-length-3 c = search needs
+
+returns-2 : tie.Need-returns-2
+returns-2 c =
+    let start = c .before .before .before .before .before .before .before .before .before .before .before .before .before .before .before .before .before .before .before .before .before .before .before .before .before .before .before .before .before .before .before .before .before .before .before .before .before .before .before .before .before .before .before .before .before .before .before in
+    quote-undone (start .pre) (start .args .account) (start .args .contract) (start .args .lots) (start .args .buy) (start .args .sell) (sym (c .before .before .before .before .before .before .before .before .before .before .before .before .before .before .before .before .before .before .before .before .before .before .before .before .before .before .before .before .before .before .before .before .before .before .before .before .before .before .before .before .before .before .before .early-code .ensures) ∙ c .before .before .before .before .before .before .before .before .before .before .before .before .before .before .before .before .before .before .before .before .before .before .before .before .before .before .before .before .before .before .before .before .before .before .before .before .before .before .before .before .before .before .if1 .left) (c .before .before .before .before .before .before .before .before .before .before .before .before .before .before .before .before .before .before .before .before .before .before .before .before .place .ensures) (c .before .before .before .before .before .before .before .before .before .before .before .before .before .before .before .if2 .taken) (buys-again (start .pre) (start .args .account) (start .args .contract) (start .args .lots) (start .args .buy) (start .args .sell) (sym (c .before .before .before .before .before .before .before .before .before .before .before .before .before .before .before .before .before .before .before .before .before .before .before .before .before .before .before .before .before .before .before .before .before .before .before .before .before .before .before .before .before .before .before .early-code .ensures) ∙ c .before .before .before .before .before .before .before .before .before .before .before .before .before .before .before .before .before .before .before .before .before .before .before .before .before .before .before .before .before .before .before .before .before .before .before .before .before .before .before .before .before .before .if1 .left) (c .before .before .before .before .before .before .before .before .before .before .before .before .before .before .before .before .before .before .before .before .before .before .before .before .place .ensures) (c .before .before .before .before .before .before .before .before .before .before .before .before .before .before .before .if2 .taken) (c .before .before .before .before .before .before .before .before .before .before .before .before .before .before .before .before .before .before .before .before .before .before .before .before .before .before .before .before .before .before .before .before .before .before .before .before .before .before .before .before .before .wide .ensures) refl (c .before .before .before .before .before .before .before .before .before .before .before .before .before .before .before .before .before .before .before .before .before .before .before .before .before .before .before .before .before .before .before .before .before .before .before .before .before .keep .ensures) (c .before .before .before .before .before .before .before .before .before .before .before .before .put-back .ensures)) (sells-again (start .pre) (start .args .account) (start .args .contract) (start .args .lots) (start .args .buy) (start .args .sell) (sym (c .before .before .before .before .before .before .before .before .before .before .before .before .before .before .before .before .before .before .before .before .before .before .before .before .before .before .before .before .before .before .before .before .before .before .before .before .before .before .before .before .before .before .before .early-code .ensures) ∙ c .before .before .before .before .before .before .before .before .before .before .before .before .before .before .before .before .before .before .before .before .before .before .before .before .before .before .before .before .before .before .before .before .before .before .before .before .before .before .before .before .before .before .if1 .left) (c .before .before .before .before .before .before .before .before .before .before .before .before .before .before .before .before .before .before .before .before .before .before .before .before .place .ensures) (c .before .before .before .before .before .before .before .before .before .before .before .before .before .before .before .if2 .taken) (c .before .before .before .before .before .before .before .before .before .before .before .before .before .before .before .before .before .before .before .before .before .before .before .before .before .before .before .before .before .before .before .before .before .before .before .before .before .before .before .before .before .wide .ensures) refl (c .before .before .before .before .before .before .before .before .before .before .before .before .before .before .before .before .before .before .before .before .before .before .before .before .before .before .before .before .before .before .before .before .before .keep2 .ensures) (c .before .before .before .before .before .before .before .put-back2 .ensures)) (trades-again (start .pre) (start .args .account) (start .args .contract) (start .args .lots) (start .args .buy) (start .args .sell) (sym (c .before .before .before .before .before .before .before .before .before .before .before .before .before .before .before .before .before .before .before .before .before .before .before .before .before .before .before .before .before .before .before .before .before .before .before .before .before .before .before .before .before .before .before .early-code .ensures) ∙ c .before .before .before .before .before .before .before .before .before .before .before .before .before .before .before .before .before .before .before .before .before .before .before .before .before .before .before .before .before .before .before .before .before .before .before .before .before .before .before .before .before .before .if1 .left) (c .before .before .before .before .before .before .before .before .before .before .before .before .before .before .before .before .before .before .before .before .before .before .before .before .place .ensures) (c .before .before .before .before .before .before .before .before .before .before .before .before .before .before .before .if2 .taken) (c .before .before .before .before .before .before .before .before .before .before .before .before .before .before .before .before .before .before .before .before .before .before .before .before .before .before .before .before .before .before .before .before .before .before .before .before .before .before .before .before .first-made .ensures) refl (c .before .before .before .before .before .before .before .before .before .before .before .before .before .before .before .before .before .before .before .before .before .before .before .before .before .before .before .before .before .keep3 .ensures) (c .before .before .put-back3 .ensures))
+
+same-length-4 : tie.Need-same-length-4
+same-length-4 c = search needs
+
+same-length-5 : tie.Need-same-length-5
+same-length-5 c = search needs
+
+same-length-6 : tie.Need-same-length-6
+same-length-6 c = search needs
+
+returns-3 : tie.Need-returns-3
+returns-3 c = c .before .before .before .before .before .before .before .before .before .place .ensures .accepted (c .if2 .left)
+
+pub quote-spec : {M : Type 1} → statement M
+quote-spec =
+    tie.close
+    (tie.spec
+    early-code-requires
+    refused-requires
+    returns
+    wide-requires
+    sub-queue
+    mul-queue
+    first-made-requires
+    slice-aggregate-keep
+    keep-requires
+    slice-aggregate-keep-2
+    keep-requires-2
+    slice-aggregate-keep-3
+    keep-requires-3
+    place-requires
+    slice-aggregate-put-back
+    put-back-requires
+    slice-aggregate-put-back-2
+    put-back-requires-2
+    slice-aggregate-put-back-3
+    put-back-requires-3
+    same-length
+    same-length-2
+    same-length-3
+    returns-2
+    same-length-4
+    same-length-5
+    same-length-6
+    returns-3)

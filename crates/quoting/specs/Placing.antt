@@ -1,0 +1,81 @@
+-- A quote as the code places it: the tests on the state alone, the old quote gone, an order of it entered or refused, and what has to
+-- be put back where it is refused. Assumes nothing.
+use mathlib.Core.Bool.{Bool, true, false, not}
+use mathlib.Core.List.{List, [], _∷_}
+use mathlib.Core.Path.{_≡_}
+use Prim.Native.Nat.{ℕ, _+_, _-_, _*_}
+use lib.Dec.{eqb, leb, ltb}
+use lib.ListN.{length, getD, take, drop}
+use Rattle.areas.specs.Lists.{over}
+use Rattle.laws.specs.Choice.{pick}
+use Rattle.rules.specs.Answers.{Refusal, _when_, firstOf, listingOf, orderRefusals}
+use Rattle.rules.specs.Bounds.{continuous, maxResting, maxTrades}
+use Rattle.rules.specs.Exchange.{accountAt, listingAt, noAccount, noContract, own, placeOf}
+use Rattle.rules.specs.Kinds.{refused}
+use Rattle.rules.specs.Memory.{Memory, Responded, exchangeOf, inMemory, memory, put, queueStride, stepIn, tradeStride}
+use Rattle.rules.specs.Step.{listingWithout, withListing}
+use Rattle.rules.specs.WellFormed.{isQuoteOf, quotes}
+use Rattle.rules.specs.declared.Command.the-variants.{Quote}
+use Rattle.rules.specs.declared.NewOrder.{NewOrder}
+use Rattle.rules.specs.declared.PriceCondition.the-variants.{Limit}
+use Rattle.rules.specs.declared.State.{State}
+use Rattle.rules.specs.declared.TimeCondition.the-variants.{GoodForDay}
+use Rattle.engine.specs.Outcome.{OutcomeIs, isAbsent}
+use Rattle.engine.specs.declared.answers.Outcome.{Outcome}
+use Rattle.refusals.specs.Insertion.{Present}
+use Rattle.insertion.specs.Arrival.{enteredIn}
+
+-- 2, 3, 4, 23, 24: what a quote is refused for before its orders are looked at
+abbrev pub earlyRefusals : State → ℕ → ℕ → ℕ → ℕ → List Refusal
+earlyRefusals s account contract buy sell =
+    (2 when isAbsent account (s .accountcount))
+    ∷ (3 when isAbsent contract (s .contractcount))
+    ∷ (4 when not (eqb (getD (s .contracts) (placeOf contract) noContract .phase) continuous))
+    ∷ (23 when not (eqb (getD (s .accounts) (placeOf account) noAccount .maker) 1))
+    ∷ (24 when not (ltb buy sell))
+    ∷ []
+
+-- one of its two orders
+abbrev pub halfFor : ℕ → ℕ → ℕ → ℕ → Bool → NewOrder
+halfFor account contract lots price sell =
+    record { account = account; contract = contract; sell = sell; close = false; lots = lots; price = price; condition = Limit price; time = GoodForDay }
+
+-- the account's old quote taken out of the contract's queues
+abbrev pub goneIn : Memory → ℕ → ℕ → Memory
+goneIn m account contract =
+    put m (withListing (exchangeOf m) (placeOf contract) (listingWithout (isQuoteOf (placeOf account)) (listingAt (exchangeOf m) (placeOf contract))))
+
+-- ---- an order of a quote, on the state that the step before it leaves
+
+-- a maker's open, with no marked order of its account on its side
+pub record Markable (s : State) (buys sells trades : List ℕ) (o : NewOrder) : Type 0 where
+  pub present : Present s o
+  pub opens : o .close ≡ false
+  pub maker : accountAt (exchangeOf (memory s buys sells trades) .accounts) (placeOf (o .account)) .maker ≡ 1
+  pub single : quotes (placeOf (o .account)) (own (o .sell) (listingOf (exchangeOf (memory s buys sells trades)) o)) ≡ 0
+
+-- refused with its code from 5 on, or entered with the next number, marked
+abbrev pub markedIn : Memory → NewOrder → Responded
+markedIn m o =
+    pick (eqb (firstOf (orderRefusals (exchangeOf m) o)) 0)
+    (enteredIn m o (m .state .next) 1 (m .state .next + 1))
+    (inMemory m (refused (firstOf (orderRefusals (exchangeOf m) o))))
+
+-- ---- both orders
+
+-- an area that is as it was once n words of it from a place on are put back
+pub record Undoable (at n : ℕ) (before after : List ℕ) : Type 0 where
+  pub long : length after ≡ length before
+  pub back : over after at (take n (drop at before)) ≡ before
+
+-- where the trades begin that the buy can make, and those before the end of the day's room
+abbrev pub madeFrom : ℕ → ℕ
+madeFrom recorded = tradeStride * pick (leb recorded (maxTrades - maxResting)) recorded (maxTrades - maxResting)
+
+-- accepted as the rules say; or refused with the rules' code, and each area can be put back
+pub record PlacedIs (s : State) (buys sells trades : List ℕ) (account contract lots buy sell : ℕ) (r : Outcome) (buys′ sells′ trades′ : List ℕ) : Type 0 where
+  pub accepted : r .answer .code ≡ 0 → OutcomeIs (stepIn (memory s buys sells trades) (Quote account contract lots buy sell)) r buys′ sells′ trades′
+  pub refused : (r .answer .code ≡ 0 → ⊥) → OutcomeIs (stepIn (memory s buys sells trades) (Quote account contract lots buy sell)) r buys sells trades
+  pub buys-back : (r .answer .code ≡ 0 → ⊥) → Undoable (queueStride * placeOf contract) queueStride buys buys′
+  pub sells-back : (r .answer .code ≡ 0 → ⊥) → Undoable (queueStride * placeOf contract) queueStride sells sells′
+  pub trades-back : (r .answer .code ≡ 0 → ⊥) → Undoable (madeFrom (s .tradecount)) (tradeStride * maxResting) trades trades′
