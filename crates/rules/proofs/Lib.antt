@@ -1,4 +1,5 @@
 pub mod Codecs
+pub mod PutByPlace
 pub mod Sweep
 pub mod Queue
 pub mod Sorted
