@@ -13,7 +13,7 @@ use lib.Seq.{getD-drop, getD-append-add}
 use Rattle.laws.specs.Choice.{pick}
 use Rattle.rules.specs.Bounds.{maxResting}
 use Rattle.rules.specs.Exchange.{Exchange, Listing, listingAt, accountAt, holdingAt, own, noAccount, noContract, noHolding, noListing, noOrder, noTrade}
-use Rattle.rules.specs.Kinds.{decide, lastOf, step}
+use Rattle.rules.specs.Kinds.{decide, kindOf, lastOf, step}
 use Rattle.rules.specs.Memory.{Memory, Declared, exchangeOf, firstWord, listingIn, orderStride, put, putAccount, putAccounts, putFirst, putQueues, putState, queueStride, respond, stepIn, tradeStride, tradeWords, wellFormedMemory, wordOf, written}
 use Rattle.rules.specs.declared.Account.{Account}
 use Rattle.rules.specs.declared.Command.{Command}
@@ -349,5 +349,6 @@ step-told m w d c =
     let k = memory-ok m w in
     rw w
     (decided (λ e. Told m (exchangeOf m ∷ e .stages) (lastOf (exchangeOf m) (e .stages)) (written m (e .stages))) (exchangeOf m) c
-    (λ e. stages-told m (k .counts) (k .room) d _ (both-each (exchangeOf m) _ (kind-shape (exchangeOf m) c) (kind-counted (exchangeOf m) c (sound m w) e)))
+    (λ e. stages-told m (k .counts) (k .room) d (kindOf (exchangeOf m) c .effect .stages)
+    (both-each (exchangeOf m) (kindOf (exchangeOf m) c .effect .stages) (kind-shape (exchangeOf m) c) (kind-counted (exchangeOf m) c (sound m w) e)))
     (λ e. stages-told m (k .counts) (k .room) d [] tt))
