@@ -10,6 +10,7 @@ pub mod Holdings
 pub mod Rest
 pub mod InUse
 pub mod Terms
+pub mod LotsIncluded
 pub mod Stages
 pub mod EachKind
 pub mod AuctionTurns
