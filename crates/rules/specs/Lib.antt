@@ -11,6 +11,7 @@ pub mod EarlyStop
 pub mod Places
 pub mod Margin
 pub mod Settlement
+pub mod Article32
 pub mod Auction
 pub mod Answers
 pub mod Step

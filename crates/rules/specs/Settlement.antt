@@ -47,7 +47,7 @@ unfoldable pub settlementPrice : Exchange → ℕ → ℕ
 settlementPrice x c =
     priceFrom (listingAt x c .contract .tick) (listingAt x c .contract .reference) (tradesIn c (x .trades)) (listingAt x c .buys) (listingAt x c .sells)
 
--- ---- profit: Article 32
+-- ---- profit: Article 32. Its four sums, as the article writes them, stand in Article32.antt.
 
 -- a trade as one of its two accounts sees it
 pub data Leg : Type 0 where
