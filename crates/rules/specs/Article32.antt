@@ -9,7 +9,7 @@ use lib.IntN.{ℤ, pos, _+ℤ_, _-ℤ_, _*ℤ_}
 use lib.ListN.{length}
 use Rattle.laws.specs.Choice.{pick}
 use Rattle.laws.specs.Sums.{sumOf, sumTo}
-use Rattle.rules.specs.Exchange.{Exchange, listingAt, holdingAt}
+use Rattle.rules.specs.Exchange.{Exchange, contractAt, heldAt}
 use Rattle.rules.specs.Settlement.{Batch, Leg, leg, legs, settlementPrice, closingProfit, holdingProfit}
 
 -- ---- what the sums read: one account's day in one contract
@@ -47,7 +47,7 @@ figures previous price long short ls =
 
 unfoldable pub figuresOf : Exchange → ℕ → ℕ → Figures
 figuresOf x a c =
-    figures (listingAt x c .contract .reference) (settlementPrice x c) (holdingAt (x .accounts) a c .startlong) (holdingAt (x .accounts) a c .startshort)
+    figures (contractAt x c .reference) (settlementPrice x c) (heldAt x a c .startlong) (heldAt x a c .startshort)
     (legs a c (x .trades))
 
 -- ---- which lots a close takes: "Closes use start-of-day lots first, then today's in trade order (house)."
@@ -101,7 +101,7 @@ heldToday f =
 -- ---- "times multiplier", over all contracts
 
 abbrev pub inAll : (Figures → ℤ) → Exchange → ℕ → ℤ
-inAll part x a = sumTo (length (x .listings)) (λ c. pos (listingAt x c .contract .multiplier) *ℤ part (figuresOf x a c))
+inAll part x a = sumTo (length (x .listings)) (λ c. pos (contractAt x c .multiplier) *ℤ part (figuresOf x a c))
 
 -- "Profit follows Article 32: closing and holding parts"
 pub record ByArticle32 (x : Exchange) (a : ℕ) : Type 0 where

@@ -8,7 +8,7 @@ use lib.ListN.{length, drop}
 use Rattle.laws.specs.Choice.{pick}
 use Rattle.rules.specs.Command.{isSettle}
 use Rattle.rules.specs.DayFile.{sound, opening, commandsOf}
-use Rattle.rules.specs.Exchange.{Exchange, accountAt}
+use Rattle.rules.specs.Exchange.{Exchange, holderAt}
 use Rattle.rules.specs.Kinds.{codeOf, decide, step}
 use Rattle.rules.specs.Margin.{charged}
 use Rattle.rules.specs.Settlement.{settlementPrice, closingProfit, holdingProfit}
@@ -94,7 +94,7 @@ unfoldable pub accountLines : Exchange → Exchange → ℕ → List ℕ
 accountLines x after zero = []
 accountLines x after (suc a) =
     accountLines x after a
-    ++ line letterB (decimal (a + 1) ∷ signed (closingProfit x a) ∷ signed (holdingProfit x a) ∷ signed (accountAt (after .accounts) a .balance) ∷ decimal (charged after a) ∷ [])
+    ++ line letterB (decimal (a + 1) ∷ signed (closingProfit x a) ∷ signed (holdingProfit x a) ∷ signed (holderAt after a .balance) ∷ decimal (charged after a) ∷ [])
 
 -- "After an accepted settlement come all P, then all B, by number."
 unfoldable pub settlementLines : Exchange → Command → List ℕ

@@ -10,7 +10,7 @@ use lib.ListN.{length}
 use Rattle.laws.specs.Choice.{pick, all, allOf}
 use Rattle.laws.specs.Sums.{sumOf}
 use Rattle.rules.specs.Bounds.{within, inAuction, termsInRange, tickMultiple, allowedToday, maxPhase, numbersEnd, maxLots, maxSettlements, maxBalance, maxDayProfit}
-use Rattle.rules.specs.Exchange.{Exchange, Listing, listingAt, accountAt, holdingAt, worse, restingOpens, restingCloses}
+use Rattle.rules.specs.Exchange.{Exchange, Listing, listingAt, accountAt, contractAt, heldAt, worse, restingOpens, restingCloses}
 use Rattle.rules.specs.Holdings.{bookTrades, neverBelowZero, startOfDay, sameHoldings}
 use Rattle.rules.specs.declared.Account.{Account}
 use Rattle.rules.specs.declared.Contract.{Contract}
@@ -146,7 +146,7 @@ tradeInRange x t =
     && ltb (t .buyorder) (x .next)
     && leb 1 (t .sellorder)
     && ltb (t .sellorder) (x .next)
-    && allowedToday (listingAt x (t .contract) .contract) (t .price)
+    && allowedToday (contractAt x (t .contract)) (t .price)
     && within 1 maxLots (t .lots)
     && leb (t .buyclose) 1
     && leb (t .sellclose) 1
@@ -171,7 +171,7 @@ holdingInRange l a h =
     && leb (restingCloses a (l .buys)) (h .short)
 
 unfoldable pub holdingsInRange : Exchange → ℕ → Bool
-holdingsInRange x a = all (λ c. holdingInRange (listingAt x c) a (holdingAt (x .accounts) a c)) (length (x .listings))
+holdingsInRange x a = all (λ c. holdingInRange (listingAt x c) a (heldAt x a c)) (length (x .listings))
 
 -- ---- 7. "each balance is within 10^18 plus settlements so far times 3 x 10^15, either sign"
 
