@@ -8,5 +8,6 @@ pub mod Rooms
 pub mod SortedQueues
 pub mod TestedTrades
 pub mod UsedAccounts
+pub mod Walked
 pub mod Walks
 pub mod Whole

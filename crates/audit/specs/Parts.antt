@@ -1,6 +1,6 @@
 -- The parts of a state in memory that a single test of the audit is about, so that its promise can cite the rule it tests.
 -- Assumes nothing.
-use mathlib.Core.Bool.{true}
+use mathlib.Core.Bool.{Bool, true, _&&_}
 use mathlib.Core.List.{List, []}
 use mathlib.Core.Path.{_≡_}
 use Prim.Native.Nat.{ℕ, _*_, _<_, _≤_}
@@ -8,6 +8,7 @@ use lib.ListN.{length, getD, replicate}
 use Rattle.laws.specs.Tabulate.{tabulate}
 use Rattle.rules.specs.Exchange.{Exchange, Listing, noAccount, noContract}
 use Rattle.rules.specs.Memory.{countsInRange, listingIn, memory, queueStride}
+use Rattle.rules.specs.WellFormed.{contractInRange, queuesSorted, ordersInRange}
 use Rattle.rules.specs.declared.Account.{Account}
 use Rattle.rules.specs.declared.Contract.{Contract}
 use Rattle.rules.specs.declared.Order.{Order}
@@ -17,6 +18,11 @@ use Rattle.rules.specs.declared.Trade.{Trade}
 -- a contract in use with its queues: the trade area plays no part
 abbrev pub listing : State → List ℕ → List ℕ → ℕ → Listing
 listing state buys sells c = listingIn (memory state buys sells []) c
+
+-- what the rules say of the terms, the queues and the orders of all contracts, said of one contract: the audit walks over each
+-- contract once
+unfoldable pub listingInRange : ℕ → ℕ → ℕ → Listing → Bool
+listingInRange accounts next nextstamp l = contractInRange (l .contract) && queuesSorted l && ordersInRange accounts next nextstamp l
 
 -- counts within their ranges, and room for the queues of the contracts in use: what reading a queue asks for
 pub record Ready (s : State) (buys sells : List ℕ) : Type 0 where

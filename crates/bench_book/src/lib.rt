@@ -7,7 +7,7 @@ ghost use Rattle.areas.specs.Lists.{removeAt};
 ghost use Rattle.rules.specs.Command.{priceCondition};
 ghost use Rattle.rules.specs.Matching.{restIn};
 ghost use Rattle.rules.specs.Memory.{queueIn, putQueue, orderStride, firstWord};
-ghost use Rattle.rules.specs.Places.{indexOf};
+ghost use Rattle.book.specs.Places.{indexOf};
 ghost use Rattle.bench_book.specs.Calls.{orderOf, takerOf, accountsOf, SweepsReady, SweptIs};
 use book::queue;
 use book::removal;

@@ -10,7 +10,7 @@ ghost use Rattle.rules.specs.Change.{unmarked};
 ghost use Rattle.rules.specs.Exchange as exchange;
 ghost use Rattle.rules.specs.Matching as matching;
 ghost use Rattle.rules.specs.Memory.{queueIn, putQueue, orderFrom, orderWords, orderStride, firstWord, wordOf};
-ghost use Rattle.rules.specs.Places.{placeIn};
+ghost use Rattle.book.specs.Places.{placeIn};
 use rules::Order;
 
 // The order at a place.

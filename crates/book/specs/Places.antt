@@ -1,12 +1,12 @@
 -- Where in a queue a new order goes, and where an order with a given number stands: what the engine looks for before it moves
--- orders. The laws are in proofs/Queue.antt. Assumes nothing.
+-- orders. The laws are in proofs/Places.antt. Assumes nothing.
 use mathlib.Core.Bool.{Bool}
 use mathlib.Core.List.{List, [], _∷_}
 use Prim.Native.Nat.{ℕ, suc}
 use lib.Dec.{eqb}
 use Rattle.laws.specs.Choice.{pick}
 use Rattle.rules.specs.Exchange.{worse}
 use Rattle.rules.specs.declared.Order.{Order}
 
 -- the place of the first order that satisfies a test, or past the last
 unfoldable pub firstWhere : (Order → Bool) → List Order → ℕ
@@ -20,8 +20,3 @@ placeIn sell price queue = firstWhere (λ o. worse sell (o .price) price) queue
 -- the place of an order by its number
 abbrev pub indexOf : ℕ → List Order → ℕ
 indexOf number queue = firstWhere (λ o. eqb (o .number) number) queue
-
--- a queue without the first order that satisfies a test
-unfoldable pub withoutFirst : (Order → Bool) → List Order → List Order
-withoutFirst test [] = []
-withoutFirst test (o ∷ os) = pick (test o) os (o ∷ withoutFirst test os)

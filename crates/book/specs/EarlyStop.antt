@@ -1,13 +1,13 @@
 -- Reading up to the first non-counterpart: what a reader of a queue finds who stops there. On a sorted queue it is what the
--- rules say of the whole queue; the laws are in proofs/Fillable.antt. Assumes nothing.
+-- rules say of the whole queue; the laws are in proofs/EarlyStop.antt. Assumes nothing.
 use mathlib.Core.Bool.{_&&_}
 use mathlib.Core.List.{List, [], _∷_}
 use Prim.Native.Nat.{ℕ, _+_, _-_}
 use lib.Dec.{ltb}
 use Rattle.laws.specs.Choice.{pick}
 use Rattle.rules.specs.Matching.{counterpart}
 use Rattle.rules.specs.declared.Order.{Order}
 use Rattle.rules.specs.declared.Taker.{Taker}
 
 -- the counterparts' lots, added up as far as the first order that is no counterpart
 unfoldable pub fillableFront : Taker → List Order → ℕ
