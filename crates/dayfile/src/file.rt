@@ -10,8 +10,8 @@ ghost use Rattle.rules.specs.DayFile.{sound as DayFile·sound};
 ghost use Rattle.dayfile.specs.Opening.{shaped};
 use super::bytes::balance_at;
 use super::bytes::contract_at;
-use super::bytes::record_at;
-use super::bytes::u32_at;
+use endian::reading::record_at;
+use endian::reading::u32_at;
 use rules::Record;
 
 // Each count stands behind the section before it. For the crates of this repository: each requires the counts before it, and

@@ -6,22 +6,21 @@ use Prim.Native.Nat.{ℕ, zero, suc, _+_, _-_, _*_, _%_, _≤_, _<_}
 use native.Mathlib.Omega.{arith}
 use lib.Dec.{leb, ltb, eqb}
 use lib.ListN.{length, getD, take, drop, List·getD-append}
-use lib.Seq.{drop-drop, take-add, getD-take, getD-drop, getD-append-add}
+use lib.Seq.{drop-drop, take-add, getD-take, getD-drop, getD-append-add, take-at, take-all, drop-append-add, drop-append-seam, length-take-le}
 use borrow.Author.Tests.{eq-eqb, le-leb, lt-leb, ltb-true, ltb-false}
 use native.Mathlib.Nat.{zero-add}
-use lib.Seq.{take-at, take-all, drop-append-add, drop-append-seam, length-take-le}
-use Rattle.laws.specs.Choice.{all, all-ext, both-true}
+use Rattle.laws.specs.Choice.{all, all-ext, both-true, pick}
 use Rattle.dayfile.proofs.Places.{contract-place, account-place, command-place, accounts-read, commands-read, sound-is as DayFile·sound-is, length-decides as DayFile·length-decides}
 use Rattle.dayfile.specs.Opening.{shaped}
 use Rattle.rules.specs.DayFile.{sound as DayFile·sound}
 use Rattle.mending.proofs.Heads.{head, length-decides, sound-is, sound-head}
 use Rattle.mending.proofs.Records.{length-kept}
 use Rattle.mending.proofs.Whole.{kept-limit, length-mended, place-least, place-within, whole-within}
-use Rattle.mending.proofs.Writing.{length-four}
-use Rattle.laws.specs.Choice.{pick}
+use Rattle.endian.proofs.Writes.{length-four}
 use Rattle.rules.specs.Command.{commandOf, isMalformed}
 use Rattle.rules.specs.DayFile.{u8At, u16At, u32At, u64At, recordFrom, contractsIn, accountsIn, commandsIn, contractPlace, accountPlace, commandPlace, contractFrom, contractSound, balanceFrom, accountSound}
-use Rattle.mending.specs.Mend.{two, four, eight, reason, kept, keptBytes, keptCount, dropped, droppedList, headWhole, headSound, listFrom, mendedFile, wholeRecords}
+use Rattle.endian.specs.Numbers.{two, four, eight}
+use Rattle.mending.specs.Mend.{reason, kept, keptBytes, keptCount, dropped, droppedList, headWhole, headSound, listFrom, mendedFile, wholeRecords}
 
 -- ---- records that are all well formed, 2,000 at most, are all kept
 

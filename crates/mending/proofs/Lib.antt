@@ -2,4 +2,3 @@ pub mod Again
 pub mod Heads
 pub mod Records
 pub mod Whole
-pub mod Writing

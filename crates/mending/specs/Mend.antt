@@ -7,22 +7,12 @@ use lib.Dec.{leb, ltb, eqb}
 use lib.ListN.{length, take, drop}
 use Rattle.laws.specs.Choice.{pick, all}
 use Rattle.areas.specs.Lists.{over}
+use Rattle.endian.specs.Numbers.{four, eight}
 use Rattle.rules.specs.Answers.{firstOf, _when_}
 use Rattle.rules.specs.Bounds.{within, maxContracts, maxAccounts}
 use Rattle.rules.specs.Command.{isMalformed}
 use Rattle.rules.specs.DayFile.{maxCommands, contractsIn, accountsIn, commandPlace, contractSound, accountSound, commandFrom}
 use Rattle.mending.specs.declared.mend.Mended.{Mended}
-
--- ---- numbers of two, four and eight bytes, the lowest byte first
-
-unfoldable pub two : ℕ → List ℕ
-two n = n % 256 ∷ n / 256 ∷ []
-
-unfoldable pub four : ℕ → List ℕ
-four n = two (n % 65_536) ++ two (n / 65_536)
-
-unfoldable pub eight : ℕ → List ℕ
-eight n = four (n % 4_294_967_296) ++ four (n / 4_294_967_296)
 
 -- ---- the head
 

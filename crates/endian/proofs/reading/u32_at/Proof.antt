@@ -1,8 +1,8 @@
--- `dayfile::bytes::u32_at` meets its contract: its two halves. Assumes nothing.
+-- `endian::reading::u32_at` meets its contract: its two halves. Assumes nothing.
 use borrow.Author.Needs.{needs}
 use Rattle.rules.specs.DayFile.{u32At}
-use Rattle.dayfile.proofs.bytes.u32_at.Statement.{statement}
-use Rattle.dayfile.proofs.bytes.u32_at.Tie as tie
+use Rattle.endian.proofs.reading.u32_at.Statement.{statement}
+use Rattle.endian.proofs.reading.u32_at.Tie as tie
 
 u16-at-requires : tie.Need-u16-at-requires
 u16-at-requires c κs = search needs

@@ -1,8 +1,8 @@
--- `dayfile::bytes::u64_at` meets its contract: its two halves. Assumes nothing.
+-- `endian::reading::u64_at` meets its contract: its two halves. Assumes nothing.
 use borrow.Author.Needs.{needs}
 use Rattle.rules.specs.DayFile.{u64At}
-use Rattle.dayfile.proofs.bytes.u64_at.Statement.{statement}
-use Rattle.dayfile.proofs.bytes.u64_at.Tie as tie
+use Rattle.endian.proofs.reading.u64_at.Statement.{statement}
+use Rattle.endian.proofs.reading.u64_at.Tie as tie
 
 u32-at-requires : tie.Need-u32-at-requires
 u32-at-requires c κs = search needs

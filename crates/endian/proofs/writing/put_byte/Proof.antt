@@ -1,8 +1,8 @@
--- `lines::number::put_byte` meets its contract. Assumes nothing.
+-- `endian::writing::put_byte` meets its contract. Assumes nothing.
 use borrow.Author.Needs.{needs}
-use Rattle.lines.proofs.Text.{one-byte}
-use Rattle.lines.proofs.number.put_byte.Statement.{statement}
-use Rattle.lines.proofs.number.put_byte.Tie as tie
+use Rattle.endian.proofs.Writes.{one-byte}
+use Rattle.endian.proofs.writing.put_byte.Statement.{statement}
+use Rattle.endian.proofs.writing.put_byte.Tie as tie
 
 slice-write-out : tie.Need-slice-write-out
 slice-write-out c = search needs

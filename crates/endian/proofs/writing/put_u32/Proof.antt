@@ -1,11 +1,11 @@
--- `bytes::put_u32` meets its contract: the low half, then the high half. Assumes nothing.
-use Rattle.mending.proofs.Writing.{four-bytes}
+-- `endian::writing::put_u32` meets its contract: the low half, then the high half. Assumes nothing.
+use Rattle.endian.proofs.Writes.{four-bytes}
 use borrow.Author.Needs.{needs}
-use Rattle.mending.proofs.bytes.put_u32.Statement.{statement}
-use Rattle.mending.proofs.bytes.put_u32.Tie as tie
-use Rattle.mending.proofs.bytes.put_u32.Reads as reads
-use Rattle.mending.proofs.bytes.put_u32.Lts as lts
-use Rattle.mending.proofs.bytes.put_u16.Reads as put-u16-reads
+use Rattle.endian.proofs.writing.put_u32.Statement.{statement}
+use Rattle.endian.proofs.writing.put_u32.Tie as tie
+use Rattle.endian.proofs.writing.put_u32.Reads as reads
+use Rattle.endian.proofs.writing.put_u32.Lts as lts
+use Rattle.endian.proofs.writing.put_u16.Reads as put-u16-reads
 
 cast-put-u16 : tie.Need-cast-put-u16
 cast-put-u16 c = search needs

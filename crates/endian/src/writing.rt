@@ -1,10 +1,18 @@
-// Bytes and little-endian numbers written into a lent area. Each call gives the place after what it wrote. For our own crates: each
-// requires room.
+// Bytes and little-endian numbers written into a lent area. Each call gives the place after what it wrote. For the
+// crates of this repository: each requires room.
+ghost use mathlib.Core.List.{[], _∷_};
 ghost use Prim.Native.Nat.{_+_, _≤_};
 ghost use lib.ListN.{length, take, drop};
-ghost use Rattle.lines.specs.Written.{Written};
-ghost use Rattle.mending.specs.Mend.{two, four, eight};
-use lines::number::put_byte;
+ghost use Rattle.endian.specs.Numbers.{two, four, eight};
+ghost use Rattle.endian.specs.Written.{Written};
+
+pub fn put_byte(out: &mut [u8], at: usize, byte: u8) -> usize
+    requires { ⌜ at + 1 ≤ length (now out) ⌝ }
+    ensures { λ r. ⌜ Written 1 (now (out .entry)) at (byte ∷ []) (now (out .exit)) r ⌝ }
+{
+    out[at] = byte;
+    at + 1
+}
 
 pub fn put_u16(out: &mut [u8], at: usize, n: u16) -> usize
     requires { ⌜ at + 2 ≤ length (now out) ⌝ }

@@ -1,8 +1,8 @@
--- `dayfile::bytes::u16_at` meets its contract: its two halves. Assumes nothing.
+-- `endian::reading::u16_at` meets its contract: its two halves. Assumes nothing.
 use borrow.Author.Needs.{needs}
 use Rattle.rules.specs.DayFile.{u16At}
-use Rattle.dayfile.proofs.bytes.u16_at.Statement.{statement}
-use Rattle.dayfile.proofs.bytes.u16_at.Tie as tie
+use Rattle.endian.proofs.reading.u16_at.Statement.{statement}
+use Rattle.endian.proofs.reading.u16_at.Tie as tie
 
 u8-at-requires : tie.Need-u8-at-requires
 u8-at-requires c κs = search needs

@@ -8,7 +8,7 @@ use native.Mathlib.Omega.{arith}
 use lib.ListN.{length, getD, take, drop}
 use lib.Seq.{drop-cons, drop-at, drop-drop, take-add, getD-drop}
 use Rattle.rules.specs.DayFile.{u8At, u16At, u32At, u64At}
-use Rattle.mending.specs.Mend.{two, four, eight}
+use Rattle.endian.specs.Numbers.{two, four, eight}
 
 -- each is a byte, as a u8 is
 pub record Bytes (xs : List ℕ) : Type 0 where

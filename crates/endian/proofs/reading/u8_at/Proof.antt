@@ -1,9 +1,9 @@
--- `dayfile::bytes::u8_at` meets its contract by the definition. Assumes nothing.
+-- `endian::reading::u8_at` meets its contract by the definition. Assumes nothing.
 use mathlib.Core.Path.{refl}
 use borrow.Author.Needs.{needs}
 use Rattle.rules.specs.DayFile.{u8At}
-use Rattle.dayfile.proofs.bytes.u8_at.Statement.{statement}
-use Rattle.dayfile.proofs.bytes.u8_at.Tie as tie
+use Rattle.endian.proofs.reading.u8_at.Statement.{statement}
+use Rattle.endian.proofs.reading.u8_at.Tie as tie
 
 shared-slice-read-result : tie.Need-shared-slice-read-result
 shared-slice-read-result c = search needs

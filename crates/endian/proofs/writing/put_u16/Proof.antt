@@ -1,11 +1,11 @@
--- `bytes::put_u16` meets its contract: the low half, then the high half. Assumes nothing.
-use Rattle.mending.proofs.Writing.{two-bytes}
+-- `endian::writing::put_u16` meets its contract: the low half, then the high half. Assumes nothing.
+use Rattle.endian.proofs.Writes.{two-bytes}
 use borrow.Author.Needs.{needs}
-use Rattle.mending.proofs.bytes.put_u16.Statement.{statement}
-use Rattle.mending.proofs.bytes.put_u16.Tie as tie
-use Rattle.mending.proofs.bytes.put_u16.Reads as reads
-use Rattle.mending.proofs.bytes.put_u16.Lts as lts
-use Rattle.lines.proofs.number.put_byte.Reads as put-byte-reads
+use Rattle.endian.proofs.writing.put_u16.Statement.{statement}
+use Rattle.endian.proofs.writing.put_u16.Tie as tie
+use Rattle.endian.proofs.writing.put_u16.Reads as reads
+use Rattle.endian.proofs.writing.put_u16.Lts as lts
+use Rattle.endian.proofs.writing.put_byte.Reads as put-byte-reads
 
 cast-put-byte : tie.Need-cast-put-byte
 cast-put-byte c = search needs

@@ -1,16 +1,15 @@
--- `bytes::put_part` meets its contract: the first i bytes are written. Assumes nothing.
+-- `endian::writing::put_part` meets its contract: the first i bytes are written. Assumes nothing.
 use mathlib.Core.Path.{_≡_}
 use Prim.Native.Nat.{_-_, _≤_}
 use native.Mathlib.Omega.{arith}
 use lib.ListN.{take, drop}
-use Rattle.lines.specs.Written.{Written}
-use Rattle.lines.proofs.Text.{no-byte}
-use Rattle.mending.proofs.Writing.{length-part, part-turn}
-use Rattle.mending.proofs.bytes.put_part.Statement.{statement}
-use Rattle.mending.proofs.bytes.put_part.Tie as tie
-use Rattle.mending.proofs.bytes.put_part.Reads as reads
-use Rattle.mending.proofs.bytes.put_part.Lts as lts
-use Rattle.lines.proofs.number.put_byte.Reads as put-byte-reads
+use Rattle.endian.specs.Written.{Written}
+use Rattle.endian.proofs.Writes.{no-byte, length-part, part-turn}
+use Rattle.endian.proofs.writing.put_part.Statement.{statement}
+use Rattle.endian.proofs.writing.put_part.Tie as tie
+use Rattle.endian.proofs.writing.put_part.Reads as reads
+use Rattle.endian.proofs.writing.put_part.Lts as lts
+use Rattle.endian.proofs.writing.put_byte.Reads as put-byte-reads
 
 abbrev Inv-loop : tie.InvT-loop
 Inv-loop out₀ at file from n next₀ i₀ out next i = (i ≤ n) × Written i out₀ at (take i (drop from file)) out next

@@ -1,8 +1,8 @@
--- `dayfile::bytes::record_at` meets its contract, field by field. Assumes nothing.
+-- `endian::reading::record_at` meets its contract, field by field. Assumes nothing.
 use borrow.Author.Needs.{needs}
 use Rattle.rules.specs.DayFile.{recordFrom}
-use Rattle.dayfile.proofs.bytes.record_at.Statement.{statement}
-use Rattle.dayfile.proofs.bytes.record_at.Tie as tie
+use Rattle.endian.proofs.reading.record_at.Statement.{statement}
+use Rattle.endian.proofs.reading.record_at.Tie as tie
 
 u8-at-requires : tie.Need-u8-at-requires
 u8-at-requires c κs = search needs
