@@ -16,10 +16,10 @@ use Rattle.endian.proofs.Writes.{then, length-four, length-eight}
 use Rattle.rules.specs.Answers.{firstOf}
 use Rattle.rules.specs.Command.{commandOf, isMalformed}
 use Rattle.rules.specs.DayFile.{commandPlace, recordFrom}
-use Rattle.dayfile.proofs.Places.{command-place}
+use Rattle.dayfile.proofs.Places.{command-place, sound-head}
 use Rattle.endian.specs.Numbers.{four, eight}
-use Rattle.mending.specs.Mend.{MendIs, entry, headSound, reason, kept, keptBytes, keptCount, dropped, droppedCount, droppedList, listFrom, mendCode, mendedFile, partialRecord, wholeRecords}
-use Rattle.mending.proofs.Heads.{sound-head}
+use Rattle.dayfile.specs.FileHead.{headSound}
+use Rattle.mending.specs.Mend.{MendIs, entry, reason, kept, keptBytes, keptCount, dropped, droppedCount, droppedList, listFrom, mendCode, mendedFile, partialRecord, wholeRecords}
 use Rattle.mending.proofs.Records.{length-kept, length-dropped, length-entry}
 
 pub whole-within : (file : List ℕ) (first : ℕ) → first ≤ length file → first + 24 * wholeRecords file first ≤ length file

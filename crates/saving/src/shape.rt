@@ -7,7 +7,7 @@ ghost use Rattle.laws.specs.Choice.{all};
 ghost use Rattle.rules.specs.DayFile.{contractsIn};
 ghost use Rattle.saved.specs.Saved as saved;
 ghost use Rattle.saving.specs.Parts.{Laid};
-use dayfile::file::contract_count;
+use dayfile::head::contract_count;
 use endian::reading::u8_at;
 use endian::reading::u32_at;
 

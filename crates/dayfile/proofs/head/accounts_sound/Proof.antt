@@ -1,4 +1,4 @@
--- `dayfile::file::accounts_sound` meets its contract. The accounts below a are sound; the measure is what is left. Assumes
+-- `dayfile::head::accounts_sound` meets its contract. The accounts below a are sound; the measure is what is left. Assumes
 -- nothing.
 use mathlib.Core.Bool.{true}
 use mathlib.Core.Path.{_≡_, sym, _∙_}
@@ -7,8 +7,8 @@ use native.Mathlib.Omega.{arith}
 use Rattle.laws.specs.Choice.{all, all-none, all-more, all-stop}
 use Rattle.rules.specs.DayFile.{accountSound}
 use Rattle.dayfile.proofs.Places.{balance-read, account-passes, account-fails}
-use Rattle.dayfile.proofs.file.accounts_sound.Statement.{statement}
-use Rattle.dayfile.proofs.file.accounts_sound.Tie as tie
+use Rattle.dayfile.proofs.head.accounts_sound.Statement.{statement}
+use Rattle.dayfile.proofs.head.accounts_sound.Tie as tie
 
 abbrev Inv-loop : tie.InvT-loop
 Inv-loop file start accounts a₀ a = (a ≤ accounts) × (all (accountSound file) a ≡ true)

@@ -1,15 +1,14 @@
--- `head::head_sound` meets its contract: the counts, then the contracts, then the accounts. Assumes nothing.
+-- `dayfile::head::head_sound` meets its contract: the counts, then the contracts, then the accounts. Assumes nothing.
 use mathlib.Core.Bool.{true}
 use mathlib.Core.Path.{_≡_, sym, _∙_}
 use native.Mathlib.Omega.{arith}
 use borrow.Author.Tests.{not-true, not-false}
 use borrow.Author.Needs.{needs}
 use Rattle.rules.specs.DayFile.{contractPlace}
-use Rattle.dayfile.proofs.Places.{account-place}
-use Rattle.mending.specs.Mend.{headWhole}
-use Rattle.mending.proofs.Heads.{Head, head, sound-is}
-use Rattle.mending.proofs.head.head_sound.Statement.{statement}
-use Rattle.mending.proofs.head.head_sound.Tie as tie
+use Rattle.dayfile.proofs.Places.{account-place, Head, head, head-is}
+use Rattle.dayfile.specs.FileHead.{headWhole}
+use Rattle.dayfile.proofs.head.head_sound.Statement.{statement}
+use Rattle.dayfile.proofs.head.head_sound.Tie as tie
 
 head-whole-requires : tie.Need-head-whole-requires
 head-whole-requires c κs = search needs
@@ -17,7 +16,7 @@ head-whole-requires c κs = search needs
 returns : tie.Need-returns
 returns c =
     let t = c .before .head-whole in
-    rw (sound-is (c .before .before .before .args .file .now), ← t .ensures, not-true (t .result) (c .if1 .taken))
+    rw (head-is (c .before .before .before .args .file .now), ← t .ensures, not-true (t .result) (c .if1 .taken))
 
 is-whole : (c : tie.Else1) → headWhole (c .before .before .before .args .file .now) ≡ true
 is-whole c = sym (c .before .head-whole .ensures) ∙ not-false (c .before .head-whole .result) (c .if1 .left)
@@ -37,7 +36,7 @@ returns-2 c =
     let b = c .before .before in
     let t = c .before .contracts-sound in
     rw (
-      sound-is (b .before .before .before .before .args .file .now),
+      head-is (b .before .before .before .before .args .file .now),
       is-whole (b .before),
       ← b .contract-count .ensures,
       ← t .ensures,
@@ -64,7 +63,7 @@ returns-3 c =
     let b = c .before .before .before in
     let d = b .before .before in
     rw (
-      sound-is (d .before .before .before .args .file .now),
+      head-is (d .before .before .before .args .file .now),
       is-whole d,
       ← b .before .contract-count .ensures,
       ← b .contracts-sound .ensures,

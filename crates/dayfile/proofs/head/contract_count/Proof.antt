@@ -1,9 +1,9 @@
--- `dayfile::file::contract_count` meets its contract. Assumes nothing.
+-- `dayfile::head::contract_count` meets its contract. Assumes nothing.
 use mathlib.Core.Path.{sym, _∙_}
 use borrow.Author.Needs.{needs}
 use Rattle.dayfile.proofs.Places.{contracts-read}
-use Rattle.dayfile.proofs.file.contract_count.Statement.{statement}
-use Rattle.dayfile.proofs.file.contract_count.Tie as tie
+use Rattle.dayfile.proofs.head.contract_count.Statement.{statement}
+use Rattle.dayfile.proofs.head.contract_count.Tie as tie
 
 u32-at-requires : tie.Need-u32-at-requires
 u32-at-requires c κs = search needs

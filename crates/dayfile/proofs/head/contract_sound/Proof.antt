@@ -1,9 +1,9 @@
--- `dayfile::file::contract_sound` meets its contract: the terms of the contract that the file has there. Assumes nothing.
+-- `dayfile::head::contract_sound` meets its contract: the terms of the contract that the file has there. Assumes nothing.
 use native.Mathlib.Omega.{arith}
 use borrow.Author.Needs.{needs}
 use Rattle.rules.specs.DayFile.{contractPlace, contractSound}
-use Rattle.dayfile.proofs.file.contract_sound.Statement.{statement}
-use Rattle.dayfile.proofs.file.contract_sound.Tie as tie
+use Rattle.dayfile.proofs.head.contract_sound.Statement.{statement}
+use Rattle.dayfile.proofs.head.contract_sound.Tie as tie
 
 mul-contract-at : tie.Need-mul-contract-at
 mul-contract-at c = search needs

@@ -1,14 +1,14 @@
--- `head::head_whole` meets its contract: each refusal contradicts the layout of a whole head. Assumes nothing.
+-- `dayfile::head::head_whole` meets its contract: each refusal contradicts the layout of a whole head. Assumes nothing.
 use mathlib.Core.Path.{sym}
 use native.Mathlib.Omega.{arith}
-use Rattle.mending.proofs.Heads.{refused, length-decides}
+use Rattle.dayfile.proofs.Places.{refused, length-decides}
 use borrow.Author.Needs.{needs}
-use Rattle.mending.proofs.head.head_whole.Statement.{statement}
-use Rattle.mending.proofs.head.head_whole.Tie as tie
-use Rattle.mending.proofs.head.head_whole.Reads as reads
-use Rattle.mending.proofs.head.head_whole.Lts as lts
-use Rattle.dayfile.proofs.file.account_count.Reads as account-count-reads
-use Rattle.dayfile.proofs.file.contract_count.Reads as contract-count-reads
+use Rattle.dayfile.proofs.head.head_whole.Statement.{statement}
+use Rattle.dayfile.proofs.head.head_whole.Tie as tie
+use Rattle.dayfile.proofs.head.head_whole.Reads as reads
+use Rattle.dayfile.proofs.head.head_whole.Lts as lts
+use Rattle.dayfile.proofs.head.account_count.Reads as account-count-reads
+use Rattle.dayfile.proofs.head.contract_count.Reads as contract-count-reads
 
 returns : tie.Need-returns
 returns c = sym (refused _ (λ l. omega arith))

@@ -1,4 +1,4 @@
--- `dayfile::file::contracts_sound` meets its contract. The contracts below c are sound; the measure is what is left. Assumes
+-- `dayfile::head::contracts_sound` meets its contract. The contracts below c are sound; the measure is what is left. Assumes
 -- nothing.
 use mathlib.Core.Bool.{true}
 use mathlib.Core.Path.{_≡_, sym, _∙_}
@@ -7,8 +7,8 @@ use native.Mathlib.Omega.{arith}
 use borrow.Author.Tests.{not-true, not-false}
 use Rattle.laws.specs.Choice.{all, all-none, all-more, all-stop}
 use Rattle.rules.specs.DayFile.{contractPlace, contractSound}
-use Rattle.dayfile.proofs.file.contracts_sound.Statement.{statement}
-use Rattle.dayfile.proofs.file.contracts_sound.Tie as tie
+use Rattle.dayfile.proofs.head.contracts_sound.Statement.{statement}
+use Rattle.dayfile.proofs.head.contracts_sound.Tie as tie
 
 abbrev Inv-loop : tie.InvT-loop
 Inv-loop file contracts c₀ c = (c ≤ contracts) × (all (contractSound file) c ≡ true)

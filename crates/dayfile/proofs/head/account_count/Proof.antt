@@ -1,8 +1,8 @@
--- `dayfile::file::account_count` meets its contract. Assumes nothing.
+-- `dayfile::head::account_count` meets its contract. Assumes nothing.
 use borrow.Author.Needs.{needs}
 use Rattle.dayfile.proofs.Places.{accounts-read}
-use Rattle.dayfile.proofs.file.account_count.Statement.{statement}
-use Rattle.dayfile.proofs.file.account_count.Tie as tie
+use Rattle.dayfile.proofs.head.account_count.Statement.{statement}
+use Rattle.dayfile.proofs.head.account_count.Tie as tie
 
 mul-u32-at : tie.Need-mul-u32-at
 mul-u32-at c = search needs

@@ -1,10 +1,9 @@
--- `head::head_end` meets its contract: a sound head's counts are in range. Assumes nothing.
+-- `dayfile::head::head_end` meets its contract: a sound head's counts are in range. Assumes nothing.
 use native.Mathlib.Omega.{arith}
 use borrow.Author.Needs.{needs}
-use Rattle.dayfile.proofs.Places.{command-place}
-use Rattle.mending.proofs.Heads.{sound-head}
-use Rattle.mending.proofs.head.head_end.Statement.{statement}
-use Rattle.mending.proofs.head.head_end.Tie as tie
+use Rattle.dayfile.proofs.Places.{command-place, sound-head}
+use Rattle.dayfile.proofs.head.head_end.Statement.{statement}
+use Rattle.dayfile.proofs.head.head_end.Tie as tie
 
 contract-count-requires : tie.Need-contract-count-requires
 contract-count-requires c κs = let l = sound-head _ (c .before .pre) in omega arith
