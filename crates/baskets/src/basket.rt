@@ -86,7 +86,7 @@ fn commands_in(bytes: &[u8], count: usize) -> [Command; MAX_COMMANDS]
     let mut commands = [Command::Malformed; MAX_COMMANDS];
     let mut k: usize = 0;
     while k < count {
-        let record = dayfile::bytes::record_at(bytes, 24 * k);
+        let record = endian::reading::record_at(bytes, 24 * k);
         let command = commands::command_of(record);
         commands[k] = command;
         k += 1;

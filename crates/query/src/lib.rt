@@ -95,7 +95,7 @@ pub fn gettable<'a>(
     if !audit::well_formed(state, buys, sells, trades) {
         return refused(21);
     }
-    let record = dayfile::bytes::record_at(&bytes[..], 0);
+    let record = endian::reading::record_at(&bytes[..], 0);
     let command = commands::command_of(record);
     let Command::Insert(o) = command else {
         return refused(1);

@@ -4,7 +4,7 @@ ghost use mathlib.Core.Path.{_≡_};
 ghost use Rattle.rules.specs.Memory.{memory, wellFormedMemory};
 ghost use Rattle.saved.specs.Saved.{WrittenIs, ReadIs};
 ghost use Rattle.saving.specs.Parts.{inSpare};
-use dayfile::file::contract_count;
+use dayfile::head::contract_count;
 use rules::State;
 
 mod loading;

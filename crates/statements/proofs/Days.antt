@@ -28,7 +28,7 @@ use Rattle.accounting.specs.Article32.{AllCovered}
 use Rattle.accounting.proofs.Replay.{replay-covered}
 use Rattle.settlement.specs.Settling.{AllPayable, BooksIs, accountIn, closingTo, contractIn, dayIn, holdingIn, holdingTo}
 use Rattle.settlement.specs.declared.balances.Books.{Books}
-use Rattle.mending.proofs.Writing.{length-four}
+use Rattle.endian.proofs.Writes.{length-four}
 use Rattle.clients.specs.Parts.{Replayable, ReplayIs, clientsWith}
 use Rattle.statements.specs.Parts.{Brokered, Profitable, Tellable, accountsBytes, bookBytes, clientState, clientsDay, pricesDue, told}
 use Rattle.clients.specs.Clients.{clientAccount, holdingsNow, inRow, legCount, legsIn, neverClosesMore}

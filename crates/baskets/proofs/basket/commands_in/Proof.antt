@@ -13,7 +13,7 @@ use Rattle.baskets.proofs.basket.commands_in.Tie as tie
 use Rattle.baskets.proofs.basket.commands_in.Reads as reads
 use Rattle.baskets.proofs.basket.commands_in.Lts as lts
 use Rattle.commands.proofs.command_of.Reads as command-of-reads
-use Rattle.dayfile.proofs.bytes.record_at.Reads as record-at-reads
+use Rattle.endian.proofs.reading.record_at.Reads as record-at-reads
 
 abbrev Inv-loop : tie.InvT-loop
 Inv-loop bytes count commands₀ k₀ commands k = Writing (λ i. commandFrom bytes (24 * i)) commands₀ count k commands

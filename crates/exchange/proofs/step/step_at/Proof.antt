@@ -8,7 +8,7 @@ use Rattle.exchange.proofs.step.step_at.Tie as tie
 use Rattle.exchange.proofs.step.step_at.Reads as reads
 use Rattle.exchange.proofs.step.step_at.Lts as lts
 use Rattle.commands.proofs.command_of.Reads as command-of-reads
-use Rattle.dayfile.proofs.bytes.record_at.Reads as record-at-reads
+use Rattle.endian.proofs.reading.record_at.Reads as record-at-reads
 use Rattle.exchange.proofs.step.step.Reads as step-reads
 
 -- src/step.rt:100:9

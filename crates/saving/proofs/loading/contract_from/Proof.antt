@@ -7,7 +7,7 @@ use Rattle.saving.proofs.loading.contract_from.Tie as tie
 use Rattle.saving.proofs.loading.contract_from.Reads as reads
 use Rattle.saving.proofs.loading.contract_from.Lts as lts
 use Rattle.dayfile.proofs.bytes.contract_at.Reads as contract-at-reads
-use Rattle.dayfile.proofs.bytes.u32_at.Reads as u32-at-reads
+use Rattle.endian.proofs.reading.u32_at.Reads as u32-at-reads
 
 -- src/loading.rt:25:9
 contract-at-requires : tie.Need-contract-at-requires

@@ -6,7 +6,7 @@ use Rattle.saving.proofs.loading.holding_from.Statement.{statement}
 use Rattle.saving.proofs.loading.holding_from.Tie as tie
 use Rattle.saving.proofs.loading.holding_from.Reads as reads
 use Rattle.saving.proofs.loading.holding_from.Lts as lts
-use Rattle.dayfile.proofs.bytes.u32_at.Reads as u32-at-reads
+use Rattle.endian.proofs.reading.u32_at.Reads as u32-at-reads
 
 -- src/loading.rt:66:9
 u32-at-requires : tie.Need-u32-at-requires

@@ -5,7 +5,7 @@ use Rattle.saving.proofs.shape.account_count.Statement.{statement}
 use Rattle.saving.proofs.shape.account_count.Tie as tie
 use Rattle.saving.proofs.shape.account_count.Reads as reads
 use Rattle.saving.proofs.shape.account_count.Lts as lts
-use Rattle.dayfile.proofs.bytes.u32_at.Reads as u32-at-reads
+use Rattle.endian.proofs.reading.u32_at.Reads as u32-at-reads
 
 -- src/shape.rt:27:22
 mul-u32-at : tie.Need-mul-u32-at
