@@ -17,6 +17,7 @@ use rules::State;
 pub const MAX_COMMANDS: usize = 100;
 
 // 0, or the code that refuses the whole bundle, and the state after it.
+#[repr(C)]
 pub struct Receipt {
     pub code: u32,
     pub state: State,

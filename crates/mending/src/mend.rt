@@ -18,6 +18,7 @@ use super::verdict::put_entry;
 use super::verdict::put_kept;
 
 // 0, or the code that refuses, and how many bytes of the two areas are written.
+#[repr(C)]
 pub struct Mended {
     pub code: u32,
     pub length: usize,
