@@ -84,7 +84,14 @@ pub fn submit(
 ) -> Receipt
     ensures { λ r. ⌜ BundleIs (memory state (now (buys .entry)) (now (sells .entry)) (now (trades .entry))) commands count (now (answers .entry)) r (memory (r .state) (now (buys .exit)) (now (sells .exit)) (now (trades .exit))) (now (answers .exit)) ⌝ }
 {
-    let code = refusal(state, &buys[..], &sells[..], &trades[..], count, answers.len());
+    let code = refusal(
+        state,
+        &buys[..],
+        &sells[..],
+        &trades[..],
+        count,
+        answers.len(),
+    );
     if code != 0 {
         return Receipt { code, state };
     }
@@ -107,7 +114,14 @@ pub fn submit_bytes(
     ensures { λ r. ⌜ BundleIs (memory state (now (buys .entry)) (now (sells .entry)) (now (trades .entry))) (wholeCommands (now (bytes .entry))) (length (now (bytes .entry)) / 24) (now (answers .entry)) r (memory (r .state) (now (buys .exit)) (now (sells .exit)) (now (trades .exit))) (now (answers .exit)) ⌝ }
 {
     let count = bytes.len() / 24;
-    let code = refusal(state, &buys[..], &sells[..], &trades[..], count, answers.len());
+    let code = refusal(
+        state,
+        &buys[..],
+        &sells[..],
+        &trades[..],
+        count,
+        answers.len(),
+    );
     if code != 0 {
         return Receipt { code, state };
     }
