@@ -54,7 +54,7 @@ const OURS: Book = Book {
     insert: ours::insert,
     cancel: ours::cancel,
     sweeps: ours::sweeps,
-    counted: ["zelvorm_insert", "zelvorm_cancel", "zelvorm_sweeps"],
+    counted: ["bench_insert", "bench_cancel", "bench_sweeps"],
 };
 
 const PLAIN: Book = Book {
@@ -290,7 +290,7 @@ fn exercise_list(number: usize, which: usize) {
 
 /// Instructions per command of those by which a list is longer than the one before it.
 fn per_command(number: usize, which: usize) -> f64 {
-    let function = ["zelvorm_run", "plain_run"][which];
+    let function = ["bench_run", "plain_run"][which];
     let [less, more] = [number - 1, number].map(|n| counted(function, &["list".into(), n.to_string(), which.to_string()]).1);
     (more - less) / (list(number).1.len() - list(number - 1).1.len()) as f64
 }

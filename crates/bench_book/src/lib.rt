@@ -20,7 +20,7 @@ use rules::PriceCondition;
 use rules::Taker;
 
 #[no_mangle]
-pub extern "C" fn zelvorm_insert(
+pub extern "C" fn bench_insert(
     area: &mut [u32],
     c: usize,
     count: usize,
@@ -48,7 +48,7 @@ pub extern "C" fn zelvorm_insert(
 
 // Takes out the order with a number, if there is one; the number of orders left.
 #[no_mangle]
-pub extern "C" fn zelvorm_cancel(area: &mut [u32], c: usize, count: usize, number: u32) -> usize
+pub extern "C" fn bench_cancel(area: &mut [u32], c: usize, count: usize, number: u32) -> usize
     requires { ⌜ firstWord c count ≤ length (now area) ⌝ }
     ensures { λ r. ⌜ r ≡ length (removeAt (indexOf number (queueIn (now (area .entry)) c count)) (queueIn (now (area .entry)) c count)) ⌝ }
     ensures { λ _. ⌜ now (area .exit) ≡ putQueue (now (area .entry)) c count (removeAt (indexOf number (queueIn (now (area .entry)) c count)) (queueIn (now (area .entry)) c count)) ⌝ }
@@ -142,7 +142,7 @@ fn accounts_with(lots: u32) -> [Account; rules::MAX_ACCOUNTS]
 
 // Enters the order so many times, over accounts made here and kept by value from one order to the next.
 #[no_mangle]
-pub extern "C" fn zelvorm_sweeps(
+pub extern "C" fn bench_sweeps(
     own: &mut [u32],
     opposite: &mut [u32],
     trades: &mut [u32],

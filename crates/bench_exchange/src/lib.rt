@@ -51,7 +51,7 @@ fn probed(state: State, account: usize, contract: usize) -> Probe
 
 // Runs the commands on the state that the day file opens with.
 #[no_mangle]
-pub extern "C" fn zelvorm_run<'a>(
+pub extern "C" fn bench_run<'a>(
     day: &'a [u8],
     commands: &'a [u8],
     buys: &mut [u32],

@@ -19,6 +19,7 @@ use endian::writing::put_u32;
 use endian::writing::put_u64;
 
 // 0, or the code that refuses, and how many bytes of the two areas are written.
+#[repr(C)]
 pub struct Mended {
     pub code: u32,
     pub length: usize,

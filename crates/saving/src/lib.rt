@@ -13,12 +13,14 @@ mod totals;
 mod writing;
 
 // 0, or the code that refuses, and how many bytes are written.
+#[repr(C)]
 pub struct Saved {
     pub code: u32,
     pub length: usize,
 }
 
 // 0, or the code that refuses, and the state: the file's, or the one given where the file is refused.
+#[repr(C)]
 pub struct Loaded {
     pub code: u32,
     pub state: State,

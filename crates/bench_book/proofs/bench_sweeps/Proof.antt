@@ -1,4 +1,4 @@
--- `bench_book::zelvorm_sweeps` meets its contract. The invariant: the book is the first one with `done` orders entered. Assumes
+-- `bench_book::bench_sweeps` meets its contract. The invariant: the book is the first one with `done` orders entered. Assumes
 -- nothing.
 use mathlib.Core.Path.{_≡_, refl, _∙_}
 use Prim.Native.Nat.{_-_, _≤_}
@@ -8,8 +8,8 @@ use lib.ListN.{length}
 use Rattle.bench_book.proofs.Runs.{bookOf, begun, ready, once-more, done}
 use Rattle.rules.specs.Exchange.{accountAt, holdingAt}
 use Rattle.bench_book.specs.Calls.{start, entered}
-use Rattle.bench_book.proofs.zelvorm_sweeps.Statement.{statement}
-use Rattle.bench_book.proofs.zelvorm_sweeps.Tie as tie
+use Rattle.bench_book.proofs.bench_sweeps.Statement.{statement}
+use Rattle.bench_book.proofs.bench_sweeps.Tie as tie
 
 abbrev Inv-loop : tie.InvT-loop
 Inv-loop own₀ opposite₀ trades₀ s times t accounts₀ own-count₀ opposite-count₀ made₀ last₀ done₀ own opposite trades accounts own-count opposite-count made last done =
@@ -82,8 +82,8 @@ returns c =
     let at = c .before .before .before .before .before in
     done _ (at .before .before .taker .ensures) _ _ (at .loop .inv .1 .1 .1 .1) (omega arith) (c .before .before .before .wide .ensures) (c .before .before .wide2 .ensures)
 
-pub zelvorm-sweeps-spec : {M : Type 1} → statement M
-zelvorm-sweeps-spec =
+pub bench-sweeps-spec : {M : Type 1} → statement M
+bench-sweeps-spec =
     tie.close
     (tie.spec
     Inv-loop

@@ -1,8 +1,8 @@
--- `bench_exchange::zelvorm_run` meets its contract: the promises of its calls, put together. Assumes nothing.
+-- `bench_exchange::bench_run` meets its contract: the promises of its calls, put together. Assumes nothing.
 use borrow.Author.Needs.{needs}
 use Rattle.bench_exchange.proofs.Probing.{ran-probed}
-use Rattle.bench_exchange.proofs.zelvorm_run.Statement.{statement}
-use Rattle.bench_exchange.proofs.zelvorm_run.Tie as tie
+use Rattle.bench_exchange.proofs.bench_run.Statement.{statement}
+use Rattle.bench_exchange.proofs.bench_run.Tie as tie
 
 opening-state-requires : tie.Need-opening-state-requires
 opening-state-requires c κs = search needs
@@ -25,8 +25,8 @@ same-length-3 c = search needs
 returns : tie.Need-returns
 returns c = ran-probed _ _ _ (c .before .before .before .before .before .before .before .before .before .before .before .opening-state .ensures) (c .before .before .before .before .before .before .before .run .ensures) (c .probed .ensures)
 
-pub zelvorm-run-spec : {M : Type 1} → statement M
-zelvorm-run-spec =
+pub bench-run-spec : {M : Type 1} → statement M
+bench-run-spec =
     tie.close
     (tie.spec
     opening-state-requires

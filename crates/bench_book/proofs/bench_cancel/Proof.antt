@@ -1,8 +1,8 @@
--- `bench_book::zelvorm_cancel` meets its contract: the search and the removal, put together. Assumes nothing.
+-- `bench_book::bench_cancel` meets its contract: the search and the removal, put together. Assumes nothing.
 use borrow.Author.Needs.{needs}
 use Rattle.bench_book.proofs.Cancels.{at-place, one-fewer, as-many, unchanged}
-use Rattle.bench_book.proofs.zelvorm_cancel.Statement.{statement}
-use Rattle.bench_book.proofs.zelvorm_cancel.Tie as tie
+use Rattle.bench_book.proofs.bench_cancel.Statement.{statement}
+use Rattle.bench_book.proofs.bench_cancel.Tie as tie
 
 find-requires : tie.Need-find-requires
 find-requires c κs = search needs
@@ -30,7 +30,7 @@ returns-2 c =
     let found = c .before .find .ensures in
     (as-many _ _ _ _ _ found (c .if1 .left), unchanged _ _ _ _ _ found (c .before .before .before .before .pre) (c .if1 .left))
 
-pub zelvorm-cancel-spec : {M : Type 1} → statement M
-zelvorm-cancel-spec =
+pub bench-cancel-spec : {M : Type 1} → statement M
+bench-cancel-spec =
     tie.close
     (tie.spec find-requires remove-requires sub-result same-length returns same-length-2 returns-2)
