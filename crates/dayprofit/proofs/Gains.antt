@@ -1,12 +1,12 @@
 -- One account's profit in one contract from its sums of legs, side by side, with the bounds of those sums. Assumes nothing.
-use mathlib.Core.Bool.{Bool, true, false}
+use mathlib.Core.Bool.{Bool, true, false, not}
 use mathlib.Core.List.{List, _∷_}
 use mathlib.Core.Path.{_≡_, refl, sym, ap, subst, _∙_}
 use Prim.Native.Nat.{ℕ, _+_, _-_, _*_, _<_, _≤_, min}
 use native.Mathlib.Nat.{mul-le-mul-left, mul-le-mul-right, le-trans}
 use native.Mathlib.Omega.{arith}
 use lib.IntN.{ℤ, pos, _-ℤ_}
-use lib.ListN.{getD}
+use lib.ListN.{length, getD}
 use mir.Facts.{fits-below, toZ-ofZ}
 use mir.Syntax.{w64}
 use mir.Val.{Fits, SFits, toZ, ofZ}
@@ -161,3 +161,71 @@ module _ (reference start : ℕ) (s t : Sums) (e : s ≡ t) (g : SumsSmall refer
 
 pub profit-from : (l l′ s s′ : Side) (price : ℕ) (r : Profit) → l ≡ l′ → s ≡ s′ → ProfitFrom l s price r → ProfitFrom l′ s′ price r
 profit-from l l′ s s′ price r e f w = subst (λ (x : Side). ProfitFrom x s′ price r) e (subst (λ (x : Side). ProfitFrom l x price r) f w)
+
+-- ---- THE DAY'S PROFIT from the slots that the two passes leave is Article 32's
+
+-- the slots of the lots that closes took today
+abbrev pub Due : List ℕ → List ℕ → ℕ → ℕ → Bool → ℕ → Type 0
+Due lots left a c short start = getD left (slotOf a c short false) 0 ≡ getD lots (slotOf a c (not short) true) 0 - start
+
+module _ (area : List ℕ) (count : ℕ) (lots value left used : List ℕ) (q : SumsAre (recordedTrades area count) lots value) (u : UsedAre (recordedTrades area count) left used)
+    (a c : ℕ) (la : a < 32) (lc : c < 4) where
+  abbrev ls : List Leg
+  ls = legs a c (recordedTrades area count)
+
+  summed : (short : Bool) (start : ℕ) → Due lots left a c short start → Summed start short ls (sumsAt lots value used a c short)
+  unfolding closedLots closedValue
+  summed short start d =
+      let closed = q .lots-are a c (not short) true la lc in
+      record {
+        closed = closed;
+        closes = q .value-is a c (not short) true la lc;
+        opened = q .lots-are a c short false la lc ∙ sym (batches-lots short false ls);
+        opens = q .value-is a c short false la lc ∙ sym (batches-cost short false ls);
+        used = u .each a c short la lc ∙ ap (λ (n : ℕ). cost (firstLots n (openedToday short ls))) (d ∙ ap (λ (n : ℕ). n - start) closed);
+      }
+
+  module _ (ref : ℕ) (h : Holding) (p : ℕ) (g : Profitable ref h a c area count p) (dl : Due lots left a c false (h .startlong)) (ds : Due lots left a c true (h .startshort)) where
+    in-reach : (short : Bool) (start : ℕ) → start ≤ 100_000 → closedLots short ls ≤ lotsOf (everOpen ref start short ls) → Due lots left a c short start
+        → SumsSmall ref start (sumsAt lots value used a c short)
+    in-reach short start few covered d =
+        let w = summed short start d in
+        record {
+          reference = g .reference;
+          first = few;
+          covered = omega (arith, w .closed, w .opened, covered, start-lots ref start 0 (openedToday short ls));
+          opened = omega (arith, q .lots-are a c short false la lc, lots-reach area count (g .trades) count (omega arith) a c short false);
+          closes = omega (arith, q .value-is a c (not short) true la lc, value-reach area count (g .trades) count (omega arith) a c (not short) true);
+          opens = omega (arith, q .value-is a c short false la lc, value-reach area count (g .trades) count (omega arith) a c short false);
+          used = omega (arith, w .used, w .opens, first-other (closedLots short ls - start) (openedToday short ls));
+        }
+
+    pub day-small : length lots ≡ 512 → length value ≡ 512 → length used ≡ 512 → DaySmall lots value used a c ref h p
+    day-small rl rv ru =
+        let sides = day-sides ref (h .startlong) (h .startshort) ls (g .covered) in
+        record {
+          account = la;
+          contract = lc;
+          lots-room = rl;
+          value-room = rv;
+          used-room = ru;
+          long = in-reach false (h .startlong) (g .long) (sides .long .few) dl;
+          short = in-reach true (h .startshort) (g .short) (sides .short .few) ds;
+          marked = g .price;
+        }
+
+    abbrev longSide : Side
+    longSide = sideFrom ref (h .startlong) (sumsAt lots value used a c false)
+
+    abbrev shortSide : Side
+    shortSide = sideFrom ref (h .startshort) (sumsAt lots value used a c true)
+
+    pub closing-is : closingFrom longSide shortSide ≡ dayOver ref h a c (recordedTrades area count) .closing
+    closing-is =
+        sym (closing-by-sides ref (h .startlong) (h .startshort) ls (g .covered) longSide shortSide
+        (side-is ref (h .startlong) false ls _ (summed false (h .startlong) dl)) (side-is ref (h .startshort) true ls _ (summed true (h .startshort) ds)))
+
+    pub holding-is : holdingFrom p longSide shortSide ≡ holdingGain p (dayOver ref h a c (recordedTrades area count))
+    holding-is =
+        sym (holding-by-sides ref (h .startlong) (h .startshort) ls (g .covered) longSide shortSide
+        (side-is ref (h .startlong) false ls _ (summed false (h .startlong) dl)) (side-is ref (h .startshort) true ls _ (summed true (h .startshort) ds)) p)

@@ -217,3 +217,11 @@ party-small sell t h p a e f = rw (f, e) (party-known sell t h)
 pub leg-slot-is : (sell : Bool) (t : Trade) (p a c m : ℕ) → p ≡ partyOf sell t → a ≡ p → c ≡ t .contract → m ≡ pick sell (t .sellclose) (t .buyclose)
     → slotOf a c sell (not (eqb m 0)) ≡ legSlot sell t
 leg-slot-is sell t p a c m e f g h = rw (f, e, g, h)
+
+-- ---- lots that closes took beyond the start-of-day ones
+
+pub due-is : (left lots : List ℕ) (o o′ k k′ m start : ℕ) → o ≡ o′ → k ≡ k′ → m ≡ min (getD lots k 0) start
+    → set left o (getD lots k 0 - m) ≡ set left o′ (getD lots k′ 0 - start)
+due-is left lots o o′ k k′ m start e f g =
+    let d : getD lots k 0 - m ≡ getD lots k′ 0 - start = rw (← f) (omega arith) in
+    rw (e, d)

@@ -3,7 +3,7 @@
 // state's trades.
 ghost use mathlib.Core.Bool.{true, false, not};
 ghost use mathlib.Core.Path.{_≡_};
-ghost use Prim.Native.Nat.{_<_, _≤_, _-_};
+ghost use Prim.Native.Nat.{_<_, _≤_};
 ghost use lib.IntN.{pos, _-ℤ_};
 ghost use lib.ListN.{length};
 ghost use Rattle.dayprofit.specs.Slots.{sumsAt, DaySmall, DayFrom};
@@ -48,13 +48,6 @@ fn sums_at<'a>(lots: &'a [u32], value: &'a [u64], used: &'a [u64], a: usize, c: 
         opens: value[opens],
         used: used[opens],
     }
-}
-
-// How many of today's lots the closes took: start-of-day lots go first.
-pub fn past_start(closed: u32, start: u32) -> u32
-    ensures { λ r. ⌜ r ≡ closed - start ⌝ }
-{
-    closed - laws::smaller(closed, start)
 }
 
 // One side of an account's day: start-of-day lots at the reference, today's at their opening prices.

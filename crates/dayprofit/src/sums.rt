@@ -96,6 +96,17 @@ fn take_leg(left: &mut [u32], used: &mut [u64], t: Trade, sell: bool)
     used[at] = used[at] + price * taken as u64;
 }
 
+// How many of today's lots the closes of a side took: start-of-day lots go first.
+pub fn put_due(lots: &[u32], left: &mut [u32], a: usize, c: usize, short: bool, start: u32)
+    requires { ⌜ (a < 32) × (c < 4) × (length (now lots) ≡ 512) × (length (now left) ≡ 512) ⌝ }
+    ensures { λ _. ⌜ now (left .exit) ≡ set (now (left .entry)) (slotOf a c short false) (getD (now (lots .entry)) (slotOf a c (not short) true) 0 - start) ⌝ }
+{
+    let closes = slot(a, c, !short, true);
+    let opens = slot(a, c, short, false);
+    let closed = lots[closes];
+    left[opens] = closed - laws::smaller(closed, start);
+}
+
 // Second pass: of the legs of each kind in trade order the first lots, as many as `left` says.
 pub fn take_first(area: &[u32], count: usize, left: &mut [u32], used: &mut [u64])
     requires { ⌜ PlacedTrades (now area) count × (length (now left) ≡ 512) × (now used ≡ replicate 512 0) ⌝ }
