@@ -220,12 +220,12 @@ module _ (area : List ℕ) (count : ℕ) (lots value left used : List ℕ) (q : 
     abbrev shortSide : Side
     shortSide = sideFrom ref (h .startshort) (sumsAt lots value used a c true)
 
-    pub closing-is : closingFrom longSide shortSide ≡ dayOver ref h a c (recordedTrades area count) .closing
-    closing-is =
+    pub closing-by-slots : closingFrom longSide shortSide ≡ dayOver ref h a c (recordedTrades area count) .closing
+    closing-by-slots =
         sym (closing-by-sides ref (h .startlong) (h .startshort) ls (g .covered) longSide shortSide
         (side-is ref (h .startlong) false ls _ (summed false (h .startlong) dl)) (side-is ref (h .startshort) true ls _ (summed true (h .startshort) ds)))
 
-    pub holding-is : holdingFrom p longSide shortSide ≡ holdingGain p (dayOver ref h a c (recordedTrades area count))
-    holding-is =
+    pub holding-by-slots : holdingFrom p longSide shortSide ≡ holdingGain p (dayOver ref h a c (recordedTrades area count))
+    holding-by-slots =
         sym (holding-by-sides ref (h .startlong) (h .startshort) ls (g .covered) longSide shortSide
         (side-is ref (h .startlong) false ls _ (summed false (h .startlong) dl)) (side-is ref (h .startshort) true ls _ (summed true (h .startshort) ds)) p)

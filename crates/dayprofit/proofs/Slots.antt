@@ -42,7 +42,7 @@ same-one true t e = e
 same-one false true e = sym e
 same-one false false e = refl
 
-kind-one : (s k s₀ k₀ : Bool) → isKind s k s₀ k₀ ≡ true → (s₀ ≡ s) × (k₀ ≡ k)
+pub kind-one : (s k s₀ k₀ : Bool) → isKind s k s₀ k₀ ≡ true → (s₀ ≡ s) × (k₀ ≡ k)
 kind-one s k s₀ k₀ e = let b = both-true (same s s₀) (same k k₀) e in (same-one s s₀ (b .0), same-one k k₀ (b .1))
 
 -- the kind back from its number
@@ -62,16 +62,16 @@ pub slot-small : (a c : ℕ) (s k : Bool) → a < 32 → c < 4 → slotOf a c s 
 slot-small a c s k la lc = omega (arith, kind-small s k)
 
 module _ (a c a₀ c₀ : ℕ) (s k s₀ k₀ : Bool) (lc : c < 4) (lc₀ : c₀ < 4) (e : slotOf a c s k ≡ slotOf a₀ c₀ s₀ k₀) where
-  one-account : a₀ ≡ a
+  pub one-account : a₀ ≡ a
   one-account = omega (arith, kind-small s k, kind-small s₀ k₀)
 
-  one-contract : c₀ ≡ c
+  pub one-contract : c₀ ≡ c
   one-contract = omega (arith, kind-small s k, kind-small s₀ k₀)
 
   one-number : kindOf s k ≡ kindOf s₀ k₀
   one-number = omega (arith, kind-small s k, kind-small s₀ k₀)
 
-  one-kind : isKind s k s₀ k₀ ≡ true
+  pub one-kind : isKind s k s₀ k₀ ≡ true
   one-kind =
       let sells : s₀ ≡ s = sym (is-sell s₀ k₀) ∙ ap (leb 2) (sym one-number) ∙ is-sell s k in
       let closes : k₀ ≡ k = sym (is-close s₀ k₀) ∙ ap (λ (n : ℕ). either (eqb n 1) (eqb n 3)) (sym one-number) ∙ is-close s k in
