@@ -126,11 +126,14 @@ pub fn remove(area: &mut [u32], c: usize, count: usize, i: usize)
     close_up(&mut area[a..e]);
 }
 
-// Takes the first k orders out: later ones close up, and the freed places are set to zero. One order is the common case.
+// Takes the first k orders out: later ones close up, and the freed places are set to zero. No order and one order are the common cases.
 pub fn drop_front(area: &mut [u32], c: usize, count: usize, k: usize)
     requires { ⌜ (k ≤ count) × (firstWord c count ≤ length (now area)) ⌝ }
     ensures { λ _. ⌜ now (area .exit) ≡ putQueue (now (area .entry)) c count (drop k (queueIn (now (area .entry)) c count)) ⌝ }
 {
+    if k == 0 {
+        return;
+    }
     if k == 1 {
         remove(area, c, count, 0);
         return;

@@ -34,7 +34,7 @@ use Rattle.invariants.proofs.MemoryKeeps.{accepted-read, accepted-keeps}
 use Rattle.invariants.proofs.MemoryRoom.{memory-ok}
 use Rattle.settlement.specs.Settling.{Settleable, SettledIs, contractIn, holdingIn, dayIn, closingTo, holdingTo, AllPayable, paidAccount, BooksIs, AllClearable, ClearedAre, AllChargeable, ChargesAre, nextDay}
 use Rattle.dayprofit.specs.Sides.{dayOver}
-use Rattle.settlement.proofs.Formed.{accounts-declared, contracts-four, accounts-few, contract-at, price-high, holding-starts, legs-covered, chargeable, sized-trades, balance-within, accounts-counted}
+use Rattle.settlement.proofs.Formed.{accounts-declared, contracts-four, accounts-few, contract-at, price-high, holding-starts, legs-covered, chargeable, sized-trades, placed-trades, balance-within, accounts-counted}
 use Rattle.settlement.proofs.Places.{written-accounts}
 
 -- ---- the state of the next day, from its parts
@@ -106,6 +106,7 @@ module _ (s : State) (buys sells trades : List ℕ) (g : Settleable s buys sells
           accounts = accounts-few m room (g .state .formed);
           contracts = few-contracts;
           balance = balance-within m room (g .state .formed);
+          day = placed-trades m room (g .state .formed);
           each = λ a la. record {
             account = omega (arith, accounts-few m room (g .state .formed));
             contracts = few-contracts;

@@ -190,6 +190,7 @@ module _ (s : State) (buys sells trades : List ℕ) (a clients : ℕ) (starts : 
           few = p .few;
           trades = few-trades;
           room = area-room;
+          sized = sized;
           each = each-booked;
           lots = lots;
           legs-are = e ∙ ap legCount (sym trades-are);

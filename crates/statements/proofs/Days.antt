@@ -184,6 +184,10 @@ module _ (s : State) (buys sells area starts : List ℕ) (clients legs′ : ℕ)
           accounts = omega (arith, g .few);
           contracts = g .contracts;
           balance = λ k lk. rw (no-balance k (omega (arith, g .few))) (within-pos (omega arith));
+          day = record {
+            trades = g .sized;
+            placed = λ i li. let b = g .each i li in record { contract = omega (arith, b .contract, g .contracts); buyer = omega (arith, b .buyer); seller = omega (arith, b .seller) };
+          };
           each = λ k lk. record {
             account = omega (arith, g .few);
             contracts = g .contracts;
