@@ -173,9 +173,9 @@ module _ {Told : ℕ → Bool → Bool → List Leg → ℕ → ℕ → Type 0} 
           room = length-set us legAt _ ∙ w .room;
           room-too = length-set vs legAt _ ∙ w .room-too;
           tells =
-            tells-leg Told L us vs (w .tells) (partyOf sell t) (t .contract) sell (closeOf sell t) (t .price) (t .lots) _ _ (party-known sell t h) (h .contract)
-            (w .room) (w .room-too) (pass .passes sell (closeOf sell t) (t .price) (t .lots))
-            (pass .grows _ sell (closeOf sell t) _ _ _ (t .price) (t .lots) slot-told);
+              tells-leg Told L us vs (w .tells) (partyOf sell t) (t .contract) sell (closeOf sell t) (t .price) (t .lots) _ _ (party-known sell t h) (h .contract)
+              (w .room) (w .room-too) (pass .passes sell (closeOf sell t) (t .price) (t .lots))
+              (pass .grows _ sell (closeOf sell t) _ _ _ (t .price) (t .lots) slot-told);
         })
 
 -- ---- the loop: the legs of the first i trades

@@ -35,7 +35,14 @@ pub struct Profit {
 }
 
 // Sells close long lots and open short ones, buys the other way round.
-fn sums_at<'a>(lots: &'a [u32], value: &'a [u64], used: &'a [u64], a: usize, c: usize, short: bool) -> Sums
+fn sums_at<'a>(
+    lots: &'a [u32],
+    value: &'a [u64],
+    used: &'a [u64],
+    a: usize,
+    c: usize,
+    short: bool,
+) -> Sums
     requires { ⌜ (a < 32) × (c < 4) × (length (now lots) ≡ 512) × (length (now value) ≡ 512) × (length (now used) ≡ 512) ⌝ }
     ensures { λ r. ⌜ r ≡ sumsAt (now (lots .entry)) (now (value .entry)) (now (used .entry)) a c short ⌝ }
 {
@@ -104,7 +111,15 @@ pub fn profit_at<'a>(
     requires { ⌜ DaySmall (now lots) (now value) (now used) a c reference h price ⌝ }
     ensures { λ r. ⌜ DayFrom (now (lots .entry)) (now (value .entry)) (now (used .entry)) a c reference h price r ⌝ }
 {
-    let long = side_of(sums_at(lots, value, used, a, c, false), reference, h.startlong);
-    let short = side_of(sums_at(lots, value, used, a, c, true), reference, h.startshort);
+    let long = side_of(
+        sums_at(lots, value, used, a, c, false),
+        reference,
+        h.startlong,
+    );
+    let short = side_of(
+        sums_at(lots, value, used, a, c, true),
+        reference,
+        h.startshort,
+    );
     profit_of(long, short, price)
 }

@@ -149,7 +149,7 @@ module _ (s : State) (trades prices : List ℕ) (g : AllPayable s trades prices)
         contracts = g .contracts;
         multiplier = g .each a la .multiplier;
         each = λ c lc. day-small trades (s .tradecount) lots value left used q u a c few-accounts (few-contracts c lc) _ (holdingIn s a c) _ (g .each a la .each c lc)
-          (d .long a c la (few-contracts c lc)) (d .short a c la (few-contracts c lc)) rl rv ru;
+            (d .long a c la (few-contracts c lc)) (d .short a c la (few-contracts c lc)) rl rv ru;
       }
 
   pub total-is : (r : Profit) → TotalFrom s lots value used prices a r → TotalIs s trades prices a r
@@ -157,11 +157,11 @@ module _ (s : State) (trades prices : List ℕ) (g : AllPayable s trades prices)
   total-is r w =
       record {
         closing = w .closing ∙ sumTo-ext (s .contractcount) _ _ (λ c lc. ap (λ (z : ℤ). pos (contractIn s c .multiplier) *ℤ z)
-          (closing-by-slots trades (s .tradecount) lots value left used q u a c few-accounts (few-contracts c lc) _ (holdingIn s a c) _ (g .each a la .each c lc)
-          (d .long a c la (few-contracts c lc)) (d .short a c la (few-contracts c lc))));
+            (closing-by-slots trades (s .tradecount) lots value left used q u a c few-accounts (few-contracts c lc) _ (holdingIn s a c) _ (g .each a la .each c lc)
+            (d .long a c la (few-contracts c lc)) (d .short a c la (few-contracts c lc))));
         holding = w .holding ∙ sumTo-ext (s .contractcount) _ _ (λ c lc. ap (λ (z : ℤ). pos (contractIn s c .multiplier) *ℤ z)
-          (holding-by-slots trades (s .tradecount) lots value left used q u a c few-accounts (few-contracts c lc) _ (holdingIn s a c) _ (g .each a la .each c lc)
-          (d .long a c la (few-contracts c lc)) (d .short a c la (few-contracts c lc))));
+            (holding-by-slots trades (s .tradecount) lots value left used q u a c few-accounts (few-contracts c lc) _ (holdingIn s a c) _ (g .each a la .each c lc)
+            (d .long a c la (few-contracts c lc)) (d .short a c la (few-contracts c lc))));
         closing-small = w .closing-small;
         holding-small = w .holding-small;
       }

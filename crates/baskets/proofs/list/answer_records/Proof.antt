@@ -16,7 +16,7 @@ use Rattle.baskets.proofs.list.answer_records.Reads as reads
 use Rattle.baskets.proofs.list.answer_records.Lts as lts
 use Rattle.baskets.proofs.answers.answer_command.Reads as answer-command-reads
 use Rattle.commands.proofs.command_of.Reads as command-of-reads
-use Rattle.dayfile.proofs.bytes.record_at.Reads as record-at-reads
+use Rattle.endian.proofs.reading.record_at.Reads as record-at-reads
 
 abbrev Inv-loop : tie.InvT-loop
 Inv-loop formed buys₀ sells₀ trades₀ bytes count answers₀ current₀ k₀ buys sells trades answers current k =
