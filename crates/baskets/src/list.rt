@@ -37,7 +37,7 @@ pub fn answer_records(
     let mut current = state;
     let mut k: usize = 0;
     while k < count {
-        let record = dayfile::bytes::record_at(bytes, 24 * k);
+        let record = endian::reading::record_at(bytes, 24 * k);
         let command = commands::command_of(record);
         current = answer_command(formed, current, buys, sells, trades, command, answers, k);
         k += 1;

@@ -55,6 +55,6 @@ pub fn execute(
 ) -> Response
     ensures { λ r. ⌜ ExecutedIs (memory state (now (buys .entry)) (now (sells .entry)) (now (trades .entry))) (commandFrom bytes 0) r (now (buys .exit)) (now (sells .exit)) (now (trades .exit)) ⌝ }
 {
-    let given = dayfile::bytes::record_at(&bytes[..], 0);
+    let given = endian::reading::record_at(&bytes[..], 0);
     execute_record(state, buys, sells, trades, given)
 }
