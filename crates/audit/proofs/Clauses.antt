@@ -8,16 +8,16 @@ use lib.ListN.{length, getD}
 use Rattle.laws.specs.Choice.{all, allOf}
 use Rattle.laws.specs.Chains.{passed}
 use Rattle.rules.specs.Bounds.{within, inAuction, maxPhase, termsInRange, tickMultiple, allowedToday, maxResting, maxTrades}
-use Rattle.rules.specs.Exchange.{Listing, restingOpens, restingCloses}
+use Rattle.rules.specs.Exchange.{Listing}
 use Rattle.rules.specs.Memory.{Memory, countsInRange, hasRoom, queueStride, tradeStride}
-use Rattle.rules.specs.WellFormed.{contractInRange, orderInRange, ordersInRange, queuesSorted, sorted, uncrossed, queueQuoted, listingQuoted, holdingInRange}
+use Rattle.rules.specs.WellFormed.{contractInRange, orderInRange, ordersInRange, queuesSorted, sorted, uncrossed, queueQuoted, listingQuoted}
 use Rattle.rules.specs.declared.Account.{Account}
 use Rattle.rules.specs.declared.Contract.{Contract}
 use Rattle.rules.specs.declared.Holding.{Holding}
 use Rattle.rules.specs.declared.Order.{Order}
 use Rattle.rules.specs.declared.State.{State}
 use Rattle.rules.specs.declared.Trade.{Trade}
-use Rattle.audit.specs.Parts.{listingInRange}
+use Rattle.audit.specs.Parts.{heldInRange, listingInRange}
 use Rattle.invariants.proofs.Clauses.{ListingOk, listing-ok}
 use Rattle.audit.proofs.Chains.{Chain}
 
@@ -89,17 +89,12 @@ quoted-chain accounts l = record { is = refl }
 
 -- ---- a holding
 
-pub holding-chain : (l : Listing) (a : ℕ) (h : Holding)
-    → Chain (holdingInRange l a h)
-    (leb (h .startlong) (l .contract .limit)
-    ∷ leb (h .startshort) (l .contract .limit)
-    ∷ leb (h .long + restingOpens a (l .buys)) (l .contract .limit)
-    ∷ leb (h .short + restingOpens a (l .sells)) (l .contract .limit)
-    ∷ leb (restingCloses a (l .sells)) (h .long)
-    ∷ [])
-    (leb (restingCloses a (l .buys)) (h .short))
-unfolding holdingInRange
-holding-chain l a h = record { is = refl }
+pub held-chain : (h : Holding) (limit buyopens buycloses sellopens sellcloses : ℕ)
+    → Chain (heldInRange h limit buyopens buycloses sellopens sellcloses)
+    (leb (h .startlong) limit ∷ leb (h .startshort) limit ∷ leb (h .long + buyopens) limit ∷ leb (h .short + sellopens) limit ∷ leb sellcloses (h .long) ∷ [])
+    (leb buycloses (h .short))
+unfolding heldInRange
+held-chain h limit buyopens buycloses sellopens sellcloses = record { is = refl }
 
 -- ---- a trade's order numbers
 

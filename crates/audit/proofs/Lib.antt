@@ -3,7 +3,9 @@ pub mod Clauses
 pub mod FieldLists
 pub mod Limits
 pub mod MarkedOrders
+pub mod Remainders
 pub mod Replaying
+pub mod RestingSums
 pub mod Rooms
 pub mod SortedQueues
 pub mod TestedTrades
