@@ -12,17 +12,18 @@ use Rattle.laws.specs.Choice.{pick, allOf-at, false-both, both-false, true-both
 use Rattle.laws.specs.Sums.{sumOf, sumOf-more}
 use Rattle.rules.specs.Bounds.{maxAccounts}
 use Rattle.rules.specs.Exchange.{Listing, lotsWhere, noOrder, own, resting}
-use Rattle.rules.specs.WellFormed.{holdingInRange, listingInRange, orderInRange}
+use Rattle.rules.specs.WellFormed.{holdingInRange, orderInRange}
 use Rattle.rules.specs.declared.Holding.{Holding}
 use Rattle.rules.specs.declared.Order.{Order}
-use Rattle.invariants.proofs.Clauses.{listing-ok, order-ok}
-use Rattle.audit.specs.Parts.{Summable, Summed, heldInRange}
+use Rattle.invariants.proofs.Clauses.{order-ok}
+use Rattle.audit.specs.Parts.{Summable, Summed, heldInRange, listingInRange}
+use Rattle.audit.proofs.Clauses.{listing-tested}
 
 -- what a listing in range says of its orders
 pub orders-summable : (accounts next nextstamp : ℕ) (l : Listing) → accounts ≤ maxAccounts → listingInRange accounts next nextstamp l ≡ true →
     (sell : Bool) (i : ℕ) → i < length (own sell l) → Summable (getD (own sell l) i noOrder)
 orders-summable accounts next nextstamp l few h sell i b =
-    let k = order-ok accounts next nextstamp (l .contract) (getD (own sell l) i noOrder) (allOf-at (orderInRange accounts next nextstamp (l .contract)) (own sell l) i noOrder (listing-ok accounts next nextstamp l h .orders sell) b) in
+    let k = order-ok accounts next nextstamp (l .contract) (getD (own sell l) i noOrder) (allOf-at (orderInRange accounts next nextstamp (l .contract)) (own sell l) i noOrder (listing-tested accounts next nextstamp l h .orders sell) b) in
     record { account = omega (arith, k .account); close = k .close; lots = k .lots-high }
 
 -- `lots` has the resting lots of the first i orders by account, the opens of each before its closes
