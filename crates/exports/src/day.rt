@@ -41,7 +41,7 @@ fn no_state() -> State
     let holdings = [holding; rules::MAX_CONTRACTS];
     let account = Account {
         balance: 0,
-        maker: false,
+        maker: 0,
         holdings,
     };
     State {
