@@ -20,6 +20,21 @@ extern "C" {
         buys: *mut u32, buy_words: usize, sells: *mut u32, sell_words: usize, trades: *mut u32, trade_words: usize,
         account: usize, contract: usize,
     ) -> Probe;
+    fn zelvorm_test(
+        day: *const u8, day_bytes: usize, commands: *const u8, command_bytes: usize,
+        buys: *mut u32, buy_words: usize, sells: *mut u32, sell_words: usize, trades: *mut u32, trade_words: usize,
+    ) -> bool;
+    fn zelvorm_execute(
+        day: *const u8, day_bytes: usize, commands: *const u8, command_bytes: usize, single: Single,
+        buys: *mut u32, buy_words: usize, sells: *mut u32, sell_words: usize, trades: *mut u32, trade_words: usize,
+        account: usize, contract: usize,
+    ) -> Probe;
+}
+
+/// One command as `zelvorm_execute` takes it.
+#[repr(C)]
+pub struct Single {
+    pub bytes: [u8; 24],
 }
 
 pub fn insert(area: &mut [u32], contract: usize, count: usize, sell: bool, o: &Order) {
@@ -81,6 +96,27 @@ pub fn run(day: &[u8], commands: &[u8], m: &mut Memory, account: usize, contract
     unsafe {
         bench_run(
             day.as_ptr(), day.len(), commands.as_ptr(), commands.len(), m.buys.as_mut_ptr(), m.buys.len(),
+            m.sells.as_mut_ptr(), m.sells.len(), m.trades.as_mut_ptr(), m.trades.len(), account, contract,
+        )
+    }
+}
+
+/// Whether the state that the list leaves is well formed.
+pub fn test(day: &[u8], commands: &[u8], m: &mut Memory) -> bool {
+    unsafe {
+        zelvorm_test(
+            day.as_ptr(), day.len(), commands.as_ptr(), commands.len(), m.buys.as_mut_ptr(), m.buys.len(),
+            m.sells.as_mut_ptr(), m.sells.len(), m.trades.as_mut_ptr(), m.trades.len(),
+        )
+    }
+}
+
+/// The list, and one more command by itself.
+pub fn execute(day: &[u8], commands: &[u8], single: [u8; 24], m: &mut Memory, account: usize, contract: usize) -> Probe {
+    assert!(account < ACCOUNTS && contract < 4);
+    unsafe {
+        zelvorm_execute(
+            day.as_ptr(), day.len(), commands.as_ptr(), commands.len(), Single { bytes: single }, m.buys.as_mut_ptr(), m.buys.len(),
             m.sells.as_mut_ptr(), m.sells.len(), m.trades.as_mut_ptr(), m.trades.len(), account, contract,
         )
     }

@@ -17,9 +17,9 @@ use Rattle.audit.proofs.Walks.{next-in, none-in}
 
 -- the values from place i on are used once, and the remainder of each is marked
 pub record Marked (l : List ℕ) (count : ℕ) (marks : List ℕ) (i : ℕ) : Type 0 where
-  pub room : length marks ≡ 16_384
+  pub room : length marks ≡ 4_096
   pub once : usedOnce (drop i (take count l)) ≡ true
-  pub marked : (j : ℕ) → i ≤ j → j < count → getD marks (getD l j 0 % 16_384) 0 ≡ 0 → ⊥
+  pub marked : (j : ℕ) → i ≤ j → j < count → getD marks (getD l j 0 % 4_096) 0 ≡ 0 → ⊥
 
 -- what is not used once behind a place is not used once
 once-drop : (k : ℕ) (ns : List ℕ) → usedOnce (drop k ns) ≡ false → usedOnce ns ≡ false
@@ -28,10 +28,10 @@ once-drop zero ns h = h
 once-drop (suc k) [] h = h
 once-drop (suc k) (n ∷ ns) h = both-false (allOf (λ k. not (eqb n k)) ns) (usedOnce ns) (once-drop k ns h)
 
-pub marked-none : (l : List ℕ) (count : ℕ) → Marked l count (replicate 16_384 0) count
+pub marked-none : (l : List ℕ) (count : ℕ) → Marked l count (replicate 4_096 0) count
 marked-none l count =
     record {
-      room = length-replicate {A = ℕ} 16_384 0;
+      room = length-replicate {A = ℕ} 4_096 0;
       once = ap usedOnce (none-in count l count (omega arith)) ∙ once-none;
       marked = λ j low high. absurd (omega arith);
     }
@@ -51,13 +51,13 @@ module _ {l : List ℕ} {count : ℕ} (fits : count ≤ length l) {marks : List 
   once-more : allOf (λ k. not (eqb (getD l at 0) k)) (drop (at + 1) (take count l)) ≡ true → usedOnce (drop at (take count l)) ≡ true
   once-more t = ap usedOnce it ∙ once-on _ _ t ∙ subst (λ (k : ℕ). usedOnce (drop k (take count l)) ≡ true) (sym e) (m .once)
 
-  module _ {mark : ℕ} (p : mark ≡ getD l at 0 % 16_384) where
+  module _ {mark : ℕ} (p : mark ≡ getD l at 0 % 4_096) where
     -- is not behind, and its remainder was met
     pub marked-fresh : (getD marks mark 0 ≡ 0 → ⊥) → allOf (λ k. not (eqb (getD l at 0) k)) (drop (at + 1) (take count l)) ≡ true → Marked l count marks at
     marked-fresh met t = record { room = m .room; once = once-more t; marked = λ j low high. by-place j (eqb j at) refl low high }
       where
-        by-place : (j : ℕ) (b : Bool) → eqb j at ≡ b → at ≤ j → j < count → getD marks (getD l j 0 % 16_384) 0 ≡ 0 → ⊥
-        by-place j true q low high z = met (ap (λ (k : ℕ). getD marks k 0) p ∙ ap (λ (k : ℕ). getD marks (getD l k 0 % 16_384) 0) (sym (eqb-true j at q)) ∙ z)
+        by-place : (j : ℕ) (b : Bool) → eqb j at ≡ b → at ≤ j → j < count → getD marks (getD l j 0 % 4_096) 0 ≡ 0 → ⊥
+        by-place j true q low high z = met (ap (λ (k : ℕ). getD marks k 0) p ∙ ap (λ (k : ℕ). getD marks (getD l k 0 % 4_096) 0) (sym (eqb-true j at q)) ∙ z)
         by-place j false q low high z = let other : j ≡ at → ⊥ = eqb-false j at q in m .marked j (omega arith) high z
 
     behind : (k : ℕ) → k < length (drop (at + 1) (take count l)) → at + 1 + k < count
@@ -69,20 +69,20 @@ module _ {l : List ℕ} {count : ℕ} (fits : count ≤ length l) {marks : List 
         record {
           room = length-set marks mark 1 ∙ m .room;
           once = once-more (allOf-true (λ k. not (eqb (getD l at 0) k)) (drop (at + 1) (take count l)) 0 (λ k b. ap not (ne-eqb (getD l at 0) _ (apart k b))));
-          marked = λ j low high. by-mark j (eqb (getD l j 0 % 16_384) mark) refl low high;
+          marked = λ j low high. by-mark j (eqb (getD l j 0 % 4_096) mark) refl low high;
         }
       where
         apart : (k : ℕ) → k < length (drop (at + 1) (take count l)) → getD l at 0 ≡ getD (drop (at + 1) (take count l)) k 0 → ⊥
         apart k b q =
             let x : getD l at 0 ≡ getD l (at + 1 + k) 0 = q ∙ getD-drop (at + 1) (take count l) k 0 ∙ getD-take count l (at + 1 + k) 0 (behind k b) in
-            m .marked (at + 1 + k) (omega arith) (behind k b) (ap (λ (y : ℕ). getD marks (y % 16_384) 0) (sym x) ∙ ap (λ (y : ℕ). getD marks y 0) (sym p) ∙ none)
+            m .marked (at + 1 + k) (omega arith) (behind k b) (ap (λ (y : ℕ). getD marks (y % 4_096) 0) (sym x) ∙ ap (λ (y : ℕ). getD marks y 0) (sym p) ∙ none)
 
-        by-mark : (j : ℕ) (b : Bool) → eqb (getD l j 0 % 16_384) mark ≡ b → at ≤ j → j < count → getD (set marks mark 1) (getD l j 0 % 16_384) 0 ≡ 0 → ⊥
+        by-mark : (j : ℕ) (b : Bool) → eqb (getD l j 0 % 4_096) mark ≡ b → at ≤ j → j < count → getD (set marks mark 1) (getD l j 0 % 4_096) 0 ≡ 0 → ⊥
         by-mark j true q low high z =
-            let one : getD (set marks mark 1) mark 0 ≡ 1 = getD-set-same marks mark 1 0 (omega (arith, m .room, p, mod-lt (getD l at 0) {m = 16_384} (omega arith))) in
+            let one : getD (set marks mark 1) mark 0 ≡ 1 = getD-set-same marks mark 1 0 (omega (arith, m .room, p, mod-lt (getD l at 0) {m = 4_096} (omega arith))) in
             let same : getD (set marks mark 1) mark 0 ≡ 0 = ap (λ (k : ℕ). getD (set marks mark 1) k 0) (sym (eqb-true _ mark q)) ∙ z in
             omega arith
         by-mark j false q low high z =
-            let other : getD l j 0 % 16_384 ≡ mark → ⊥ = eqb-false _ mark q in
-            let elsewhere : j ≡ at → ⊥ = λ y. other (ap (λ (k : ℕ). getD l k 0 % 16_384) y ∙ sym p) in
+            let other : getD l j 0 % 4_096 ≡ mark → ⊥ = eqb-false _ mark q in
+            let elsewhere : j ≡ at → ⊥ = λ y. other (ap (λ (k : ℕ). getD l k 0 % 4_096) y ∙ sym p) in
             m .marked j (omega arith) high (sym (getD-set-other marks mark _ 1 0 other) ∙ z)

@@ -19,8 +19,8 @@ use rules::State;
 // All that the queues of all contracts hold.
 const MAX_LISTED: usize = 2 * rules::MAX_RESTING * rules::MAX_CONTRACTS;
 
-// Remainders that are told apart: few values of a day have the same.
-const MARKS: usize = 16_384;
+// Remainders that are told apart. At worst all values have the same few, and each is held against all behind it.
+const MARKS: usize = 4_096;
 
 struct Listed {
     list: [u32; MAX_LISTED],

@@ -23,7 +23,7 @@ same-length-3 : tie.Need-same-length-3
 same-length-3 c = search needs
 
 returns : tie.Need-returns
-returns c = ran-probed _ _ _ (c .before .before .before .before .before .before .before .before .before .before .before .opening-state .ensures) (c .before .before .before .before .before .before .before .run .ensures) (c .probed .ensures)
+returns c = ran-probed _ (c .before .before .before .before .before .before .before .before .before .before .before .opening-state .ensures) (c .before .before .before .before .before .before .before .run .ensures) _ _ (c .probed .ensures)
 
 pub bench-run-spec : {M : Type 1} → statement M
 bench-run-spec =

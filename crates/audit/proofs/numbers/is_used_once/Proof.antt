@@ -32,7 +32,7 @@ wide-requires : tie.Need-wide-requires Inv-loop μ-loop
 wide-requires c κs = search needs
 
 array-read-if1 : tie.Need-array-read-if1 Inv-loop μ-loop
-array-read-if1 c = omega (arith, mod-lt (c .wide .result) {m = 16_384} (omega arith))
+array-read-if1 c = omega (arith, mod-lt (c .wide .result) {m = 4_096} (omega arith))
 
 is-fresh-requires : tie.Need-is-fresh-requires Inv-loop μ-loop
 is-fresh-requires c κs = (omega arith, c .before .before .before .before .before .before .pre)
@@ -45,17 +45,17 @@ loop-less c = omega arith
 
 loop-again : tie.Need-loop-again Inv-loop μ-loop
 loop-again c =
-    (omega arith, marked-fresh (c .before .before .before .before .before .before .before .before .pre) (c .before .before .before .before .before .before .loop .inv .1) (c .before .before .before .before .before .before .loop .left - 1) (omega arith) (c .before .before .before .before .before .before .loop .inv .0) (ap (λ (k : ℕ). k % 16_384) (c .before .before .before .wide .ensures)) (c .before .before .if1 .taken) (passed (c .before .is-fresh .ensures) (c .if2 .left)))
+    (omega arith, marked-fresh (c .before .before .before .before .before .before .before .before .pre) (c .before .before .before .before .before .before .loop .inv .1) (c .before .before .before .before .before .before .loop .left - 1) (omega arith) (c .before .before .before .before .before .before .loop .inv .0) (ap (λ (k : ℕ). k % 4_096) (c .before .before .before .wide .ensures)) (c .before .before .if1 .taken) (passed (c .before .is-fresh .ensures) (c .if2 .left)))
 
 array-write-marks : tie.Need-array-write-marks Inv-loop μ-loop
-array-write-marks c = omega (arith, mod-lt (c .before .wide .result) {m = 16_384} (omega arith))
+array-write-marks c = omega (arith, mod-lt (c .before .wide .result) {m = 4_096} (omega arith))
 
 loop-less-2 : tie.Need-loop-less-2 Inv-loop μ-loop
 loop-less-2 c = omega arith
 
 loop-again-2 : tie.Need-loop-again-2 Inv-loop μ-loop
 loop-again-2 c =
-    (omega arith, marked-new (c .before .before .before .before .before .before .pre) (c .before .before .before .before .loop .inv .1) (c .before .before .before .before .loop .left - 1) (omega arith) (c .before .before .before .before .loop .inv .0) (ap (λ (k : ℕ). k % 16_384) (c .before .wide .ensures)) (c .if1 .left))
+    (omega arith, marked-new (c .before .before .before .before .before .before .pre) (c .before .before .before .before .loop .inv .1) (c .before .before .before .before .loop .left - 1) (omega arith) (c .before .before .before .before .loop .inv .0) (ap (λ (k : ℕ). k % 4_096) (c .before .wide .ensures)) (c .if1 .left))
 
 returns-2 : tie.Need-returns-2 Inv-loop μ-loop
 returns-2 c = marked-all (c .before .loop .inv .1) (omega arith)
