@@ -23,7 +23,8 @@ use Rattle.rules.proofs.InUse.{length-used, used-holding}
 use Rattle.rules.proofs.Terms.{terms, terms-passed}
 use Rattle.invariants.proofs.Clauses.{holding-ok, listing-ok, trade-ok}
 use Rattle.invariants.proofs.MemoryRoom.{counts-ok, room-ok}
-use Rattle.audit.specs.Parts.{Booked, Ready, listing, replayed, tested}
+use Rattle.replaying.specs.Parts.{Booked}
+use Rattle.audit.specs.Parts.{Ready, listing, replayed, tested}
 use Rattle.audit.proofs.Chains.{Chain}
 
 -- ---- tests of every element
