@@ -1,3 +1,4 @@
+-- `dayprofit::profit::closing_legs` meets its contract: lots and value of the closing legs so far. Assumes nothing.
 use mathlib.Core.Path.{refl}
 use Prim.Native.Nat.{_-_}
 use native.Mathlib.Omega.{arith}

@@ -1,3 +1,4 @@
+-- `dayprofit::profit::is_leg` meets its contract: another contract, another party, another kind, or this leg. Assumes nothing.
 use Rattle.dayprofit.proofs.Legs.{other-contract, other-party, other-kind, this-leg}
 use borrow.Author.Needs.{needs}
 use Rattle.dayprofit.proofs.profit.is_leg.Statement.{statement}
@@ -8,31 +9,24 @@ use Rattle.dayprofit.proofs.profit.is_kind.Reads as is-kind-reads
 use Rattle.dayprofit.proofs.profit.mark.Reads as mark-reads
 use Rattle.dayprofit.proofs.profit.party.Reads as party-reads
 
--- src/profit.rt:72:8
 party-requires : tie.Need-party-requires
 party-requires c κs = search needs
 
--- src/profit.rt:73:9
 returns : tie.Need-returns
 returns c = other-party _ _ _ _ _ _ (c .before .party .ensures) (c .if1 .taken)
 
--- src/profit.rt:76:9
 returns-2 : tie.Need-returns-2
 returns-2 c = other-contract _ _ _ _ _ (c .if2 .taken)
 
--- src/profit.rt:78:17
 mark-requires : tie.Need-mark-requires
 mark-requires c κs = search needs
 
--- src/profit.rt:78:9
 is-kind-requires : tie.Need-is-kind-requires
 is-kind-requires c κs = search needs
 
--- src/profit.rt:79:9
 returns-3 : tie.Need-returns-3
 returns-3 c = other-kind _ _ _ _ _ _ _ _ (c .before .before .before .if2 .left) (c .before .before .before .before .before .before .party .ensures) (c .before .before .before .before .before .if1 .left) (c .before .before .mark .ensures) (c .before .is-kind .ensures) (c .if3 .taken)
 
--- src/profit.rt:69:1
 returns-4 : tie.Need-returns-4
 returns-4 c = this-leg _ _ _ _ _ _ _ _ (c .before .before .before .if2 .left) (c .before .before .before .before .before .before .party .ensures) (c .before .before .before .before .before .if1 .left) (c .before .before .mark .ensures) (c .before .is-kind .ensures) (c .if3 .left)
 

@@ -1,3 +1,4 @@
+-- `dayprofit::profit::opening_legs` meets its contract: lots and value of the opening legs so far, the first of them taken by closes. Assumes nothing.
 use mathlib.Core.Path.{refl}
 use Prim.Native.Nat.{_-_}
 use native.Mathlib.Omega.{arith}

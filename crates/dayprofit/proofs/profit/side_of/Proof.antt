@@ -1,3 +1,4 @@
+-- `dayprofit::profit::side_of` meets its contract: the parts of one side's profit, each of which fits. Assumes nothing.
 use Rattle.dayprofit.proofs.Gains.{first-fits, kept-fits, closed-fits, opened-fits, side-is}
 use borrow.Author.Needs.{needs}
 use Rattle.dayprofit.proofs.profit.side_of.Statement.{statement}
@@ -8,55 +9,42 @@ use Rattle.laws.proofs.smaller.Reads as smaller-reads
 use Rattle.dayprofit.proofs.profit.closing_legs.Reads as closing-legs-reads
 use Rattle.dayprofit.proofs.profit.opening_legs.Reads as opening-legs-reads
 
--- src/profit.rt:131:9
 closing-legs-requires : tie.Need-closing-legs-requires
 closing-legs-requires c κs = search needs
 
--- src/profit.rt:133:9
 smaller-requires : tie.Need-smaller-requires
 smaller-requires c κs = search needs
 
--- src/profit.rt:134:16
 sub-kept : tie.Need-sub-kept
 sub-kept c = search needs
 
--- src/profit.rt:135:56
 sub-opening-legs : tie.Need-sub-opening-legs
 sub-opening-legs c = search needs
 
--- src/profit.rt:135:9
 opening-legs-requires : tie.Need-opening-legs-requires
 opening-legs-requires c κs = search needs
 
--- src/profit.rt:142:25
 cast-t18 : tie.Need-cast-t18
 cast-t18 c = search needs
 
--- src/profit.rt:142:17
 mul-t19 : tie.Need-mul-t19
 mul-t19 c = first-fits _ _ _ _ _ _ _ (c .before .before .closing-legs .ensures) (c .before .smaller .ensures) (c .opening-legs .ensures) (c .before .before .before .before .pre .1) (c .before .before .before .before .pre .2)
 
--- src/profit.rt:142:17
 add-t20 : tie.Need-add-t20
 add-t20 c = closed-fits _ _ _ _ _ _ _ (c .before .before .closing-legs .ensures) (c .before .smaller .ensures) (c .opening-legs .ensures) (c .before .before .before .before .pre .1) (c .before .before .before .before .pre .2)
 
--- src/profit.rt:143:15
 add-t17 : tie.Need-add-t17
 add-t17 c = search needs
 
--- src/profit.rt:144:25
 cast-t21 : tie.Need-cast-t21
 cast-t21 c = search needs
 
--- src/profit.rt:144:17
 mul-t22 : tie.Need-mul-t22
 mul-t22 c = kept-fits _ _ _ _ _ _ _ (c .before .before .closing-legs .ensures) (c .before .smaller .ensures) (c .opening-legs .ensures) (c .before .before .before .before .pre .1) (c .before .before .before .before .pre .2)
 
--- src/profit.rt:144:17
 add-t23 : tie.Need-add-t23
 add-t23 c = opened-fits _ _ _ _ _ _ _ (c .before .before .closing-legs .ensures) (c .before .smaller .ensures) (c .opening-legs .ensures) (c .before .before .before .before .pre .1) (c .before .before .before .before .pre .2)
 
--- src/profit.rt:127:1
 returns : tie.Need-returns
 returns c = side-is _ _ _ _ _ _ _ (c .before .before .closing-legs .ensures) (c .before .smaller .ensures) (c .opening-legs .ensures) (c .before .before .before .before .pre .1) (c .before .before .before .before .pre .2)
 

@@ -22,55 +22,42 @@ use Rattle.exchange.proofs.step.step_at.Reads as step-at-reads
 sound : (c : tie.Else1) → wellFormedMemory (memory (c .before .before .before .before .before .before .before .before .args .state) (now (c .before .before .before .before .before .before .before .before .args .buys)) (now (c .before .before .before .before .before .before .before .before .args .sells)) (now (c .before .before .before .before .before .before .before .before .args .trades))) ≡ true
 sound c = sym (c .before .well-formed .ensures) ∙ not-false (c .before .well-formed .result) (c .if1 .left)
 
--- src/execute.rt:22:9
 well-formed-requires : tie.Need-well-formed-requires
 well-formed-requires c κs = search needs
 
--- src/execute.rt:23:32
 refused-requires : tie.Need-refused-requires
 refused-requires c κs = search needs
 
--- src/execute.rt:23:9
 plain-requires : tie.Need-plain-requires
 plain-requires c κs = search needs
 
--- src/execute.rt:23:9
 same-length : tie.Need-same-length
 same-length c = search needs
 
--- src/execute.rt:23:9
 same-length-2 : tie.Need-same-length-2
 same-length-2 c = search needs
 
--- src/execute.rt:23:9
 same-length-3 : tie.Need-same-length-3
 same-length-3 c = search needs
 
--- src/execute.rt:23:9
 returns : tie.Need-returns
 returns c = executed-refused _ _ _ _ _ (c .before .refused .result) (sym (c .before .before .before .well-formed .ensures) ∙ not-true (c .before .before .before .well-formed .result) (c .before .before .if1 .taken)) (c .before .refused .ensures) (c .plain .ensures)
 
--- src/execute.rt:25:47
 slice-aggregate-step-at : tie.Need-slice-aggregate-step-at
 slice-aggregate-step-at c = search needs
 
--- src/execute.rt:25:5
 step-at-requires : tie.Need-step-at-requires
 step-at-requires c κs = (record { declared = declared (c .before .before .before .before .before .before .before .before .before .before .before .before .good .0); formed = sound (c .before .before .before .before) }, (let e : length (c .before .before .before .before .before .before .before .before .before .before .before .before .args .t5) ≡ 24 = search needs in omega arith))
 
--- src/execute.rt:13:1
 same-length-4 : tie.Need-same-length-4
 same-length-4 c = search needs
 
--- src/execute.rt:13:1
 same-length-5 : tie.Need-same-length-5
 same-length-5 c = search needs
 
--- src/execute.rt:13:1
 same-length-6 : tie.Need-same-length-6
 same-length-6 c = search needs
 
--- src/execute.rt:13:1
 returns-2 : tie.Need-returns-2
 returns-2 c = executed _ _ (sound (c .before .before .before .before .before .before .before .before .before .before .before)) (c .before .before .before .before .before .before .step-at .ensures)
 

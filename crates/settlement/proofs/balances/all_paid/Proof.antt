@@ -1,3 +1,4 @@
+-- `settlement::balances::all_paid` meets its contract: the accounts so far are paid. Assumes nothing.
 use Prim.Native.Nat.{_-_}
 use native.Mathlib.Omega.{arith}
 use Rattle.settlement.proofs.Carrying.{Paying, paying-none, closing-reach, holding-reach, paying-more, paying-done}
@@ -14,23 +15,18 @@ Inv-loop trades prices state contracts count accounts₀ closing₀ holding₀ a
 abbrev μ-loop : tie.MeasureT-loop
 μ-loop trades prices state contracts count accounts₀ closing₀ holding₀ a₀ accounts closing holding a = count - a
 
--- src/balances.rt:110:5
 loop-holds : tie.Need-loop-holds Inv-loop μ-loop
 loop-holds c = paying-none _ _ _
 
--- src/balances.rt:111:23
 mul-account : tie.Need-mul-account Inv-loop μ-loop
 mul-account c = omega arith
 
--- src/balances.rt:111:23
 element-copy-out-account : tie.Need-element-copy-out-account Inv-loop μ-loop
 element-copy-out-account c = omega arith
 
--- src/balances.rt:112:13
 total-requires : tie.Need-total-requires Inv-loop μ-loop
 total-requires c κs = c .before .before .before .before .before .pre .each _ (c .before .loop-test .taken)
 
--- src/balances.rt:115:23
 paid-requires : tie.Need-paid-requires Inv-loop μ-loop
 paid-requires c κs = (
   c .before .before .before .before .before .before .before .before .pre .contracts,
@@ -39,43 +35,33 @@ paid-requires c κs = (
   holding-reach _ _ _ (c .before .before .before .before .before .before .before .before .pre) _ _ _ _ (c .before .before .before .before .before .loop .inv) _ (c .before .before .total .ensures),
 )
 
--- src/balances.rt:115:9
 mul-accounts : tie.Need-mul-accounts Inv-loop μ-loop
 mul-accounts c = omega arith
 
--- src/balances.rt:115:9
 array-set-from-accounts : tie.Need-array-set-from-accounts Inv-loop μ-loop
 array-set-from-accounts c = omega arith
 
--- src/balances.rt:116:9
 mul-closing : tie.Need-mul-closing Inv-loop μ-loop
 mul-closing c = omega arith
 
--- src/balances.rt:116:9
 array-set-from-closing : tie.Need-array-set-from-closing Inv-loop μ-loop
 array-set-from-closing c = omega arith
 
--- src/balances.rt:117:9
 mul-holding : tie.Need-mul-holding Inv-loop μ-loop
 mul-holding c = omega arith
 
--- src/balances.rt:117:9
 array-set-from-holding : tie.Need-array-set-from-holding Inv-loop μ-loop
 array-set-from-holding c = omega arith
 
--- src/balances.rt:118:9
 add-a : tie.Need-add-a Inv-loop μ-loop
 add-a c = omega arith
 
--- src/balances.rt:110:5
 loop-less : tie.Need-loop-less Inv-loop μ-loop
 loop-less c = omega arith
 
--- src/balances.rt:110:5
 loop-again : tie.Need-loop-again Inv-loop μ-loop
 loop-again c = paying-more _ _ _ (c .before .before .before .before .before .before .before .before .before .pre) _ _ _ _ (c .before .before .before .before .before .before .loop .inv) _ (c .before .before .before .total .ensures) (c .before .before .before .before .before .loop-test .taken) _ (c .paid .ensures)
 
--- src/balances.rt:100:1
 returns : tie.Need-returns Inv-loop μ-loop
 returns c = paying-done _ _ _ (c .before .before .before .before .pre) _ _ _ _ (c .before .loop .inv) (c .loop-test .left)
 
