@@ -23,7 +23,8 @@ use Rattle.rules.proofs.InUse.{length-used, used-holding}
 use Rattle.rules.proofs.Terms.{terms, terms-passed}
 use Rattle.invariants.proofs.Clauses.{holding-ok, trade-ok}
 use Rattle.invariants.proofs.MemoryRoom.{counts-ok, room-ok}
-use Rattle.audit.specs.Parts.{Booked, Ready, listing, replayed, tested, listingInRange}
+use Rattle.replaying.specs.Parts.{Booked}
+use Rattle.audit.specs.Parts.{Ready, listing, listingInRange, replayed, tested}
 use Rattle.audit.proofs.Chains.{Chain}
 use Rattle.audit.proofs.Clauses.{listing-tested}
 use Rattle.audit.proofs.Walked.{walked}

@@ -73,10 +73,3 @@ tested contracts n accounts next =
 -- accounts and a day's trades alone, for the replay
 abbrev pub replayed : List Account → List Trade → Exchange
 replayed accounts trades = record { listings = []; accounts = accounts; trades = trades; next = 0; nextstamp = 1; settlements = 0 }
-
--- a trade of contracts and accounts in use, of no more lots than an order has
-pub record Booked (contracts accounts : ℕ) (t : Trade) : Type 0 where
-  pub contract : t .contract < contracts
-  pub buyer : t .buyer < accounts
-  pub seller : t .seller < accounts
-  pub lots : t .lots ≤ 1_000

@@ -19,7 +19,7 @@ use Rattle.rules.specs.declared.State.{State}
 use Rattle.rules.specs.declared.Trade.{Trade}
 use Rattle.dayprofit.specs.Day.{Priceable, SizedTrades}
 use Rattle.settlement.specs.Settling.{AllPayable, contractIn}
-use Rattle.audit.specs.Parts.{Booked}
+use Rattle.replaying.specs.Parts.{Booked}
 use Rattle.clients.specs.Parts.{clientsWith}
 use Rattle.clients.specs.Clients.{Clients, clientAccount, clientExchange, inRow, legCount, neverClosesMore, startsAddUp, tradePosted}
 use Rattle.statements.specs.Statement.{holdingBytes, profitBytes, section, statementOf, tradesBytes}

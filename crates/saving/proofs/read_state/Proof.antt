@@ -1,5 +1,5 @@
 -- `read_state` meets its contract: the refusals in their order, then the state. Assumes nothing.
-use Rattle.audit.proofs.Chains.{passed, refused}
+use Rattle.laws.specs.Tests.{passed, refused}
 use Rattle.engine.proofs.Declared.{declared}
 use Rattle.saving.proofs.Loads.{formed-20, loaded-0, marks-20, misshapen-20, room-29, totals-30}
 use Rattle.saving.proofs.Shapes.{count-ready, shaped-laid, shaped-long}

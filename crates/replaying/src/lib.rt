@@ -1,14 +1,14 @@
-// The day's trades replayed over what the clients held at its start. For our own crates: it asks for trades of contracts in use and of the
-// clients or the others, and for starting lots that no day's trades lift past their width.
+// The day's trades replayed over accounts, for the test of a state and for an account's clients. For our own crates: it asks for
+// trades of contracts and accounts in use, and for holdings that no day's trades lift past their width.
 ghost use mathlib.Core.List.{[], _∷_};
 ghost use mathlib.Core.Path.{_≡_};
 ghost use Prim.Native.Nat.{_<_};
 ghost use Rattle.rules.specs.Holdings.{legCovered};
-ghost use Rattle.clients.specs.Parts.{Replayable, ReplayIs};
+ghost use Rattle.replaying.specs.Parts.{Replayable, ReplayIs};
 use book::trades;
 use rules::Account;
 
-// What the clients hold afterwards, and whether each close found its lots; where one did not, the accounts are those given.
+// What the accounts hold afterwards, and whether each close found its lots; where one did not, the accounts are those given.
 pub struct Held {
     pub accounts: [Account; rules::MAX_ACCOUNTS],
     pub covered: bool,
@@ -32,11 +32,12 @@ fn is_covered(a: Account, c: usize, sell: bool, close: u32, lots: u32) -> bool
 pub fn replay(
     accounts: [Account; rules::MAX_ACCOUNTS],
     contracts: usize,
+    holders: usize,
     area: &[u32],
     count: usize,
 ) -> Held
-    requires { ⌜ Replayable accounts contracts (now area) count ⌝ }
-    ensures { λ r. ⌜ ReplayIs accounts contracts (now (area .entry)) count r ⌝ }
+    requires { ⌜ Replayable accounts contracts holders (now area) count ⌝ }
+    ensures { λ r. ⌜ ReplayIs accounts contracts holders (now (area .entry)) count r ⌝ }
 {
     let mut held = accounts;
     let mut i: usize = 0;

@@ -1,35 +1,32 @@
--- `replay::replay` meets its contract. What the loop keeps is `Going`, as in the replay that tests a state. Assumes nothing.
+-- `replaying::replay` meets its contract. What the loop keeps is `Going`: what the trades from i on make of the holdings decides the
+-- answer. The measure is the number of trades not yet replayed. Assumes nothing.
 use mathlib.Core.Path.{refl}
 use Prim.Native.Nat.{_-_, _<_}
 use native.Mathlib.Omega.{arith}
 use borrow.Author.Needs.{needs}
 use lib.ListN.{set}
 use Rattle.laws.specs.Lists.{unmapped}
-use Rattle.audit.specs.Parts.{Booked}
-use Rattle.audit.proofs.Chains.{passed, refused}
-use Rattle.audit.proofs.Replaying.{Bought, buyer-booked, buyer-fits, going-first, seller-booked, seller-fits, trade-read}
-use Rattle.clients.proofs.Replaying.{Booking, buyer-below, seller-below, trade-booked, all-covered}
-use Rattle.clients.proofs.replay.replay.Statement.{statement}
-use Rattle.clients.proofs.replay.replay.Tie as tie
+use Rattle.replaying.specs.Parts.{Booked}
+use Rattle.laws.specs.Tests.{passed, refused}
+use Rattle.replaying.proofs.Turns.{Bought, Going, all-covered, buyer-booked, buyer-fits, buyer-short, going-first, seller-booked, seller-fits, seller-short, trade-read}
+use Rattle.replaying.proofs.replay.Statement.{statement}
+use Rattle.replaying.proofs.replay.Tie as tie
 
 abbrev Inv-loop : tie.InvT-loop
-Inv-loop accounts contracts area count held₀ i₀ held i = Booking held₀ contracts area count held i
+Inv-loop accounts contracts holders area count held₀ i₀ held i = Going held₀ contracts holders area count held i
 
 abbrev μ-loop : tie.MeasureT-loop
-μ-loop accounts contracts area count held₀ i₀ held i = count - i
+μ-loop accounts contracts holders area count held₀ i₀ held i = count - i
 
 loop-holds : tie.Need-loop-holds Inv-loop μ-loop
 loop-holds c =
-    record {
-      going = going-first (omega arith) (c .before .pre .trades) (search (needs, unmapped)) (c .before .pre .start) (c .before .pre .starts);
-      whole = refl;
-    }
+    going-first (c .before .pre .fit) (c .before .pre .trades) (search (needs, unmapped)) (c .before .pre .held)
 
 trade-at-requires : tie.Need-trade-at-requires Inv-loop μ-loop
 trade-at-requires c κs = omega (arith, c .before .before .before .pre .room, c .loop-test .taken)
 
 -- the trade read is of contracts and accounts in use
-trade : (c : tie.After-trade-at Inv-loop μ-loop) → Booked (c .before .before .before .before .args .contracts) 17 (c .trade-at .result)
+trade : (c : tie.After-trade-at Inv-loop μ-loop) → Booked (c .before .before .before .before .args .contracts) (c .before .before .before .before .args .holders) (c .trade-at .result)
 trade c = trade-read _ _ _ (c .before .loop-test .taken) (c .trade-at .ensures) (c .before .before .before .before .pre .each _ (c .before .loop-test .taken))
 
 wide-requires : tie.Need-wide-requires Inv-loop μ-loop
@@ -42,7 +39,7 @@ contract : (c : tie.After-wide Inv-loop μ-loop) → c .wide .result < 4
 contract c = omega (arith, c .wide .ensures, trade (c .before) .contract, c .before .before .before .before .before .pre .few)
 
 buyer : (c : tie.After-wide2 Inv-loop μ-loop) → c .wide2 .result < 32
-buyer c = omega (arith, c .wide2 .ensures, trade (c .before .before) .buyer)
+buyer c = omega (arith, c .wide2 .ensures, trade (c .before .before) .buyer, c .before .before .before .before .before .before .pre .fit)
 
 mul-is-covered : tie.Need-mul-is-covered Inv-loop μ-loop
 mul-is-covered c = omega (arith, buyer c)
@@ -55,7 +52,7 @@ is-covered-requires c κs = contract (c .before .before)
 
 returns : tie.Need-returns Inv-loop μ-loop
 returns c =
-    buyer-below (c .before .before .before .before .before .before .before .loop .inv .going) (c .before .before .before .before .before .before .loop-test .taken) (c .before .before .before .before .before .trade-at .ensures) (trade (c .before .before .before .before .before)) (c .before .before .before .wide2 .ensures) (c .before .before .before .before .wide .ensures) (refused (c .before .is-covered .ensures) (c .if1 .taken))
+    buyer-short (c .before .before .before .before .before .before .before .loop .inv) (c .before .before .before .before .before .before .loop-test .taken) (c .before .before .before .before .before .trade-at .ensures) (trade (c .before .before .before .before .before)) (c .before .before .before .wide2 .ensures) (c .before .before .before .before .wide .ensures) (refused (c .before .is-covered .ensures) (c .if1 .taken))
 
 mul-book-leg : tie.Need-mul-book-leg Inv-loop μ-loop
 mul-book-leg c = omega (arith, buyer (c .before .before .before))
@@ -65,7 +62,7 @@ array-copy-out-book-leg c = buyer (c .before .before .before)
 
 book-leg-requires : tie.Need-book-leg-requires Inv-loop μ-loop
 book-leg-requires c κs =
-    (contract (c .before .before .before .before .before), trade (c .before .before .before .before .before .before) .lots, buyer-fits (c .before .before .before .before .before .before .before .before .loop .inv .going) (c .before .before .before .before .before .before .before .loop-test .taken) (c .before .before .before .before .before .before .trade-at .ensures) (trade (c .before .before .before .before .before .before)) (c .before .before .before .before .wide2 .ensures) (c .before .before .before .before .before .wide .ensures))
+    (contract (c .before .before .before .before .before), trade (c .before .before .before .before .before .before) .lots, buyer-fits (c .before .before .before .before .before .before .before .before .loop .inv) (c .before .before .before .before .before .before .before .loop-test .taken) (c .before .before .before .before .before .before .trade-at .ensures) (trade (c .before .before .before .before .before .before)) (c .before .before .before .before .wide2 .ensures) (c .before .before .before .before .before .wide .ensures))
 
 mul-held : tie.Need-mul-held Inv-loop μ-loop
 mul-held c = omega (arith, buyer (c .before .before .before .before .before))
@@ -77,14 +74,14 @@ wide-requires-3 : tie.Need-wide-requires-3 Inv-loop μ-loop
 wide-requires-3 c κs = search needs
 
 seller : (c : tie.After-wide3 Inv-loop μ-loop) → c .wide3 .result < 32
-seller c = omega (arith, c .wide3 .ensures, trade (c .before .before .before .before .before .before .before .before) .seller)
+seller c = omega (arith, c .wide3 .ensures, trade (c .before .before .before .before .before .before .before .before) .seller, c .before .before .before .before .before .before .before .before .before .before .before .before .pre .fit)
 
 -- between the two legs
 bought : (c : tie.After-book-leg Inv-loop μ-loop)
     → let a = c .before .before .before .before .before .before .before .before .before .before .before .args in
-    Bought (a .accounts) (a .contracts) 17 (a .area .now) (a .count) (set (c .before .before .before .before .before .before .before .before .before .loop .held) (c .before .before .before .before .before .wide2 .result) (c .book-leg .result)) (c .before .before .before .before .before .before .before .before .before .loop .i) (c .before .before .before .before .before .before .before .trade-at .result)
+    Bought (a .accounts) (a .contracts) (a .holders) (a .area .now) (a .count) (set (c .before .before .before .before .before .before .before .before .before .loop .held) (c .before .before .before .before .before .wide2 .result) (c .book-leg .result)) (c .before .before .before .before .before .before .before .before .before .loop .i) (c .before .before .before .before .before .before .before .trade-at .result)
 bought c =
-    buyer-booked (c .before .before .before .before .before .before .before .before .before .loop .inv .going) (c .before .before .before .before .before .before .before .before .loop-test .taken) (c .before .before .before .before .before .before .before .trade-at .ensures) (trade (c .before .before .before .before .before .before .before)) (c .before .before .before .before .before .wide2 .ensures) (c .before .before .before .before .before .before .wide .ensures)
+    buyer-booked (c .before .before .before .before .before .before .before .before .before .loop .inv) (c .before .before .before .before .before .before .before .before .loop-test .taken) (c .before .before .before .before .before .before .before .trade-at .ensures) (trade (c .before .before .before .before .before .before .before)) (c .before .before .before .before .before .wide2 .ensures) (c .before .before .before .before .before .before .wide .ensures)
     (passed (c .before .before .before .is-covered .ensures) (c .before .before .if1 .left)) (c .book-leg .ensures)
 
 mul-is-covered-2 : tie.Need-mul-is-covered-2 Inv-loop μ-loop
@@ -98,7 +95,7 @@ is-covered-requires-2 c κs = contract (c .before .before .before .before .befor
 
 returns-2 : tie.Need-returns-2 Inv-loop μ-loop
 returns-2 c =
-    seller-below (bought (c .before .before .before .before)) (c .before .before .before .wide3 .ensures) (c .before .before .before .before .before .before .before .before .before .before .wide .ensures) (refused (c .before .is-covered2 .ensures) (c .if2 .taken))
+    seller-short (bought (c .before .before .before .before)) (c .before .before .before .wide3 .ensures) (c .before .before .before .before .before .before .before .before .before .before .wide .ensures) (refused (c .before .is-covered2 .ensures) (c .if2 .taken))
 
 mul-book-leg-2 : tie.Need-mul-book-leg-2 Inv-loop μ-loop
 mul-book-leg-2 c = omega (arith, seller (c .before .before .before))
@@ -126,10 +123,7 @@ loop-less c =
 
 loop-again : tie.Need-loop-again Inv-loop μ-loop
 loop-again c =
-    record {
-      going = seller-booked (bought (c .before .before .before .before .before .before)) (c .before .before .before .before .before .wide3 .ensures) (c .before .before .before .before .before .before .before .before .before .before .before .before .wide .ensures) (passed (c .before .before .before .is-covered2 .ensures) (c .before .before .if2 .left)) (c .book-leg2 .ensures);
-      whole = trade-booked (c .before .before .before .before .before .before .before .before .before .before .before .before .before .before .before .loop .inv) (c .before .before .before .before .before .before .before .before .before .before .before .before .before .before .loop-test .taken) (c .before .before .before .before .before .before .before .before .before .before .before .before .before .trade-at .ensures) (c .before .before .before .before .before .before .before .before .before .before .before .wide2 .ensures) (c .before .before .before .before .before .wide3 .ensures) (c .before .before .before .before .before .before .before .before .before .before .before .before .wide .ensures) (c .before .before .before .before .before .before .book-leg .ensures) (c .book-leg2 .ensures);
-    }
+    seller-booked (bought (c .before .before .before .before .before .before)) (c .before .before .before .before .before .wide3 .ensures) (c .before .before .before .before .before .before .before .before .before .before .before .before .wide .ensures) (passed (c .before .before .before .is-covered2 .ensures) (c .before .before .if2 .left)) (c .book-leg2 .ensures)
 
 returns-3 : tie.Need-returns-3 Inv-loop μ-loop
 returns-3 c = all-covered (c .before .loop .inv) (c .loop-test .left)

@@ -1,10 +1,10 @@
--- `audit::replay::is_covered` meets its contract: an open needs no cover, a close what its side holds. Assumes nothing.
+-- `replaying::is_covered` meets its contract: an open needs no cover, a close what its side holds. Assumes nothing.
 use borrow.Author.Needs.{needs}
 use borrow.Author.Tests.{eq-eqb, ne-eqb}
 use Rattle.rules.specs.Exchange.{accountAt, holdingAt}
 use Rattle.rules.specs.Holdings.{legCovered}
-use Rattle.audit.proofs.replay.is_covered.Statement.{statement}
-use Rattle.audit.proofs.replay.is_covered.Tie as tie
+use Rattle.replaying.proofs.is_covered.Statement.{statement}
+use Rattle.replaying.proofs.is_covered.Tie as tie
 
 returns : tie.Need-returns
 unfolding legCovered holdingAt accountAt
