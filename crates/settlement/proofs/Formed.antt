@@ -139,13 +139,13 @@ module _ (m : Memory) (room : m .state .accountcount ≤ length (m .state .accou
       record {
         trades = sized-trades;
         placed = λ i li.
-          let l : i < length (exchangeOf m .trades) = omega (arith, length-trades (m .trades) (s .tradecount)) in
-          let f = trade-facts (exchangeOf m) _ (allOf-at (tradeInRange (exchangeOf m)) (exchangeOf m .trades) i noTrade (contents .trades) l) in
-          record {
-            contract = omega (arith, f .contract, contracts-in-use m, contracts-four);
-            buyer = omega (arith, f .buyer, accounts-counted, accounts-few);
-            seller = omega (arith, f .seller, accounts-counted, accounts-few);
-          };
+            let l : i < length (exchangeOf m .trades) = omega (arith, length-trades (m .trades) (s .tradecount)) in
+            let f = trade-facts (exchangeOf m) _ (allOf-at (tradeInRange (exchangeOf m)) (exchangeOf m .trades) i noTrade (contents .trades) l) in
+            record {
+              contract = omega (arith, f .contract, contracts-in-use m, contracts-four);
+              buyer = omega (arith, f .buyer, accounts-counted, accounts-few);
+              seller = omega (arith, f .seller, accounts-counted, accounts-few);
+            };
       }
 
   pub priceable : (c : ℕ) → c < s .contractcount

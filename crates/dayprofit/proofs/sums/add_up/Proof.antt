@@ -30,7 +30,7 @@ add-leg-requires-2 : tie.Need-add-leg-requires-2 Inv-loop μ-loop
 add-leg-requires-2 c κs = (
   sell-addable _ _ (c .before .before .before .before .before .before .before .before .before .before .before .before .before .before .before .pre .0) _ (c .before .before .before .before .before .before .before .before .before .before .loop-test .taken) _ (c .before .before .before .before .before .before .before .before .before .trade-at .ensures) (adding _) (c .before .before .before .before .before .before .before .before .before .before .before .loop .inv) (c .before .before .before .before .before .before .add-leg .ensures .0) (c .before .before .before .before .before .before .add-leg .ensures .1),
   sell-lots _ _ (c .before .before .before .before .before .before .before .before .before .before .before .before .before .before .before .pre .0) _ (c .before .before .before .before .before .before .before .before .before .before .loop-test .taken) _ (c .before .before .before .before .before .before .before .before .before .trade-at .ensures) _ (c .before .before .before .before .before .before .before .before .before .before .before .loop .inv)
-  (bought _ _ (c .before .before .before .before .before .before .before .before .before .before .before .before .before .before .before .pre .0) _ (c .before .before .before .before .before .before .before .before .before .before .loop-test .taken) _ (c .before .before .before .before .before .before .before .before .before .trade-at .ensures) (adding _) (c .before .before .before .before .before .before .before .before .before .before .before .loop .inv) (c .before .before .before .before .before .before .add-leg .ensures .0) (c .before .before .before .before .before .before .add-leg .ensures .1)),
+      (bought _ _ (c .before .before .before .before .before .before .before .before .before .before .before .before .before .before .before .pre .0) _ (c .before .before .before .before .before .before .before .before .before .before .loop-test .taken) _ (c .before .before .before .before .before .before .before .before .before .trade-at .ensures) (adding _) (c .before .before .before .before .before .before .before .before .before .before .before .loop .inv) (c .before .before .before .before .before .before .add-leg .ensures .0) (c .before .before .before .before .before .before .add-leg .ensures .1)),
 )
 
 add-i : tie.Need-add-i Inv-loop μ-loop
