@@ -15,11 +15,12 @@ use Rattle.laws.specs.Sums.{sumOf}
 use Rattle.rules.specs.Memory.{recordedTrades}
 use Rattle.rules.specs.Settlement.{Leg, Batch, dayStart, afterLegs, legs, firstLots, otherLots, holdingGain}
 use Rattle.rules.specs.declared.Holding.{Holding}
+use Rattle.rules.specs.declared.Trade.{Trade}
 use Rattle.accounting.specs.Article32.{lotsOf, AllCovered}
 use Rattle.accounting.proofs.DayProfit.{lots-other}
 use Rattle.dayprofit.specs.Day.{SizedTrades}
 use Rattle.dayprofit.specs.Sides.{closedLots, closedValue, openedToday, everOpen, cost, dayOver, Profitable, sideFrom, closingFrom, holdingFrom, SumsSmall, SideSmall, ProfitFrom}
-use Rattle.dayprofit.specs.Slots.{slotOf, SumsAre, UsedAre, sumsAt, DaySmall}
+use Rattle.dayprofit.specs.Slots.{slotOf, SumsAre, UsedAre, Rooms, sumsAt, DaySmall}
 use Rattle.dayprofit.specs.declared.profit.Profit.{Profit}
 use Rattle.dayprofit.specs.declared.profit.Side.{Side}
 use Rattle.dayprofit.specs.declared.profit.Sums.{Sums}
@@ -29,7 +30,7 @@ use Rattle.dayprofit.proofs.Passes.{lots-reach, value-reach}
 
 -- ---- a side's sums, by its legs: start-of-day lots go first
 
-pub record Summed (start : ℕ) (short : Bool) (ls : List Leg) (s : Sums) : Type 0 where
+pub record SideSummed (start : ℕ) (short : Bool) (ls : List Leg) (s : Sums) : Type 0 where
   pub closed : s .closed ≡ closedLots short ls
   pub closes : s .closes ≡ closedValue short ls
   pub opened : s .opened ≡ lotsOf (openedToday short ls)
@@ -52,7 +53,7 @@ module _ (reference start closed : ℕ) (bs : List Batch) where
   unfolding cost firstLots sumOf
   start-taken = refl
 
-module _ (reference start : ℕ) (short : Bool) (ls : List Leg) (s : Sums) (q : Summed start short ls s) where
+module _ (reference start : ℕ) (short : Bool) (ls : List Leg) (s : Sums) (q : SideSummed start short ls s) where
   abbrev ever : List Batch
   ever = everOpen reference start short ls
 
@@ -162,70 +163,74 @@ module _ (reference start : ℕ) (s t : Sums) (e : s ≡ t) (g : SumsSmall refer
 pub profit-from : (l l′ s s′ : Side) (price : ℕ) (r : Profit) → l ≡ l′ → s ≡ s′ → ProfitFrom l s price r → ProfitFrom l′ s′ price r
 profit-from l l′ s s′ price r e f w = subst (λ (x : Side). ProfitFrom x s′ price r) e (subst (λ (x : Side). ProfitFrom l x price r) f w)
 
--- ---- THE DAY'S PROFIT from the slots that the two passes leave is Article 32's
+-- ---- THE DAY'S PROFIT from the slots that the passes leave is Article 32's
 
--- the slots of the lots that closes took today
+-- the lots of today's that closes took on a side
 abbrev pub Due : List ℕ → List ℕ → ℕ → ℕ → Bool → ℕ → Type 0
-Due lots left a c short start = getD left (slotOf a c short false) 0 ≡ getD lots (slotOf a c (not short) true) 0 - start
+Due closed left a c short start = getD left (slotOf a c short) 0 ≡ getD closed (slotOf a c (not short)) 0 - start
 
-module _ (area : List ℕ) (count : ℕ) (lots value left used : List ℕ) (q : SumsAre (recordedTrades area count) lots value) (u : UsedAre (recordedTrades area count) left used)
+-- all that the passes leave of a day's trades
+pub record Summed (ts : List Trade) (closed closes opened opens left used : List ℕ) : Type 0 where
+  pub closing : SumsAre true ts closed closes
+  pub opening : SumsAre false ts opened opens
+  pub taken : UsedAre ts left used
+
+module _ (area : List ℕ) (count : ℕ) (closed closes opened opens left used : List ℕ) (q : Summed (recordedTrades area count) closed closes opened opens left used)
     (a c : ℕ) (la : a < 32) (lc : c < 4) where
   abbrev ls : List Leg
   ls = legs a c (recordedTrades area count)
 
-  summed : (short : Bool) (start : ℕ) → Due lots left a c short start → Summed start short ls (sumsAt lots value used a c short)
+  side-summed : (short : Bool) (start : ℕ) → Due closed left a c short start → SideSummed start short ls (sumsAt closed closes opened opens used a c short)
   unfolding closedLots closedValue
-  summed short start d =
-      let closed = q .lots-are a c (not short) true la lc in
+  side-summed short start d =
+      let lots = q .closing .lots-are a c (not short) la lc in
       record {
-        closed = closed;
-        closes = q .value-is a c (not short) true la lc;
-        opened = q .lots-are a c short false la lc ∙ sym (batches-lots short false ls);
-        opens = q .value-is a c short false la lc ∙ sym (batches-cost short false ls);
-        used = u .each a c short la lc ∙ ap (λ (n : ℕ). cost (firstLots n (openedToday short ls))) (d ∙ ap (λ (n : ℕ). n - start) closed);
+        closed = lots;
+        closes = q .closing .value-is a c (not short) la lc;
+        opened = q .opening .lots-are a c short la lc ∙ sym (batches-lots short false ls);
+        opens = q .opening .value-is a c short la lc ∙ sym (batches-cost short false ls);
+        used = q .taken .each a c short la lc ∙ ap (λ (n : ℕ). cost (firstLots n (openedToday short ls))) (d ∙ ap (λ (n : ℕ). n - start) lots);
       }
 
-  module _ (ref : ℕ) (h : Holding) (p : ℕ) (g : Profitable ref h a c area count p) (dl : Due lots left a c false (h .startlong)) (ds : Due lots left a c true (h .startshort)) where
-    in-reach : (short : Bool) (start : ℕ) → start ≤ 100_000 → closedLots short ls ≤ lotsOf (everOpen ref start short ls) → Due lots left a c short start
-        → SumsSmall ref start (sumsAt lots value used a c short)
+  module _ (ref : ℕ) (h : Holding) (p : ℕ) (g : Profitable ref h a c area count p) (dl : Due closed left a c false (h .startlong)) (ds : Due closed left a c true (h .startshort)) where
+    in-reach : (short : Bool) (start : ℕ) → start ≤ 100_000 → closedLots short ls ≤ lotsOf (everOpen ref start short ls) → Due closed left a c short start
+        → SumsSmall ref start (sumsAt closed closes opened opens used a c short)
     in-reach short start few covered d =
-        let w = summed short start d in
+        let w = side-summed short start d in
         record {
           reference = g .reference;
           first = few;
           covered = omega (arith, w .closed, w .opened, covered, start-lots ref start 0 (openedToday short ls));
-          opened = omega (arith, q .lots-are a c short false la lc, lots-reach area count (g .trades) count (omega arith) a c short false);
-          closes = omega (arith, q .value-is a c (not short) true la lc, value-reach area count (g .trades) count (omega arith) a c (not short) true);
-          opens = omega (arith, q .value-is a c short false la lc, value-reach area count (g .trades) count (omega arith) a c short false);
+          opened = omega (arith, q .opening .lots-are a c short la lc, lots-reach area count (g .trades) count (omega arith) a c short false);
+          closes = omega (arith, q .closing .value-is a c (not short) la lc, value-reach area count (g .trades) count (omega arith) a c (not short) true);
+          opens = omega (arith, q .opening .value-is a c short la lc, value-reach area count (g .trades) count (omega arith) a c short false);
           used = omega (arith, w .used, w .opens, first-other (closedLots short ls - start) (openedToday short ls));
         }
 
-    pub day-small : length lots ≡ 512 → length value ≡ 512 → length used ≡ 512 → DaySmall lots value used a c ref h p
-    day-small rl rv ru =
+    pub day-small : Rooms closed closes opened opens used → DaySmall closed closes opened opens used a c ref h p
+    day-small rooms =
         let sides = day-sides ref (h .startlong) (h .startshort) ls (g .covered) in
         record {
           account = la;
           contract = lc;
-          lots-room = rl;
-          value-room = rv;
-          used-room = ru;
+          rooms = rooms;
           long = in-reach false (h .startlong) (g .long) (sides .long .few) dl;
           short = in-reach true (h .startshort) (g .short) (sides .short .few) ds;
           marked = g .price;
         }
 
     abbrev longSide : Side
-    longSide = sideFrom ref (h .startlong) (sumsAt lots value used a c false)
+    longSide = sideFrom ref (h .startlong) (sumsAt closed closes opened opens used a c false)
 
     abbrev shortSide : Side
-    shortSide = sideFrom ref (h .startshort) (sumsAt lots value used a c true)
+    shortSide = sideFrom ref (h .startshort) (sumsAt closed closes opened opens used a c true)
 
     pub closing-by-slots : closingFrom longSide shortSide ≡ dayOver ref h a c (recordedTrades area count) .closing
     closing-by-slots =
         sym (closing-by-sides ref (h .startlong) (h .startshort) ls (g .covered) longSide shortSide
-        (side-is ref (h .startlong) false ls _ (summed false (h .startlong) dl)) (side-is ref (h .startshort) true ls _ (summed true (h .startshort) ds)))
+        (side-is ref (h .startlong) false ls _ (side-summed false (h .startlong) dl)) (side-is ref (h .startshort) true ls _ (side-summed true (h .startshort) ds)))
 
     pub holding-by-slots : holdingFrom p longSide shortSide ≡ holdingGain p (dayOver ref h a c (recordedTrades area count))
     holding-by-slots =
         sym (holding-by-sides ref (h .startlong) (h .startshort) ls (g .covered) longSide shortSide
-        (side-is ref (h .startlong) false ls _ (summed false (h .startlong) dl)) (side-is ref (h .startshort) true ls _ (summed true (h .startshort) ds)) p)
+        (side-is ref (h .startlong) false ls _ (side-summed false (h .startlong) dl)) (side-is ref (h .startshort) true ls _ (side-summed true (h .startshort) ds)) p)

@@ -26,6 +26,23 @@ use Rattle.dayprofit.proofs.FirstIn.{lots-append, cost-append}
 abbrev pub isKind : Bool → Bool → Bool → Bool → Bool
 isKind sell close s k = same sell s && same close k
 
+pub kind-itself : (s k : Bool) → isKind s k s k ≡ true
+kind-itself false false = refl
+kind-itself false true = refl
+kind-itself true false = refl
+kind-itself true true = refl
+
+pub says-open : (b : Bool) → b ≡ not (not b)
+says-open true = refl
+says-open false = refl
+
+-- what a test that was passed or failed says
+pub is-so : (r here : Bool) → r ≡ here → not r ≡ false → here ≡ true
+is-so r here e h = sym e ∙ says-open r ∙ ap not h
+
+pub is-not-so : (r here : Bool) → r ≡ here → not r ≡ true → here ≡ false
+is-not-so r here e h = sym e ∙ says-open r ∙ ap not h
+
 pick-times : (a : Bool) (p n : ℕ) → pick a (p * n) 0 ≡ p * pick a n 0
 pick-times true p n = refl
 pick-times false p n = omega arith

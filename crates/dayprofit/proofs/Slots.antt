@@ -1,140 +1,86 @@
 -- Sums in slots, as the passes over the day's trades keep them: a leg changes its own slot alone, so what is known of every slot by the
 -- legs so far is known with one trade more. Assumes nothing.
-use mathlib.Core.Bool.{Bool, true, false, not, _&&_, true≢false}
+use mathlib.Core.Bool.{Bool, true, false, not, _&&_}
 use mathlib.Core.List.{List, [], _∷_, _++_, append-nil, append-assoc}
 use mathlib.Core.Path.{_≡_, refl, sym, ap, _∙_, subst}
 use Prim.Native.Nat.{ℕ, _+_, _-_, _*_, _<_, _≤_, min}
 use native.Mathlib.Omega.{arith}
 use borrow.Author.Tests.{eqb-true, eqb-false}
 use lib.Dec.{eqb, leb}
-use lib.ListN.{length, getD, set, drop, replicate, length-set}
+use lib.ListN.{length, getD, set, drop, length-set}
 use lib.Seq.{getD-set-same, getD-set-other}
-use Rattle.laws.specs.Choice.{pick, either, both-true}
-use Rattle.laws.specs.Sums.{sumOf, sumOf-append}
+use Rattle.laws.specs.Choice.{pick, both-false}
+use Rattle.laws.specs.Sums.{sumOf}
 use Rattle.rules.specs.Memory.{recordedTrades, tradeFrom, tradeStride}
-use Rattle.rules.specs.Settlement.{Leg, leg, Batch, only, legs, buyLeg, sellLeg, firstLots}
+use Rattle.rules.specs.Settlement.{Leg, leg, only, legs}
 use Rattle.rules.specs.declared.Trade.{Trade}
 use Rattle.rules.proofs.Codecs.{trades-none}
-use Rattle.accounting.specs.Article32.{lotsOf}
 use Rattle.accounting.proofs.Trades.{legs-append}
-use Rattle.dayprofit.specs.Sides.{same, lotsIf, valueIf, batchIf, batchesOf, cost}
 use Rattle.dayprofit.specs.Day.{Sized}
-use Rattle.dayprofit.specs.Slots.{kindOf, slotOf, partyOf, closeOf, legSlot, Placed, Addable}
+use Rattle.dayprofit.specs.Sides.{same, valueIf}
+use Rattle.dayprofit.specs.Slots.{slotOf, partyOf, closeOf, legSlot, changed, Placed, Addable}
 use Rattle.dayprofit.proofs.Legs.{isKind}
 use Rattle.dayprofit.proofs.Trading.{more-trades}
 
 -- ---- two slots are apart
 
-kind-small : (s k : Bool) → kindOf s k < 4
-kind-small false false = omega arith
-kind-small false true = omega arith
-kind-small true false = omega arith
-kind-small true true = omega arith
+bit-small : (s : Bool) → pick s 1 0 < 2
+bit-small true = omega arith
+bit-small false = omega arith
 
-pub kind-itself : (s k : Bool) → isKind s k s k ≡ true
-kind-itself false false = refl
-kind-itself false true = refl
-kind-itself true false = refl
-kind-itself true true = refl
+bit-back : (s : Bool) → leb 1 (pick s 1 0) ≡ s
+bit-back true = refl
+bit-back false = refl
 
-same-one : (s t : Bool) → same s t ≡ true → t ≡ s
-same-one true t e = e
-same-one false true e = sym e
-same-one false false e = refl
+pub slot-small : (a c : ℕ) (s : Bool) → a < 32 → c < 4 → slotOf a c s < 256
+slot-small a c s la lc = omega (arith, bit-small s)
 
-pub kind-one : (s k s₀ k₀ : Bool) → isKind s k s₀ k₀ ≡ true → (s₀ ≡ s) × (k₀ ≡ k)
-kind-one s k s₀ k₀ e = let b = both-true (same s s₀) (same k k₀) e in (same-one s s₀ (b .0), same-one k k₀ (b .1))
-
--- the kind back from its number
-is-sell : (s k : Bool) → leb 2 (kindOf s k) ≡ s
-is-sell false false = refl
-is-sell false true = refl
-is-sell true false = refl
-is-sell true true = refl
-
-is-close : (s k : Bool) → either (eqb (kindOf s k) 1) (eqb (kindOf s k) 3) ≡ k
-is-close false false = refl
-is-close false true = refl
-is-close true false = refl
-is-close true true = refl
-
-pub slot-small : (a c : ℕ) (s k : Bool) → a < 32 → c < 4 → slotOf a c s k < 512
-slot-small a c s k la lc = omega (arith, kind-small s k)
-
-module _ (a c a₀ c₀ : ℕ) (s k s₀ k₀ : Bool) (lc : c < 4) (lc₀ : c₀ < 4) (e : slotOf a c s k ≡ slotOf a₀ c₀ s₀ k₀) where
+module _ (a c a₀ c₀ : ℕ) (s s₀ : Bool) (lc : c < 4) (lc₀ : c₀ < 4) (e : slotOf a c s ≡ slotOf a₀ c₀ s₀) where
   pub one-account : a₀ ≡ a
-  one-account = omega (arith, kind-small s k, kind-small s₀ k₀)
+  one-account = omega (arith, bit-small s, bit-small s₀)
 
   pub one-contract : c₀ ≡ c
-  one-contract = omega (arith, kind-small s k, kind-small s₀ k₀)
+  one-contract = omega (arith, bit-small s, bit-small s₀)
 
-  one-number : kindOf s k ≡ kindOf s₀ k₀
-  one-number = omega (arith, kind-small s k, kind-small s₀ k₀)
+  pub one-side : s₀ ≡ s
+  one-side =
+      let b : _≡_ {A = ℕ} (pick s₀ 1 0) (pick s 1 0) = omega (arith, bit-small s, bit-small s₀) in
+      sym (bit-back s₀) ∙ ap (leb 1) b ∙ bit-back s
 
-  pub one-kind : isKind s k s₀ k₀ ≡ true
-  one-kind =
-      let sells : s₀ ≡ s = sym (is-sell s₀ k₀) ∙ ap (leb 2) (sym one-number) ∙ is-sell s k in
-      let closes : k₀ ≡ k = sym (is-close s₀ k₀) ∙ ap (λ (n : ℕ). either (eqb n 1) (eqb n 3)) (sym one-number) ∙ is-close s k in
-      rw (sells, closes) (kind-itself s k)
+-- ---- what is told of a slot, on a side, by the legs so far: one number of each of two arrays
 
--- ---- what is told of a slot, of a kind, by the legs so far: one number of each of two arrays
-
-module _ (Told : ℕ → Bool → Bool → List Leg → ℕ → ℕ → Type 0) where
+module _ (Told : ℕ → Bool → List Leg → ℕ → ℕ → Type 0) where
   abbrev pub Tells : (ℕ → ℕ → List Leg) → List ℕ → List ℕ → Type 0
-  Tells legs us vs = (a c : ℕ) (s k : Bool) → a < 32 → c < 4 → Told (slotOf a c s k) s k (legs a c) (getD us (slotOf a c s k) 0) (getD vs (slotOf a c s k) 0)
+  Tells legs us vs = (a c : ℕ) (s : Bool) → a < 32 → c < 4 → Told (slotOf a c s) s (legs a c) (getD us (slotOf a c s) 0) (getD vs (slotOf a c s) 0)
 
-  -- a leg of another kind changes nothing
-  abbrev pub Passes : Bool → Bool → ℕ → ℕ → Type 0
-  Passes s₀ k₀ p n = (q : ℕ) (s k : Bool) (ls : List Leg) (u v : ℕ) → isKind s k s₀ k₀ ≡ false → Told q s k ls u v → Told q s k (ls ++ (leg s₀ k₀ p n ∷ [])) u v
+  -- one leg l more, of the account a₀ in the contract c₀: the slots us′ and vs′ afterwards
+  module _ (legs : ℕ → ℕ → List Leg) (a₀ c₀ : ℕ) (l : Leg) (us′ vs′ : List ℕ) where
+    abbrev Slot : ℕ → ℕ → Bool → List Leg → Type 0
+    Slot a c s ls = Told (slotOf a c s) s ls (getD us′ (slotOf a c s) 0) (getD vs′ (slotOf a c s) 0)
 
-  -- one leg more, at its slot q
-  module _ (legs : ℕ → ℕ → List Leg) (us vs : List ℕ) (w : Tells legs us vs) (a₀ c₀ : ℕ) (s₀ k₀ : Bool) (p n u v : ℕ) (la₀ : a₀ < 32) (lc₀ : c₀ < 4)
-      (room : length us ≡ 512) (room′ : length vs ≡ 512) (passes : Passes s₀ k₀ p n)
-      (mine : Told (slotOf a₀ c₀ s₀ k₀) s₀ k₀ (legs a₀ c₀ ++ (leg s₀ k₀ p n ∷ [])) u v) where
-    abbrev at : ℕ
-    at = slotOf a₀ c₀ s₀ k₀
-
-    abbrev Goal : ℕ → ℕ → Bool → Bool → List Leg → Type 0
-    Goal a c s k ls = Told (slotOf a c s k) s k ls (getD (set us at u) (slotOf a c s k) 0) (getD (set vs at v) (slotOf a c s k) 0)
-
-    own : Goal a₀ c₀ s₀ k₀ (legs a₀ c₀ ++ (leg s₀ k₀ p n ∷ []))
-    own =
-        let l : at < length us = omega (arith, slot-small a₀ c₀ s₀ k₀ la₀ lc₀) in
-        let l′ : at < length vs = omega (arith, slot-small a₀ c₀ s₀ k₀ la₀ lc₀) in
-        rw (getD-set-same us at u 0 l, getD-set-same vs at v 0 l′) mine
-
-    module _ (a c : ℕ) (s k : Bool) (la : a < 32) (lc : c < 4) where
-      elsewhere : (slotOf a c s k ≡ at → ⊥) → (ls : List Leg) → Told (slotOf a c s k) s k ls (getD us (slotOf a c s k) 0) (getD vs (slotOf a c s k) 0) → Goal a c s k ls
-      elsewhere apart ls t = rw (getD-set-other us at (slotOf a c s k) u 0 apart, getD-set-other vs at (slotOf a c s k) v 0 apart) t
-
-      here-kind : (b : Bool) → isKind s k s₀ k₀ ≡ b → c₀ ≡ c → a₀ ≡ a → Goal a c s k (legs a c ++ (leg s₀ k₀ p n ∷ []))
-      here-kind true e ec ea =
-          let kinds = kind-one s k s₀ k₀ e in
-          rw (← ea, ← ec, ← kinds .0, ← kinds .1) own
-      here-kind false e ec ea =
-          elsewhere (λ q. true≢false (sym (one-kind a c a₀ c₀ s k s₀ k₀ lc lc₀ q) ∙ e)) _ (passes _ s k (legs a c) _ _ e (w a c s k la lc))
-
-      here : (x y : Bool) → eqb c₀ c ≡ x → eqb a₀ a ≡ y → Goal a c s k (legs a c ++ only (x && y) (leg s₀ k₀ p n))
+    -- known where the leg is, and elsewhere
+    module _ (own : (s : Bool) → Slot a₀ c₀ s (legs a₀ c₀ ++ (l ∷ [])))
+        (others : (a c : ℕ) (s : Bool) → a < 32 → c < 4 → (a₀ ≡ a → c₀ ≡ c → ⊥) → Slot a c s (legs a c)) where
+      at-leg : (a c : ℕ) (s : Bool) → a < 32 → c < 4 → (x y : Bool) → eqb c₀ c ≡ x → eqb a₀ a ≡ y → Slot a c s (legs a c ++ only (x && y) l)
       unfolding only
-      here true true e f = here-kind (isKind s k s₀ k₀) refl (eqb-true c₀ c e) (eqb-true a₀ a f)
-      here true false e f =
-          rw (append-nil (legs a c)) (elsewhere (λ q. eqb-false a₀ a f (one-account a c a₀ c₀ s k s₀ k₀ lc lc₀ q)) _ (w a c s k la lc))
-      here false y e f =
-          rw (append-nil (legs a c)) (elsewhere (λ q. eqb-false c₀ c e (one-contract a c a₀ c₀ s k s₀ k₀ lc lc₀ q)) _ (w a c s k la lc))
+      at-leg a c s la lc true true e f =
+          subst (λ (i : ℕ). Slot i c s (legs i c ++ (l ∷ []))) (eqb-true a₀ a f) (subst (λ (i : ℕ). Slot a₀ i s (legs a₀ i ++ (l ∷ []))) (eqb-true c₀ c e) (own s))
+      at-leg a c s la lc true false e f = rw (append-nil (legs a c)) (others a c s la lc (λ p q. eqb-false a₀ a f p))
+      at-leg a c s la lc false y e f = rw (append-nil (legs a c)) (others a c s la lc (λ p q. eqb-false c₀ c e q))
 
-    pub tells-leg : Tells (λ a c. legs a c ++ only (eqb c₀ c && eqb a₀ a) (leg s₀ k₀ p n)) (set us at u) (set vs at v)
-    tells-leg a c s k la lc = here a c s k la lc (eqb c₀ c) (eqb a₀ a) refl refl
+      tells-leg : Tells (λ a c. legs a c ++ only (eqb c₀ c && eqb a₀ a) l) us′ vs′
+      tells-leg a c s la lc = at-leg a c s la lc (eqb c₀ c) (eqb a₀ a) refl refl
 
--- ---- a pass over the trades: what a leg at price p of n lots makes of its slot's two numbers u and v
+-- ---- a pass over the legs that close, or that open: what a leg at price p of n lots makes of its slot's two numbers u and v
 
-pub record Pass (Told : ℕ → Bool → Bool → List Leg → ℕ → ℕ → Type 0) (F G : ℕ → ℕ → ℕ → ℕ → ℕ) : Type 0 where
-  pub grows : (q : ℕ) (s k : Bool) (ls : List Leg) (u v p n : ℕ) → Told q s k ls u v → Told q s k (ls ++ (leg s k p n ∷ [])) (F u v p n) (G u v p n)
-  pub passes : (s₀ k₀ : Bool) (p n : ℕ) → Passes Told s₀ k₀ p n
-  pub below : (q : ℕ) (s k : Bool) (ls : List Leg) (u v : ℕ) → Told q s k ls u v → v ≤ sumOf (valueIf s k) ls
+pub record Pass (close : Bool) (Told : ℕ → Bool → List Leg → ℕ → ℕ → Type 0) (F G : ℕ → ℕ → ℕ → ℕ → ℕ) : Type 0 where
+  pub grows : (q : ℕ) (s : Bool) (ls : List Leg) (u v p n : ℕ) → Told q s ls u v → Told q s (ls ++ (leg s close p n ∷ [])) (F u v p n) (G u v p n)
+  pub passes : (q : ℕ) (s : Bool) (ls : List Leg) (u v : ℕ) (s₀ k₀ : Bool) (p n : ℕ) → isKind s close s₀ k₀ ≡ false → Told q s ls u v → Told q s (ls ++ (leg s₀ k₀ p n ∷ [])) u v
+  pub below : (q : ℕ) (s : Bool) (ls : List Leg) (u v : ℕ) → Told q s ls u v → v ≤ sumOf (valueIf s close) ls
 
-pub record Kept (Told : ℕ → Bool → Bool → List Leg → ℕ → ℕ → Type 0) (L : ℕ → ℕ → List Leg) (us vs : List ℕ) : Type 0 where
-  pub room : length us ≡ 512
-  pub room-too : length vs ≡ 512
+pub record Kept (Told : ℕ → Bool → List Leg → ℕ → ℕ → Type 0) (L : ℕ → ℕ → List Leg) (us vs : List ℕ) : Type 0 where
+  pub room : length us ≡ 256
+  pub room-too : length vs ≡ 256
   pub tells : Tells Told L us vs
 
 -- a trade's buy or sell leg, where it is the account's in the contract
@@ -145,38 +91,100 @@ party-known : (sell : Bool) (t : Trade) → Placed t → partyOf sell t < 32
 party-known true t h = h .seller
 party-known false t h = h .buyer
 
-module _ {Told : ℕ → Bool → Bool → List Leg → ℕ → ℕ → Type 0} {F G : ℕ → ℕ → ℕ → ℕ → ℕ} (pass : Pass Told F G) where
-  module _ {L : ℕ → ℕ → List Leg} {us vs : List ℕ} (w : Kept Told L us vs) (sell : Bool) (t : Trade) (h : Placed t) where
-    abbrev legAt : ℕ
-    legAt = legSlot sell t
+same-one : (k k₀ : Bool) → same k k₀ ≡ true → k₀ ≡ k
+same-one true k₀ e = e
+same-one false true e = sym e
+same-one false false e = refl
 
-    slot-told : Told legAt sell (closeOf sell t) (L (partyOf sell t) (t .contract)) (getD us legAt 0) (getD vs legAt 0)
-    slot-told = w .tells (partyOf sell t) (t .contract) sell (closeOf sell t) (party-known sell t h) (h .contract)
+other-side : (s s₀ k : Bool) → (s₀ ≡ s → ⊥) → isKind s k s₀ k ≡ false
+other-side true true k h = absurd (h refl)
+other-side true false k h = refl
+other-side false true k h = refl
+other-side false false k h = absurd (h refl)
+
+module _ {close : Bool} {Told : ℕ → Bool → List Leg → ℕ → ℕ → Type 0} {F G : ℕ → ℕ → ℕ → ℕ → ℕ} (pass : Pass close Told F G) where
+  module _ {L : ℕ → ℕ → List Leg} {us vs : List ℕ} (w : Kept Told L us vs) (sell : Bool) (t : Trade) (h : Placed t) where
+    abbrev at : ℕ
+    at = legSlot sell t
+
+    abbrev party : ℕ
+    party = partyOf sell t
+
+    known : party < 32
+    known = party-known sell t h
+
+    abbrev its : Leg
+    its = leg sell (closeOf sell t) (t .price) (t .lots)
+
+    slot-told : (s : Bool) → Told (slotOf party (t .contract) s) s (L party (t .contract)) (getD us (slotOf party (t .contract) s) 0) (getD vs (slotOf party (t .contract) s) 0)
+    slot-told s = w .tells party (t .contract) s known (h .contract)
 
     -- room for the leg's value, where no sum of a kind reaches two million millions
-    pub leg-addable : Sized t → ((a c : ℕ) (s k : Bool) → sumOf (valueIf s k) (L a c) ≤ 2_000_000_000_000) → Addable us vs legAt t
+    pub leg-addable : Sized t → ((a c : ℕ) (s : Bool) → sumOf (valueIf s close) (L a c) ≤ 2_000_000_000_000) → Addable us vs at t
     leg-addable z small =
         record {
           lots-room = w .room;
           value-room = w .room-too;
           placed = h;
           sized = z;
-          small = omega (arith, pass .below _ sell (closeOf sell t) _ _ _ slot-told, small (partyOf sell t) (t .contract) sell (closeOf sell t));
+          small = omega (arith, pass .below _ sell _ _ _ (slot-told sell), small party (t .contract) sell);
         }
 
+    -- a leg of the other kind changes nothing
+    leg-passed : same close (closeOf sell t) ≡ false → Tells Told (λ a c. L a c ++ legOf sell t a c) us vs
+    leg-passed e =
+        tells-leg Told L party (t .contract) its us vs (λ s. pass .passes _ s _ _ _ sell (closeOf sell t) _ _ (both-false (same s sell) _ e) (slot-told s))
+        (λ a c s la lc apart. w .tells a c s la lc)
+
+    -- one of the kind changes its slot
+    module _ (e : closeOf sell t ≡ close) where
+      abbrev us′ : List ℕ
+      us′ = set us at (F (getD us at 0) (getD vs at 0) (t .price) (t .lots))
+
+      abbrev vs′ : List ℕ
+      vs′ = set vs at (G (getD us at 0) (getD vs at 0) (t .price) (t .lots))
+
+      elsewhere : (a c : ℕ) (s : Bool) (ls : List Leg) → (slotOf a c s ≡ at → ⊥) → Told (slotOf a c s) s ls (getD us (slotOf a c s) 0) (getD vs (slotOf a c s) 0)
+          → Slot Told L party (t .contract) its us′ vs′ a c s ls
+      elsewhere a c s ls apart k = rw (getD-set-other us at (slotOf a c s) _ 0 apart, getD-set-other vs at (slotOf a c s) _ 0 apart) k
+
+      own-slot : Slot Told L party (t .contract) its us′ vs′ party (t .contract) sell (L party (t .contract) ++ (its ∷ []))
+      own-slot =
+          let l : at < length us = omega (arith, w .room, slot-small party (t .contract) sell known (h .contract)) in
+          let l′ : at < length vs = omega (arith, w .room-too, slot-small party (t .contract) sell known (h .contract)) in
+          rw (getD-set-same us at _ 0 l, getD-set-same vs at _ 0 l′, e) (pass .grows _ sell _ _ _ (t .price) (t .lots) (slot-told sell))
+
+      own : (s : Bool) → Slot Told L party (t .contract) its us′ vs′ party (t .contract) s (L party (t .contract) ++ (its ∷ []))
+      own s = by (eqb (slotOf party (t .contract) s) at) refl
+        where
+          by : (b : Bool) → eqb (slotOf party (t .contract) s) at ≡ b → Slot Told L party (t .contract) its us′ vs′ party (t .contract) s (L party (t .contract) ++ (its ∷ []))
+          by true q =
+              subst (λ (x : Bool). Slot Told L party (t .contract) its us′ vs′ party (t .contract) x (L party (t .contract) ++ (its ∷ [])))
+              (one-side party (t .contract) party (t .contract) s sell (h .contract) (h .contract) (eqb-true _ _ q)) own-slot
+          by false q =
+              elsewhere party (t .contract) s _ (eqb-false _ _ q)
+              (pass .passes _ s _ _ _ sell (closeOf sell t) _ _ (ap (λ (k : Bool). isKind s close sell k) e ∙ other-side s sell close (λ p. eqb-false _ _ q (ap (slotOf party (t .contract)) (sym p)))) (slot-told s))
+
+      leg-told : Tells Told (λ a c. L a c ++ legOf sell t a c) us′ vs′
+      leg-told =
+          tells-leg Told L party (t .contract) its us′ vs′ own
+          (λ a c s la lc apart. elsewhere a c s _ (λ q. apart (one-account a c party (t .contract) s sell lc (h .contract) q) (one-contract a c party (t .contract) s sell lc (h .contract) q)) (w .tells a c s la lc))
+
     -- one leg more
-    pub leg-more : (us′ vs′ : List ℕ) → us′ ≡ set us legAt (F (getD us legAt 0) (getD vs legAt 0) (t .price) (t .lots))
-        → vs′ ≡ set vs legAt (G (getD us legAt 0) (getD vs legAt 0) (t .price) (t .lots)) → Kept Told (λ a c. L a c ++ legOf sell t a c) us′ vs′
-    leg-more us′ vs′ e f =
-        rw (e, f)
-        (record {
-          room = length-set us legAt _ ∙ w .room;
-          room-too = length-set vs legAt _ ∙ w .room-too;
-          tells =
-              tells-leg Told L us vs (w .tells) (partyOf sell t) (t .contract) sell (closeOf sell t) (t .price) (t .lots) _ _ (party-known sell t h) (h .contract)
-              (w .room) (w .room-too) (pass .passes sell (closeOf sell t) (t .price) (t .lots))
-              (pass .grows _ sell (closeOf sell t) _ _ _ (t .price) (t .lots) slot-told);
-        })
+    pub leg-more : (xs ys : List ℕ) → xs ≡ changed (same close (closeOf sell t)) us at (F (getD us at 0) (getD vs at 0) (t .price) (t .lots))
+        → ys ≡ changed (same close (closeOf sell t)) vs at (G (getD us at 0) (getD vs at 0) (t .price) (t .lots)) → Kept Told (λ a c. L a c ++ legOf sell t a c) xs ys
+    leg-more xs ys p q = by (same close (closeOf sell t)) refl p q
+      where
+        by : (b : Bool) → same close (closeOf sell t) ≡ b → xs ≡ changed b us at (F (getD us at 0) (getD vs at 0) (t .price) (t .lots))
+            → ys ≡ changed b vs at (G (getD us at 0) (getD vs at 0) (t .price) (t .lots)) → Kept Told (λ a c. L a c ++ legOf sell t a c) xs ys
+        by true k e f =
+            rw (e, f)
+            (record {
+              room = length-set us at _ ∙ w .room;
+              room-too = length-set vs at _ ∙ w .room-too;
+              tells = leg-told (same-one close (closeOf sell t) k);
+            })
+        by false k e f = rw (e, f) (record { room = w .room; room-too = w .room-too; tells = leg-passed k })
 
 -- ---- the loop: the legs of the first i trades
 
@@ -195,30 +203,27 @@ more-legs area i t e a c =
     ∙ sym (legs-append a c (recordedTrades area i) (t ∷ []))
     ∙ ap (legs a c) (sym (more-trades area i t e))
 
-pub trade-more : {Told : ℕ → Bool → Bool → List Leg → ℕ → ℕ → Type 0} (area : List ℕ) (i : ℕ) (t : Trade) (us vs : List ℕ)
+pub trade-more : {Told : ℕ → Bool → List Leg → ℕ → ℕ → Type 0} (area : List ℕ) (i : ℕ) (t : Trade) (us vs : List ℕ)
     → t ≡ tradeFrom (drop (tradeStride * i) area) → Kept Told (λ a c. (legsTo area i a c ++ legOf false t a c) ++ legOf true t a c) us vs
     → Kept Told (legsTo area (i + 1)) us vs
 trade-more {Told} area i t us vs e w =
     record {
       room = w .room;
       room-too = w .room-too;
-      tells = λ a c s k la lc. subst (λ (ls : List Leg). Told (slotOf a c s k) s k ls (getD us (slotOf a c s k) 0) (getD vs (slotOf a c s k) 0)) (more-legs area i t e a c) (w .tells a c s k la lc);
+      tells = λ a c s la lc. subst (λ (ls : List Leg). Told (slotOf a c s) s ls (getD us (slotOf a c s) 0) (getD vs (slotOf a c s) 0)) (more-legs area i t e a c) (w .tells a c s la lc);
     }
 
 pub no-legs : (area : List ℕ) (a c : ℕ) → legsTo area 0 a c ≡ []
 unfolding legs
 no-legs area a c = rw trades-none
 
--- ---- a leg's slot, as the code finds it
+-- ---- as the code finds a leg's slot, and the lots that closes took beyond the start-of-day ones
 
 pub party-small : (sell : Bool) (t : Trade) → Placed t → (p a : ℕ) → p ≡ partyOf sell t → a ≡ p → a < 32
 party-small sell t h p a e f = rw (f, e) (party-known sell t h)
 
-pub leg-slot-is : (sell : Bool) (t : Trade) (p a c m : ℕ) → p ≡ partyOf sell t → a ≡ p → c ≡ t .contract → m ≡ pick sell (t .sellclose) (t .buyclose)
-    → slotOf a c sell (not (eqb m 0)) ≡ legSlot sell t
-leg-slot-is sell t p a c m e f g h = rw (f, e, g, h)
-
--- ---- lots that closes took beyond the start-of-day ones
+pub leg-slot-is : (sell : Bool) (t : Trade) (p a c : ℕ) → p ≡ partyOf sell t → a ≡ p → c ≡ t .contract → slotOf a c sell ≡ legSlot sell t
+leg-slot-is sell t p a c e f g = rw (f, e, g)
 
 pub due-is : (left lots : List ℕ) (o o′ k k′ m start : ℕ) → o ≡ o′ → k ≡ k′ → m ≡ min (getD lots k 0) start
     → set left o (getD lots k 0 - m) ≡ set left o′ (getD lots k′ 0 - start)

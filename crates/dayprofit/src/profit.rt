@@ -5,8 +5,7 @@ ghost use mathlib.Core.Bool.{true, false, not};
 ghost use mathlib.Core.Path.{_≡_};
 ghost use Prim.Native.Nat.{_<_, _≤_};
 ghost use lib.IntN.{pos, _-ℤ_};
-ghost use lib.ListN.{length};
-ghost use Rattle.dayprofit.specs.Slots.{sumsAt, DaySmall, DayFrom};
+ghost use Rattle.dayprofit.specs.Slots.{Rooms, sumsAt, DaySmall, DayFrom};
 ghost use Rattle.dayprofit.specs.Sides.{SumsSmall, sideFrom, SideSmall, ProfitFrom};
 use crate::sums;
 use rules::Holding;
@@ -36,24 +35,26 @@ pub struct Profit {
 
 // Sells close long lots and open short ones, buys the other way round.
 fn sums_at<'a>(
-    lots: &'a [u32],
-    value: &'a [u64],
+    closed: &'a [u32],
+    closes: &'a [u64],
+    opened: &'a [u32],
+    opens: &'a [u64],
     used: &'a [u64],
     a: usize,
     c: usize,
     short: bool,
 ) -> Sums
-    requires { ⌜ (a < 32) × (c < 4) × (length (now lots) ≡ 512) × (length (now value) ≡ 512) × (length (now used) ≡ 512) ⌝ }
-    ensures { λ r. ⌜ r ≡ sumsAt (now (lots .entry)) (now (value .entry)) (now (used .entry)) a c short ⌝ }
+    requires { ⌜ (a < 32) × (c < 4) × Rooms (now closed) (now closes) (now opened) (now opens) (now used) ⌝ }
+    ensures { λ r. ⌜ r ≡ sumsAt (now (closed .entry)) (now (closes .entry)) (now (opened .entry)) (now (opens .entry)) (now (used .entry)) a c short ⌝ }
 {
-    let closes = sums::slot(a, c, !short, true);
-    let opens = sums::slot(a, c, short, false);
+    let closing = sums::slot(a, c, !short);
+    let opening = sums::slot(a, c, short);
     Sums {
-        closed: lots[closes],
-        closes: value[closes],
-        opened: lots[opens],
-        opens: value[opens],
-        used: used[opens],
+        closed: closed[closing],
+        closes: closes[closing],
+        opened: opened[opening],
+        opens: opens[opening],
+        used: used[opening],
     }
 }
 
@@ -63,14 +64,15 @@ fn side_of(s: Sums, reference: u32, start: u32) -> Side
     ensures { λ r. ⌜ r ≡ sideFrom reference start s ⌝ }
 {
     let price = reference as u64;
+    let closed = s.closed;
     let used = s.used;
-    let first = laws::smaller(s.closed, start);
-    let closed = price * first as u64 + used;
+    let first = laws::smaller(closed, start);
+    let cost = price * first as u64 + used;
     Side {
         closes: s.closes,
-        closed,
-        lots: start + s.opened - s.closed,
-        opened: price * start as u64 + s.opens - closed,
+        closed: cost,
+        lots: start + s.opened - closed,
+        opened: price * start as u64 + s.opens - cost,
     }
 }
 
@@ -99,8 +101,10 @@ fn profit_of(long: Side, short: Side, price: u32) -> Profit
 
 // The account's profit in the contract, from the sums in its slots.
 pub fn profit_at<'a>(
-    lots: &'a [u32],
-    value: &'a [u64],
+    closed: &'a [u32],
+    closes: &'a [u64],
+    opened: &'a [u32],
+    opens: &'a [u64],
     used: &'a [u64],
     a: usize,
     c: usize,
@@ -108,18 +112,14 @@ pub fn profit_at<'a>(
     h: Holding,
     price: u32,
 ) -> Profit
-    requires { ⌜ DaySmall (now lots) (now value) (now used) a c reference h price ⌝ }
-    ensures { λ r. ⌜ DayFrom (now (lots .entry)) (now (value .entry)) (now (used .entry)) a c reference h price r ⌝ }
+    requires { ⌜ DaySmall (now closed) (now closes) (now opened) (now opens) (now used) a c reference h price ⌝ }
+    ensures { λ r. ⌜ DayFrom (now (closed .entry)) (now (closes .entry)) (now (opened .entry)) (now (opens .entry)) (now (used .entry)) a c reference h price r ⌝ }
 {
-    let long = side_of(
-        sums_at(lots, value, used, a, c, false),
-        reference,
-        h.startlong,
-    );
-    let short = side_of(
-        sums_at(lots, value, used, a, c, true),
-        reference,
-        h.startshort,
-    );
-    profit_of(long, short, price)
+    let long = sums_at(closed, closes, opened, opens, used, a, c, false);
+    let short = sums_at(closed, closes, opened, opens, used, a, c, true);
+    profit_of(
+        side_of(long, reference, h.startlong),
+        side_of(short, reference, h.startshort),
+        price,
+    )
 }

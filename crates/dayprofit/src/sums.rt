@@ -1,36 +1,33 @@
-// What the day's legs come to, of every account in every contract, in two passes over the trades: the lots and the value of each kind
-// of leg, then what those of today's lots that closes took were opened for. A sum stands in the slot of its account, contract and
-// kind. For our own crates: each function asks for the room of the trades and for values in the ranges of a well-formed state.
+// What the day's legs come to, of every account in every contract, by passes over the trades: the lots and the value of the legs that
+// close, and of those that open, then what the closed ones of today's lots were opened for. A sum stands in the slot of its account,
+// contract and side. For our own crates: each function asks for the room of the trades and for values in the ranges of a well-formed
+// state.
 ghost use mathlib.Core.Bool.{true, false, not};
 ghost use mathlib.Core.Path.{_≡_};
 ghost use Prim.Native.Nat.{_+_, _-_, _*_, _<_, _≤_, min};
 ghost use lib.ListN.{length, getD, set, replicate};
 ghost use Rattle.laws.specs.Choice.{pick};
 ghost use Rattle.rules.specs.Memory.{recordedTrades};
-ghost use Rattle.dayprofit.specs.Slots.{kindOf, slotOf, legSlot, Placed, PlacedTrades, Addable, SumsAre, UsedAre};
+ghost use Rattle.dayprofit.specs.Sides.{same};
+ghost use Rattle.dayprofit.specs.Slots.{slotOf, closeOf, legSlot, changed, Placed, PlacedTrades, Addable, SumsAre, UsedAre};
 use book::trades;
 use rules::Trade;
 
-// For 32 accounts, 4 contracts and 4 kinds of leg.
-pub const SLOTS: usize = 512;
+// For 32 accounts, 4 contracts, and buys and sells.
+pub const SLOTS: usize = 256;
 
-// Buy or sell, open or close.
-fn kind(sell: bool, close: bool) -> usize
-    ensures { λ r. ⌜ (r ≡ kindOf sell close) × (r < 4) ⌝ }
+fn side(sell: bool) -> usize
+    ensures { λ r. ⌜ (r ≡ pick sell 1 0) × (r < 2) ⌝ }
 {
-    if sell {
-        if close { 3 } else { 2 }
-    } else {
-        if close { 1 } else { 0 }
-    }
+    if sell { 1 } else { 0 }
 }
 
-// Where an account's legs of a kind in a contract are added up.
-pub fn slot(a: usize, c: usize, sell: bool, close: bool) -> usize
+// Where an account's buys or sells in a contract are added up.
+pub fn slot(a: usize, c: usize, sell: bool) -> usize
     requires { ⌜ (a < 32) × (c < 4) ⌝ }
-    ensures { λ r. ⌜ (r ≡ slotOf a c sell close) × (r < 512) ⌝ }
+    ensures { λ r. ⌜ (r ≡ slotOf a c sell) × (r < 256) ⌝ }
 {
-    16 * a + 4 * c + kind(sell, close)
+    8 * a + 2 * c + side(sell)
 }
 
 // The account of a trade's buy or sell leg.
@@ -47,21 +44,31 @@ fn mark(t: Trade, sell: bool) -> u32
     if sell { t.sellclose } else { t.buyclose }
 }
 
+// Whether that leg closes, or opens, as asked.
+fn is_kind(t: Trade, sell: bool, close: bool) -> bool
+    ensures { λ r. ⌜ r ≡ same close (closeOf sell t) ⌝ }
+{
+    let mark = mark(t, sell);
+    if close { mark != 0 } else { mark == 0 }
+}
+
 // Where that leg is added up.
 fn leg_slot(t: Trade, sell: bool) -> usize
     requires { ⌜ Placed t ⌝ }
-    ensures { λ r. ⌜ (r ≡ legSlot sell t) × (r < 512) ⌝ }
+    ensures { λ r. ⌜ (r ≡ legSlot sell t) × (r < 256) ⌝ }
 {
     let a = laws::wide(party(t, sell));
     let c = laws::wide(t.contract);
-    let close = mark(t, sell) != 0;
-    slot(a, c, sell, close)
+    slot(a, c, sell)
 }
 
-fn add_leg(lots: &mut [u32], value: &mut [u64], t: Trade, sell: bool)
+fn add_leg(lots: &mut [u32], value: &mut [u64], t: Trade, sell: bool, close: bool)
     requires { ⌜ Addable (now lots) (now value) (legSlot sell t) t × (getD (now lots) (legSlot sell t) 0 ≤ 2000000) ⌝ }
-    ensures { λ _. ⌜ (now (lots .exit) ≡ set (now (lots .entry)) (legSlot sell t) (getD (now (lots .entry)) (legSlot sell t) 0 + t .lots)) × (now (value .exit) ≡ set (now (value .entry)) (legSlot sell t) (getD (now (value .entry)) (legSlot sell t) 0 + t .price * t .lots)) ⌝ }
+    ensures { λ _. ⌜ (now (lots .exit) ≡ changed (same close (closeOf sell t)) (now (lots .entry)) (legSlot sell t) (getD (now (lots .entry)) (legSlot sell t) 0 + t .lots)) × (now (value .exit) ≡ changed (same close (closeOf sell t)) (now (value .entry)) (legSlot sell t) (getD (now (value .entry)) (legSlot sell t) 0 + t .price * t .lots)) ⌝ }
 {
+    if !is_kind(t, sell, close) {
+        return;
+    }
     let at = leg_slot(t, sell);
     let size = t.lots;
     let price = t.price as u64;
@@ -69,25 +76,39 @@ fn add_leg(lots: &mut [u32], value: &mut [u64], t: Trade, sell: bool)
     value[at] = value[at] + price * size as u64;
 }
 
-// First pass: the legs of each kind.
-pub fn add_up(area: &[u32], count: usize, lots: &mut [u32], value: &mut [u64])
-    requires { ⌜ PlacedTrades (now area) count × (now lots ≡ replicate 512 0) × (now value ≡ replicate 512 0) ⌝ }
-    ensures { λ _. ⌜ SumsAre (recordedTrades (now (area .entry)) count) (now (lots .exit)) (now (value .exit)) ⌝ }
+// The lots and the value of the legs that close, or that open.
+pub fn add_up(area: &[u32], count: usize, close: bool, lots: &mut [u32], value: &mut [u64])
+    requires { ⌜ PlacedTrades (now area) count × (now lots ≡ replicate 256 0) × (now value ≡ replicate 256 0) ⌝ }
+    ensures { λ _. ⌜ SumsAre close (recordedTrades (now (area .entry)) count) (now (lots .exit)) (now (value .exit)) ⌝ }
 {
     let mut i: usize = 0;
     while i < count {
         let t = trades::trade_at(area, i);
-        add_leg(lots, value, t, false);
-        add_leg(lots, value, t, true);
+        add_leg(lots, value, t, false, close);
+        add_leg(lots, value, t, true, close);
         i += 1;
     }
 }
 
-// Of the lots that are still to be taken in its slot, a leg gives as many as it has.
+// How many of today's lots the closes of a side took: start-of-day lots go first. Sells close long lots, buys short ones.
+pub fn put_due(closed: &[u32], left: &mut [u32], a: usize, c: usize, short: bool, start: u32)
+    requires { ⌜ (a < 32) × (c < 4) × (length (now closed) ≡ 256) × (length (now left) ≡ 256) ⌝ }
+    ensures { λ _. ⌜ now (left .exit) ≡ set (now (left .entry)) (slotOf a c short) (getD (now (closed .entry)) (slotOf a c (not short)) 0 - start) ⌝ }
+{
+    let closes = slot(a, c, !short);
+    let opens = slot(a, c, short);
+    let lots = closed[closes];
+    left[opens] = lots - laws::smaller(lots, start);
+}
+
+// Of the lots still to be taken on its side, an opening leg gives as many as it has.
 fn take_leg(left: &mut [u32], used: &mut [u64], t: Trade, sell: bool)
     requires { ⌜ Addable (now left) (now used) (legSlot sell t) t ⌝ }
-    ensures { λ _. ⌜ (now (left .exit) ≡ set (now (left .entry)) (legSlot sell t) (getD (now (left .entry)) (legSlot sell t) 0 - min (getD (now (left .entry)) (legSlot sell t) 0) (t .lots))) × (now (used .exit) ≡ set (now (used .entry)) (legSlot sell t) (getD (now (used .entry)) (legSlot sell t) 0 + t .price * min (getD (now (left .entry)) (legSlot sell t) 0) (t .lots))) ⌝ }
+    ensures { λ _. ⌜ (now (left .exit) ≡ changed (same false (closeOf sell t)) (now (left .entry)) (legSlot sell t) (getD (now (left .entry)) (legSlot sell t) 0 - min (getD (now (left .entry)) (legSlot sell t) 0) (t .lots))) × (now (used .exit) ≡ changed (same false (closeOf sell t)) (now (used .entry)) (legSlot sell t) (getD (now (used .entry)) (legSlot sell t) 0 + t .price * min (getD (now (left .entry)) (legSlot sell t) 0) (t .lots))) ⌝ }
 {
+    if !is_kind(t, sell, false) {
+        return;
+    }
     let at = leg_slot(t, sell);
     let due = left[at];
     let taken = laws::smaller(due, t.lots);
@@ -96,20 +117,9 @@ fn take_leg(left: &mut [u32], used: &mut [u64], t: Trade, sell: bool)
     used[at] = used[at] + price * taken as u64;
 }
 
-// How many of today's lots the closes of a side took: start-of-day lots go first.
-pub fn put_due(lots: &[u32], left: &mut [u32], a: usize, c: usize, short: bool, start: u32)
-    requires { ⌜ (a < 32) × (c < 4) × (length (now lots) ≡ 512) × (length (now left) ≡ 512) ⌝ }
-    ensures { λ _. ⌜ now (left .exit) ≡ set (now (left .entry)) (slotOf a c short false) (getD (now (lots .entry)) (slotOf a c (not short) true) 0 - start) ⌝ }
-{
-    let closes = slot(a, c, !short, true);
-    let opens = slot(a, c, short, false);
-    let closed = lots[closes];
-    left[opens] = closed - laws::smaller(closed, start);
-}
-
-// Second pass: of the legs of each kind in trade order the first lots, as many as `left` says.
+// "today's in trade order": what the first lots opened on each side were opened for, as many as `left` says.
 pub fn take_first(area: &[u32], count: usize, left: &mut [u32], used: &mut [u64])
-    requires { ⌜ PlacedTrades (now area) count × (length (now left) ≡ 512) × (now used ≡ replicate 512 0) ⌝ }
+    requires { ⌜ PlacedTrades (now area) count × (length (now left) ≡ 256) × (now used ≡ replicate 256 0) ⌝ }
     ensures { λ _. ⌜ UsedAre (recordedTrades (now (area .entry)) count) (now (left .entry)) (now (used .exit)) ⌝ }
 {
     let mut i: usize = 0;

@@ -1,4 +1,5 @@
 -- An account's profit over the contracts, as a loop adds it up. Assumes nothing.
+use mathlib.Core.Bool.{true, false}
 use mathlib.Core.List.{List}
 use mathlib.Core.Path.{_≡_, refl, ap, _∙_}
 use Prim.Native.Nat.{ℕ, _+_, _*_, _<_, _≤_}
@@ -14,8 +15,8 @@ use Rattle.laws.specs.Sums.{sumTo, sumTo-ext}
 use Rattle.laws.proofs.Signed.{back, total-fits, total-back}
 use Rattle.rules.specs.Memory.{recordedTrades}
 use Rattle.rules.specs.declared.State.{State}
-use Rattle.dayprofit.specs.Slots.{SumsAre, UsedAre, DayFrom}
-use Rattle.dayprofit.proofs.Gains.{day-small, closing-by-slots, holding-by-slots}
+use Rattle.dayprofit.specs.Slots.{SumsAre, UsedAre, Rooms, DayFrom}
+use Rattle.dayprofit.proofs.Gains.{Summed, day-small, closing-by-slots, holding-by-slots}
 use Rattle.settlement.specs.Settling.{contractIn, holdingIn, dayIn, closingTo, holdingTo, closingIn, holdingPart, Totallable, TotalFrom, AllDue, AllPayable}
 use Rattle.dayprofit.specs.declared.profit.Profit.{Profit}
 
@@ -59,25 +60,25 @@ module _ (k : ℕ) (z : ℤ) (h : k ≤ 1_000) (w : Within 4_000_000_000_000 z) 
 
 -- ---- one account's closing and holding profit, from the sums of the day's legs
 
-module _ (s : State) (lots value used prices : List ℕ) (a : ℕ) where
+module _ (s : State) (closed closes opened opens used prices : List ℕ) (a : ℕ) where
   abbrev closingTerm : ℕ → ℤ
-  closingTerm c = pos (contractIn s c .multiplier) *ℤ closingIn s lots value used a c
+  closingTerm c = pos (contractIn s c .multiplier) *ℤ closingIn s closed closes opened opens used a c
 
   abbrev holdingTerm : ℕ → ℤ
-  holdingTerm c = pos (contractIn s c .multiplier) *ℤ holdingPart s lots value used prices a c
+  holdingTerm c = pos (contractIn s c .multiplier) *ℤ holdingPart s closed closes opened opens used prices a c
 
-pub record Totalling (s : State) (lots value used prices : List ℕ) (a closed held c : ℕ) : Type 0 where
+pub record Totalling (s : State) (closed closes opened opens used prices : List ℕ) (a gained held c : ℕ) : Type 0 where
   pub within : c ≤ s .contractcount
-  pub closing : Adding (closingTerm s lots value used prices a) closed c
-  pub holding : Adding (holdingTerm s lots value used prices a) held c
+  pub closing : Adding (closingTerm s closed closes opened opens used prices a) gained c
+  pub holding : Adding (holdingTerm s closed closes opened opens used prices a) held c
 
-module _ (s : State) (lots value used prices : List ℕ) (a : ℕ) where
-  pub totalling-none : Totalling s lots value used prices a 0 0 0
+module _ (s : State) (closed closes opened opens used prices : List ℕ) (a : ℕ) where
+  pub totalling-none : Totalling s closed closes opened opens used prices a 0 0 0
   totalling-none = record { within = omega arith; closing = adding-none _; holding = adding-none _ }
 
-  module _ (g : Totallable s lots value used prices a) (closed held c : ℕ) where
-    module _ (h : c < s .contractcount) (w : Totalling s lots value used prices a closed held c) (p : Profit)
-        (q : DayFrom lots value used a c (contractIn s c .reference) (holdingIn s a c) (getD prices c 0) p) where
+  module _ (g : Totallable s closed closes opened opens used prices a) (gained held c : ℕ) where
+    module _ (h : c < s .contractcount) (w : Totalling s closed closes opened opens used prices a gained held c) (p : Profit)
+        (q : DayFrom closed closes opened opens used a c (contractIn s c .reference) (holdingIn s a c) (getD prices c 0) p) where
       pub closing-bits : Within 4_000_000_000_000 (toZ w64 (ofZ w64 (p .closing)))
       closing-bits = bits-small (contractIn s c .multiplier) (p .closing) (g .multiplier c h) (q .closing-small)
 
@@ -88,17 +89,17 @@ module _ (s : State) (lots value used prices : List ℕ) (a : ℕ) where
       few = omega (arith, g .contracts)
 
       module _ (x y : ℤ) (e : x ≡ pos (contractIn s c .multiplier) *ℤ toZ w64 (ofZ w64 (p .closing))) where
-        closing-is : x ≡ closingTerm s lots value used prices a c
+        closing-is : x ≡ closingTerm s closed closes opened opens used prices a c
         closing-is = multiplied-is (contractIn s c .multiplier) (p .closing) (g .multiplier c h) (q .closing-small) x e ∙ ap (λ (z : ℤ). pos (contractIn s c .multiplier) *ℤ z) (q .closing)
 
         closing-part : Within 4_000_000_000_000_000 x
         closing-part = multiplied-small (contractIn s c .multiplier) (p .closing) (g .multiplier c h) (q .closing-small) x e
 
-        pub closing-fits : SFits w64 (toZ w64 closed +ℤ toZ w64 (ofZ w64 x))
-        closing-fits = adding-fits _ closed c few (w .closing) x closing-is closing-part
+        pub closing-fits : SFits w64 (toZ w64 gained +ℤ toZ w64 (ofZ w64 x))
+        closing-fits = adding-fits _ gained c few (w .closing) x closing-is closing-part
 
         module _ (f : y ≡ pos (contractIn s c .multiplier) *ℤ toZ w64 (ofZ w64 (p .holding))) where
-          holding-is : y ≡ holdingTerm s lots value used prices a c
+          holding-is : y ≡ holdingTerm s closed closes opened opens used prices a c
           holding-is = multiplied-is (contractIn s c .multiplier) (p .holding) (g .multiplier c h) (q .holding-small) y f ∙ ap (λ (z : ℤ). pos (contractIn s c .multiplier) *ℤ z) (q .holding)
 
           holding-part : Within 4_000_000_000_000_000 y
@@ -107,21 +108,21 @@ module _ (s : State) (lots value used prices : List ℕ) (a : ℕ) where
           pub holding-fits : SFits w64 (toZ w64 held +ℤ toZ w64 (ofZ w64 y))
           holding-fits = adding-fits _ held c few (w .holding) y holding-is holding-part
 
-          pub totalling-more : Totalling s lots value used prices a (ofZ w64 (toZ w64 closed +ℤ toZ w64 (ofZ w64 x))) (ofZ w64 (toZ w64 held +ℤ toZ w64 (ofZ w64 y))) (c + 1)
+          pub totalling-more : Totalling s closed closes opened opens used prices a (ofZ w64 (toZ w64 gained +ℤ toZ w64 (ofZ w64 x))) (ofZ w64 (toZ w64 held +ℤ toZ w64 (ofZ w64 y))) (c + 1)
           totalling-more =
               record {
                 within = omega arith;
-                closing = adding-more _ closed c few (w .closing) x closing-is closing-part;
+                closing = adding-more _ gained c few (w .closing) x closing-is closing-part;
                 holding = adding-more _ held c few (w .holding) y holding-is holding-part;
               }
 
-    pub totalling-done : s .contractcount ≤ c → Totalling s lots value used prices a closed held c
-        → TotalFrom s lots value used prices a (record { closing = toZ w64 closed; holding = toZ w64 held })
+    pub totalling-done : s .contractcount ≤ c → Totalling s closed closes opened opens used prices a gained held c
+        → TotalFrom s closed closes opened opens used prices a (record { closing = toZ w64 gained; holding = toZ w64 held })
     totalling-done h w =
         let e : c ≡ s .contractcount = omega (arith, w .within) in
         record {
-          closing = w .closing .total ∙ ap (λ (n : ℕ). sumTo n (closingTerm s lots value used prices a)) e;
-          holding = w .holding .total ∙ ap (λ (n : ℕ). sumTo n (holdingTerm s lots value used prices a)) e;
+          closing = w .closing .total ∙ ap (λ (n : ℕ). sumTo n (closingTerm s closed closes opened opens used prices a)) e;
+          holding = w .holding .total ∙ ap (λ (n : ℕ). sumTo n (holdingTerm s closed closes opened opens used prices a)) e;
           closing-small = within-le (omega (arith, w .within, g .contracts)) (w .closing .small);
           holding-small = within-le (omega (arith, w .within, g .contracts)) (w .holding .small);
         }
@@ -134,34 +135,41 @@ pub record TotalIs (s : State) (trades prices : List ℕ) (a : ℕ) (r : Profit)
   pub closing-small : Within 16_000_000_000_000_000 (r .closing)
   pub holding-small : Within 16_000_000_000_000_000 (r .holding)
 
-module _ (s : State) (trades prices : List ℕ) (g : AllPayable s trades prices) (lots value left used : List ℕ) (q : SumsAre (recordedTrades trades (s .tradecount)) lots value)
-    (d : AllDue s lots left) (u : UsedAre (recordedTrades trades (s .tradecount)) left used) (a : ℕ) (la : a < s .accountcount) where
+module _ (s : State) (trades prices : List ℕ) (g : AllPayable s trades prices) (closed closes opened opens left used : List ℕ)
+    (p : SumsAre true (recordedTrades trades (s .tradecount)) closed closes) (q : SumsAre false (recordedTrades trades (s .tradecount)) opened opens)
+    (d : AllDue s closed left) (u : UsedAre (recordedTrades trades (s .tradecount)) left used) (a : ℕ) (la : a < s .accountcount) where
+  day-sums : Summed (recordedTrades trades (s .tradecount)) closed closes opened opens left used
+  day-sums = record { closing = p; opening = q; taken = u }
+
   few-accounts : a < 32
   few-accounts = omega (arith, g .accounts)
 
   few-contracts : (c : ℕ) → c < s .contractcount → c < 4
   few-contracts c lc = omega (arith, g .contracts)
 
-  pub totallable : length lots ≡ 512 → length value ≡ 512 → length used ≡ 512 → Totallable s lots value used prices a
-  totallable rl rv ru =
+  pub totallable : Rooms closed closes opened opens used → Totallable s closed closes opened opens used prices a
+  totallable rooms =
       record {
         account = few-accounts;
         contracts = g .contracts;
         multiplier = g .each a la .multiplier;
-        each = λ c lc. day-small trades (s .tradecount) lots value left used q u a c few-accounts (few-contracts c lc) _ (holdingIn s a c) _ (g .each a la .each c lc)
-            (d .long a c la (few-contracts c lc)) (d .short a c la (few-contracts c lc)) rl rv ru;
+        each = λ c lc. day-small trades (s .tradecount) closed closes opened opens left used day-sums a c few-accounts (few-contracts c lc) _ (holdingIn s a c) _
+            (g .each a la .each c lc) (d .long a c la (few-contracts c lc)) (d .short a c la (few-contracts c lc)) rooms;
       }
 
-  pub total-is : (r : Profit) → TotalFrom s lots value used prices a r → TotalIs s trades prices a r
+  times : (c : ℕ) (y z : ℤ) → y ≡ z → pos (contractIn s c .multiplier) *ℤ y ≡ pos (contractIn s c .multiplier) *ℤ z
+  times c y z e = rw e
+
+  pub total-is : (r : Profit) → TotalFrom s closed closes opened opens used prices a r → TotalIs s trades prices a r
   unfolding closingTo holdingTo dayIn
   total-is r w =
       record {
-        closing = w .closing ∙ sumTo-ext (s .contractcount) _ _ (λ c lc. ap (λ (z : ℤ). pos (contractIn s c .multiplier) *ℤ z)
-            (closing-by-slots trades (s .tradecount) lots value left used q u a c few-accounts (few-contracts c lc) _ (holdingIn s a c) _ (g .each a la .each c lc)
-            (d .long a c la (few-contracts c lc)) (d .short a c la (few-contracts c lc))));
-        holding = w .holding ∙ sumTo-ext (s .contractcount) _ _ (λ c lc. ap (λ (z : ℤ). pos (contractIn s c .multiplier) *ℤ z)
-            (holding-by-slots trades (s .tradecount) lots value left used q u a c few-accounts (few-contracts c lc) _ (holdingIn s a c) _ (g .each a la .each c lc)
-            (d .long a c la (few-contracts c lc)) (d .short a c la (few-contracts c lc))));
+        closing = w .closing ∙ sumTo-ext (s .contractcount) _ _ (λ c lc. times c _ _
+            (closing-by-slots trades (s .tradecount) closed closes opened opens left used day-sums a c few-accounts (few-contracts c lc) _ (holdingIn s a c) _
+            (g .each a la .each c lc) (d .long a c la (few-contracts c lc)) (d .short a c la (few-contracts c lc))));
+        holding = w .holding ∙ sumTo-ext (s .contractcount) _ _ (λ c lc. times c _ _
+            (holding-by-slots trades (s .tradecount) closed closes opened opens left used day-sums a c few-accounts (few-contracts c lc) _ (holdingIn s a c) _
+            (g .each a la .each c lc) (d .long a c la (few-contracts c lc)) (d .short a c la (few-contracts c lc))));
         closing-small = w .closing-small;
         holding-small = w .holding-small;
       }

@@ -73,34 +73,34 @@ pub record Payable (s : State) (trades prices : List ℕ) (a : ℕ) : Type 0 whe
   pub each : (c : ℕ) → c < s .contractcount → Profitable (contractIn s c .reference) (holdingIn s a c) a c trades (s .tradecount) (getD prices c 0)
 
 -- an account's closing and holding part in a contract, from the sums of the day's legs
-abbrev pub longIn : State → List ℕ → List ℕ → List ℕ → ℕ → ℕ → Side
-longIn s lots value used a c = sideFrom (contractIn s c .reference) (holdingIn s a c .startlong) (sumsAt lots value used a c false)
+abbrev pub longIn : State → List ℕ → List ℕ → List ℕ → List ℕ → List ℕ → ℕ → ℕ → Side
+longIn s closed closes opened opens used a c = sideFrom (contractIn s c .reference) (holdingIn s a c .startlong) (sumsAt closed closes opened opens used a c false)
 
-abbrev pub shortIn : State → List ℕ → List ℕ → List ℕ → ℕ → ℕ → Side
-shortIn s lots value used a c = sideFrom (contractIn s c .reference) (holdingIn s a c .startshort) (sumsAt lots value used a c true)
+abbrev pub shortIn : State → List ℕ → List ℕ → List ℕ → List ℕ → List ℕ → ℕ → ℕ → Side
+shortIn s closed closes opened opens used a c = sideFrom (contractIn s c .reference) (holdingIn s a c .startshort) (sumsAt closed closes opened opens used a c true)
 
-abbrev pub closingIn : State → List ℕ → List ℕ → List ℕ → ℕ → ℕ → ℤ
-closingIn s lots value used a c = closingFrom (longIn s lots value used a c) (shortIn s lots value used a c)
+abbrev pub closingIn : State → List ℕ → List ℕ → List ℕ → List ℕ → List ℕ → ℕ → ℕ → ℤ
+closingIn s closed closes opened opens used a c = closingFrom (longIn s closed closes opened opens used a c) (shortIn s closed closes opened opens used a c)
 
-abbrev pub holdingPart : State → List ℕ → List ℕ → List ℕ → List ℕ → ℕ → ℕ → ℤ
-holdingPart s lots value used prices a c = holdingFrom (getD prices c 0) (longIn s lots value used a c) (shortIn s lots value used a c)
+abbrev pub holdingPart : State → List ℕ → List ℕ → List ℕ → List ℕ → List ℕ → List ℕ → ℕ → ℕ → ℤ
+holdingPart s closed closes opened opens used prices a c = holdingFrom (getD prices c 0) (longIn s closed closes opened opens used a c) (shortIn s closed closes opened opens used a c)
 
-pub record Totallable (s : State) (lots value used prices : List ℕ) (a : ℕ) : Type 0 where
+pub record Totallable (s : State) (closed closes opened opens used prices : List ℕ) (a : ℕ) : Type 0 where
   pub account : a < 32
   pub contracts : s .contractcount ≤ 4
   pub multiplier : (c : ℕ) → c < s .contractcount → contractIn s c .multiplier ≤ 1_000
-  pub each : (c : ℕ) → c < s .contractcount → DaySmall lots value used a c (contractIn s c .reference) (holdingIn s a c) (getD prices c 0)
+  pub each : (c : ℕ) → c < s .contractcount → DaySmall closed closes opened opens used a c (contractIn s c .reference) (holdingIn s a c) (getD prices c 0)
 
-pub record TotalFrom (s : State) (lots value used prices : List ℕ) (a : ℕ) (r : Profit) : Type 0 where
-  pub closing : r .closing ≡ sumTo (s .contractcount) (λ c. pos (contractIn s c .multiplier) *ℤ closingIn s lots value used a c)
-  pub holding : r .holding ≡ sumTo (s .contractcount) (λ c. pos (contractIn s c .multiplier) *ℤ holdingPart s lots value used prices a c)
+pub record TotalFrom (s : State) (closed closes opened opens used prices : List ℕ) (a : ℕ) (r : Profit) : Type 0 where
+  pub closing : r .closing ≡ sumTo (s .contractcount) (λ c. pos (contractIn s c .multiplier) *ℤ closingIn s closed closes opened opens used a c)
+  pub holding : r .holding ≡ sumTo (s .contractcount) (λ c. pos (contractIn s c .multiplier) *ℤ holdingPart s closed closes opened opens used prices a c)
   pub closing-small : Within 16_000_000_000_000_000 (r .closing)
   pub holding-small : Within 16_000_000_000_000_000 (r .holding)
 
 -- the lots that the closes of each account in use took of today's: start-of-day lots go first
-pub record AllDue (s : State) (lots left : List ℕ) : Type 0 where
-  pub long : (a c : ℕ) → a < s .accountcount → c < 4 → getD left (slotOf a c false false) 0 ≡ getD lots (slotOf a c true true) 0 - holdingIn s a c .startlong
-  pub short : (a c : ℕ) → a < s .accountcount → c < 4 → getD left (slotOf a c true false) 0 ≡ getD lots (slotOf a c false true) 0 - holdingIn s a c .startshort
+pub record AllDue (s : State) (closed left : List ℕ) : Type 0 where
+  pub long : (a c : ℕ) → a < s .accountcount → c < 4 → getD left (slotOf a c false) 0 ≡ getD closed (slotOf a c true) 0 - holdingIn s a c .startlong
+  pub short : (a c : ℕ) → a < s .accountcount → c < 4 → getD left (slotOf a c true) 0 ≡ getD closed (slotOf a c false) 0 - holdingIn s a c .startshort
 
 -- an account with a new balance: "holdings become start-of-day"
 abbrev pub carriedAccount : Account → ℕ → ℤ → Account

@@ -32,14 +32,16 @@ fn multiplied(profit: i64, multiplier: u32) -> i64
 // An account's profit: "times multiplier", over all contracts.
 fn total<'a>(
     state: State,
-    lots: &'a [u32],
-    value: &'a [u64],
+    closed: &'a [u32],
+    closes: &'a [u64],
+    opened: &'a [u32],
+    opens: &'a [u64],
     used: &'a [u64],
     prices: [u32; rules::MAX_CONTRACTS],
     a: usize,
 ) -> Profit
-    requires { ⌜ Totallable state (now lots) (now value) (now used) prices a ⌝ }
-    ensures { λ r. ⌜ TotalFrom state (now (lots .entry)) (now (value .entry)) (now (used .entry)) prices a r ⌝ }
+    requires { ⌜ Totallable state (now closed) (now closes) (now opened) (now opens) (now used) prices a ⌝ }
+    ensures { λ r. ⌜ TotalFrom state (now (closed .entry)) (now (closes .entry)) (now (opened .entry)) (now (opens .entry)) (now (used .entry)) prices a r ⌝ }
 {
     let holder = state.accounts[a];
     let contracts = state.contractcount;
@@ -52,7 +54,18 @@ fn total<'a>(
         let price = prices[c];
         let reference = contract.reference;
         let multiplier = contract.multiplier;
-        let p = profit::profit_at(lots, value, used, a, c, reference, h, price);
+        let p = profit::profit_at(
+            closed,
+            closes,
+            opened,
+            opens,
+            used,
+            a,
+            c,
+            reference,
+            h,
+            price,
+        );
         closing += multiplied(p.closing, multiplier);
         holding += multiplied(p.holding, multiplier);
         c += 1;
@@ -61,9 +74,9 @@ fn total<'a>(
 }
 
 // How many of today's lots the closes of every account took in every contract.
-fn put_all_due(state: State, lots: &[u32], left: &mut [u32])
-    requires { ⌜ (state .accountcount ≤ 32) × (length (now lots) ≡ 512) × (length (now left) ≡ 512) ⌝ }
-    ensures { λ _. ⌜ AllDue state (now (lots .entry)) (now (left .exit)) ⌝ }
+fn put_all_due(state: State, closed: &[u32], left: &mut [u32])
+    requires { ⌜ (state .accountcount ≤ 32) × (length (now closed) ≡ 256) × (length (now left) ≡ 256) ⌝ }
+    ensures { λ _. ⌜ AllDue state (now (closed .entry)) (now (left .exit)) ⌝ }
 {
     let end = rules::MAX_CONTRACTS * state.accountcount;
     let mut k: usize = 0;
@@ -72,8 +85,8 @@ fn put_all_due(state: State, lots: &[u32], left: &mut [u32])
         let c = k % rules::MAX_CONTRACTS;
         let holder = state.accounts[a];
         let h = holder.holdings[c];
-        sums::put_due(lots, left, a, c, false, h.startlong);
-        sums::put_due(lots, left, a, c, true, h.startshort);
+        sums::put_due(closed, left, a, c, false, h.startlong);
+        sums::put_due(closed, left, a, c, true, h.startshort);
         k += 1;
     }
 }
@@ -128,13 +141,16 @@ pub fn all_paid(state: State, trades: &[u32], prices: [u32; rules::MAX_CONTRACTS
     requires { ⌜ AllPayable state (now trades) prices ⌝ }
     ensures { λ r. ⌜ BooksIs state (now (trades .entry)) prices r ⌝ }
 {
-    let mut lots: [u32; sums::SLOTS] = [0; sums::SLOTS];
-    let mut value: [u64; sums::SLOTS] = [0; sums::SLOTS];
+    let mut closed: [u32; sums::SLOTS] = [0; sums::SLOTS];
+    let mut closes: [u64; sums::SLOTS] = [0; sums::SLOTS];
+    let mut opened: [u32; sums::SLOTS] = [0; sums::SLOTS];
+    let mut opens: [u64; sums::SLOTS] = [0; sums::SLOTS];
     let mut left: [u32; sums::SLOTS] = [0; sums::SLOTS];
     let mut used: [u64; sums::SLOTS] = [0; sums::SLOTS];
     let made = state.tradecount;
-    sums::add_up(trades, made, &mut lots, &mut value);
-    put_all_due(state, &lots, &mut left);
+    sums::add_up(trades, made, true, &mut closed, &mut closes);
+    sums::add_up(trades, made, false, &mut opened, &mut opens);
+    put_all_due(state, &closed, &mut left);
     sums::take_first(trades, made, &mut left, &mut used);
     let contracts = state.contractcount;
     let count = state.accountcount;
@@ -144,11 +160,11 @@ pub fn all_paid(state: State, trades: &[u32], prices: [u32; rules::MAX_CONTRACTS
     let mut a: usize = 0;
     while a < count {
         let account = state.accounts[a];
-        let p = total(state, &lots, &value, &used, prices, a);
-        let closed = p.closing;
+        let p = total(state, &closed, &closes, &opened, &opens, &used, prices, a);
+        let gained = p.closing;
         let held = p.holding;
-        accounts[a] = paid(account, contracts, closed, held);
-        closing[a] = closed;
+        accounts[a] = paid(account, contracts, gained, held);
+        closing[a] = gained;
         holding[a] = held;
         a += 1;
     }

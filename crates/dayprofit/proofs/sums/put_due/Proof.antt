@@ -13,11 +13,11 @@ slot-requires c κs = search needs
 slot-requires-2 : tie.Need-slot-requires-2
 slot-requires-2 c κs = search needs
 
-mul-closed : tie.Need-mul-closed
-mul-closed c = search needs
+mul-lots : tie.Need-mul-lots
+mul-lots c = search needs
 
-shared-slice-read-closed : tie.Need-shared-slice-read-closed
-shared-slice-read-closed c = search needs
+shared-slice-read-lots : tie.Need-shared-slice-read-lots
+shared-slice-read-lots c = search needs
 
 smaller-requires : tie.Need-smaller-requires
 smaller-requires c κs = search needs
@@ -37,7 +37,7 @@ same-length c = search needs
 returns : tie.Need-returns
 returns c =
     let start = c .before .before .before .before .before .before in
-    due-is (start .args .left .now) (start .args .lots .now) _ _ _ _ _ (start .args .start) (c .before .before .slot2 .ensures .0) (c .before .before .before .slot .ensures .0) (c .smaller .ensures)
+    due-is (start .args .left .now) (start .args .closed .now) _ _ _ _ _ (start .args .start) (c .before .before .slot2 .ensures .0) (c .before .before .before .slot .ensures .0) (c .smaller .ensures)
 
 pub put-due-spec : {M : Type 1} → statement M
 put-due-spec =
@@ -45,8 +45,8 @@ put-due-spec =
     (tie.spec
     slot-requires
     slot-requires-2
-    mul-closed
-    shared-slice-read-closed
+    mul-lots
+    shared-slice-read-lots
     smaller-requires
     sub-left
     mul-left

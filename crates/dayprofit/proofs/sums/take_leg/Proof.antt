@@ -1,12 +1,19 @@
 use native.Mathlib.Omega.{arith}
-use Rattle.dayprofit.proofs.Legs.{leg-product-fits, leg-value-fits}
+use Rattle.dayprofit.proofs.Legs.{is-so, is-not-so, leg-product-fits, leg-value-fits}
 use borrow.Author.Needs.{needs}
 use Rattle.dayprofit.proofs.sums.take_leg.Statement.{statement}
 use Rattle.dayprofit.proofs.sums.take_leg.Tie as tie
 use Rattle.dayprofit.proofs.sums.take_leg.Reads as reads
 use Rattle.dayprofit.proofs.sums.take_leg.Lts as lts
+use Rattle.dayprofit.proofs.sums.is_kind.Reads as is-kind-reads
 use Rattle.dayprofit.proofs.sums.leg_slot.Reads as leg-slot-reads
 use Rattle.laws.proofs.smaller.Reads as smaller-reads
+
+is-kind-requires : tie.Need-is-kind-requires
+is-kind-requires c κs = search needs
+
+returns : tie.Need-returns
+returns c = let other = is-not-so _ _ (c .before .is-kind .ensures) (c .if1 .taken) in (rw other, rw other)
 
 leg-slot-requires : tie.Need-leg-slot-requires
 leg-slot-requires c κs = search needs
@@ -43,12 +50,12 @@ cast-used c = search needs
 
 mul-used-2 : tie.Need-mul-used-2
 mul-used-2 c =
-    let start = c .before .before .before .before .before .before .before in
+    let start = c .before .before .before .before .before .before .before .before .before in
     leg-product-fits (start .args .t) (start .pre .sized) (c .before .before .smaller .result) (omega arith)
 
 add-used : tie.Need-add-used
 add-used c =
-    let start = c .before .before .before .before .before .before .before in
+    let start = c .before .before .before .before .before .before .before .before .before in
     leg-value-fits (start .args .t) (start .pre .sized) (c .before .before .smaller .result) (omega arith) (start .args .used .now) _ _ (c .before .before .before .before .leg-slot .ensures .0) (start .pre .small)
 
 mul-used-3 : tie.Need-mul-used-3
@@ -63,16 +70,19 @@ same-length c = search needs
 same-length-2 : tie.Need-same-length-2
 same-length-2 c = search needs
 
-returns : tie.Need-returns
-returns c =
+returns-2 : tie.Need-returns-2
+returns-2 c =
     let at = c .before .before .before .before .leg-slot .ensures .0 in
+    let one = is-so _ _ (c .before .before .before .before .before .before .is-kind .ensures) (c .before .before .before .before .before .if1 .left) in
     let taken = c .before .before .smaller .ensures in
-    (rw (taken, at), rw (taken, at))
+    (rw (one, taken, at), rw (one, taken, at))
 
 pub take-leg-spec : {M : Type 1} → statement M
 take-leg-spec =
     tie.close
     (tie.spec
+    is-kind-requires
+    returns
     leg-slot-requires
     mul-due
     slice-read-due
@@ -90,4 +100,4 @@ take-leg-spec =
     slice-write-used
     same-length
     same-length-2
-    returns)
+    returns-2)

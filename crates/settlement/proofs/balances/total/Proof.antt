@@ -10,10 +10,10 @@ use Rattle.dayprofit.proofs.profit.profit_at.Reads as profit-at-reads
 use Rattle.settlement.proofs.balances.multiplied.Reads as multiplied-reads
 
 abbrev Inv-loop : tie.InvT-loop
-Inv-loop lots value used a state prices holder contracts closing₀ holding₀ c₀ closing holding c = Totalling state lots value used prices a closing holding c
+Inv-loop closed closes opened opens used a state prices holder contracts closing₀ holding₀ c₀ closing holding c = Totalling state closed closes opened opens used prices a closing holding c
 
 abbrev μ-loop : tie.MeasureT-loop
-μ-loop lots value used a state prices holder contracts closing₀ holding₀ c₀ closing holding c = contracts - c
+μ-loop closed closes opened opens used a state prices holder contracts closing₀ holding₀ c₀ closing holding c = contracts - c
 
 mul-holder : tie.Need-mul-holder Inv-loop μ-loop
 mul-holder c = omega arith
@@ -22,7 +22,7 @@ element-copy-out-holder : tie.Need-element-copy-out-holder Inv-loop μ-loop
 element-copy-out-holder c = omega arith
 
 loop-holds : tie.Need-loop-holds Inv-loop μ-loop
-loop-holds c = totalling-none _ _ _ _ _ _
+loop-holds c = totalling-none _ _ _ _ _ _ _ _
 
 mul-contract : tie.Need-mul-contract Inv-loop μ-loop
 mul-contract c = omega arith
@@ -43,19 +43,19 @@ array-read-price : tie.Need-array-read-price Inv-loop μ-loop
 array-read-price c = omega arith
 
 profit-at-requires : tie.Need-profit-at-requires Inv-loop μ-loop
-profit-at-requires c κs = c .before .before .before .before .before .before .before .before .pre .each _ (c .before .before .loop-test .taken)
+profit-at-requires c κs = c .before .before .before .before .before .before .before .before .before .before .pre .each _ (c .before .before .loop-test .taken)
 
 multiplied-requires : tie.Need-multiplied-requires Inv-loop μ-loop
-multiplied-requires c κs = (closing-bits _ _ _ _ _ _ (c .before .before .before .before .before .before .before .before .before .before .pre) _ _ _ (c .before .before .before .before .loop-test .taken) (c .before .before .before .before .before .loop .inv) _ (c .before .profit-at .ensures), c .before .before .before .before .before .before .before .before .before .before .pre .multiplier _ (c .before .before .before .before .loop-test .taken))
+multiplied-requires c κs = (closing-bits _ _ _ _ _ _ _ _ (c .before .before .before .before .before .before .before .before .before .before .before .before .pre) _ _ _ (c .before .before .before .before .loop-test .taken) (c .before .before .before .before .before .loop .inv) _ (c .before .profit-at .ensures), c .before .before .before .before .before .before .before .before .before .before .before .before .pre .multiplier _ (c .before .before .before .before .loop-test .taken))
 
 add-closing : tie.Need-add-closing Inv-loop μ-loop
-add-closing c = closing-fits _ _ _ _ _ _ (c .before .before .before .before .before .before .before .before .before .before .before .pre) _ _ _ (c .before .before .before .before .before .loop-test .taken) (c .before .before .before .before .before .before .loop .inv) _ (c .before .before .profit-at .ensures) _ (pos 0) (c .multiplied .ensures)
+add-closing c = closing-fits _ _ _ _ _ _ _ _ (c .before .before .before .before .before .before .before .before .before .before .before .before .before .pre) _ _ _ (c .before .before .before .before .before .loop-test .taken) (c .before .before .before .before .before .before .loop .inv) _ (c .before .before .profit-at .ensures) _ (pos 0) (c .multiplied .ensures)
 
 multiplied-requires-2 : tie.Need-multiplied-requires-2 Inv-loop μ-loop
-multiplied-requires-2 c κs = (holding-bits _ _ _ _ _ _ (c .before .before .before .before .before .before .before .before .before .before .before .before .pre) _ _ _ (c .before .before .before .before .before .before .loop-test .taken) (c .before .before .before .before .before .before .before .loop .inv) _ (c .before .before .before .profit-at .ensures), c .before .before .before .before .before .before .before .before .before .before .before .before .pre .multiplier _ (c .before .before .before .before .before .before .loop-test .taken))
+multiplied-requires-2 c κs = (holding-bits _ _ _ _ _ _ _ _ (c .before .before .before .before .before .before .before .before .before .before .before .before .before .before .pre) _ _ _ (c .before .before .before .before .before .before .loop-test .taken) (c .before .before .before .before .before .before .before .loop .inv) _ (c .before .before .before .profit-at .ensures), c .before .before .before .before .before .before .before .before .before .before .before .before .before .before .pre .multiplier _ (c .before .before .before .before .before .before .loop-test .taken))
 
 add-holding : tie.Need-add-holding Inv-loop μ-loop
-add-holding c = holding-fits _ _ _ _ _ _ (c .before .before .before .before .before .before .before .before .before .before .before .before .before .pre) _ _ _ (c .before .before .before .before .before .before .before .loop-test .taken) (c .before .before .before .before .before .before .before .before .loop .inv) _ (c .before .before .before .before .profit-at .ensures) _ _ (c .before .before .multiplied .ensures) (c .multiplied2 .ensures)
+add-holding c = holding-fits _ _ _ _ _ _ _ _ (c .before .before .before .before .before .before .before .before .before .before .before .before .before .before .before .pre) _ _ _ (c .before .before .before .before .before .before .before .loop-test .taken) (c .before .before .before .before .before .before .before .before .loop .inv) _ (c .before .before .before .before .profit-at .ensures) _ _ (c .before .before .multiplied .ensures) (c .multiplied2 .ensures)
 
 add-c : tie.Need-add-c Inv-loop μ-loop
 add-c c = omega arith
@@ -64,10 +64,10 @@ loop-less : tie.Need-loop-less Inv-loop μ-loop
 loop-less c = omega arith
 
 loop-again : tie.Need-loop-again Inv-loop μ-loop
-loop-again c = totalling-more _ _ _ _ _ _ (c .before .before .before .before .before .before .before .before .before .before .before .before .before .pre) _ _ _ (c .before .before .before .before .before .before .before .loop-test .taken) (c .before .before .before .before .before .before .before .before .loop .inv) _ (c .before .before .before .before .profit-at .ensures) _ _ (c .before .before .multiplied .ensures) (c .multiplied2 .ensures)
+loop-again c = totalling-more _ _ _ _ _ _ _ _ (c .before .before .before .before .before .before .before .before .before .before .before .before .before .before .before .pre) _ _ _ (c .before .before .before .before .before .before .before .loop-test .taken) (c .before .before .before .before .before .before .before .before .loop .inv) _ (c .before .before .before .before .profit-at .ensures) _ _ (c .before .before .multiplied .ensures) (c .multiplied2 .ensures)
 
 returns : tie.Need-returns Inv-loop μ-loop
-returns c = totalling-done _ _ _ _ _ _ (c .before .before .before .before .before .before .pre) _ _ _ (c .loop-test .left) (c .before .loop .inv)
+returns c = totalling-done _ _ _ _ _ _ _ _ (c .before .before .before .before .before .before .before .before .pre) _ _ _ (c .loop-test .left) (c .before .loop .inv)
 
 pub total-spec : {M : Type 1} → statement M
 total-spec =
