@@ -335,8 +335,8 @@ fn exercise_full(alone: bool) {
 fn full() {
     println!("\n{:60} {:>9}", "instructions, 32 accounts, 512 orders, 1,024 trades", "ours");
     let taken = |function: &str, alone: u8| counted_from(function, "audit::well_formed", &["full".into(), alone.to_string(), "0".into()]);
-    println!("{:60} {:9.0}", "whole-state test", taken("zelvorm_test", 0));
-    println!("{:60} {:9.0}", "one command by execute, deposit", taken("zelvorm_execute", 1));
+    println!("{:60} {:9.0}", "whole-state test", taken("bench_test", 0));
+    println!("{:60} {:9.0}", "one command by execute, deposit", taken("bench_execute", 1));
 }
 
 #[no_mangle]

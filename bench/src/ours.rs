@@ -20,18 +20,18 @@ extern "C" {
         buys: *mut u32, buy_words: usize, sells: *mut u32, sell_words: usize, trades: *mut u32, trade_words: usize,
         account: usize, contract: usize,
     ) -> Probe;
-    fn zelvorm_test(
+    fn bench_test(
         day: *const u8, day_bytes: usize, commands: *const u8, command_bytes: usize,
         buys: *mut u32, buy_words: usize, sells: *mut u32, sell_words: usize, trades: *mut u32, trade_words: usize,
     ) -> bool;
-    fn zelvorm_execute(
+    fn bench_execute(
         day: *const u8, day_bytes: usize, commands: *const u8, command_bytes: usize, single: Single,
         buys: *mut u32, buy_words: usize, sells: *mut u32, sell_words: usize, trades: *mut u32, trade_words: usize,
         account: usize, contract: usize,
     ) -> Probe;
 }
 
-/// One command as `zelvorm_execute` takes it.
+/// One command as `bench_execute` takes it.
 #[repr(C)]
 pub struct Single {
     pub bytes: [u8; 24],
@@ -104,7 +104,7 @@ pub fn run(day: &[u8], commands: &[u8], m: &mut Memory, account: usize, contract
 /// Whether the state that the list leaves is well formed.
 pub fn test(day: &[u8], commands: &[u8], m: &mut Memory) -> bool {
     unsafe {
-        zelvorm_test(
+        bench_test(
             day.as_ptr(), day.len(), commands.as_ptr(), commands.len(), m.buys.as_mut_ptr(), m.buys.len(),
             m.sells.as_mut_ptr(), m.sells.len(), m.trades.as_mut_ptr(), m.trades.len(),
         )
@@ -115,7 +115,7 @@ pub fn test(day: &[u8], commands: &[u8], m: &mut Memory) -> bool {
 pub fn execute(day: &[u8], commands: &[u8], single: [u8; 24], m: &mut Memory, account: usize, contract: usize) -> Probe {
     assert!(account < ACCOUNTS && contract < 4);
     unsafe {
-        zelvorm_execute(
+        bench_execute(
             day.as_ptr(), day.len(), commands.as_ptr(), commands.len(), Single { bytes: single }, m.buys.as_mut_ptr(), m.buys.len(),
             m.sells.as_mut_ptr(), m.sells.len(), m.trades.as_mut_ptr(), m.trades.len(), account, contract,
         )

@@ -32,6 +32,7 @@ import saved
 import statements
 from library import Library, values
 from memory import Memory
+from vectors import commands_in
 from zelvorm import Record
 
 sys.path.insert(0, str(Path(__file__).resolve().parents[1]))
@@ -72,12 +73,6 @@ def hold_bytes(what, expected, found):
     for at in range(0, max(len(expected), len(found)), 4):
         if expected[at : at + 4] != found[at : at + 4]:
             raise Differs(f"{what}, byte {at}\n  model:   {shown(expected[at:][:64])}\n  library: {shown(found[at:][:64])}")
-
-
-def commands_in(content):
-    size = dayfile.COMMAND.size
-    whole = content[: len(content) // size * size]
-    return [dayfile.Command(*fields) for fields in dayfile.COMMAND.iter_unpack(whole)]
 
 
 class Comparison:

@@ -71,7 +71,7 @@ pub extern "C" fn bench_run<'a>(
 
 // Runs the commands, then tests the whole state that they leave.
 #[no_mangle]
-pub extern "C" fn zelvorm_test<'a>(
+pub extern "C" fn bench_test<'a>(
     day: &'a [u8],
     commands: &'a [u8],
     buys: &mut [u32],
@@ -94,7 +94,7 @@ pub struct Single {
 
 // Runs the commands, then one more by itself, which tests the whole state first.
 #[no_mangle]
-pub extern "C" fn zelvorm_execute<'a>(
+pub extern "C" fn bench_execute<'a>(
     day: &'a [u8],
     commands: &'a [u8],
     single: Single,

@@ -1,9 +1,9 @@
--- `bench_exchange::zelvorm_execute` meets its contract: the promises of its calls, put together. Assumes nothing.
+-- `bench_exchange::bench_execute` meets its contract: the promises of its calls, put together. Assumes nothing.
 use native.Mathlib.Omega.{arith}
 use borrow.Author.Needs.{needs}
 use Rattle.bench_exchange.proofs.Probing.{executed-probed}
-use Rattle.bench_exchange.proofs.zelvorm_execute.Statement.{statement}
-use Rattle.bench_exchange.proofs.zelvorm_execute.Tie as tie
+use Rattle.bench_exchange.proofs.bench_execute.Statement.{statement}
+use Rattle.bench_exchange.proofs.bench_execute.Tie as tie
 
 opening-state-requires : tie.Need-opening-state-requires
 opening-state-requires c κs = search needs
@@ -29,8 +29,8 @@ same-length-3 c = search needs
 returns : tie.Need-returns
 returns c = executed-probed _ (c .before .before .before .before .before .before .before .before .before .before .before .before .before .before .before .before .before .before .before .before .before .before .before .opening-state .ensures) (c .before .before .before .before .before .before .before .before .before .before .before .before .before .before .before .before .before .before .before .run .ensures) _ _ (c .before .before .before .before .before .before .before .before .execute .ensures) (c .probed .ensures)
 
-pub zelvorm-execute-spec : {M : Type 1} → statement M
-zelvorm-execute-spec =
+pub bench-execute-spec : {M : Type 1} → statement M
+bench-execute-spec =
     tie.close
     (tie.spec
     opening-state-requires

@@ -1,8 +1,8 @@
--- `bench_exchange::zelvorm_test` meets its contract: the promises of its calls, put together. Assumes nothing.
+-- `bench_exchange::bench_test` meets its contract: the promises of its calls, put together. Assumes nothing.
 use borrow.Author.Needs.{needs}
 use Rattle.bench_exchange.proofs.Probing.{ran-tested}
-use Rattle.bench_exchange.proofs.zelvorm_test.Statement.{statement}
-use Rattle.bench_exchange.proofs.zelvorm_test.Tie as tie
+use Rattle.bench_exchange.proofs.bench_test.Statement.{statement}
+use Rattle.bench_exchange.proofs.bench_test.Tie as tie
 
 opening-state-requires : tie.Need-opening-state-requires
 opening-state-requires c κs = search needs
@@ -25,8 +25,8 @@ same-length-3 c = search needs
 returns : tie.Need-returns
 returns c = ran-tested _ (c .before .before .before .before .before .before .before .before .before .before .before .before .before .before .opening-state .ensures) (c .before .before .before .before .before .before .before .before .before .before .run .ensures) (c .well-formed .ensures)
 
-pub zelvorm-test-spec : {M : Type 1} → statement M
-zelvorm-test-spec =
+pub bench-test-spec : {M : Type 1} → statement M
+bench-test-spec =
     tie.close
     (tie.spec
     opening-state-requires
