@@ -11,7 +11,7 @@ use Rattle.laws.specs.Choice.{either-false, pick}
 use Rattle.rules.specs.Bounds.{maxContracts, maxResting}
 use Rattle.rules.specs.Memory.{firstWord, queueStride}
 use Rattle.rules.specs.declared.State.{State}
-use Rattle.book.specs.Side.{noQueue, queueWords, sideWords}
+use Rattle.rules.specs.Side.{noQueue, queueWords, sideWords}
 use Rattle.book.proofs.Sides.{side-length}
 use Rattle.exports.specs.Calls.{SideIs, askedWords, sideCount}
 

@@ -12,7 +12,7 @@ use Rattle.rules.specs.DayFile.{commandPlace, commandsIn, sound}
 use Rattle.rules.specs.Exchange.{noContract}
 use Rattle.rules.specs.Memory.{queueStride}
 use Rattle.rules.specs.declared.State.{State}
-use Rattle.book.specs.Side.{sideWords}
+use Rattle.rules.specs.Side.{sideWords}
 use Rattle.dayfile.specs.Opening.{accountWith, openingState}
 use Rattle.exports.specs.declared.day.Opened.{Opened}
 use Rattle.exports.specs.declared.side.Part.{Part}
@@ -24,7 +24,7 @@ abbrev pub noState : State
 noState =
     record {
       contracts = replicate maxContracts noContract;
-      accounts = replicate maxAccounts (accountWith 0);
+      accounts = replicate maxAccounts (accountWith 0 0);
       buys = replicate maxContracts 0;
       sells = replicate maxContracts 0;
       contractcount = 0;

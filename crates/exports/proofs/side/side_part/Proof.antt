@@ -5,7 +5,7 @@ use native.Mathlib.Omega.{arith}
 use borrow.Author.Needs.{needs}
 use denote.Ref.{now}
 use lib.ListN.{length}
-use Rattle.book.specs.Side.{sideWords}
+use Rattle.rules.specs.Side.{sideWords}
 use Rattle.exports.specs.Calls.{askedWords}
 use Rattle.exports.proofs.Parts.{empty-part, placed, whole-part}
 use Rattle.exports.proofs.side.side_part.Statement.{statement}
