@@ -81,6 +81,7 @@ extern "C" {
 #define ZELVORM_KIND_PULL 5u
 #define ZELVORM_KIND_PHASE 6u
 #define ZELVORM_KIND_SETTLE 7u
+#define ZELVORM_KIND_QUOTE 8u
 #define ZELVORM_KIND_CHANGE 9u
 
 /* The codes. Where several apply, the first one in the papers' order is given. */
@@ -116,7 +117,8 @@ extern "C" {
  * margin would be left */
 #define ZELVORM_CODE_MARGIN 9u
 
-/* the day's order numbers are used up, or its time stamps (of a change, the time stamps alone) */
+/* the day's order numbers are used up, or its time stamps (of a change, the time stamps alone; a quote needs two of
+ * each) */
 #define ZELVORM_CODE_NUMBERS_USED_UP 10u
 
 /* fill or kill: not all lots can be filled */
@@ -155,6 +157,12 @@ extern "C" {
 
 /* a bundle has more than 100 commands, or the area for their answers is too short */
 #define ZELVORM_CODE_BUNDLE 22u
+
+/* a quote: the account is no market maker */
+#define ZELVORM_CODE_NOT_A_MAKER 23u
+
+/* a quote: its buy price is not below its sell price */
+#define ZELVORM_CODE_QUOTE_PRICES 24u
 
 /* a client statement: more than 16 clients, or their starting lots do not add up to the account's */
 #define ZELVORM_CODE_CLIENTS 25u
@@ -216,11 +224,11 @@ ZELVORM_ASSERT(offsetof(zelvorm_holding, short_) == 4);
 ZELVORM_ASSERT(offsetof(zelvorm_holding, startlong) == 8);
 ZELVORM_ASSERT(offsetof(zelvorm_holding, startshort) == 12);
 
-/* `maker` marks a market maker: no rule looks at it yet (decision 34). */
+/* `maker` is 1 for a market maker and 0 for others. */
 typedef struct zelvorm_account {
     int64_t balance;
     zelvorm_holding holdings[4];
-    bool maker;
+    uint64_t maker;
 } zelvorm_account;
 
 ZELVORM_ASSERT(sizeof(zelvorm_account) == 80);
@@ -420,8 +428,8 @@ ZELVORM_ASSERT(sizeof(zelvorm_loaded) == 2800);
 ZELVORM_ASSERT(offsetof(zelvorm_loaded, code) == 0);
 ZELVORM_ASSERT(offsetof(zelvorm_loaded, state) == 8);
 
-/* A resting order: its remaining lots, the account's place, 1 for a close and 0 for an open, its time stamp. `quote` is
- * its quote mark; no rule gives an order one yet, so it is 0 (decision 34). */
+/* A resting order: its remaining lots, the account's place, 1 for a close and 0 for an open, its time stamp, 1 where it
+ * is part of a quote and 0 elsewhere. */
 typedef struct zelvorm_order {
     uint32_t price;
     uint32_t number;

@@ -69,6 +69,7 @@ KIND_CANCEL = 4
 KIND_PULL = 5
 KIND_PHASE = 6
 KIND_SETTLE = 7
+KIND_QUOTE = 8
 KIND_CHANGE = 9
 
 # The codes. Where several apply, the first one in the papers' order is given.
@@ -104,7 +105,8 @@ CODE_HOLDING = 8
 # would be left
 CODE_MARGIN = 9
 
-# the day's order numbers are used up, or its time stamps (of a change, the time stamps alone)
+# the day's order numbers are used up, or its time stamps (of a change, the time stamps alone; a quote needs two of
+# each)
 CODE_NUMBERS_USED_UP = 10
 
 # fill or kill: not all lots can be filled
@@ -143,6 +145,12 @@ CODE_NOT_WELL_FORMED = 21
 
 # a bundle has more than 100 commands, or the area for their answers is too short
 CODE_BUNDLE = 22
+
+# a quote: the account is no market maker
+CODE_NOT_A_MAKER = 23
+
+# a quote: its buy price is not below its sell price
+CODE_QUOTE_PRICES = 24
 
 # a client statement: more than 16 clients, or their starting lots do not add up to the account's
 CODE_CLIENTS = 25
@@ -198,12 +206,12 @@ class Holding(ctypes.Structure):
 assert ctypes.sizeof(Holding) == 16
 
 
-# `maker` marks a market maker: no rule looks at it yet (decision 34).
+# `maker` is 1 for a market maker and 0 for others.
 class Account(ctypes.Structure):
     _fields_ = [
         ("balance", ctypes.c_int64),
         ("holdings", Holding * 4),
-        ("maker", ctypes.c_bool),
+        ("maker", ctypes.c_uint64),
     ]
 
 
@@ -393,8 +401,8 @@ class Loaded(ctypes.Structure):
 assert ctypes.sizeof(Loaded) == 2800
 
 
-# A resting order: its remaining lots, the account's place, 1 for a close and 0 for an open, its time stamp. `quote` is
-# its quote mark; no rule gives an order one yet, so it is 0 (decision 34).
+# A resting order: its remaining lots, the account's place, 1 for a close and 0 for an open, its time stamp, 1 where it
+# is part of a quote and 0 elsewhere.
 class Order(ctypes.Structure):
     _fields_ = [
         ("price", ctypes.c_uint32),

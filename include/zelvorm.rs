@@ -71,6 +71,7 @@ pub const KIND_CANCEL: u8 = 4;
 pub const KIND_PULL: u8 = 5;
 pub const KIND_PHASE: u8 = 6;
 pub const KIND_SETTLE: u8 = 7;
+pub const KIND_QUOTE: u8 = 8;
 pub const KIND_CHANGE: u8 = 9;
 
 // The codes. Where several apply, the first one in the papers' order is given.
@@ -106,7 +107,8 @@ pub const CODE_HOLDING: u32 = 8;
 /// margin would be left
 pub const CODE_MARGIN: u32 = 9;
 
-/// the day's order numbers are used up, or its time stamps (of a change, the time stamps alone)
+/// the day's order numbers are used up, or its time stamps (of a change, the time stamps alone; a quote needs two of
+/// each)
 pub const CODE_NUMBERS_USED_UP: u32 = 10;
 
 /// fill or kill: not all lots can be filled
@@ -145,6 +147,12 @@ pub const CODE_NOT_WELL_FORMED: u32 = 21;
 
 /// a bundle has more than 100 commands, or the area for their answers is too short
 pub const CODE_BUNDLE: u32 = 22;
+
+/// a quote: the account is no market maker
+pub const CODE_NOT_A_MAKER: u32 = 23;
+
+/// a quote: its buy price is not below its sell price
+pub const CODE_QUOTE_PRICES: u32 = 24;
 
 /// a client statement: more than 16 clients, or their starting lots do not add up to the account's
 pub const CODE_CLIENTS: u32 = 25;
@@ -197,13 +205,13 @@ pub struct Holding {
 
 const _: () = assert!(size_of::<Holding>() == 16);
 
-/// `maker` marks a market maker: no rule looks at it yet (decision 34).
+/// `maker` is 1 for a market maker and 0 for others.
 #[repr(C)]
 #[derive(Clone, Copy, Debug, PartialEq)]
 pub struct Account {
     pub balance: i64,
     pub holdings: [Holding; 4],
-    pub maker: bool,
+    pub maker: u64,
 }
 
 const _: () = assert!(size_of::<Account>() == 80);
@@ -377,8 +385,8 @@ pub struct Loaded {
 
 const _: () = assert!(size_of::<Loaded>() == 2800);
 
-/// A resting order: its remaining lots, the account's place, 1 for a close and 0 for an open, its time stamp. `quote`
-/// is its quote mark; no rule gives an order one yet, so it is 0 (decision 34).
+/// A resting order: its remaining lots, the account's place, 1 for a close and 0 for an open, its time stamp, 1 where
+/// it is part of a quote and 0 elsewhere.
 #[repr(C)]
 #[derive(Clone, Copy, Debug, PartialEq)]
 pub struct Order {
