@@ -132,7 +132,7 @@ def laid(rng, day):
     state.account_count = len(day.state.balances)
     for counts in state.order_counts.values():
         counts[: state.contract_count] = [0] * state.contract_count
-    state.makers[: state.account_count] = [0] * state.account_count
+    state.makers[: state.account_count] = [int(account in day.state.makers) for account in day.state.balances]
     memory.put(state, day.state)
     needed = MOST_RESTING * state.contract_count
     for side in dayfile.SIDES:
