@@ -27,7 +27,7 @@ def sizes():
             ((count - 1, 0), count - 1),
             ((count, 3), count),
             ((count + 3, 2), count),
-            ((0, 0), 0),
+            ((0, 1), 0),
             ((0, 3), 0),
         ):
             yield listed(f"{count} commands, area of {length}", exchange(), [DEPOSIT] * count, Area(*length), played)
