@@ -200,6 +200,7 @@ class Papers:
     def __init__(self, first, second):
         self.first, self.second = Part(first), Part(second)
         self.headings = plain("\n".join(re.findall(r"(?m)^#+ (.*)$", first + "\n" + second)))
+        self.printed = plain("\n".join(re.findall(r"(?ms)^```\n(.*?)^```", first + "\n" + second)))
         before, *tickets = re.split(r"(?m)^\*\*(?=Ticket )", second)
         self.tickets = {0: Part(before)}
         for ticket in tickets:
@@ -211,7 +212,7 @@ class Papers:
         return cls(*(read(glob.glob(os.path.join(folder, f"{number}-*.md"))[0]) for number in ("01", "02")))
 
     def have(self, quotation):
-        return any(spans(quotation, text) for text in (self.first.text, self.second.text, self.headings))
+        return any(spans(quotation, text) for text in (self.first.text, self.second.text, self.headings, self.printed))
 
     def part(self, heading):
         """The part that a section of docs/RULES.md goes through, by its heading: it, and its number among the tickets."""

@@ -20,7 +20,7 @@ sys.path.insert(0, str(TOP / "tools" / "model"))
 import vectors  # noqa: E402
 
 # A file for each module of cases.
-NAMES = ("well-formed", "command", "change", "quote", "auction", "bundle", "question", "statement", "side", "mending", "day-file", "saved")
+NAMES = ("well-formed", "command", "change", "quote", "auction", "bundle", "run", "question", "statement", "side", "mending", "day-file", "saved")
 
 
 # The program reads a file into an area of so many bytes: cases that need more stand in several files.

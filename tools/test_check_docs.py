@@ -175,9 +175,9 @@ class Quotations(unittest.TestCase):
             os.makedirs(os.path.join(folder, "crates", "rules", "specs"))
             path = os.path.join("crates", "rules", "specs", "Bounds.antt")
             with open(os.path.join(folder, path), "w") as file:
-                file.write(source + '-- "what they cost", "it sold for", "What the build includes"\n')
+                file.write(source + '-- "what they cost", "it sold for", "What the build includes", "C 1 0 0 0 0"\n')
             wrong = check_docs.misquoted_in_comments(folder, self.papers)
-        self.assertEqual(wrong, ([f"{path}: it sold for"], 5))
+        self.assertEqual(wrong, ([f"{path}: it sold for"], 6))
 
 
 if __name__ == "__main__":

@@ -242,6 +242,29 @@ impl Script {
     }
 }
 
+/// As many trades and resting orders as a state may hold: each of 32 accounts has bought and sold 8 lots of each contract, and has an open and a
+/// close on each side of it.
+pub fn full_list() -> Vec<Command> {
+    let mut s = Script { commands: (1..=CONTRACTS).map(|c| phase(c, 1)).collect(), next: 1 };
+    for i in 0..1024 {
+        let (contract, turn) = (1 + (i % 4) as u8, i / 4);
+        s.order(1 + (turn % 32) as u8, contract, SELL, REFERENCE);
+        s.order(1 + ((turn + 1) % 32) as u8, contract, IMMEDIATE, REFERENCE);
+    }
+    for i in 0..64 {
+        let close = if i < 32 { 0 } else { CLOSE };
+        for contract in 1..=CONTRACTS as u8 {
+            s.order(1 + (i % 32) as u8, contract, close, REFERENCE - 1 - i % 20);
+            s.order(1 + (i % 32) as u8, contract, SELL + close, REFERENCE + 1 + i % 20);
+        }
+    }
+    s.commands
+}
+
+pub fn deposit(account: u8) -> Command {
+    Command { kind: 1, account, amount: 1000, ..Command::default() }
+}
+
 /// The kinds of command that are counted one by one.
 pub const KINDS: [&str; 11] = [
     "deposit",

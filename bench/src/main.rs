@@ -10,7 +10,7 @@ mod plain;
 mod runner;
 
 use cases::{any_sweeps, queue_case, whole_sweeps, Random, Sweeps, SweepsCase, Swept};
-use days::{encode, file, kind_lists, match_lists, mixed, Memory, KINDS};
+use days::{deposit, encode, file, full_list, kind_lists, match_lists, mixed, Memory, KINDS};
 use ours::Probe;
 use plain::Order;
 use std::hint::black_box;
@@ -54,7 +54,7 @@ const OURS: Book = Book {
     insert: ours::insert,
     cancel: ours::cancel,
     sweeps: ours::sweeps,
-    counted: ["zelvorm_insert", "zelvorm_cancel", "zelvorm_sweeps"],
+    counted: ["bench_insert", "bench_cancel", "bench_sweeps"],
 };
 
 const PLAIN: Book = Book {
@@ -140,16 +140,22 @@ fn exercise(operation: usize, book: &Book) -> usize {
 
 /// What this program prints and the instructions it takes within one function alone, run again with some words under valgrind.
 fn counted(function: &str, words: &[String]) -> (String, f64) {
-    counted_of(&std::env::current_exe().unwrap(), function, words, Stdio::null())
+    counted_of(&std::env::current_exe().unwrap(), function, words, Stdio::null(), None)
+}
+
+/// The same from the last call of another function on.
+fn counted_from(function: &str, from: &str, words: &[String]) -> f64 {
+    counted_of(&std::env::current_exe().unwrap(), function, words, Stdio::null(), Some(from)).1
 }
 
 /// The same of any program on some input.
-fn counted_of(program: &Path, function: &str, words: &[String], input: Stdio) -> (String, f64) {
+fn counted_of(program: &Path, function: &str, words: &[String], input: Stdio, from: Option<&str>) -> (String, f64) {
     let out = std::env::current_exe().unwrap().with_extension("callgrind");
     let said = Command::new("valgrind")
         .arg("--tool=callgrind")
         .arg(format!("--toggle-collect={function}"))
         .arg(format!("--callgrind-out-file={}", out.display()))
+        .args(from.map(|from| format!("--dump-before={from}")))
         .arg(program)
         .args(words)
         .stdin(input)
@@ -290,7 +296,7 @@ fn exercise_list(number: usize, which: usize) {
 
 /// Instructions per command of those by which a list is longer than the one before it.
 fn per_command(number: usize, which: usize) -> f64 {
-    let function = ["zelvorm_run", "plain_run"][which];
+    let function = ["bench_run", "plain_run"][which];
     let [less, more] = [number - 1, number].map(|n| counted(function, &["list".into(), n.to_string(), which.to_string()]).1);
     (more - less) / (list(number).1.len() - list(number - 1).1.len()) as f64
 }
@@ -314,6 +320,25 @@ fn engine() {
     }
 }
 
+/// The list that fills a state, and behind it a test of the whole state, or one command by itself.
+fn exercise_full(alone: bool) {
+    let (day, commands, mut memory) = (file(32), encode(&full_list()), Memory::new());
+    if alone {
+        let left = ours::execute(&day, &commands, deposit(1).bytes(), &mut memory, 0, 0);
+        assert!(left.made == 1024 && left.bought == 64 && left.sold == 64 && left.balance == 1_000_000_001_000);
+    } else {
+        assert!(ours::test(&day, &commands, &mut memory));
+    }
+}
+
+/// What the test of the whole state takes, and one command by itself, which makes it first.
+fn full() {
+    println!("\n{:60} {:>9}", "instructions, 32 accounts, 512 orders, 1,024 trades", "ours");
+    let taken = |function: &str, alone: u8| counted_from(function, "audit::well_formed", &["full".into(), alone.to_string(), "0".into()]);
+    println!("{:60} {:9.0}", "whole-state test", taken("bench_test", 0));
+    println!("{:60} {:9.0}", "one command by execute, deposit", taken("bench_execute", 1));
+}
+
 #[no_mangle]
 #[inline(never)]
 fn plain_day(file: &[u8]) {
@@ -333,7 +358,7 @@ fn runners() {
     for (day, name) in DAYS.iter().enumerate() {
         let file = sample(day, "day");
         let input = std::fs::File::open(format!("samples/{name}.day")).unwrap();
-        let ours = counted_of(Path::new("target/bin/dayrun"), "main", &[], input.into());
+        let ours = counted_of(Path::new("target/bin/dayrun"), "main", &[], input.into(), None);
         let plain = counted("plain_day", &["day".into(), day.to_string(), "1".into()]);
         let lines = String::from_utf8(sample(day, "out")).unwrap();
         if ours.0 != lines.trim() || plain.0 != lines.trim() {
@@ -351,11 +376,14 @@ fn main() {
     let numbers: Vec<usize> = words.iter().filter_map(|word| word.parse().ok()).collect();
     match (words.first().map(String::as_str), &numbers[..]) {
         (Some("list"), &[number, which]) => exercise_list(number, which),
+        (Some("full"), &[]) => full(),
+        (Some("full"), &[alone, _]) => exercise_full(alone == 1),
         (Some("day"), &[day, _]) => plain_day(&sample(day, "day")),
         (Some(_), &[operation, which]) => println!("{}", exercise(operation, BOOKS[which])),
         _ => {
             book();
             engine();
+            full();
             runners();
         }
     }

@@ -6,26 +6,41 @@ use crate::plain::Order;
 
 // A slice passes as a pointer and a length.
 extern "C" {
-    fn zelvorm_insert(
+    fn bench_insert(
         area: *mut u32, words: usize, contract: usize, count: usize, sell: bool,
         price: u32, number: u32, account: u32, lots: u32, close: u32,
     );
-    fn zelvorm_cancel(area: *mut u32, words: usize, contract: usize, count: usize, number: u32) -> usize;
-    fn zelvorm_sweeps(
+    fn bench_cancel(area: *mut u32, words: usize, contract: usize, count: usize, number: u32) -> usize;
+    fn bench_sweeps(
         own: *mut u32, own_words: usize, opposite: *mut u32, opposite_words: usize, trades: *mut u32, trade_words: usize,
         order: Sweeps, times: usize,
     ) -> Swept;
-    fn zelvorm_run(
+    fn bench_run(
         day: *const u8, day_bytes: usize, commands: *const u8, command_bytes: usize,
+        buys: *mut u32, buy_words: usize, sells: *mut u32, sell_words: usize, trades: *mut u32, trade_words: usize,
+        account: usize, contract: usize,
+    ) -> Probe;
+    fn bench_test(
+        day: *const u8, day_bytes: usize, commands: *const u8, command_bytes: usize,
+        buys: *mut u32, buy_words: usize, sells: *mut u32, sell_words: usize, trades: *mut u32, trade_words: usize,
+    ) -> bool;
+    fn bench_execute(
+        day: *const u8, day_bytes: usize, commands: *const u8, command_bytes: usize, single: Single,
         buys: *mut u32, buy_words: usize, sells: *mut u32, sell_words: usize, trades: *mut u32, trade_words: usize,
         account: usize, contract: usize,
     ) -> Probe;
 }
 
+/// One command as `bench_execute` takes it.
+#[repr(C)]
+pub struct Single {
+    pub bytes: [u8; 24],
+}
+
 pub fn insert(area: &mut [u32], contract: usize, count: usize, sell: bool, o: &Order) {
     assert!(contract < 4 && count < 64 && QUEUE * contract + ORDER * (count + 1) <= area.len() && o.stamp == 0 && o.quote == 0);
     unsafe {
-        zelvorm_insert(
+        bench_insert(
             area.as_mut_ptr(), area.len(), contract, count, sell,
             o.price, o.number, o.account, o.lots, o.close,
         )
@@ -34,7 +49,7 @@ pub fn insert(area: &mut [u32], contract: usize, count: usize, sell: bool, o: &O
 
 pub fn cancel(area: &mut [u32], contract: usize, count: usize, number: u32) -> usize {
     assert!(contract < 4 && count <= 64 && QUEUE * contract + ORDER * count <= area.len());
-    unsafe { zelvorm_cancel(area.as_mut_ptr(), area.len(), contract, count, number) }
+    unsafe { bench_cancel(area.as_mut_ptr(), area.len(), contract, count, number) }
 }
 
 /// Room for every order and trade that there may be, accounts that exist, and holdings that stay below 1,000,000.
@@ -50,13 +65,13 @@ pub fn sweeps(own: &mut [u32], opposite: &mut [u32], trades: &mut [u32], s: &Swe
     assert!(resting.chunks_exact(ORDER).all(|o| (o[2] as usize) < ACCOUNTS));
     assert!(s.lots <= 1000 && s.held as usize + 1000 * times <= 1_000_000);
     unsafe {
-        zelvorm_sweeps(
+        bench_sweeps(
             own.as_mut_ptr(), own.len(), opposite.as_mut_ptr(), opposite.len(), trades.as_mut_ptr(), trades.len(), *s, times,
         )
     }
 }
 
-/// What `zelvorm_run` is asked about the state that it leaves: an account's balance and holding, what changes of a contract, counts.
+/// What `bench_run` is asked about the state that it leaves: an account's balance and holding, what changes of a contract, counts.
 #[repr(C)]
 #[derive(Clone, Copy, Debug, PartialEq)]
 pub struct Probe {
@@ -79,8 +94,29 @@ pub struct Probe {
 pub fn run(day: &[u8], commands: &[u8], m: &mut Memory, account: usize, contract: usize) -> Probe {
     assert!(account < ACCOUNTS && contract < 4);
     unsafe {
-        zelvorm_run(
+        bench_run(
             day.as_ptr(), day.len(), commands.as_ptr(), commands.len(), m.buys.as_mut_ptr(), m.buys.len(),
+            m.sells.as_mut_ptr(), m.sells.len(), m.trades.as_mut_ptr(), m.trades.len(), account, contract,
+        )
+    }
+}
+
+/// Whether the state that the list leaves is well formed.
+pub fn test(day: &[u8], commands: &[u8], m: &mut Memory) -> bool {
+    unsafe {
+        bench_test(
+            day.as_ptr(), day.len(), commands.as_ptr(), commands.len(), m.buys.as_mut_ptr(), m.buys.len(),
+            m.sells.as_mut_ptr(), m.sells.len(), m.trades.as_mut_ptr(), m.trades.len(),
+        )
+    }
+}
+
+/// The list, and one more command by itself.
+pub fn execute(day: &[u8], commands: &[u8], single: [u8; 24], m: &mut Memory, account: usize, contract: usize) -> Probe {
+    assert!(account < ACCOUNTS && contract < 4);
+    unsafe {
+        bench_execute(
+            day.as_ptr(), day.len(), commands.as_ptr(), commands.len(), Single { bytes: single }, m.buys.as_mut_ptr(), m.buys.len(),
             m.sells.as_mut_ptr(), m.sells.len(), m.trades.as_mut_ptr(), m.trades.len(), account, contract,
         )
     }

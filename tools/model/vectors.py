@@ -52,6 +52,7 @@ records of contracts and accounts those of `memory.py`.
     8 day file      bytes                                           1 where they are a sound day file, or 0
     9 write         bytes that the area has                         code, bytes
     10 read         bytes                                           code
+    11 run          bytes                                           count of commands played
 """
 
 from dataclasses import dataclass
@@ -278,14 +279,18 @@ class OneCommand:
         return told
 
 
+# "The bytes are whole records"; what is left behind the last one is no command.
+def commands_in(content):
+    size = dayfile.COMMAND.size
+    whole = content[: len(content) // size * size]
+    return [dayfile.Command(*fields) for fields in dayfile.COMMAND.iter_unpack(whole)]
+
+
 class Bundle:
     number = 3
 
-    # "The bytes are whole records"; what is left behind the last one is no command.
     def run(state, content):
-        size = dayfile.COMMAND.size
-        whole = content[: len(content) // size * size]
-        return baskets.submit(state, [dayfile.Command(*fields) for fields in dayfile.COMMAND.iter_unpack(whole)])
+        return baskets.submit(state, commands_in(content))
 
     def verdict(answer):
         return answer
@@ -413,6 +418,22 @@ class Read:
         return number(code)
 
 
+class RunList:
+    number = 11
+
+    def run(state, content):
+        return baskets.run_list(state, commands_in(content))
+
+    def verdict(answer):
+        return answer
+
+    def arguments(content):
+        return byte_parts(content)
+
+    def answer(played):
+        return number(played)
+
+
 CALLS = {
     "well-formed": WellFormed,
     "command": OneCommand,
@@ -424,4 +445,5 @@ CALLS = {
     "day file": DayFile,
     "write": Write,
     "read": Read,
+    "run": RunList,
 }

@@ -244,7 +244,7 @@ nothing-worth : (k n : ℕ) → pos k *ℤ (pos n *ℤ pos 0) ≡ pos 0
 nothing-worth k n = simp ring (d-eq _ _ _ _ (omega arith))
 
 module _ (m : Memory) (o : Opening m) where
-  opening-loaded : Loaded m
+  pub opening-loaded : Loaded m
   opening-loaded = record {
     no-trades = o .no-trades;
     totals = λ c k. sumTo-ext (accountsOf m) _ _ (λ a l. ap pos (o .no-long a c l k ∙ sym (o .no-short a c l k)));
@@ -284,14 +284,20 @@ module _ (m : Memory) (s t : Start) (money : (a : ℕ) → a < accountsOf m → 
     net = λ a c l k. claim .net a c l k ∙ ap (λ (z : ℤ). z +ℤ netHolding a c (tradesMade m cs)) (held a c l k);
   }
 
+-- so its claim is that of the loaded state, and the other way round
+module _ (m : Memory) (o : Opening m) (cs : List Command) (m′ : Memory) where
+  pub as-opened : Condition3 (loaded m) m cs m′ → Condition3 (opened m) m cs m′
+  as-opened = start-as m (loaded m) (opened m) (opening-money m o) (opening-net m o) cs m′
+
+  pub as-loaded : Condition3 (opened m) m cs m′ → Condition3 (loaded m) m cs m′
+  as-loaded = start-as m (opened m) (loaded m) (λ a l. sym (opening-money m o a l)) (λ a c l k. sym (opening-net m o a c l k)) cs m′
+
 -- THE CLAIM
 module _
     (kept : (m : Memory) (c : Command) → wellFormedMemory m ≡ true → wellFormedMemory (respond m c .memory) ≡ true)
     (read-back : (m : Memory) (c : Command) → wellFormedMemory m ≡ true → exchangeOf (respond m c .memory) ≡ step (exchangeOf m) c) where
   pub condition3 : (m : Memory) → Declared (m .state) → (cs : List Command) → MoneyKept m cs (run m cs)
   condition3 m d cs = record {
-    from-nothing = λ o.
-        start-as m (loaded m) (opened m) (opening-money m o) (opening-net m o) cs (run m cs)
-        (from-loaded kept read-back m d (opening-loaded m o) cs);
+    from-nothing = λ o. as-opened m o cs (run m cs) (from-loaded kept read-back m d (opening-loaded m o) cs);
     from-loaded = λ o. from-loaded kept read-back m d o cs;
   }

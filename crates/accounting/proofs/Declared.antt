@@ -55,7 +55,7 @@ module _ (m : Memory) (d : Declared (m .state)) where
       ∙ length-take (m .state .accountcount) (m .state .accounts)
       ∙ ap (λ (n : ℕ). min (m .state .accountcount) n) (d .accounts)
 
-  counted-shaped : Counts (m .state) → Shaped (exchangeOf m)
+  pub counted-shaped : Counts (m .state) → Shaped (exchangeOf m)
   unfolding Shaped accountAt
   counted-shaped few = λ a l.
       let k : a < m .state .accountcount = omega (arith, accounts-in-use, l) in
@@ -119,7 +119,7 @@ written-declared m d (y ∷ ys) f = written-declared (put m y) (put-declared m d
 -- ---- stages of the state's shape fit
 
 module _ (m : Memory) (d : Declared (m .state)) (few : Counts (m .state)) where
-  shaped-fits : (x : Exchange) → SameShape (exchangeOf m) x → Fits x
+  pub shaped-fits : (x : Exchange) → SameShape (exchangeOf m) x → Fits x
   unfolding Shaped
   shaped-fits x s = record {
     listings = omega (arith, s .listings, contracts-in-use m, few .contracts);

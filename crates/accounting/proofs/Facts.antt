@@ -1,6 +1,6 @@
 -- What a well-formed state says, as far as money needs it: trades between accounts in use, prices and terms in range, starting
 -- lots within the limit, a replay that holds. Assumes nothing.
-use mathlib.Core.Bool.{true, false, not, _||_}
+use mathlib.Core.Bool.{true, not}
 use mathlib.Core.List.{List, [], _∷_}
 use mathlib.Core.Path.{_≡_}
 use Prim.Native.Nat.{ℕ, _+_, _<_, _≤_}
@@ -11,9 +11,9 @@ use lib.Dec.{leb, ltb, eqb}
 use lib.ListN.{length}
 use Rattle.laws.specs.Choice.{all, allOf, all-at, allOf-at, both-true}
 use Rattle.laws.specs.Chains.{Passed, passed}
-use Rattle.rules.specs.Bounds.{within, inAuction, onTick, dayLow, dayHigh, allowedToday, maxPrice, maxLots}
+use Rattle.rules.specs.Bounds.{within, onTick, dayLow, dayHigh, allowedToday, maxPrice, maxLots}
 use Rattle.rules.specs.Exchange.{Exchange, Listing, noListing, listingAt, holdingAt, restingOpens, restingCloses}
-use Rattle.rules.specs.WellFormed.{contractInRange, sorted, uncrossed, orderInRange, listingInRange, tradeInRange, replays, holdingInRange, holdingsInRange, balanceInRange, countersInRange, usedOnce, allNumbers, allStamps, listingQuoted, markInRange, wellFormedContents}
+use Rattle.rules.specs.WellFormed.{countersInRange, contractInRange, markInRange, rangesKept, queuesSorted, orderInRange, ordersInRange, allNumbers, allStamps, usedOnce, listingQuoted, restingInRange, tradeInRange, replays, holdingInRange, holdingsInRange, balanceInRange, wellFormedContents}
 use Rattle.rules.specs.declared.Contract.{Contract}
 use Rattle.rules.specs.declared.Holding.{Holding}
 use Rattle.rules.specs.declared.Order.{Order}
@@ -76,37 +76,35 @@ pub record Facts (x : Exchange) : Type 0 where
   pub startshort : (a c : ℕ) → a < length (x .accounts) → c < length (x .listings) → holdingAt (x .accounts) a c .startshort ≤ 100_000
 
 module _ (x : Exchange) (h : wellFormedContents x ≡ true) where
-  clauses : Passed (countersInRange x)
-      (allOf (listingInRange (length (x .accounts)) (x .next) (x .nextstamp)) (x .listings) ∷ usedOnce (allNumbers (x .listings)) ∷ usedOnce (allStamps (x .listings)) ∷ allOf (listingQuoted (x .accounts)) (x .listings) ∷ allOf markInRange (x .accounts) ∷ allOf (tradeInRange x) (x .trades)
-      ∷ replays x ∷ all (holdingsInRange x) (length (x .accounts)) ∷ allOf (balanceInRange (x .settlements)) (x .accounts) ∷ [])
+  clauses : Passed (rangesKept x)
+      (allOf queuesSorted (x .listings) ∷ restingInRange x ∷ allOf (tradeInRange x) (x .trades) ∷ replays x ∷ all (holdingsInRange x) (length (x .accounts)) ∷ allOf (balanceInRange (x .settlements)) (x .accounts) ∷ [])
   unfolding wellFormedContents
-  clauses = passed (countersInRange x)
-      (allOf (listingInRange (length (x .accounts)) (x .next) (x .nextstamp)) (x .listings) ∷ usedOnce (allNumbers (x .listings)) ∷ usedOnce (allStamps (x .listings)) ∷ allOf (listingQuoted (x .accounts)) (x .listings) ∷ allOf markInRange (x .accounts) ∷ allOf (tradeInRange x) (x .trades)
-      ∷ replays x ∷ all (holdingsInRange x) (length (x .accounts)) ∷ allOf (balanceInRange (x .settlements)) (x .accounts) ∷ []) h
+  clauses =
+      passed (rangesKept x)
+      (allOf queuesSorted (x .listings) ∷ restingInRange x ∷ allOf (tradeInRange x) (x .trades) ∷ replays x ∷ all (holdingsInRange x) (length (x .accounts)) ∷ allOf (balanceInRange (x .settlements)) (x .accounts) ∷ []) h
 
-  listing-in-range : (c : ℕ) → c < length (x .listings) → listingInRange (length (x .accounts)) (x .next) (x .nextstamp) (listingAt x c) ≡ true
-  unfolding listingAt
-  listing-in-range c l = allOf-at (listingInRange (length (x .accounts)) (x .next) (x .nextstamp)) (x .listings) c noListing (clauses .1 .0) l
+  contract-at : (c : ℕ) → c < length (x .listings) → contractInRange (listingAt x c .contract) ≡ true
+  unfolding rangesKept listingAt
+  contract-at c l =
+      let p = passed (countersInRange x) (allOf (λ l. contractInRange (l .contract)) (x .listings) ∷ allOf markInRange (x .accounts) ∷ []) (clauses .0) in
+      allOf-at (λ l. contractInRange (l .contract)) (x .listings) c noListing (p .1 .0) l
 
-  listing-clauses : (m : Listing) → listingInRange (length (x .accounts)) (x .next) (x .nextstamp) m ≡ true →
-      (contractInRange (m .contract) ≡ true) × (allOf (orderInRange (length (x .accounts)) (x .next) (x .nextstamp) (m .contract)) (m .buys) ≡ true)
-  unfolding listingInRange
-  listing-clauses m e =
-      let p = passed (contractInRange (m .contract))
-      (sorted false (m .buys) ∷ sorted true (m .sells) ∷ (inAuction (m .contract) || uncrossed (m .buys) (m .sells))
-      ∷ allOf (orderInRange (length (x .accounts)) (x .next) (x .nextstamp) (m .contract)) (m .buys)
-      ∷ allOf (orderInRange (length (x .accounts)) (x .next) (x .nextstamp) (m .contract)) (m .sells) ∷ []) e in
-      (p .0, p .1 .1 .1 .1 .0)
+  buys-at : (c : ℕ) → c < length (x .listings) → allOf (orderInRange (length (x .accounts)) (x .next) (x .nextstamp) (listingAt x c .contract)) (listingAt x c .buys) ≡ true
+  unfolding restingInRange ordersInRange listingAt
+  buys-at c l =
+      let p = passed (allOf (ordersInRange (length (x .accounts)) (x .next) (x .nextstamp)) (x .listings))
+      (usedOnce (allNumbers (x .listings)) ∷ usedOnce (allStamps (x .listings)) ∷ allOf (listingQuoted (x .accounts)) (x .listings) ∷ []) (clauses .1 .1 .0) in
+      both-true _ _ (allOf-at (ordersInRange (length (x .accounts)) (x .next) (x .nextstamp)) (x .listings) c noListing (p .0) l) .0
 
   terms-at : (c : ℕ) → c < length (x .listings) → Terms (listingAt x c .contract)
-  terms-at c l = contract-terms _ (listing-clauses (listingAt x c) (listing-in-range c l) .0)
+  terms-at c l = contract-terms _ (contract-at c l)
 
   holding-in-range : (a c : ℕ) → a < length (x .accounts) → c < length (x .listings) →
       holdingInRange (listingAt x c) a (holdingAt (x .accounts) a c) ≡ true
   unfolding holdingsInRange
   holding-in-range a c la lc =
       all-at (λ c. holdingInRange (listingAt x c) a (holdingAt (x .accounts) a c)) c (length (x .listings))
-      (all-at (holdingsInRange x) a (length (x .accounts)) (clauses .1 .1 .1 .1 .1 .1 .1 .1 .0) la) lc
+      (all-at (holdingsInRange x) a (length (x .accounts)) (clauses .1 .1 .1 .1 .1 .0) la) lc
 
   start-lots : (m : Listing) (a : ℕ) (k : Holding) → holdingInRange m a k ≡ true →
       (k .startlong ≤ m .contract .limit) × (k .startshort ≤ m .contract .limit)
@@ -128,9 +126,9 @@ module _ (x : Exchange) (h : wellFormedContents x ≡ true) where
   pub facts : Facts x
   facts = record {
     terms-of = terms-at;
-    buys = λ c l. listing-clauses (listingAt x c) (listing-in-range c l) .1;
-    trades = clauses .1 .1 .1 .1 .1 .1 .0;
-    replay = clauses .1 .1 .1 .1 .1 .1 .1 .0;
+    buys = buys-at;
+    trades = clauses .1 .1 .1 .0;
+    replay = clauses .1 .1 .1 .1 .0;
     startlong = λ a c la lc. starts a c la lc .0;
     startshort = λ a c la lc. starts a c la lc .1;
   }

@@ -7,6 +7,7 @@ pub mod Identity
 pub mod Paired
 pub mod AnyPairing
 pub mod FirstIn
+pub mod FourSums
 pub mod Reach
 pub mod PriceBound
 pub mod ProfitBound

@@ -5,8 +5,8 @@ use Prim.Native.Nat.{ℕ, zero, suc, _+_, _-_, _≤_, _<_}
 use native.Mathlib.Nat.{add-zero, add-assoc, sub-self, sub-zero, suc-sub-suc, zero-sub, zero-add}
 use native.Mathlib.Numerals.{add-one}
 use native.Mathlib.Omega.{arith}
-use lib.ListN.{length, take, drop, getD, set, replicate, length-append, length-take, length-drop, length-replicate, take-append-drop, drop-of-length-le, List·getD-append}
-use lib.Seq.{sets, sets-eq, take-length, drop-length, take-take, take-add, take-at, take-append-le, take-append-add, drop-at, drop-drop, drop-append-le, drop-append-add, length-take-le, set-split}
+use lib.ListN.{length, take, drop, getD, set, replicate, length-append, length-take, length-drop, length-replicate, take-append-drop, drop-of-length-le, List·getD-append, getD-replicate}
+use lib.Seq.{sets, sets-eq, take-length, drop-length, take-take, take-add, take-at, take-append-le, take-append-add, drop-at, drop-drop, drop-append-le, drop-append-add, length-take-le, set-split, getD-take, getD-drop, getD-append-add}
 use Rattle.areas.specs.Lists.{over, insertAt, removeAt, padded}
 
 module _ {A : Type 0} where
@@ -82,6 +82,23 @@ module _ {A : Type 0} where
         let m : at + length ys + (n - (at + length ys)) ≡ n = omega arith in
         ap (λ (k : ℕ). drop k (take at l ++ (ys ++ rest))) e
         ∙ rw (← append-assoc (take at l) ys rest, drop-append-add (take at l ++ ys) rest (n - (at + length ys)), drop-drop, m)
+
+    -- an element before the replaced part, in it and behind it
+    pub getD-over-before : (k : ℕ) (d : A) → k < at → getD (over l at ys) k d ≡ getD l k d
+    getD-over-before k d h =
+        sym (getD-take at (over l at ys) k d h) ∙ ap (λ (r : List A). getD r k d) (take-over at (omega arith)) ∙ getD-take at l k d h
+
+    pub getD-over-in : (k : ℕ) (d : A) → k < length ys → getD (over l at ys) (at + k) d ≡ getD ys k d
+    getD-over-in k d h =
+        sym (getD-drop at (over l at ys) k d)
+        ∙ ap (λ (r : List A). getD r k d) drop-over-at ∙ List·getD-append ys (drop (at + length ys) l) d k h
+
+    pub getD-over-behind : (k : ℕ) (d : A) → at + length ys ≤ k → getD (over l at ys) k d ≡ getD l k d
+    getD-over-behind k d h =
+        let e : k ≡ k + 0 = omega arith in
+        ap (λ (j : ℕ). getD (over l at ys) j d) e
+        ∙ sym (getD-drop k (over l at ys) 0 d)
+        ∙ ap (λ (r : List A). getD r 0 d) (drop-over k h) ∙ getD-drop k l 0 d ∙ ap (λ (j : ℕ). getD l j d) (sym e)
 
     -- a second write over the front of the first
     pub over-front : (zs : List A) → length zs ≤ length ys → over (over l at ys) at zs ≡ over l at (zs ++ drop (length zs) ys)
@@ -206,6 +223,13 @@ module _ {A : Type 0} where
   pub getD-padded : (n i : ℕ) (z d : A) (os : List A) → i < length os → getD (padded n z os) i d ≡ getD os i d
   unfolding padded
   getD-padded n i z d os h = List·getD-append os (replicate (n - length os) z) d i h
+
+  pub getD-fill : (n i : ℕ) (z d : A) (os : List A) → length os ≤ i → i < n → getD (padded n z os) i d ≡ z
+  unfolding padded
+  getD-fill n i z d os h l =
+      let e : i ≡ length os + (i - length os) = omega arith in
+      ap (λ (j : ℕ). getD (os ++ replicate (n - length os) z) j d) e
+      ∙ getD-append-add os (replicate (n - length os) z) (i - length os) d ∙ getD-replicate (n - length os) (i - length os) z d (omega arith)
 
   -- what is left of a list of copies
   pub drop-replicate : (k n : ℕ) (z : A) → drop k (replicate n z) ≡ replicate (n - k) z

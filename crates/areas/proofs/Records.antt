@@ -6,8 +6,8 @@ use Prim.Native.Nat.{ℕ, zero, suc, _+_, _-_, _*_, _≤_, _<_}
 use native.Mathlib.Nat.{mul-suc, mul-zero, mul-add, mul-sub, mul-le-mul-left, sub-zero, suc-sub-suc}
 use native.Mathlib.Numerals.{add-one}
 use native.Mathlib.Omega.{arith}
-use lib.ListN.{length, take, drop, getD, set, replicate, length-append, length-take, length-drop, take-append-drop, replicate-append-replicate}
-use lib.Seq.{take-nil, drop-nil, take-add, take-append-add, drop-at, drop-drop, drop-append-le, drop-append-add, length-take-le}
+use lib.ListN.{length, take, drop, getD, set, replicate, length-append, length-take, length-drop, take-append-drop, replicate-append-replicate, List·getD-append}
+use lib.Seq.{take-nil, drop-nil, take-add, take-append-add, drop-at, drop-drop, drop-append-le, drop-append-add, length-take-le, getD-drop, drop-cons}
 use Rattle.areas.specs.Lists.{over, insertAt, removeAt, padded}
 use Rattle.areas.specs.Records.{Codec, decode, encode, records, store}
 use Rattle.areas.proofs.Lists.{length-over, over-nil, over-tail, over-part, drop-over-at, drop-over, over-front, over-over, over-append, over-inside, over-comm, set-over, padded-removeAt}
@@ -101,6 +101,15 @@ module _ {A : Type 0} {W : ℕ} {words : A → List ℕ} {first : List ℕ → A
   encode-drop (suc i) (o ∷ os) =
       let m : W * suc i ≡ length (words o) + W * i = rw (C .wide o, mul-suc) (omega arith) in
       rw (m, drop-append-add (words o) (encode words os) (W * i)) (encode-drop i os)
+
+  -- a word of the record at place i
+  pub getD-encode : (os : List A) (i word : ℕ) (d : A) → i < length os → word < W →
+      getD (encode words os) (W * i + word) 0 ≡ getD (words (getD os i d)) word 0
+  getD-encode os i word d h b =
+      sym (getD-drop (W * i) (encode words os) word 0)
+      ∙ ap (λ (r : List ℕ). getD r word 0)
+      (sym (encode-drop i os) ∙ ap (encode words) (drop-cons os i d h) ∙ encode-cons (getD os i d) (drop (suc i) os))
+      ∙ List·getD-append (words (getD os i d)) (encode words (drop (suc i) os)) 0 word (rw (C .wide (getD os i d)) b)
 
   pub encode-over : (os : List A) (j : ℕ) (ps : List A) → encode words (over os j ps) ≡ over (encode words os) (W * j) (encode words ps)
   unfolding over

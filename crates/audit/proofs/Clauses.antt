@@ -1,21 +1,24 @@
 -- Each clause of "a state is well formed" as the chain of tests that code makes for it. Assumes nothing.
 use mathlib.Core.Bool.{Bool, true, false, not, _&&_, _||_}
 use mathlib.Core.List.{List, [], _∷_}
-use mathlib.Core.Path.{refl}
+use mathlib.Core.Path.{_≡_, refl}
 use Prim.Native.Nat.{ℕ, _+_, _*_}
 use lib.Dec.{leb, ltb, eqb}
 use lib.ListN.{length, getD}
 use Rattle.laws.specs.Choice.{all, allOf}
+use Rattle.laws.specs.Chains.{passed}
 use Rattle.rules.specs.Bounds.{within, inAuction, maxPhase, termsInRange, tickMultiple, allowedToday, maxResting, maxTrades}
-use Rattle.rules.specs.Exchange.{Listing, restingOpens, restingCloses}
+use Rattle.rules.specs.Exchange.{Listing}
 use Rattle.rules.specs.Memory.{Memory, countsInRange, hasRoom, queueStride, tradeStride}
-use Rattle.rules.specs.WellFormed.{contractInRange, orderInRange, sorted, uncrossed, listingInRange, queueQuoted, listingQuoted, holdingInRange}
+use Rattle.rules.specs.WellFormed.{contractInRange, orderInRange, ordersInRange, queuesSorted, sorted, uncrossed, queueQuoted, listingQuoted}
 use Rattle.rules.specs.declared.Account.{Account}
 use Rattle.rules.specs.declared.Contract.{Contract}
 use Rattle.rules.specs.declared.Holding.{Holding}
 use Rattle.rules.specs.declared.Order.{Order}
 use Rattle.rules.specs.declared.State.{State}
 use Rattle.rules.specs.declared.Trade.{Trade}
+use Rattle.audit.specs.Parts.{heldInRange, listingInRange}
+use Rattle.invariants.proofs.Clauses.{ListingOk, listing-ok}
 use Rattle.audit.proofs.Chains.{Chain}
 
 -- ---- counts and room
@@ -63,8 +66,22 @@ pub listing-chain : (accounts next nextstamp : ℕ) (l : Listing)
     ∷ allOf (orderInRange accounts next nextstamp (l .contract)) (l .buys)
     ∷ [])
     (allOf (orderInRange accounts next nextstamp (l .contract)) (l .sells))
+unfolding listingInRange queuesSorted ordersInRange
+listing-chain accounts next nextstamp l = record { is = flat (contractInRange (l .contract)) (sorted false (l .buys)) (sorted true (l .sells)) _ _ _ }
+  where
+    flat : (a b c d e f : Bool) → (a && (b && c && d) && (e && f)) ≡ (a && b && c && d && e && f)
+    flat false b c d e f = refl
+    flat true false c d e f = refl
+    flat true true false d e f = refl
+    flat true true true false e f = refl
+    flat true true true true e f = refl
+
+-- what a contract's test says
+pub listing-tested : (accounts next nextstamp : ℕ) (l : Listing) → listingInRange accounts next nextstamp l ≡ true → ListingOk accounts next nextstamp l
 unfolding listingInRange
-listing-chain accounts next nextstamp l = record { is = refl }
+listing-tested accounts next nextstamp l h =
+    let p = passed (contractInRange (l .contract)) (queuesSorted l ∷ ordersInRange accounts next nextstamp l ∷ []) h in
+    listing-ok accounts next nextstamp l (p .0) (p .1 .0) (p .1 .1)
 
 pub quoted-chain : (accounts : List Account) (l : Listing) → Chain (listingQuoted accounts l) (queueQuoted accounts (l .buys) ∷ []) (queueQuoted accounts (l .sells))
 unfolding listingQuoted
@@ -72,17 +89,12 @@ quoted-chain accounts l = record { is = refl }
 
 -- ---- a holding
 
-pub holding-chain : (l : Listing) (a : ℕ) (h : Holding)
-    → Chain (holdingInRange l a h)
-    (leb (h .startlong) (l .contract .limit)
-    ∷ leb (h .startshort) (l .contract .limit)
-    ∷ leb (h .long + restingOpens a (l .buys)) (l .contract .limit)
-    ∷ leb (h .short + restingOpens a (l .sells)) (l .contract .limit)
-    ∷ leb (restingCloses a (l .sells)) (h .long)
-    ∷ [])
-    (leb (restingCloses a (l .buys)) (h .short))
-unfolding holdingInRange
-holding-chain l a h = record { is = refl }
+pub held-chain : (h : Holding) (limit buyopens buycloses sellopens sellcloses : ℕ)
+    → Chain (heldInRange h limit buyopens buycloses sellopens sellcloses)
+    (leb (h .startlong) limit ∷ leb (h .startshort) limit ∷ leb (h .long + buyopens) limit ∷ leb (h .short + sellopens) limit ∷ leb sellcloses (h .long) ∷ [])
+    (leb buycloses (h .short))
+unfolding heldInRange
+held-chain h limit buyopens buycloses sellopens sellcloses = record { is = refl }
 
 -- ---- a trade's order numbers
 

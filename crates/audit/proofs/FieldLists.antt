@@ -20,7 +20,6 @@ use Rattle.rules.specs.declared.Order.{Order}
 use Rattle.rules.proofs.Codecs.{length-queue, order-at}
 use Rattle.audit.specs.Listed.{Behind, maxListed}
 use Rattle.audit.specs.declared.numbers.Listed.{Listed}
-use Rattle.audit.proofs.Walks.{next-in, none-in, turn, stop, end}
 
 -- ---- a queue's values, written behind others
 
@@ -125,24 +124,14 @@ same-number {a} {b} e = ap not (eq-eqb b a (sym e))
 pub other-number : {a b : ℕ} → (a ≡ b → ⊥) → not (eqb b a) ≡ true
 other-number {a} {b} n = ap not (ne-eqb b a (λ e. n (sym e)))
 
-once-on : (n : ℕ) (ns : List ℕ) → allOf (λ k. not (eqb n k)) ns ≡ true → usedOnce (n ∷ ns) ≡ usedOnce ns
+pub once-on : (n : ℕ) (ns : List ℕ) → allOf (λ k. not (eqb n k)) ns ≡ true → usedOnce (n ∷ ns) ≡ usedOnce ns
 unfolding usedOnce
 once-on n ns h = rw h
 
-once-off : (n : ℕ) (ns : List ℕ) → allOf (λ k. not (eqb n k)) ns ≡ false → usedOnce (n ∷ ns) ≡ false
+pub once-off : (n : ℕ) (ns : List ℕ) → allOf (λ k. not (eqb n k)) ns ≡ false → usedOnce (n ∷ ns) ≡ false
 unfolding usedOnce
 once-off n ns h = rw h
 
-once-none : usedOnce [] ≡ true
+pub once-none : usedOnce [] ≡ true
 unfolding usedOnce
 once-none = refl
-
-module _ (l : List ℕ) (count i : ℕ) {b : Bool} (so-far : b ≡ usedOnce (drop i (take count l))) where
-  pub once-turn : i < count → count ≤ length l → allOf (λ k. not (eqb (getD l i 0) k)) (drop (i + 1) (take count l)) ≡ true → b ≡ usedOnce (drop (i + 1) (take count l))
-  once-turn h m t = turn usedOnce (take count l) i so-far (next-in count l i 0 h m) (once-on _ _ t)
-
-  pub once-out : i < count → count ≤ length l → allOf (λ k. not (eqb (getD l i 0) k)) (drop (i + 1) (take count l)) ≡ false → false ≡ b
-  once-out h m t = stop usedOnce (take count l) i so-far (next-in count l i 0 h m) (once-off _ _ t)
-
-  pub once-end : count ≤ i → true ≡ b
-  once-end h = end usedOnce (take count l) i so-far (none-in count l i h) once-none

@@ -1,6 +1,6 @@
 -- A holding's limit and cover, and a balance's bound, in the tests that code makes of them. Assumes nothing.
 use mathlib.Core.Bool.{true, false, false≢true}
-use mathlib.Core.Path.{_≡_, sym, ap, ap₂, _∙_}
+use mathlib.Core.Path.{_≡_, sym, ap, _∙_}
 use Prim.Native.Nat.{ℕ, zero, suc, _+_, _-_, _*_, _<_, _≤_, _^_}
 use native.Mathlib.Omega.{arith}
 use borrow.Author.Tests.{leb-true, le-leb, lt-leb, ltb-true}
@@ -28,9 +28,6 @@ limit-left held limit {left} {more} {opens} h e k =
     same-test (leb opens left) (leb (held + more) limit)
     (λ t. le-leb (held + more) limit (omega (arith, leb-true opens left t)))
     (λ t. le-leb opens left (omega (arith, leb-true (held + more) limit t)))
-
-pub same-leb : {a b x y : ℕ} → a ≡ x → b ≡ y → leb a b ≡ leb x y
-same-leb e k = ap₂ leb e k
 
 -- ---- a balance z against a bound n, either sign
 

@@ -11,17 +11,18 @@ use lib.Seq.{getD-set-other, getD-set-same, take-all}
 use Rattle.laws.specs.Choice.{pick, all, allOf, all-none, all-more, all-stop, all-true, allOf-all, allOf-at, allOf-stop, both-false, false-both, true-both}
 use Rattle.laws.specs.Sums.{sumOf, sumOf-more, sumOf-take}
 use Rattle.rules.specs.Exchange.{Listing, accountAt, noOrder, own}
-use Rattle.rules.specs.WellFormed.{isQuoteOf, listingInRange, markAllowed, orderInRange, queueQuoted, quotes}
+use Rattle.rules.specs.WellFormed.{isQuoteOf, markAllowed, orderInRange, queueQuoted, quotes}
 use Rattle.rules.specs.declared.Account.{Account}
 use Rattle.rules.specs.declared.Order.{Order}
-use Rattle.invariants.proofs.Clauses.{listing-ok, order-ok}
-use Rattle.audit.specs.Parts.{Markable}
+use Rattle.invariants.proofs.Clauses.{order-ok}
+use Rattle.audit.specs.Parts.{Markable, listingInRange}
+use Rattle.audit.proofs.Clauses.{listing-tested}
 
 -- what a listing in range says of its orders
 pub orders-markable : (accounts next nextstamp : ℕ) (l : Listing) → listingInRange accounts next nextstamp l ≡ true →
     (sell : Bool) (i : ℕ) → i < length (own sell l) → Markable accounts (getD (own sell l) i noOrder)
 orders-markable accounts next nextstamp l h sell i b =
-    let k = order-ok accounts next nextstamp (l .contract) (getD (own sell l) i noOrder) (allOf-at (orderInRange accounts next nextstamp (l .contract)) (own sell l) i noOrder (listing-ok accounts next nextstamp l h .orders sell) b) in
+    let k = order-ok accounts next nextstamp (l .contract) (getD (own sell l) i noOrder) (allOf-at (orderInRange accounts next nextstamp (l .contract)) (own sell l) i noOrder (listing-tested accounts next nextstamp l h .orders sell) b) in
     record { account = k .account; quote = k .quote }
 
 -- the orders before place i may stand, and `seen` counts the marked ones of each account

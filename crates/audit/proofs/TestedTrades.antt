@@ -1,32 +1,18 @@
--- Recorded trades, each tested by itself as it is read from its area. Assumes nothing.
+-- Recorded trades, each tested by itself. Assumes nothing.
 use mathlib.Core.Bool.{Bool, not, _&&_}
 use mathlib.Core.List.{List, [], _∷_}
-use mathlib.Core.Path.{_≡_, sym, ap, _∙_}
-use Prim.Native.Nat.{ℕ, _+_, _*_, _<_, _≤_}
+use mathlib.Core.Path.{_≡_, ap}
+use Prim.Native.Nat.{ℕ, _<_}
 use lib.Dec.{leb, ltb, eqb}
-use lib.ListN.{getD, drop, length-replicate, drop-of-length-le}
+use lib.ListN.{getD, length-replicate}
 use Rattle.laws.specs.Tabulate.{length-tabulate, getD-tabulate}
 use Rattle.rules.specs.Bounds.{within, allowedToday}
-use Rattle.rules.specs.Exchange.{Listing, listingAt, noContract, noListing, noTrade}
-use Rattle.rules.specs.Memory.{tradeFrom, recordedTrades, tradeStride}
+use Rattle.rules.specs.Exchange.{Listing, listingAt, noContract, noListing}
 use Rattle.rules.specs.WellFormed.{tradeInRange}
 use Rattle.rules.specs.declared.Contract.{Contract}
 use Rattle.rules.specs.declared.Trade.{Trade}
-use Rattle.rules.proofs.Codecs.{length-trades, trade-at}
 use Rattle.audit.specs.Parts.{tested}
 use Rattle.audit.proofs.Chains.{Chain, group}
-use Rattle.audit.proofs.Walks.{next-of}
-
--- ---- the trades read in turn
-
-module _ (area : List ℕ) (n i : ℕ) where
-  pub next-trade : {t : Trade} → i < n → t ≡ tradeFrom (drop (tradeStride * i) area) → drop i (recordedTrades area n) ≡ t ∷ drop (i + 1) (recordedTrades area n)
-  next-trade {t} h e =
-      next-of (recordedTrades area n) i noTrade (rw (length-trades area n) h)
-      ∙ ap (λ (u : Trade). u ∷ drop (i + 1) (recordedTrades area n)) (trade-at area n i h ∙ sym e)
-
-  pub no-trades : n ≤ i → drop i (recordedTrades area n) ≡ []
-  no-trades h = drop-of-length-le (recordedTrades area n) {i = i} (rw (length-trades area n) h)
 
 -- ---- a trade
 

@@ -67,54 +67,6 @@ module _ {l held : List Account} {i : ℕ} (s : Started l held i) where
 pub started-none : {l : List Account} → length l ≡ 32 → Started l l 0
 started-none e = record { room = e; so-far = refl }
 
-pub length-day : (l : List Account) → length (startOfDay l) ≡ length l
-unfolding startOfDay
-length-day l = length-map l startAccount
-
-pub start-at : (l : List Account) (a c : ℕ) → holdingAt (startOfDay l) a c ≡ startHolding (holdingAt l a c)
-unfolding startOfDay holdingAt accountAt
-start-at l a c =
-    ap (λ (x : Account). getD (x .holdings) c noHolding) (List·getD-map startAccount l a noAccount)
-    ∙ List·getD-map startHolding (getD l a noAccount .holdings) c noHolding
-
--- ---- the accounts in use
-
-module _ (k : ℕ) where
-  used-start : (n : ℕ) (l : List Account) → used k n (startOfDay l) ≡ startOfDay (used k n l)
-  unfolding startOfDay
-  used-start zero l = refl
-  used-start (suc n) [] = refl
-  used-start (suc n) (a ∷ l) =
-      ap₂ (λ (hs : List Holding) (xs : List Account). record { balance = a .balance; maker = a .maker; holdings = hs } ∷ xs) (take-map startHolding k (a .holdings)) (used-start n l)
-
--- a leg on one account is a leg on its place
-read-alone : (l : List Account) (a c : ℕ) → holdingAt (getD l a noAccount ∷ []) 0 c ≡ holdingAt l a c
-unfolding holdingAt accountAt
-read-alone l a c = refl
-
-pub one-leg : (l : List Account) {who place a c : ℕ} → who ≡ a → place ≡ c → (sell : Bool) (close lots : ℕ) {x : Account}
-    → x ≡ withHolding (getD l who noAccount) place (afterLeg (getD (getD l who noAccount .holdings) place noHolding) sell close lots)
-    → set l who x ≡ bookLeg l a c sell close lots
-unfolding bookLeg accountAt holdingAt
-one-leg l ea ec sell close lots ex = rw (ex, ea, ec)
-
-module _ (k n : ℕ) where
-  pub used-day : (l : List Account) → used k n (startOfDay l) ≡ startOfDay (used k n l)
-  used-day l = used-start k n l
-
-  -- a leg as code tests and books it, on the account that it reads: account a and contract c are those of the trade
-  module _ (l : List Account) {who place a c : ℕ} (ea : who ≡ a) (ec : place ≡ c) (ha : a < n) (m : n ≤ length l) (hc : c < k) (sell : Bool) (close lots : ℕ) where
-    pub leg-read : legCovered (getD l who noAccount ∷ []) 0 place sell close lots ≡ legCovered (used k n l) a c sell close lots
-    unfolding legCovered
-    leg-read =
-        let e : holdingAt (getD l who noAccount ∷ []) 0 place ≡ holdingAt (used k n l) a c =
-        read-alone l who place ∙ ap₂ (holdingAt l) ea ec ∙ sym (used-holding k n l a c ha hc) in
-        ap (λ (h : Holding). pick (eqb close 0) true (leb lots (pick sell (h .long) (h .short)))) e
-
-    pub leg-booked : {x : Account} → x ≡ withHolding (getD l who noAccount) place (afterLeg (getD (getD l who noAccount .holdings) place noHolding) sell close lots)
-        → used k n (set l who x) ≡ bookLeg (used k n l) a c sell close lots
-    leg-booked {x} ex = ap (used k n) (one-leg l ea ec sell close lots ex) ∙ sym (used-leg k n l a c sell close lots ha hc)
-
 -- ---- two lists of accounts compared
 
 lots-on : (h g : Holding) (hs gs : List Holding) → h .long ≡ g .long → h .short ≡ g .short → sameLots (h ∷ hs) (g ∷ gs) ≡ sameLots hs gs

@@ -8,7 +8,7 @@ use native.Mathlib.Numerals.{add-one}
 use native.Mathlib.Omega.{arith}
 use lib.ListN.{length, getD, drop, take, length-take, drop-of-length-le}
 use lib.Seq.{drop-cons, getD-take, length-take-le}
-use Rattle.laws.specs.Choice.{all, allOf}
+use Rattle.laws.specs.Choice.{all, all-at, all-true, allOf, same-test}
 
 -- ---- a count from 0 to n, with the test p of each number
 
@@ -16,6 +16,13 @@ pub all-end : (p : ℕ → Bool) {i n : ℕ} → all p i ≡ true → i ≤ n �
 all-end p {i} {n} h l r =
     let e : i ≡ n = omega arith in
     sym (subst (λ (k : ℕ). all p k ≡ true) e h)
+
+-- two counts in either order
+pub all-swap : (p : ℕ → ℕ → Bool) (n m : ℕ) → all (λ a. all (λ c. p a c) m) n ≡ all (λ c. all (λ a. p a c) n) m
+all-swap p n m =
+    same-test (all (λ a. all (λ c. p a c) m) n) (all (λ c. all (λ a. p a c) n) m)
+    (λ t. all-true (λ c. all (λ a. p a c) n) m (λ c hc. all-true (λ a. p a c) n (λ a ha. all-at (λ c. p a c) c m (all-at (λ a. all (λ c. p a c) m) a n t ha) hc)))
+    (λ t. all-true (λ a. all (λ c. p a c) m) n (λ a ha. all-true (λ c. p a c) m (λ c hc. all-at (λ a. p a c) a n (all-at (λ c. all (λ a. p a c) n) c m t hc) ha)))
 
 -- ---- a list from its first element to its last
 

@@ -13,7 +13,7 @@ use Rattle.laws.specs.Tabulate.{tabulate, length-tabulate, getD-tabulate}
 use Rattle.rules.specs.Bounds.{within, termsInRange}
 use Rattle.rules.specs.Exchange.{Exchange, Listing, listingAt, accountAt, holdingAt, noContract, noListing, noTrade}
 use Rattle.rules.specs.Memory.{Memory, exchangeOf, inUse, listingIn, recordedTrades, countsInRange, hasRoom, wellFormedMemory, used, memory, tradeStride}
-use Rattle.rules.specs.WellFormed.{countersInRange, listingInRange, allNumbers, allStamps, usedOnce, quotes, markAllowed, queueQuoted, listingQuoted, markInRange, tradeInRange, replays, holdingInRange, holdingsInRange, balanceInRange, wellFormedContents}
+use Rattle.rules.specs.WellFormed.{countersInRange, allNumbers, allStamps, usedOnce, quotes, markAllowed, queueQuoted, listingQuoted, markInRange, tradeInRange, replays, holdingInRange, holdingsInRange, balanceInRange, wellFormedContents}
 use Rattle.rules.specs.declared.Account.{Account}
 use Rattle.rules.specs.declared.Order.{Order}
 use Rattle.rules.specs.declared.State.{State}
@@ -21,10 +21,13 @@ use Rattle.rules.specs.declared.Trade.{Trade}
 use Rattle.rules.proofs.Codecs.{length-trades}
 use Rattle.rules.proofs.InUse.{length-used, used-holding}
 use Rattle.rules.proofs.Terms.{terms, terms-passed}
-use Rattle.invariants.proofs.Clauses.{holding-ok, listing-ok, trade-ok}
+use Rattle.invariants.proofs.Clauses.{holding-ok, trade-ok}
 use Rattle.invariants.proofs.MemoryRoom.{counts-ok, room-ok}
-use Rattle.audit.specs.Parts.{Booked, Ready, listing, replayed, tested}
+use Rattle.replaying.specs.Parts.{Booked}
+use Rattle.audit.specs.Parts.{Ready, listing, listingInRange, replayed, tested}
 use Rattle.audit.proofs.Chains.{Chain}
+use Rattle.audit.proofs.Clauses.{listing-tested}
+use Rattle.audit.proofs.Walked.{walked}
 
 -- ---- tests of every element
 
@@ -178,8 +181,7 @@ module _ (s : State) (buys sells trades : List ℕ) where
 
     pub contents-chain :
         Chain (wellFormedContents (exchangeOf m)) (countersTest ∷ listingsTest ∷ numbersTest ∷ stampsTest ∷ quotesTest ∷ makersTest ∷ tradesTest ∷ replayTest ∷ holdingsTest ∷ []) balancesTest
-    unfolding wellFormedContents
-    contents-chain = record { is = rw (counters-same, listings-same, numbers-same, stamps-same, quotes-same, makers-same, trades-same, replay-same, holdings-same, balances-same) refl }
+    contents-chain = record { is = walked (exchangeOf m) ∙ rw (counters-same, listings-same, numbers-same, stamps-same, quotes-same, makers-same, trades-same, replay-same, holdings-same, balances-same) refl }
 
 -- the whole: counts and room before the contents
 pub whole-chain : (m : Memory) → Chain (wellFormedMemory m) (countsInRange (m .state) ∷ hasRoom m ∷ []) (wellFormedContents (exchangeOf m))
@@ -204,7 +206,7 @@ module _ (s : State) (buys sells trades : List ℕ) (counts : countsInRange s �
     pub terms-tested : (c : ℕ) → c < s .contractcount → termsInRange (getD (s .contracts) c noContract) ≡ true
     unfolding listingIn
     terms-tested c h =
-        terms-passed _ (listing-ok (s .accountcount) (s .next) (s .nextstamp) (listing s buys sells c) (all-at (λ c. listingInRange (s .accountcount) (s .next) (s .nextstamp) (listing s buys sells c)) c (s .contractcount) listings h) .contract)
+        terms-passed _ (listing-tested (s .accountcount) (s .next) (s .nextstamp) (listing s buys sells c) (all-at (λ c. listingInRange (s .accountcount) (s .next) (s .nextstamp) (listing s buys sells c)) c (s .contractcount) listings h) .contract)
 
     pub starts-tested : holdingsTest s buys sells trades ≡ true
         → (a c : ℕ) → a < s .accountcount → c < s .contractcount → (holdingAt (s .accounts) a c .startlong ≤ 100_000) × (holdingAt (s .accounts) a c .startshort ≤ 100_000)

@@ -1,15 +1,19 @@
 -- The parts of a state in memory that a single test of the audit is about, so that its promise can cite the rule it tests.
 -- Assumes nothing.
-use mathlib.Core.Bool.{true}
+use mathlib.Core.Bool.{Bool, true, _&&_}
 use mathlib.Core.List.{List, []}
 use mathlib.Core.Path.{_≡_}
-use Prim.Native.Nat.{ℕ, _*_, _<_, _≤_}
+use Prim.Native.Nat.{ℕ, _+_, _*_, _<_, _≤_}
+use lib.Dec.{leb}
 use lib.ListN.{length, getD, replicate}
 use Rattle.laws.specs.Tabulate.{tabulate}
-use Rattle.rules.specs.Exchange.{Exchange, Listing, noAccount, noContract}
+use Rattle.rules.specs.Bounds.{maxAccounts, maxLots}
+use Rattle.rules.specs.Exchange.{Exchange, Listing, noAccount, noContract, resting}
 use Rattle.rules.specs.Memory.{countsInRange, listingIn, memory, queueStride}
+use Rattle.rules.specs.WellFormed.{contractInRange, queuesSorted, ordersInRange}
 use Rattle.rules.specs.declared.Account.{Account}
 use Rattle.rules.specs.declared.Contract.{Contract}
+use Rattle.rules.specs.declared.Holding.{Holding}
 use Rattle.rules.specs.declared.Order.{Order}
 use Rattle.rules.specs.declared.State.{State}
 use Rattle.rules.specs.declared.Trade.{Trade}
@@ -17,6 +21,11 @@ use Rattle.rules.specs.declared.Trade.{Trade}
 -- a contract in use with its queues: the trade area plays no part
 abbrev pub listing : State → List ℕ → List ℕ → ℕ → Listing
 listing state buys sells c = listingIn (memory state buys sells []) c
+
+-- what the rules say of the terms, the queues and the orders of all contracts, said of one contract: the audit walks over each
+-- contract once
+unfoldable pub listingInRange : ℕ → ℕ → ℕ → Listing → Bool
+listingInRange accounts next nextstamp l = contractInRange (l .contract) && queuesSorted l && ordersInRange accounts next nextstamp l
 
 -- counts within their ranges, and room for the queues of the contracts in use: what reading a queue asks for
 pub record Ready (s : State) (buys sells : List ℕ) : Type 0 where
@@ -28,6 +37,26 @@ pub record Ready (s : State) (buys sells : List ℕ) : Type 0 where
 pub record Markable (accounts : ℕ) (o : Order) : Type 0 where
   pub account : o .account < accounts
   pub quote : o .quote ≤ 1
+
+-- an order of an account that there may be, open or close, of no more lots than an order has
+pub record Summable (o : Order) : Type 0 where
+  pub account : o .account < maxAccounts
+  pub close : o .close ≤ 1
+  pub lots : o .lots ≤ maxLots
+
+-- the resting lots of a queue by account, each account's opens before its closes
+pub record Summed (queue : List Order) (lots : List ℕ) : Type 0 where
+  pub sums : (a close : ℕ) → a < maxAccounts → close ≤ 1 → getD lots (2 * a + close) 0 ≡ resting close a queue
+
+-- a holding within its limit and above its closes, of lots that are summed already: opens and closes of the buys, then of the sells
+unfoldable pub heldInRange : Holding → ℕ → ℕ → ℕ → ℕ → ℕ → Bool
+heldInRange h limit buyopens buycloses sellopens sellcloses =
+    leb (h .startlong) limit
+    && leb (h .startshort) limit
+    && leb (h .long + buyopens) limit
+    && leb (h .short + sellopens) limit
+    && leb sellcloses (h .long)
+    && leb buycloses (h .short)
 
 -- what a recorded trade is tested against: the contracts, the numbers of accounts and contracts, the next order number
 unfoldable pub tested : List Contract → ℕ → ℕ → ℕ → Exchange
@@ -44,10 +73,3 @@ tested contracts n accounts next =
 -- accounts and a day's trades alone, for the replay
 abbrev pub replayed : List Account → List Trade → Exchange
 replayed accounts trades = record { listings = []; accounts = accounts; trades = trades; next = 0; nextstamp = 1; settlements = 0 }
-
--- a trade of contracts and accounts in use, of no more lots than an order has
-pub record Booked (contracts accounts : ℕ) (t : Trade) : Type 0 where
-  pub contract : t .contract < contracts
-  pub buyer : t .buyer < accounts
-  pub seller : t .seller < accounts
-  pub lots : t .lots ≤ 1_000

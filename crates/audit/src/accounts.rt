@@ -1,102 +1,123 @@
 // Holdings against limits and resting orders, makers' marks, and balances.
 ghost use mathlib.Core.Bool.{true};
 ghost use mathlib.Core.Path.{_≡_};
-ghost use Prim.Native.Nat.{_+_, _*_, _≤_, _<_};
+ghost use Prim.Native.Nat.{ℕ, _+_, _*_, _≤_, _<_};
 ghost use lib.Dec.{leb};
-ghost use lib.ListN.{length, take};
+ghost use lib.ListN.{length, getD, take};
 ghost use Rattle.laws.specs.Choice.{all, allOf};
 ghost use Rattle.rules.specs.Bounds.{maxResting};
-ghost use Rattle.rules.specs.Exchange.{holdingAt, restingOpens, restingCloses};
+ghost use Rattle.rules.specs.Exchange.{holdingAt, noOrder};
 ghost use Rattle.rules.specs.Memory.{queueIn, firstWord};
 ghost use Rattle.rules.specs.WellFormed.{holdingInRange, markInRange, balanceInRange};
-ghost use Rattle.audit.specs.Parts.{Ready, listing};
-use book::scan;
+ghost use Rattle.audit.specs.Parts.{Ready, Summable, Summed, heldInRange, listing, listingInRange};
+use book::queue;
 use rules::Account;
+use rules::Holding;
 use rules::State;
 
+// An account's resting opens and closes in a queue.
+const RESTING: usize = 2 * rules::MAX_ACCOUNTS;
+
+// A queue's resting lots by account in one pass: an account's opens stand at twice its place, its closes behind them.
+fn resting_lots(area: &[u32], c: usize, count: usize) -> [u32; RESTING]
+    requires { ⌜ (count ≤ maxResting) × (firstWord c count ≤ length (now area)) × ((i : ℕ) → i < count → Summable (getD (queueIn (now area) c count) i noOrder)) ⌝ }
+    ensures { λ r. ⌜ Summed (queueIn (now (area .entry)) c count) r ⌝ }
+{
+    let mut lots: [u32; RESTING] = [0; RESTING];
+    let mut i: usize = 0;
+    while i < count {
+        let o = queue::order_at(area, c, i);
+        let at = laws::wide(2 * o.account + o.close);
+        lots[at] = lots[at] + o.lots;
+        i += 1;
+    }
+    lots
+}
+
 // "holdings now plus resting opens on that side, keep the limit". Nothing is added, so nothing passes its width.
-fn opens_keep_limit(
-    area: &[u32],
-    c: usize,
-    count: usize,
-    account: u32,
-    held: u32,
-    limit: u32,
-) -> bool
-    requires { ⌜ (count ≤ maxResting) × (firstWord c count ≤ length (now area)) ⌝ }
-    ensures { λ r. ⌜ r ≡ leb (held + restingOpens account (queueIn (now (area .entry)) c count)) limit ⌝ }
+fn opens_keep_limit(held: u32, opens: u32, limit: u32) -> bool
+    ensures { λ r. ⌜ r ≡ leb (held + opens) limit ⌝ }
 {
     if limit < held {
         return false;
     }
-    let left = laws::wide32(limit - held);
-    scan::resting(area, c, count, account, 0) <= left
+    opens <= limit - held
 }
 
-// "resting closes are covered by holdings"
-fn closes_are_covered(area: &[u32], c: usize, count: usize, account: u32, held: u32) -> bool
-    requires { ⌜ (count ≤ maxResting) × (firstWord c count ≤ length (now area)) ⌝ }
-    ensures { λ r. ⌜ r ≡ leb (restingCloses account (queueIn (now (area .entry)) c count)) held ⌝ }
+// A holding against its limit and the account's resting lots: opens and closes of the buys, then of the sells. "resting closes are covered by
+// holdings"
+fn holding_in_range(
+    h: Holding,
+    limit: u32,
+    buyopens: u32,
+    buycloses: u32,
+    sellopens: u32,
+    sellcloses: u32,
+) -> bool
+    ensures { λ r. ⌜ r ≡ heldInRange h limit buyopens buycloses sellopens sellcloses ⌝ }
 {
-    let covered = laws::wide32(held);
-    scan::resting(area, c, count, account, 1) <= covered
-}
-
-fn holding_in_range(state: State, account: usize, c: usize, buys: &[u32], sells: &[u32]) -> bool
-    requires { ⌜ Ready state (now buys) (now sells) × (account < 32) × (c < state .contractcount) ⌝ }
-    ensures { λ r. ⌜ r ≡ holdingInRange (listing state (now (buys .entry)) (now (sells .entry)) c) account (holdingAt (state .accounts) account c) ⌝ }
-{
-    let contract = state.contracts[c];
-    let limit = contract.limit;
-    let bids = state.buys[c];
-    let asks = state.sells[c];
-    let holder = state.accounts[account];
-    let h = holder.holdings[c];
-    let place = account as u32;
     if limit < h.startlong {
         return false;
     }
     if limit < h.startshort {
         return false;
     }
-    if !opens_keep_limit(buys, c, bids, place, h.long, limit) {
+    if !opens_keep_limit(h.long, buyopens, limit) {
         return false;
     }
-    if !opens_keep_limit(sells, c, asks, place, h.short, limit) {
+    if !opens_keep_limit(h.short, sellopens, limit) {
         return false;
     }
-    if !closes_are_covered(sells, c, asks, place, h.long) {
+    if h.long < sellcloses {
         return false;
     }
-    closes_are_covered(buys, c, bids, place, h.short)
+    buycloses <= h.short
 }
 
-fn account_in_range(state: State, account: usize, buys: &[u32], sells: &[u32]) -> bool
-    requires { ⌜ Ready state (now buys) (now sells) × (account < 32) ⌝ }
-    ensures { λ r. ⌜ r ≡ all (λ c. holdingInRange (listing state (now (buys .entry)) (now (sells .entry)) c) account (holdingAt (state .accounts) account c)) (state .contractcount) ⌝ }
+// What all accounts hold of the contract at a place.
+fn held_in_range(state: State, c: usize, buys: &[u32], sells: &[u32]) -> bool
+    requires { ⌜ Ready state (now buys) (now sells) × (c < state .contractcount) × (listingInRange (state .accountcount) (state .next) (state .nextstamp) (listing state (now buys) (now sells) c) ≡ true) ⌝ }
+    ensures { λ r. ⌜ r ≡ all (λ a. holdingInRange (listing state (now (buys .entry)) (now (sells .entry)) c) a (holdingAt (state .accounts) a c)) (state .accountcount) ⌝ }
 {
-    let contracts = state.contractcount;
-    let mut c: usize = 0;
-    while c < contracts {
-        if !holding_in_range(state, account, c, buys, sells) {
+    let contract = state.contracts[c];
+    let limit = contract.limit;
+    let bids = state.buys[c];
+    let asks = state.sells[c];
+    let accounts = state.accountcount;
+    let bought = resting_lots(buys, c, bids);
+    let sold = resting_lots(sells, c, asks);
+    let mut a: usize = 0;
+    while a < accounts {
+        let who = state.accounts[a];
+        let h = who.holdings[c];
+        let opens = 2 * a;
+        let closes = 2 * a + 1;
+        if !holding_in_range(
+            h,
+            limit,
+            bought[opens],
+            bought[closes],
+            sold[opens],
+            sold[closes],
+        ) {
             return false;
         }
-        c += 1;
+        a += 1;
     }
     true
 }
 
 pub fn holdings_in_range(state: State, buys: &[u32], sells: &[u32]) -> bool
-    requires { ⌜ Ready state (now buys) (now sells) ⌝ }
+    requires { ⌜ Ready state (now buys) (now sells) × (all (λ c. listingInRange (state .accountcount) (state .next) (state .nextstamp) (listing state (now buys) (now sells) c)) (state .contractcount) ≡ true) ⌝ }
     ensures { λ r. ⌜ r ≡ all (λ a. all (λ c. holdingInRange (listing state (now (buys .entry)) (now (sells .entry)) c) a (holdingAt (state .accounts) a c)) (state .contractcount)) (state .accountcount) ⌝ }
 {
-    let accounts = state.accountcount;
-    let mut a: usize = 0;
-    while a < accounts {
-        if !account_in_range(state, a, buys, sells) {
+    let contracts = state.contractcount;
+    let mut c: usize = 0;
+    while c < contracts {
+        if !held_in_range(state, c, buys, sells) {
             return false;
         }
-        a += 1;
+        c += 1;
     }
     true
 }

@@ -1,5 +1,5 @@
-// "a number .. used once over all queues", and a time stamp: a field of all resting orders is listed, then each value is held against those behind
-// it. `word` is the word of an order that holds the field.
+// "a number .. used once over all queues", and a time stamp: a field of all resting orders is listed, then each value that may be behind it once
+// more is held against those behind it. `word` is the word of an order that holds the field.
 ghost use mathlib.Core.Bool.{true, not};
 ghost use mathlib.Core.List.{_++_};
 ghost use mathlib.Core.Path.{_≡_};
@@ -18,6 +18,9 @@ use rules::State;
 
 // All that the queues of all contracts hold.
 const MAX_LISTED: usize = 2 * rules::MAX_RESTING * rules::MAX_CONTRACTS;
+
+// Remainders that are told apart. At worst all values have the same few, and each is held against all behind it.
+const MARKS: usize = 4_096;
 
 struct Listed {
     list: [u32; MAX_LISTED],
@@ -95,16 +98,27 @@ fn is_fresh(list: &[u32], count: usize, at: usize) -> bool
     true
 }
 
+// From the last value to the first. `marks` has the remainders of those met: only a value whose remainder is marked is held against
+// them, so that values with different remainders take one look each.
 fn is_used_once(list: &[u32], count: usize) -> bool
     requires { ⌜ count ≤ length (now list) ⌝ }
     ensures { λ r. ⌜ r ≡ wellformed.usedOnce (take count (now (list .entry))) ⌝ }
 {
-    let mut i: usize = 0;
-    while i < count {
-        if !is_fresh(list, count, i) {
-            return false;
+    let mut marks: [u8; MARKS] = [0; MARKS];
+    let mut left = count;
+    while 0 < left {
+        let at = left - 1;
+        let value = laws::wide(list[at]);
+        let mark = value % MARKS;
+        if marks[mark] != 0 {
+            if !is_fresh(list, count, at) {
+                return false;
+            }
+            left = at;
+            continue;
         }
-        i += 1;
+        marks[mark] = 1;
+        left = at;
     }
     true
 }

@@ -7,8 +7,8 @@ ghost use lib.ListN.{length, getD, take};
 ghost use Rattle.laws.specs.Choice.{all};
 ghost use Rattle.rules.specs.Exchange.{noOrder};
 ghost use Rattle.rules.specs.Memory.{queueIn, firstWord};
-ghost use Rattle.rules.specs.WellFormed.{listingInRange, listingQuoted, queueQuoted};
-ghost use Rattle.audit.specs.Parts.{Markable, Ready, listing};
+ghost use Rattle.rules.specs.WellFormed.{listingQuoted, queueQuoted};
+ghost use Rattle.audit.specs.Parts.{Markable, Ready, listing, listingInRange};
 use book::queue;
 use rules::State;
 

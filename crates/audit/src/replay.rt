@@ -1,6 +1,5 @@
 // "replaying the day's trades over the starting holdings never goes below zero and gives the holdings now". Asks for trades of
 // contracts and accounts in use and for starting holdings that no day's trades lift past their width.
-ghost use mathlib.Core.List.{[], _∷_};
 ghost use mathlib.Core.Path.{_≡_};
 ghost use Prim.Native.Nat.{ℕ, _*_, _≤_, _<_};
 ghost use lib.ListN.{length, getD, take};
@@ -9,8 +8,8 @@ ghost use Rattle.rules.specs.Exchange.{noTrade, holdingAt};
 ghost use Rattle.rules.specs.Holdings as holdings;
 ghost use Rattle.rules.specs.Memory.{recordedTrades, used, tradeStride};
 ghost use Rattle.rules.specs.WellFormed as wellformed;
-ghost use Rattle.audit.specs.Parts.{replayed, Booked};
-use book::trades;
+ghost use Rattle.replaying.specs.Parts.{Booked};
+ghost use Rattle.audit.specs.Parts.{replayed};
 use rules::Account;
 use rules::Holding;
 
@@ -46,21 +45,6 @@ fn start_of_day(accounts: [Account; rules::MAX_ACCOUNTS]) -> [Account; rules::MA
         i += 1;
     }
     held
-}
-
-// A close of no more than is held.
-fn is_covered(a: Account, c: usize, sell: bool, close: u32, lots: u32) -> bool
-    requires { ⌜ c < 4 ⌝ }
-    ensures { λ r. ⌜ r ≡ holdings.legCovered (a ∷ []) 0 c sell close lots ⌝ }
-{
-    if close == 0 {
-        return true;
-    }
-    let h = a.holdings[c];
-    if sell {
-        return lots <= h.long;
-    }
-    lots <= h.short
 }
 
 fn has_same_lots(a: Account, b: Account, contracts: usize) -> bool
@@ -113,22 +97,11 @@ pub fn replays(
     requires { ⌜ ((a c : ℕ) → a < accounts → c < contracts → (holdingAt list a c .startlong ≤ 100000) × (holdingAt list a c .startshort ≤ 100000)) ⌝ }
     ensures { λ r. ⌜ r ≡ wellformed.replays (replayed (used contracts accounts list) (recordedTrades (now (area .entry)) count)) ⌝ }
 {
-    let mut held = start_of_day(list);
-    let mut i: usize = 0;
-    while i < count {
-        let t = trades::trade_at(area, i);
-        let c = laws::wide(t.contract);
-        let buyer = laws::wide(t.buyer);
-        if !is_covered(held[buyer], c, false, t.buyclose, t.lots) {
-            return false;
-        }
-        held[buyer] = holdings::book_leg(held[buyer], c, false, t.buyclose, t.lots);
-        let seller = laws::wide(t.seller);
-        if !is_covered(held[seller], c, true, t.sellclose, t.lots) {
-            return false;
-        }
-        held[seller] = holdings::book_leg(held[seller], c, true, t.sellclose, t.lots);
-        i += 1;
+    let start = start_of_day(list);
+    let replayed = replaying::replay(start, contracts, accounts, area, count);
+    if !replayed.covered {
+        return false;
     }
+    let held = replayed.accounts;
     have_same_holdings(held, list, contracts, accounts)
 }

@@ -1,25 +1,26 @@
 -- The answers of a list of commands, one after the other, in their area. Assumes nothing.
-use mathlib.Core.Bool.{true}
+use mathlib.Core.Bool.{Bool, true, false}
 use mathlib.Core.List.{List, [], _∷_, _++_}
-use mathlib.Core.Path.{_≡_, refl, sym, ap, _∙_, subst, subst⁻¹}
+use mathlib.Core.Path.{_≡_, refl, sym, ap, _∙_, subst}
 use Prim.Native.Nat.{ℕ, suc, _+_, _*_, _<_, _≤_}
 use native.Mathlib.Nat.{zero-add}
 use native.Mathlib.Numerals.{add-one}
 use native.Mathlib.Omega.{arith}
 use lib.ListN.{length, getD, take}
-use lib.Seq.{sets, take-suc, length-take-le}
-use Rattle.laws.specs.Tabulate.{tabulate, tabulate-take}
+use lib.Seq.{sets, take-all, take-suc, length-take-le}
+use Rattle.laws.specs.Tabulate.{tabulate, getD-tabulate, length-tabulate, tabulate-take}
 use Rattle.areas.specs.Records.{Codec, store}
 use Rattle.areas.proofs.Lists.{sets-over}
 use Rattle.areas.proofs.Records.{encode-one, store-append, store-nil}
 use Rattle.rules.specs.Condition3.{run}
-use Rattle.rules.specs.Memory.{Declared, Memory, respond, stepIn, wellFormedMemory, memory, WellFormedState}
+use Rattle.rules.specs.DayFile.{commandFrom}
+use Rattle.rules.specs.Memory.{Memory, respond, wellFormedMemory}
 use Rattle.rules.specs.declared.Answer.{Answer}
 use Rattle.rules.specs.declared.Command.{Command}
 use Rattle.rules.specs.declared.Command.the-variants.{Malformed}
-use Rattle.rules.specs.declared.State.{State}
-use Rattle.accounting.proofs.Runs.{end-declared, run-last}
-use Rattle.invariants.proofs.MemoryKeeps.{memory-keeps, read-back, run-keeps}
+use Rattle.accounting.proofs.Runs.{run-last, run-stays}
+use Rattle.invariants.proofs.MemoryKeeps.{run-keeps}
+use Rattle.exchange.specs.Run.{firstCommands}
 use Rattle.baskets.specs.Bundle.{answerWords, answerFrom, answersTo}
 
 pub answer-codec : Codec Answer 4 answerWords answerFrom
@@ -31,6 +32,10 @@ pub stored-answer : (area : List ℕ) (at : ℕ) (a : Answer) → at + 4 ≤ len
 unfolding store
 stored-answer area at a room = rw (encode-one answer-codec a) (sets-over area at (answerWords a) room)
 
+-- an answer that is another
+pub put-as : (area : List ℕ) (at : ℕ) {a b : Answer} {after : List ℕ} → a ≡ b → after ≡ store answerWords area at (a ∷ []) → after ≡ store answerWords area at (b ∷ [])
+put-as area at e put = put ∙ ap (λ (v : Answer). store answerWords area at (v ∷ [])) e
+
 length-answers : (m : Memory) (cs : List Command) → length (answersTo m cs) ≡ length cs
 unfolding answersTo
 length-answers m [] = refl
@@ -41,14 +46,13 @@ unfolding answersTo run
 answers-last m [] c = refl
 answers-last m (q ∷ cs) c = ap (λ (l : List Answer). respond m q .answer ∷ l) (answers-last (respond m q .memory) cs c)
 
--- the state that a list left, which another is to follow, is well formed
-pub stays-formed : (m : Memory) → Declared (m .state) → wellFormedMemory m ≡ true → (cs : List Command) {s : State} {buys sells trades : List ℕ}
-    → memory s buys sells trades ≡ run m cs → WellFormedState s buys sells trades
-stays-formed m d w cs e =
-    record {
-      declared = subst⁻¹ (λ (v : Memory). Declared (v .state)) e (end-declared memory-keeps read-back m cs d);
-      formed = subst⁻¹ (λ (v : Memory). wellFormedMemory v ≡ true) e (run-keeps m cs w);
-    }
+-- what is known of a state, whether it is well formed, is known of the one that a list leaves
+formed-after : (m : Memory) (cs : List Command) (t : Bool) → t ≡ wellFormedMemory m → t ≡ wellFormedMemory (run m cs)
+formed-after m cs true e = sym (run-keeps m cs (sym e))
+formed-after m cs false e = e ∙ ap wellFormedMemory (sym (run-stays m (sym e) cs))
+
+pub still-known : (m : Memory) (cs : List Command) (t : Bool) {m′ : Memory} → t ≡ wellFormedMemory m → m′ ≡ run m cs → t ≡ wellFormedMemory m′
+still-known m cs t e f = formed-after m cs t e ∙ ap wellFormedMemory (sym f)
 
 -- the first k commands of a list, and one more
 module _ (m : Memory) (cs : List Command) where
@@ -59,12 +63,9 @@ module _ (m : Memory) (cs : List Command) where
   longer : (k : ℕ) → k < length cs → take (k + 1) cs ≡ take k cs ++ (getD cs k Malformed ∷ [])
   longer k h = rw (add-one k) (take-suc cs k Malformed h)
 
-  pub one-ran : wellFormedMemory m ≡ true → (k : ℕ) → k < length cs → {m′ m″ : Memory} → m′ ≡ run m (take k cs) → m″ ≡ stepIn m′ (getD cs k Malformed) .memory
+  pub one-ran : (k : ℕ) {c : Command} → k < length cs → getD cs k Malformed ≡ c → {m′ m″ : Memory} → m′ ≡ run m (take k cs) → m″ ≡ respond m′ c .memory
       → m″ ≡ run m (take (k + 1) cs)
-  unfolding respond
-  one-ran w k h e f =
-      let c : Command = getD cs k Malformed in
-      f ∙ ap (λ (v : Memory). stepIn v c .memory) e ∙ sym (rw (longer k h, run-last m (take k cs) c, run-keeps m (take k cs) w))
+  one-ran k {c} h same e f = f ∙ ap (λ (v : Memory). respond v c .memory) e ∙ sym (rw (longer k h, same, run-last m (take k cs) c))
 
 module _ (m : Memory) (cs : List Command) (area : List ℕ) where
   -- the area with the first k answers
@@ -75,6 +76,22 @@ module _ (m : Memory) (cs : List Command) (area : List ℕ) where
   unfolding answered answersTo
   none-answered = sym (store-nil answer-codec area 0)
 
+  -- one more, on the state that the first k left
+  pub one-answered : (k : ℕ) {c : Command} → k < length cs → getD cs k Malformed ≡ c → {m′ : Memory} {now after : List ℕ} → m′ ≡ run m (take k cs)
+      → now ≡ answered k → after ≡ store answerWords now (4 * k) (respond m′ c .answer ∷ []) → after ≡ answered (k + 1)
+  unfolding answered
+  one-answered k {c} h same {m′} {now} {after} e before put =
+      let first : List Command = take k cs in
+      let a : Answer = respond m′ c .answer in
+      let long : length (answersTo m first) ≡ k = length-answers m first ∙ length-take-le k cs (omega arith) in
+      let last : answersTo m (first ++ (c ∷ [])) ≡ answersTo m first ++ (a ∷ []) =
+      answers-last m first c ∙ ap (λ (v : Memory). answersTo m first ++ (respond v c .answer ∷ [])) (sym e) in
+      put
+      ∙ ap (λ (l : List ℕ). store answerWords l (4 * k) (a ∷ [])) before
+      ∙ ap (λ (n : ℕ). store answerWords (store answerWords area 0 (answersTo m first)) n (a ∷ [])) (sym (zero-add (4 * length (answersTo m first)) ∙ ap (λ (n : ℕ). 4 * n) long))
+      ∙ sym (store-append answer-codec area 0 (answersTo m first) (a ∷ []) (omega arith))
+      ∙ rw (longer m cs k h, same, last) refl
+
   -- all n
   pub all-answered : {k n : ℕ} {m′ : Memory} {now : List ℕ} → k ≡ n → m′ ≡ run m (take k cs) → now ≡ answered k
       → (m′ ≡ run m (take n cs)) × (now ≡ store answerWords area 0 (answersTo m (take n cs)))
@@ -84,18 +101,25 @@ module _ (m : Memory) (cs : List Command) (area : List ℕ) where
     subst (λ (k : ℕ). now ≡ store answerWords area 0 (answersTo m (take k cs))) e g,
   )
 
-  -- one more, on the state that the first k left
-  pub one-answered : wellFormedMemory m ≡ true → (k : ℕ) → k < length cs → {m′ : Memory} {now after : List ℕ} {a : Answer} → m′ ≡ run m (take k cs)
-      → a ≡ stepIn m′ (getD cs k Malformed) .answer → now ≡ answered k → after ≡ store answerWords now (4 * k) (a ∷ []) → after ≡ answered (k + 1)
-  unfolding answered respond
-  one-answered w k h {m′} {now} {after} {a} e f before put =
-      let first : List Command = take k cs in
-      let c : Command = getD cs k Malformed in
-      let long : length (answersTo m first) ≡ k = length-answers m first ∙ length-take-le k cs (omega arith) in
-      let last : answersTo m (first ++ (c ∷ [])) ≡ answersTo m first ++ (a ∷ []) =
-      answers-last m first c ∙ ap (λ (v : Answer). answersTo m first ++ (v ∷ [])) (rw (run-keeps m first w) refl ∙ sym (f ∙ ap (λ (v : Memory). stepIn v c .answer) e)) in
-      put
-      ∙ ap (λ (l : List ℕ). store answerWords l (4 * k) (a ∷ [])) before
-      ∙ ap (λ (n : ℕ). store answerWords (store answerWords area 0 (answersTo m first)) n (a ∷ [])) (sym (zero-add (4 * length (answersTo m first)) ∙ ap (λ (n : ℕ). 4 * n) long))
-      ∙ sym (store-append answer-codec area 0 (answersTo m first) (a ∷ []) (omega arith))
-      ∙ rw (longer m cs k h, last) refl
+-- the commands of the first n records of a list of bytes
+module _ (bytes : List ℕ) (n : ℕ) where
+  pub length-first : length (firstCommands bytes n) ≡ n
+  unfolding firstCommands
+  length-first = length-tabulate n (λ i. commandFrom bytes (24 * i))
+
+  pub command-at : (k : ℕ) → k < n → getD (firstCommands bytes n) k Malformed ≡ commandFrom bytes (24 * k)
+  unfolding firstCommands
+  command-at k h = getD-tabulate n k (λ i. commandFrom bytes (24 * i)) Malformed h
+
+  pub take-first : take n (firstCommands bytes n) ≡ firstCommands bytes n
+  take-first = take-all n (firstCommands bytes n) (omega (arith, length-first))
+
+  -- all of them
+  pub all-first : (m : Memory) (area : List ℕ) {k : ℕ} {m′ : Memory} {now : List ℕ} → k ≡ n → m′ ≡ run m (take k (firstCommands bytes n))
+      → now ≡ answered m (firstCommands bytes n) area k
+      → (m′ ≡ run m (firstCommands bytes n)) × (now ≡ store answerWords area 0 (answersTo m (firstCommands bytes n)))
+  all-first m area {m′ = m′} {now = now} e f g =
+      let all = all-answered m (firstCommands bytes n) area e f g in (
+        subst (λ (l : List Command). m′ ≡ run m l) take-first (all .0),
+        subst (λ (l : List Command). now ≡ store answerWords area 0 (answersTo m l)) take-first (all .1),
+      )

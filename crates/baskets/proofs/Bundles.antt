@@ -1,138 +1,110 @@
--- What a bundle leaves, refused and carried out; and a day of calls is the rules' run of the commands that it reads. Assumes
--- nothing.
-use mathlib.Core.Bool.{Bool, true, false}
+-- What a bundle leaves, refused and carried out; what a list with answers leaves; and a day of calls is the rules' run of the
+-- commands that it reads. Assumes nothing.
+use mathlib.Core.Bool.{true, false, not, _||_}
 use mathlib.Core.List.{List, [], _∷_}
 use mathlib.Core.Path.{_≡_, refl, sym, ap, subst, _∙_}
-use Prim.Native.Nat.{ℕ, suc, _*_, _/_, _<_, _≤_}
+use Prim.Native.Nat.{ℕ, _*_, _/_, _<_, _≤_, min}
 use native.Mathlib.Omega.{arith}
-use borrow.Author.Tests.{lt-ltb, le-ltb, ne-eqb}
-use lib.ListN.{length, take, drop}
-use lib.Seq.{take-all, take-at}
-use lib.Dec.{eqb}
-use Rattle.laws.specs.Choice.{pick}
-use Rattle.laws.specs.Tabulate.{tabulate, length-tabulate}
-use Rattle.laws.specs.Written.{Writing, written, writing-done}
+use borrow.Author.Tests.{lt-ltb, le-ltb, ltb-false, ne-eqb, not-false}
+use lib.Dec.{ltb}
+use lib.ListN.{length, take}
+use Rattle.laws.specs.Choice.{either-false}
 use Rattle.areas.specs.Records.{store}
 use Rattle.areas.proofs.Records.{store-nil}
-use Rattle.rules.specs.Answers.{firstOf}
+use Rattle.rules.specs.Answers.{firstOf, _when_}
 use Rattle.rules.specs.Condition3.{MoneyKept, run}
-use Rattle.rules.specs.DayFile.{commandFrom}
 use Rattle.rules.specs.Memory.{Declared, Memory, respond, wellFormedMemory}
 use Rattle.rules.specs.declared.Command.{Command}
 use Rattle.accounting.proofs.Runs.{run-append}
+use Rattle.invariants.proofs.Accepted.{failed}
 use Rattle.invariants.proofs.Condition3.{money-left}
 use Rattle.exchange.specs.Run.{firstCommands, wholeCommands}
+use Rattle.baskets.specs.Answered.{AnsweredIs, playedCommands, playedOf}
 use Rattle.baskets.specs.Bundle.{BundleIs, answerWords, answersTo, bundleCode, carried, maxCommands}
 use Rattle.baskets.specs.Calls.{Call, single, list, bundle, afterCalls, commandsRead}
 use Rattle.baskets.specs.declared.basket.Receipt.{Receipt}
-use Rattle.baskets.proofs.Answering.{answer-codec}
+use Rattle.baskets.specs.declared.list.Ran.{Ran}
+use Rattle.baskets.proofs.Answering.{answer-codec, take-first}
+
+-- ---- a bundle's code
 
 module _ (m : Memory) (count words : ℕ) where
-  not-well-formed : wellFormedMemory m ≡ false → bundleCode m count words ≡ 21
+  pub not-well-formed : wellFormedMemory m ≡ false → 21 ≡ bundleCode m count words
   unfolding bundleCode firstOf
   not-well-formed w = rw w
 
-  over-many : wellFormedMemory m ≡ true → maxCommands < count → bundleCode m count words ≡ 22
+  pub over-many : wellFormedMemory m ≡ true → maxCommands < count → 22 ≡ bundleCode m count words
   unfolding bundleCode firstOf
   over-many w h = rw (w, lt-ltb maxCommands count h)
 
-  too-short : wellFormedMemory m ≡ true → count ≤ maxCommands → words < 4 * count → bundleCode m count words ≡ 22
+  pub too-short : wellFormedMemory m ≡ true → count ≤ maxCommands → words < 4 * count → 22 ≡ bundleCode m count words
   unfolding bundleCode firstOf
   too-short w h k = rw (w, le-ltb maxCommands count h, lt-ltb words (4 * count) k)
 
-  no-refusal : wellFormedMemory m ≡ true → count ≤ maxCommands → 4 * count ≤ words → bundleCode m count words ≡ 0
+  pub no-refusal : wellFormedMemory m ≡ true → count ≤ maxCommands → 4 * count ≤ words → 0 ≡ bundleCode m count words
   unfolding bundleCode firstOf
   no-refusal w h k = rw (w, le-ltb maxCommands count h, le-ltb words (4 * count) k)
 
-module _ (m : Memory) (cs : List Command) (count words : ℕ) where
-  carried-none : (code : ℕ) → bundleCode m count words ≡ suc code → carried m cs count words ≡ []
-  unfolding carried
-  carried-none code e = rw (e, ne-eqb (suc code) 0 (λ (p : suc code ≡ 0). omega arith))
+-- what a bundle is that is not refused
+pub record Unrefused (m : Memory) (count words : ℕ) : Type 0 where
+  pub formed : wellFormedMemory m ≡ true
+  pub few : count ≤ maxCommands
+  pub room : 4 * count ≤ words
 
-  carried-all : bundleCode m count words ≡ 0 → carried m cs count words ≡ take count cs
-  unfolding carried
-  carried-all e = rw e refl
+pub not-refused : (m : Memory) (count words : ℕ) → bundleCode m count words ≡ 0 → Unrefused m count words
+unfolding bundleCode
+not-refused m count words e =
+    let told = failed ((21 when not (wellFormedMemory m)) ∷ (22 when (ltb maxCommands count || ltb words (4 * count))) ∷ []) (omega arith, (omega arith, tt)) e in
+    let fits = either-false (ltb maxCommands count) (ltb words (4 * count)) (told .1 .0) in
+    record { formed = not-false (wellFormedMemory m) (told .0); few = ltb-false maxCommands count (fits .0); room = ltb-false words (4 * count) (fits .1) }
 
--- the way out of the call that refuses, and the one that carries all out
+-- ---- what a bundle leaves
+
 module _ (m : Memory) (d : Declared (m .state)) (cs : List Command) (count : ℕ) (area : List ℕ) {b : Receipt} where
-  refused : (code : ℕ) → bundleCode m count (length area) ≡ suc code → b .code ≡ suc code → BundleIs m cs count area b m area
-  unfolding run answersTo
-  refused code e f =
+  pub refused : (code : ℕ) → code ≡ bundleCode m count (length area) → (code ≡ 0 → ⊥) → b .code ≡ code → BundleIs m cs count area b m area
+  unfolding run answersTo carried
+  refused code e some f =
       let done : List Command = carried m cs count (length area) in
-      let none : done ≡ [] = carried-none m cs count (length area) code e in
+      let none : done ≡ [] = rw (← e, ne-eqb code 0 some) in
       let same : m ≡ run m done = rw none refl in
       record {
-        code = f ∙ sym e;
+        code = f ∙ e;
         memory = same;
         answers-are = rw none (sym (store-nil answer-codec area 0));
         money = money-left m d done m same;
       }
 
-  pub ill-formed : wellFormedMemory m ≡ false → b .code ≡ 21 → BundleIs m cs count area b m area
-  ill-formed w e = refused 20 (not-well-formed m count (length area) w) e
+  pub all-carried : {m′ : Memory} {answers : List ℕ} → bundleCode m count (length area) ≡ 0 → b .code ≡ 0 → m′ ≡ run m (take count cs)
+      → answers ≡ store answerWords area 0 (answersTo m (take count cs)) → BundleIs m cs count area b m′ answers
+  unfolding carried
+  all-carried {m′} e f ran told =
+      let done : List Command = carried m cs count (length area) in
+      let all : done ≡ take count cs = rw e refl in
+      let left : m′ ≡ run m done = rw all ran in
+      record { code = f ∙ sym e; memory = left; answers-are = rw all told; money = money-left m d done m′ left }
 
-  module _ (w : wellFormedMemory m ≡ true) where
-    pub too-many : maxCommands < count → b .code ≡ 22 → BundleIs m cs count area b m area
-    too-many h e = refused 21 (over-many m count (length area) w h) e
+-- the commands of a bundle's bytes are its whole records'
+pub whole-carried : (m : Memory) (d : Declared (m .state)) (bytes area : List ℕ) {count : ℕ} {b : Receipt} {m′ : Memory} {answers : List ℕ} → count ≡ length bytes / 24
+    → bundleCode m count (length area) ≡ 0 → b .code ≡ 0 → m′ ≡ run m (firstCommands bytes count)
+    → answers ≡ store answerWords area 0 (answersTo m (firstCommands bytes count)) → BundleIs m (wholeCommands bytes) count area b m′ answers
+whole-carried m d bytes area {count} {m′ = m′} {answers = answers} e code f ran told =
+    let whole : firstCommands bytes count ≡ take count (wholeCommands bytes) = sym (take-first bytes count) ∙ ap (λ (n : ℕ). take count (firstCommands bytes n)) e in
+    all-carried m d (wholeCommands bytes) count area code f (subst (λ (l : List Command). m′ ≡ run m l) whole ran) (subst (λ (l : List Command). answers ≡ store answerWords area 0 (answersTo m l)) whole told)
 
-    pub no-room : count ≤ maxCommands → length area < 4 * count → b .code ≡ 22 → BundleIs m cs count area b m area
-    no-room h k e = refused 21 (too-short m count (length area) w h k) e
+-- ---- what a list with answers leaves
 
-    pub all-carried : {m′ : Memory} {answers : List ℕ} → count ≤ maxCommands → 4 * count ≤ length area → b .code ≡ 0 → m′ ≡ run m (take count cs)
-        → answers ≡ store answerWords area 0 (answersTo m (take count cs)) → BundleIs m cs count area b m′ answers
-    all-carried {m′} h k e f g =
-        let done : List Command = carried m cs count (length area) in
-        let code : bundleCode m count (length area) ≡ 0 = no-refusal m count (length area) w h k in
-        let all : done ≡ take count cs = carried-all m cs count (length area) code in
-        let ran : m′ ≡ run m done = rw all f in
-        record { code = e ∙ sym code; memory = ran; answers-are = rw all g; money = money-left m d done m′ ran }
-
--- ---- a bundle's bytes
-
--- as many places of a list as are written hold what was read
-pub all-read : (bytes : List ℕ) (l : List Command) {count k : ℕ} {next : List Command} → count ≤ k
-    → Writing (λ i. commandFrom bytes (24 * i)) l count k next → take count next ≡ firstCommands bytes count
-unfolding firstCommands written
-all-read bytes l {count} {k} {next} h w =
-    let read : ℕ → Command = λ i. commandFrom bytes (24 * i) in
-    ap (take count) (writing-done read l count k next h w) ∙ take-at (tabulate count read) (drop count l) count (length-tabulate count read)
-
--- two lists of which a bundle carries out the same commands get one promise
-carried-as : {m : Memory} {cs ds : List Command} {count : ℕ} {area : List ℕ} {b : Receipt} {m′ : Memory} {answers : List ℕ}
-    → carried m cs count (length area) ≡ carried m ds count (length area) → BundleIs m cs count area b m′ answers → BundleIs m ds count area b m′ answers
-carried-as {m} {area = area} {m′ = m′} {answers = answers} e r =
+pub list-answered : (m : Memory) (d : Declared (m .state)) (bytes area : List ℕ) {n : ℕ} {r : Ran} {m′ : Memory} {answers : List ℕ}
+    → n ≡ min (length bytes / 24) (length area / 4) → r .played ≡ n → m′ ≡ run m (firstCommands bytes n)
+    → answers ≡ store answerWords area 0 (answersTo m (firstCommands bytes n)) → AnsweredIs m bytes area r m′ answers
+unfolding playedOf
+list-answered m d bytes area {m′ = m′} {answers = answers} e f ran told =
+    let left : m′ ≡ run m (playedCommands bytes area) = subst (λ (k : ℕ). m′ ≡ run m (firstCommands bytes k)) e ran in
     record {
-      code = r .code;
-      memory = subst (λ (l : List Command). m′ ≡ run m l) e (r .memory);
-      answers-are = subst (λ (l : List Command). answers ≡ store answerWords area 0 (answersTo m l)) e (r .answers-are);
-      money = subst (λ (l : List Command). MoneyKept m l m′) e (r .money);
+      played = f ∙ e;
+      memory = left;
+      answers-are = subst (λ (k : ℕ). answers ≡ store answerWords area 0 (answersTo m (firstCommands bytes k))) e told;
+      money = money-left m d (playedCommands bytes area) m′ left;
     }
-
--- more than 100: none is carried out, whatever they are
-over-none : (m : Memory) (cs : List Command) (count words : ℕ) → maxCommands < count → carried m cs count words ≡ []
-over-none m cs count words h = by-test (wellFormedMemory m) refl
-  where
-    by-test : (t : Bool) → wellFormedMemory m ≡ t → carried m cs count words ≡ []
-    by-test true w = carried-none m cs count words 21 (over-many m count words w h)
-    by-test false w = carried-none m cs count words 20 (not-well-formed m count words w)
-
-pub too-many-as : {m : Memory} {cs : List Command} (ds : List Command) {count : ℕ} {area : List ℕ} {b : Receipt} {m′ : Memory} {answers : List ℕ}
-    → maxCommands < count → BundleIs m cs count area b m′ answers → BundleIs m ds count area b m′ answers
-too-many-as {m} {cs} ds {count} {area} h r = carried-as (over-none m cs count (length area) h ∙ sym (over-none m ds count (length area) h)) r
-
--- the whole records: as many as the count
-carried-same : (m : Memory) (cs ds : List Command) (count words : ℕ) → take count cs ≡ take count ds → carried m cs count words ≡ carried m ds count words
-unfolding carried
-carried-same m cs ds count words e = ap (λ (l : List Command). pick (eqb (bundleCode m count words) 0) l []) e
-
-pub whole-as : {m : Memory} {cs : List Command} (bytes : List ℕ) {count : ℕ} {area : List ℕ} {b : Receipt} {m′ : Memory} {answers : List ℕ}
-    → count ≡ length bytes / 24 → take count cs ≡ firstCommands bytes count → BundleIs m cs count area b m′ answers
-    → BundleIs m (wholeCommands bytes) count area b m′ answers
-unfolding firstCommands
-whole-as {m} {cs} bytes {count} {area} e f r =
-    let read : ℕ → Command = λ i. commandFrom bytes (24 * i) in
-    let all : take count (tabulate count read) ≡ tabulate count read = take-all count (tabulate count read) (omega (arith, length-tabulate count read)) in
-    carried-as (carried-same m cs (wholeCommands bytes) count (length area) (f ∙ sym all ∙ ap (λ (n : ℕ). take count (tabulate n read)) e)) r
 
 -- ---- a day of calls
 

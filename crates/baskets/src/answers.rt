@@ -1,11 +1,15 @@
-// Answers in their lent area: four words each. For our own crates: it asks for the room of the answer it names.
+// Answers in their lent area: four words each. For our own crates: each asks for the room of the answer it names.
 ghost use mathlib.Core.Path.{_≡_};
 ghost use mathlib.Core.List.{[], _∷_};
 ghost use Prim.Native.Nat.{_+_, _*_, _≤_};
 ghost use lib.ListN.{length};
 ghost use Rattle.areas.specs.Records.{store};
+ghost use Rattle.rules.specs.Memory.{memory, respond, wellFormedMemory};
 ghost use Rattle.baskets.specs.Bundle.{answerWords};
+use exchange::execute;
 use rules::Answer;
+use rules::Command;
+use rules::State;
 
 pub fn put_answer(area: &mut [u32], k: usize, a: Answer)
     requires { ⌜ 4 * k + 4 ≤ length (now area) ⌝ }
@@ -16,4 +20,25 @@ pub fn put_answer(area: &mut [u32], k: usize, a: Answer)
     area[at + 1] = a.number;
     area[at + 2] = a.traded;
     area[at + 3] = a.lots;
+}
+
+// One command, its answer at place k. It asks to be told whether the state is well formed.
+pub fn answer_command(
+    formed: bool,
+    state: State,
+    buys: &mut [u32],
+    sells: &mut [u32],
+    trades: &mut [u32],
+    command: Command,
+    answers: &mut [u32],
+    k: usize,
+) -> State
+    requires { ⌜ (formed ≡ wellFormedMemory (memory state (now buys) (now sells) (now trades))) × (4 * k + 4 ≤ length (now answers)) ⌝ }
+    ensures { λ r. ⌜ memory r (now (buys .exit)) (now (sells .exit)) (now (trades .exit)) ≡ respond (memory state (now (buys .entry)) (now (sells .entry)) (now (trades .entry))) command .memory ⌝ }
+    ensures { λ _. ⌜ now (answers .exit) ≡ store answerWords (now (answers .entry)) (4 * k) (respond (memory state (now (buys .entry)) (now (sells .entry)) (now (trades .entry))) command .answer ∷ []) ⌝ }
+{
+    let r = execute::respond(formed, state, buys, sells, trades, command);
+    let answer = r.answer;
+    put_answer(answers, k, answer);
+    r.state
 }

@@ -1,3 +1,4 @@
-// Bundles of commands in one call (ticket 1 of document 02).
+// Many commands in one call, with an area for their answers: bundles (ticket 1 of document 02), and lists of any length.
 pub mod answers;
 pub mod basket;
+pub mod list;

@@ -9,7 +9,7 @@ use Rattle.areas.proofs.Lists.{length-removeAt}
 use Rattle.areas.specs.Lists.{removeAt}
 use Rattle.rules.proofs.Codecs.{length-queue, put-queue}
 use Rattle.rules.specs.Memory.{queueIn, putQueue, firstWord}
-use Rattle.rules.specs.Places.{indexOf}
+use Rattle.book.specs.Places.{indexOf}
 
 removeAt-past : {A : Type 0} (i : ℕ) (os : List A) → length os ≤ i → removeAt i os ≡ os
 unfolding removeAt

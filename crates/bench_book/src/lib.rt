@@ -7,7 +7,7 @@ ghost use Rattle.areas.specs.Lists.{removeAt};
 ghost use Rattle.rules.specs.Command.{priceCondition};
 ghost use Rattle.rules.specs.Matching.{restIn};
 ghost use Rattle.rules.specs.Memory.{queueIn, putQueue, orderStride, firstWord};
-ghost use Rattle.rules.specs.Places.{indexOf};
+ghost use Rattle.book.specs.Places.{indexOf};
 ghost use Rattle.bench_book.specs.Calls.{orderOf, takerOf, accountsOf, SweepsReady, SweptIs};
 use book::queue;
 use book::removal;
@@ -20,7 +20,7 @@ use rules::PriceCondition;
 use rules::Taker;
 
 #[no_mangle]
-pub extern "C" fn zelvorm_insert(
+pub extern "C" fn bench_insert(
     area: &mut [u32],
     c: usize,
     count: usize,
@@ -48,7 +48,7 @@ pub extern "C" fn zelvorm_insert(
 
 // Takes out the order with a number, if there is one; the number of orders left.
 #[no_mangle]
-pub extern "C" fn zelvorm_cancel(area: &mut [u32], c: usize, count: usize, number: u32) -> usize
+pub extern "C" fn bench_cancel(area: &mut [u32], c: usize, count: usize, number: u32) -> usize
     requires { ⌜ firstWord c count ≤ length (now area) ⌝ }
     ensures { λ r. ⌜ r ≡ length (removeAt (indexOf number (queueIn (now (area .entry)) c count)) (queueIn (now (area .entry)) c count)) ⌝ }
     ensures { λ _. ⌜ now (area .exit) ≡ putQueue (now (area .entry)) c count (removeAt (indexOf number (queueIn (now (area .entry)) c count)) (queueIn (now (area .entry)) c count)) ⌝ }
@@ -142,7 +142,7 @@ fn accounts_with(lots: u32) -> [Account; rules::MAX_ACCOUNTS]
 
 // Enters the order so many times, over accounts made here and kept by value from one order to the next.
 #[no_mangle]
-pub extern "C" fn zelvorm_sweeps(
+pub extern "C" fn bench_sweeps(
     own: &mut [u32],
     opposite: &mut [u32],
     trades: &mut [u32],

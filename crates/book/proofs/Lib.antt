@@ -1,3 +1,5 @@
+pub mod EarlyStop
+pub mod Places
 pub mod Pulls
 pub mod Queues
 pub mod Recorded

@@ -20,10 +20,10 @@ use Rattle.rules.specs.Change.{unmarked}
 use Rattle.rules.specs.Exchange.{noOrder}
 use Rattle.rules.specs.Matching.{restIn, withLots}
 use Rattle.rules.specs.Memory.{orderWords, orderFrom, queueIn, putQueue, orderStride, queueStride, firstWord}
-use Rattle.rules.specs.Places.{firstWhere, placeIn}
+use Rattle.book.specs.Places.{firstWhere, placeIn}
 use Rattle.rules.specs.declared.Order.{Order}
 use Rattle.rules.proofs.Codecs.{order-codec, length-queue, order-at}
-use Rattle.rules.proofs.Queue.{first-nil, first-here, first-on, first-within, restIn-insertAt}
+use Rattle.book.proofs.Places.{first-nil, first-here, first-on, first-within, restIn-insertAt}
 
 -- ---- an order written and moved
 

@@ -9,12 +9,12 @@ use borrow.Author.Tests.{eq-eqb, ne-eqb, not-true, not-false}
 use lib.Dec.{eqb}
 use Rattle.laws.specs.Choice.{pick, true-both, false-both, both-false}
 use Rattle.laws.specs.Sums.{sumOf}
-use Rattle.rules.specs.EarlyStop.{fillableFront, countTrades}
+use Rattle.book.specs.EarlyStop.{fillableFront, countTrades}
 use Rattle.rules.specs.Exchange.{lotsWhere, resting}
 use Rattle.rules.specs.Matching.{counterpart}
 use Rattle.rules.specs.declared.Order.{Order}
 use Rattle.rules.specs.declared.Taker.{Taker}
-use Rattle.rules.proofs.Fillable.{front-met, count-used, count-met}
+use Rattle.book.proofs.EarlyStop.{front-met, count-used, count-met}
 use Rattle.rules.proofs.Queue.{lots-nil, lots-met, lots-unmet, lots-append}
 
 -- ---- a counterpart: fillable lots, and trades

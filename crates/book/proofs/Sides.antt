@@ -16,7 +16,7 @@ use Rattle.rules.specs.Bounds.{maxResting}
 use Rattle.rules.specs.Exchange.{own}
 use Rattle.rules.specs.Memory.{Memory, listingIn, queueIn, orderStride, queueStride, firstWord}
 use Rattle.rules.proofs.Codecs.{order-codec}
-use Rattle.book.specs.Side.{noQueue, queueWords, sideWords}
+use Rattle.rules.specs.Side.{noQueue, queueWords, sideWords}
 
 -- ---- the tests in the code's order
 

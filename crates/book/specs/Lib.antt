@@ -1,3 +1,4 @@
+pub mod EarlyStop
+pub mod Places
 pub mod Removal
-pub mod Side
 pub mod Trading

@@ -10,7 +10,7 @@ ghost use Rattle.rules.specs.Change.{unmarked};
 ghost use Rattle.rules.specs.Exchange as exchange;
 ghost use Rattle.rules.specs.Matching as matching;
 ghost use Rattle.rules.specs.Memory.{queueIn, putQueue, orderFrom, orderWords, orderStride, firstWord, wordOf};
-ghost use Rattle.rules.specs.Places.{placeIn};
+ghost use Rattle.book.specs.Places.{placeIn};
 use rules::Order;
 
 // The order at a place.
@@ -126,11 +126,14 @@ pub fn remove(area: &mut [u32], c: usize, count: usize, i: usize)
     close_up(&mut area[a..e]);
 }
 
-// Takes the first k orders out: later ones close up, and the freed places are set to zero. One order is the common case.
+// Takes the first k orders out: later ones close up, and the freed places are set to zero. No order and one order are the common cases.
 pub fn drop_front(area: &mut [u32], c: usize, count: usize, k: usize)
     requires { ⌜ (k ≤ count) × (firstWord c count ≤ length (now area)) ⌝ }
     ensures { λ _. ⌜ now (area .exit) ≡ putQueue (now (area .entry)) c count (drop k (queueIn (now (area .entry)) c count)) ⌝ }
 {
+    if k == 0 {
+        return;
+    }
     if k == 1 {
         remove(area, c, count, 0);
         return;

@@ -4,7 +4,7 @@ ghost use Prim.Native.Nat.{_+_, _*_, _≤_};
 ghost use lib.ListN.{length};
 ghost use Rattle.rules.specs.Bounds.{maxResting};
 ghost use Rattle.rules.specs.Memory.{queueIn, firstWord};
-ghost use Rattle.rules.specs.Places.{indexOf};
+ghost use Rattle.book.specs.Places.{indexOf};
 ghost use Rattle.book.specs.Removal.{isPulled, PulledIs};
 use crate::queue;
 use rules::Order;

@@ -5,7 +5,7 @@ ghost use mathlib.Core.Path.{_≡_};
 ghost use Prim.Native.Nat.{_+_, _*_, _≤_};
 ghost use lib.ListN.{length};
 ghost use Rattle.rules.specs.Bounds.{maxResting};
-ghost use Rattle.rules.specs.EarlyStop as early;
+ghost use Rattle.book.specs.EarlyStop as early;
 ghost use Rattle.rules.specs.Exchange as exchange;
 ghost use Rattle.rules.specs.Memory.{queueIn, firstWord};
 use crate::queue;

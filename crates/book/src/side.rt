@@ -1,7 +1,7 @@
 // "A caller may ask for one side's resting orders: the answer is the queue asked for, as a part of whichever lent area holds
 // it." A call for users: it answers on anything.
 ghost use mathlib.Core.Path.{_≡_};
-ghost use Rattle.book.specs.Side.{sideWords};
+ghost use Rattle.rules.specs.Side.{sideWords};
 
 // The words of a side's queue, seven for each order. `contract` is the contract's number; `contracts` and `count` are the state's
 // counts of contracts and of that side's orders.

@@ -20,7 +20,7 @@ use Rattle.rules.specs.Exchange.{Exchange, absent, listingAt, noAccount, noCont
 use Rattle.rules.specs.Kinds.{codeOf, decide, done, kindOf, lastOf, step}
 use Rattle.rules.specs.Matching.{Entered, tradedLots}
 use Rattle.rules.specs.Memory.{Declared, Memory, Responded, WellFormedState, exchangeOf, firstWord, listingIn, memory, orderStride, put, putQueue, queueIn, stepIn, written}
-use Rattle.rules.specs.Places.{indexOf}
+use Rattle.book.specs.Places.{indexOf}
 use Rattle.rules.specs.Step.{Effect, answerOf, cancelled, enteredOf, exchangeAfter, hasNumber, listingAfter, removed, withListing, without}
 use Rattle.rules.specs.WellFormed.{numbers, usedOnce}
 use Rattle.rules.specs.declared.Account.{Account}
@@ -31,7 +31,8 @@ use Rattle.rules.specs.declared.Order.{Order}
 use Rattle.rules.specs.declared.State.{State}
 use Rattle.rules.proofs.Codecs.{length-putQueue, length-queue, put-queue}
 use Rattle.rules.proofs.Lessened.{less-length}
-use Rattle.rules.proofs.Queue.{length-without, numbered-append-found, numbered-append-none, numbered-found, without-none, without-number}
+use Rattle.rules.proofs.Queue.{length-without}
+use Rattle.book.proofs.Places.{numbered-append-found, numbered-append-none, numbered-found, without-none, without-number}
 use Rattle.rules.proofs.Stages.{Each}
 use Rattle.invariants.proofs.Accepted.{Failed, failed}
 use Rattle.invariants.proofs.ChangeKeeps.{change-counted, change-keeps}

@@ -14,12 +14,13 @@ use Rattle.rules.specs.Change.{lessened, unmarked}
 use Rattle.rules.specs.Exchange.{noOrder}
 use Rattle.rules.specs.Matching.{withLots}
 use Rattle.rules.specs.Memory.{firstWord, orderFrom, putQueue, queueIn}
-use Rattle.rules.specs.Places.{indexOf}
+use Rattle.book.specs.Places.{indexOf}
 use Rattle.rules.specs.Step.{hasNumber}
 use Rattle.rules.specs.WellFormed.{listed, numbers, usedOnce}
 use Rattle.rules.specs.declared.Order.{Order}
 use Rattle.rules.proofs.Codecs.{length-queue, order-at, put-queue, putQueue-putQueue, queue-put}
-use Rattle.rules.proofs.Queue.{first-ind, first-here, first-within, index-apart, index-notIn, numbered-append-found, numbered-append-none, numbered-found, numbered-none, once-append}
+use Rattle.rules.proofs.Queue.{once-append}
+use Rattle.book.proofs.Places.{first-ind, first-here, first-within, index-apart, index-notIn, numbered-append-found, numbered-append-none, numbered-found, numbered-none}
 use Rattle.changing.specs.Resting.{RestingIs, putBackIn}
 
 -- ---- the order found: bid and offer are the places that the two searches gave

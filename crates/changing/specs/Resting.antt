@@ -14,7 +14,7 @@ use Rattle.rules.specs.Change.{unmarked}
 use Rattle.rules.specs.Exchange.{noContract, noOrder, placeOf}
 use Rattle.rules.specs.Matching.{withLots}
 use Rattle.rules.specs.Memory.{putQueue, queueIn}
-use Rattle.rules.specs.Places.{indexOf}
+use Rattle.book.specs.Places.{indexOf}
 use Rattle.rules.specs.declared.Contract.{Contract}
 use Rattle.rules.specs.declared.NewOrder.{NewOrder}
 use Rattle.rules.specs.declared.Order.{Order}

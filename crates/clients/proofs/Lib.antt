@@ -2,6 +2,5 @@ pub mod AddUp
 pub mod Posted
 pub mod PostedTrades
 pub mod Postings
-pub mod Replaying
 pub mod Rows
 pub mod StartLots

@@ -16,7 +16,7 @@ use Rattle.rules.specs.Memory.{recordedTrades, tradeFrom, tradeWords, tradeStri
 use Rattle.rules.specs.declared.Trade.{Trade}
 use Rattle.rules.proofs.Codecs.{trade-codec, length-trades, trades-none, trade-at}
 use Rattle.dayprofit.proofs.Trading.{more-trades}
-use Rattle.audit.proofs.TestedTrades.{next-trade}
+use Rattle.replaying.proofs.Trades.{next-trade}
 use Rattle.clients.specs.Parts.{before, clientTrades, PostingIs}
 use Rattle.clients.specs.Clients.{isPosted, clientPlace, clientTrade, tradePosted, isClient, legsIn, legCount, total}
 use Rattle.clients.specs.declared.posting.Posting.{Posting}

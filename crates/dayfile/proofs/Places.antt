@@ -1,20 +1,20 @@
--- Where the parts of a day file lie, and what a sound file tells its reader: its counts' ranges, its length, that each record
--- it speaks of lies within it. Assumes nothing.
-use mathlib.Core.Bool.{Bool, true, false, _&&_}
+-- Where the parts of a day file lie, and what a sound head and a sound file tell their reader: the counts' ranges, the length,
+-- that each record spoken of lies within it. Assumes nothing.
+use mathlib.Core.Bool.{Bool, true, false, true≢false, _&&_}
 use mathlib.Core.List.{List}
 use mathlib.Core.Path.{_≡_, refl, sym, ap, _∙_}
-use Prim.Native.Nat.{ℕ, _+_, _*_, _%_, _≤_, _<_, _^_}
+use Prim.Native.Nat.{ℕ, _+_, _-_, _*_, _%_, _≤_, _<_, _^_}
 use native.Mathlib.Omega.{arith}
 use lib.Dec.{leb, eqb}
 use lib.ListN.{length, getD}
 use borrow.Author.Tests.{leb-true, le-leb, lt-leb, eqb-true}
-use Rattle.laws.specs.Choice.{pick, all, both-true, all-at}
+use Rattle.laws.specs.Choice.{pick, all, both-true, same-test, all-at}
 use Rattle.laws.specs.Tabulate.{getD-tabulate}
 use Rattle.rules.specs.Bounds.{within, maxBalance}
 use Rattle.rules.specs.DayFile.{u32At, u64At, contractsIn, contractPlace, accountsIn, accountPlace, commandsIn, commandPlace, contractSound, accountSound, balanceFrom, makerBit, makerFrom, commandFrom, commandsOf, sound}
 use Rattle.rules.specs.declared.Command.{Command}
 use Rattle.rules.proofs.Terms.{within-low, within-high}
-use Rattle.dayfile.specs.Opening.{shaped}
+use Rattle.dayfile.specs.FileHead.{headWhole, headSound}
 
 -- ---- places
 
@@ -51,6 +51,9 @@ module _ (file : List ℕ) where
   unfolding commandsIn
   commands-read = ap (u32At file) (account-place (accountsIn file))
 
+  pub commands-before : (end : ℕ) → end ≡ commandPlace file 0 → commandsIn file ≡ u32At file (end - 4)
+  commands-before end e = commands-read ∙ ap (u32At file) (omega (arith, command-place 0))
+
   -- a balance and a maker's mark, read where the accounts begin at `start`
   account-read : (start a : ℕ) → start ≡ accountPlace file 0 → u64At file (accountPlace file a) ≡ u64At file (start + 8 * a)
   account-read start a e = ap (u64At file) (omega (arith, account-place a, account-place 0))
@@ -71,7 +74,65 @@ module _ (file : List ℕ) where
   unfolding accountSound
   account-fails a balance e h = rw (← e) (lt-leb balance maxBalance h)
 
--- ---- what counts and length say
+-- ---- what a head says
+
+pub record Head (file : List ℕ) : Type 0 where
+  pub some-contract : 1 ≤ contractsIn file
+  pub contracts : contractsIn file ≤ 4
+  pub some-account : 1 ≤ accountsIn file
+  pub accounts : accountsIn file ≤ 32
+  pub long : 12 + 20 * contractsIn file + 8 * accountsIn file ≤ length file
+
+module _ (file : List ℕ) where
+  pub head : headWhole file ≡ true → Head file
+  unfolding headWhole
+  head h =
+      let c = within 1 4 (contractsIn file) in
+      let a = within 1 32 (accountsIn file) in
+      let q = both-true (c && a) (leb (commandPlace file 0) (length file)) h in
+      let r = both-true c a (q .0) in
+      let l = leb-true (commandPlace file 0) (length file) (q .1) in
+      record {
+        some-contract = within-low 1 4 (contractsIn file) (r .0);
+        contracts = within-high 1 4 (contractsIn file) (r .0);
+        some-account = within-low 1 32 (accountsIn file) (r .1);
+        accounts = within-high 1 32 (accountsIn file) (r .1);
+        long = omega (arith, l, command-place file 0);
+      }
+
+  -- a file whose counts or length contradict that has no whole head
+  pub refused : (Head file → ⊥) → headWhole file ≡ false
+  refused f = same-test (headWhole file) false (λ e. absurd (f (head e))) (λ e. absurd (true≢false (sym e)))
+
+  -- counts in range leave it to the length
+  pub length-decides : 1 ≤ contractsIn file → contractsIn file ≤ 4 → 1 ≤ accountsIn file → accountsIn file ≤ 32
+      → headWhole file ≡ leb (12 + 20 * contractsIn file + 8 * accountsIn file) (length file)
+  unfolding headWhole
+  length-decides h i j k =
+      let e : commandPlace file 0 ≡ 12 + 20 * contractsIn file + 8 * accountsIn file = omega (arith, command-place file 0) in
+      rw (
+        le-leb 1 (contractsIn file) h,
+        le-leb (contractsIn file) 4 i,
+        le-leb 1 (accountsIn file) j,
+        le-leb (accountsIn file) 32 k,
+        e,
+      )
+
+  abbrev contracts-sound : Bool
+  contracts-sound = all (contractSound file) (contractsIn file)
+
+  abbrev accounts-sound : Bool
+  accounts-sound = all (accountSound file) (accountsIn file)
+
+  pub head-is : headSound file ≡ headWhole file && contracts-sound && accounts-sound
+  unfolding headSound
+  head-is = refl
+
+  pub sound-head : headSound file ≡ true → Head file
+  sound-head h =
+      head (both-true (headWhole file) contracts-sound (both-true (headWhole file && contracts-sound) accounts-sound (sym head-is ∙ h) .0) .0)
+
+-- ---- a sound file
 
 pub record Layout (file : List ℕ) : Type 0 where
   pub some-contract : 1 ≤ contractsIn file
@@ -81,76 +142,80 @@ pub record Layout (file : List ℕ) : Type 0 where
   pub commands : commandsIn file ≤ 2_000
   pub long : length file ≡ 12 + 20 * contractsIn file + 8 * accountsIn file + 24 * commandsIn file
 
-module _ (file : List ℕ) where
-  pub layout : shaped file ≡ true → Layout file
-  unfolding shaped
-  layout h =
-      let c = within 1 4 (contractsIn file) in
-      let a = within 1 32 (accountsIn file) in
-      let n = leb (commandsIn file) 2_000 in
-      let p = both-true (c && a && n) (eqb (length file) (commandPlace file (commandsIn file))) h in
-      let q = both-true (c && a) n (p .0) in
-      let r = both-true c a (q .0) in
-      record {
-        some-contract = within-low 1 4 (contractsIn file) (r .0);
-        contracts = within-high 1 4 (contractsIn file) (r .0);
-        some-account = within-low 1 32 (accountsIn file) (r .1);
-        accounts = within-high 1 32 (accountsIn file) (r .1);
-        commands = leb-true (commandsIn file) 2_000 (q .1);
-        long = eqb-true (length file) (commandPlace file (commandsIn file)) (p .1) ∙ command-place file (commandsIn file);
-      }
+-- a test that another implies may be asked before it
+asked-first : (n e l c a : Bool) → (e ≡ true → l ≡ true) → (n && e && c && a) ≡ (l && c && a && n && e)
+asked-first n e l c a h =
+    same-test (n && e && c && a) (l && c && a && n && e)
+    (λ t.
+    let p = both-true (n && e && c) a t in
+    let q = both-true (n && e) c (p .0) in
+    let r = both-true n e (q .0) in
+    rw (h (r .1), q .1, p .1, r .0, r .1))
+    (λ t.
+    let p = both-true (l && c && a && n) e t in
+    let q = both-true (l && c && a) n (p .0) in
+    let r = both-true (l && c) a (q .0) in
+    rw (q .1, p .1, both-true l c (r .0) .1, r .1))
 
-  -- a file whose counts or length contradict that is not sound
-  pub refused : (Layout file → ⊥) → shaped file ≡ false
-  refused f = go (shaped file) refl
-    where
-      go : (t : Bool) → shaped file ≡ t → shaped file ≡ false
-      go true e = absurd (f (layout e))
-      go false e = e
-
-  -- counts in range leave it to the length
-  pub length-decides : 1 ≤ contractsIn file → contractsIn file ≤ 4 → 1 ≤ accountsIn file → accountsIn file ≤ 32
-      → commandsIn file ≤ 2_000
-      → shaped file ≡ eqb (length file) (12 + 20 * contractsIn file + 8 * accountsIn file + 24 * commandsIn file)
-  unfolding shaped
-  length-decides h i j k l =
-      rw (
-        le-leb 1 (contractsIn file) h,
-        le-leb (contractsIn file) 4 i,
-        le-leb 1 (accountsIn file) j,
-        le-leb (accountsIn file) 32 k,
-        le-leb (commandsIn file) 2_000 l,
-        command-place file (commandsIn file),
-      )
-
--- ---- a sound file
+counts-first : (s t n e l c a : Bool) → (e ≡ true → l ≡ true)
+    → (s && t && n && e && c && a) ≡ (s && t && l && c && a && n && e)
+counts-first false t n e l c a h = refl
+counts-first true false n e l c a h = refl
+counts-first true true n e l c a h = asked-first n e l c a h
 
 module _ (file : List ℕ) where
-  abbrev contracts-sound : Bool
-  contracts-sound = all (contractSound file) (contractsIn file)
+  abbrev few : Bool
+  few = leb (commandsIn file) 2_000
 
-  abbrev accounts-sound : Bool
-  accounts-sound = all (accountSound file) (accountsIn file)
+  abbrev ended : Bool
+  ended = eqb (length file) (commandPlace file (commandsIn file))
 
-  -- the counts and the length, then the contracts, then the accounts
-  pub sound-is : sound file ≡ shaped file && contracts-sound && accounts-sound
-  unfolding sound shaped
-  sound-is = refl
+  reaches : ended ≡ true → leb (commandPlace file 0) (length file) ≡ true
+  reaches e =
+      let l = eqb-true (length file) (commandPlace file (commandsIn file)) e in
+      le-leb (commandPlace file 0) (length file) (omega (arith, l, command-place file 0, command-place file (commandsIn file)))
+
+  -- a sound head, the count of commands in range, and the end where that count says
+  pub sound-is : sound file ≡ headSound file && few && ended
+  unfolding sound headSound headWhole
+  sound-is =
+      counts-first (within 1 4 (contractsIn file)) (within 1 32 (accountsIn file)) few ended (leb (commandPlace file 0) (length file))
+      (contracts-sound file) (accounts-sound file) reaches
+
+  -- behind a sound head with a count in range the length decides
+  pub length-ends : headSound file ≡ true → commandsIn file ≤ 2_000 → (end : ℕ) → end ≡ commandPlace file 0
+      → sound file ≡ eqb (length file) (end + 24 * commandsIn file)
+  length-ends h k end e = sound-is ∙ rw (h, le-leb (commandsIn file) 2_000 k, command-from file end (commandsIn file) e)
 
   module _ (h : sound file ≡ true) where
-    parts : ((shaped file && contracts-sound) ≡ true) × (accounts-sound ≡ true)
-    parts = both-true (shaped file && contracts-sound) accounts-sound (sym sound-is ∙ h)
+    parts : ((headSound file && few) ≡ true) × (ended ≡ true)
+    parts = both-true (headSound file && few) ended (sym sound-is ∙ h)
+
+    pub sound-whole : headSound file ≡ true
+    sound-whole = both-true (headSound file) few (parts .0) .0
+
+    values : ((headWhole file && contracts-sound file) ≡ true) × (accounts-sound file ≡ true)
+    values = both-true (headWhole file && contracts-sound file) (accounts-sound file) (sym (head-is file) ∙ sound-whole)
 
     pub sound-layout : Layout file
-    sound-layout = layout file (both-true (shaped file) contracts-sound (parts .0) .0)
+    sound-layout =
+        let l = sound-head file sound-whole in
+        record {
+          some-contract = l .some-contract;
+          contracts = l .contracts;
+          some-account = l .some-account;
+          accounts = l .accounts;
+          commands = leb-true (commandsIn file) 2_000 (both-true (headSound file) few (parts .0) .1);
+          long = eqb-true (length file) (commandPlace file (commandsIn file)) (parts .1) ∙ command-place file (commandsIn file);
+        }
 
     pub contract-is-sound : (c : ℕ) → c < contractsIn file → contractSound file c ≡ true
     contract-is-sound c l =
-        all-at (contractSound file) c (contractsIn file) (both-true (shaped file) contracts-sound (parts .0) .1) l
+        all-at (contractSound file) c (contractsIn file) (both-true (headWhole file) (contracts-sound file) (values .0) .1) l
 
     pub balance-most : (a : ℕ) → a < accountsIn file → balanceFrom file a ≤ 10 ^ 18
     unfolding accountSound
-    balance-most a l = leb-true (balanceFrom file a) maxBalance (all-at (accountSound file) a (accountsIn file) (parts .1) l)
+    balance-most a l = leb-true (balanceFrom file a) maxBalance (all-at (accountSound file) a (accountsIn file) (values .1) l)
 
     -- each command's record lies within the file
     pub command-within : (k : ℕ) → k < commandsIn file → commandPlace file k + 24 ≤ length file

@@ -1,1 +1,2 @@
+pub mod FileHead
 pub mod Opening

@@ -1,27 +1,16 @@
--- The state that a day file's run opens with, as it lies in memory, and the part of `sound` that speaks of counts and length
--- alone. Assumes nothing.
-use mathlib.Core.Bool.{Bool, _&&_}
+-- The state that a day file's run opens with, as it lies in memory. Assumes nothing.
 use mathlib.Core.List.{List}
 use Prim.Native.Nat.{ℕ}
-use lib.Dec.{leb, eqb}
 use lib.IntN.{pos}
-use lib.ListN.{length, replicate}
+use lib.ListN.{replicate}
 use Rattle.areas.specs.Lists.{padded}
 use Rattle.laws.specs.Tabulate.{tabulate}
-use Rattle.rules.specs.Bounds.{within, maxContracts, maxAccounts}
-use Rattle.rules.specs.DayFile.{maxCommands, contractsIn, accountsIn, commandsIn, contractPlace, commandPlace, contractFrom, balanceFrom, makerFrom}
+use Rattle.rules.specs.Bounds.{maxContracts, maxAccounts}
+use Rattle.rules.specs.DayFile.{contractsIn, accountsIn, contractPlace, contractFrom, balanceFrom, makerFrom}
 use Rattle.rules.specs.Exchange.{noContract, noHolding}
 use Rattle.rules.specs.declared.Account.{Account}
 use Rattle.rules.specs.declared.Contract.{Contract}
 use Rattle.rules.specs.declared.State.{State}
-
--- the counts are in range, and "The file ends with the last command."
-unfoldable pub shaped : List ℕ → Bool
-shaped file =
-    within 1 maxContracts (contractsIn file)
-    && within 1 maxAccounts (accountsIn file)
-    && leb (commandsIn file) maxCommands
-    && eqb (length file) (commandPlace file (commandsIn file))
 
 -- an account with room for its holdings in every contract, and none of them
 abbrev pub accountWith : ℕ → ℕ → Account

@@ -7,8 +7,8 @@ ghost use Rattle.dayfile.specs.Opening.{accountWith, openingContracts, o
 use super::bytes::balance_at;
 use super::bytes::contract_at;
 use super::bytes::maker_at;
-use super::file::account_count;
-use super::file::contract_count;
+use super::head::account_count;
+use super::head::contract_count;
 use rules::Account;
 use rules::Contract;
 use rules::Holding;

@@ -1,6 +1,6 @@
 -- First in, first out, without a queue: after covered legs the open batches of a side are the batches ever open without the
 -- first lots, as many as were closed, and those are what the closes took. Assumes nothing.
-use mathlib.Core.Bool.{true, false}
+use mathlib.Core.Bool.{Bool, true, false}
 use mathlib.Core.List.{List, [], _∷_, _++_, append-nil, append-assoc}
 use mathlib.Core.Path.{_≡_, refl, sym, ap, _∙_}
 use Prim.Native.Nat.{ℕ, _+_, _-_, _*_, _≤_, min}
@@ -12,7 +12,7 @@ use Rattle.laws.specs.Sums.{sumOf, sumOf-append}
 use Rattle.rules.specs.Settlement.{Leg, leg, Batch, Day, dayStart, gain, firstLots, otherLots, opened, afterDayLeg, afterLegs, holdingGain}
 use Rattle.accounting.specs.Article32.{lotsOf, Covered, AllCovered}
 use Rattle.accounting.proofs.DayProfit.{lots-first, lots-other}
-use Rattle.dayprofit.specs.Sides.{lotsIf, valueIf, batchIf, closedLots, closedValue, openedToday, cost, everOpen, SideIs}
+use Rattle.dayprofit.specs.Sides.{lotsIf, valueIf, batchIf, batchesOf, closedLots, closedValue, openedToday, cost, everOpen, closingFrom, holdingFrom}
 use Rattle.dayprofit.specs.declared.profit.Side.{Side}
 
 -- ---- batches without their first lots, and those lots
@@ -77,6 +77,17 @@ first-first m n (b ∷ bs) =
     let f : m - b .lots + (n - (b .lots - m)) ≡ m + n - b .lots = omega arith in
     let ih = first-first (m - b .lots) (n - (b .lots - m)) bs in
     rw (← f) (omega (arith, ih, split-cost (b .price) (b .lots) m n))
+
+-- what the first lots and the others were opened for
+pub first-other : (n : ℕ) (bs : List Batch) → cost (firstLots n bs) + cost (otherLots n bs) ≡ cost bs
+unfolding firstLots otherLots cost sumOf
+first-other n [] = refl
+first-other n (b ∷ bs) = omega (arith, first-other (n - b .lots) bs, all-cost (b .price) (b .lots) n)
+  where
+    all-cost : (p k m : ℕ) → p * min m k + p * (k - m) ≡ p * k
+    all-cost p k m =
+        let e : min m k + (k - m) ≡ k = omega arith in
+        sym (mul-add p (min m k) (k - m)) ∙ ap (λ (j : ℕ). p * j) e
 
 -- an open adds a batch behind those that closes take from
 module _ (n : ℕ) (bs cs : List Batch) (few : n ≤ lotsOf bs) where
@@ -204,7 +215,7 @@ module _ {d : Day} {vL cL : ℕ} {eL : List Batch} {vS cS : ℕ} {eS : List Batc
 after-legs : (d : Day) (vL cL : ℕ) (eL : List Batch) (vS cS : ℕ) (eS : List Batch) (ls : List Leg) → Sides d vL cL eL vS cS eS → AllCovered d ls
     → Sides (afterLegs d ls) (vL + closedValue false ls) (cL + closedLots false ls) (eL ++ openedToday false ls)
     (vS + closedValue true ls) (cS + closedLots true ls) (eS ++ openedToday true ls)
-unfolding afterLegs AllCovered closedValue closedLots openedToday sumOf
+unfolding afterLegs AllCovered closedValue closedLots batchesOf sumOf
 after-legs d vL cL eL vS cS eS [] w h = simp (add-zero, append-nil) w
 after-legs d vL cL eL vS cS eS (l ∷ ls) w h =
     simp (← add-assoc, ← append-assoc) (after-legs (afterDayLeg d l) _ _ _ _ _ _ ls (after-leg l w (h .0)) (h .1))
@@ -213,6 +224,12 @@ regroup : (a b c e : ℕ) → (pos a -ℤ pos b) -ℤ (pos c -ℤ pos e) ≡ pos
 regroup a b c e = simp ring (d-eq _ _ _ _ (omega arith))
 
 -- ---- THE DAY, by its two sides
+
+pub record SideIs (reference start : ℕ) (short : Bool) (ls : List Leg) (r : Side) : Type 0 where
+  pub closes : r .closes ≡ closedValue short ls
+  pub closed : r .closed ≡ cost (firstLots (closedLots short ls) (everOpen reference start short ls))
+  pub lots : r .lots ≡ lotsOf (otherLots (closedLots short ls) (everOpen reference start short ls))
+  pub opened : r .opened ≡ cost (otherLots (closedLots short ls) (everOpen reference start short ls))
 
 module _ (reference long short : ℕ) (ls : List Leg) (h : AllCovered (dayStart reference long short) ls) where
   start-side : (n : ℕ) → OneSide (record { price = reference; lots = n } ∷ []) 0 (record { price = reference; lots = n } ∷ [])
@@ -229,13 +246,13 @@ module _ (reference long short : ℕ) (ls : List Leg) (h : AllCovered (dayStart 
       (closedValue false ls) (closedLots false ls) (everOpen reference long false ls) (closedValue true ls) (closedLots true ls) (everOpen reference short true ls)
   day-sides = simp zero-add at (after-legs (dayStart reference long short) 0 0 _ 0 0 _ ls day-start h)
 
-  -- with what a pass over each side adds up
+  -- with each side's day
   module _ (l s : Side) (p : SideIs reference long false ls l) (q : SideIs reference short true ls s) where
-    pub closing-by-sides : afterLegs (dayStart reference long short) ls .closing ≡ pos (l .closes + s .closed) -ℤ pos (l .closed + s .closes)
+    pub closing-by-sides : afterLegs (dayStart reference long short) ls .closing ≡ closingFrom l s
     closing-by-sides = day-sides .closing ∙ rw (← p .closes, ← p .closed, ← q .closes, ← q .closed) (regroup (l .closes) (l .closed) (s .closes) (s .closed))
 
     pub holding-by-sides : (price : ℕ) → holdingGain price (afterLegs (dayStart reference long short) ls)
-        ≡ pos (price * l .lots + s .opened) -ℤ pos (l .opened + price * s .lots)
+        ≡ holdingFrom price l s
     unfolding holdingGain
     holding-by-sides price =
         rw (gain-cost price _, gain-cost price _, day-sides .long .left, day-sides .short .left, ← p .lots, ← p .opened, ← q .lots, ← q .opened)

@@ -48,7 +48,7 @@ sized-append (t ∷ ts) us s = let r = sized-append ts us (s .1) in ((s .0, r .0
 
 module _ (area : List ℕ) (count : ℕ) (s : SizedTrades area count) where
   -- the first trades, and one of them
-  sized-first : (i : ℕ) → i ≤ count → AllSized (recordedTrades area i)
+  pub sized-first : (i : ℕ) → i ≤ count → AllSized (recordedTrades area i)
   sized-first i h = sized-append (recordedTrades area i) _ (rw (split-trades area i count h) at (s .sized)) .0
 
   pub sized-at : (i : ℕ) (t : Trade) → i < count → t ≡ tradeFrom (drop (tradeStride * i) area) → Sized t

@@ -19,7 +19,7 @@ use Rattle.rules.specs.Answers.{_when_, cancelRefusals, firstOf, noSuchOrder, n
 use Rattle.rules.specs.Bounds.{maxLots, inAuction, maxResting}
 use Rattle.rules.specs.Exchange.{Listing, listingAt, lotsWhere, noContract, noListing, noOrder}
 use Rattle.rules.specs.Memory.{Memory, exchangeOf, listingIn, orderFrom, put, putQueue, queueIn, stepIn, memory, WellFormedState, firstWord}
-use Rattle.rules.specs.Places.{firstWhere, indexOf}
+use Rattle.book.specs.Places.{firstWhere, indexOf}
 use Rattle.rules.specs.Step.{Effect, answerOf, cancelled, hasNumber, isOf, listingWithout, pulled, removed, withListing, without}
 use Rattle.rules.specs.WellFormed.{allNumbers, numbers, orderInRange, usedOnce, allListed}
 use Rattle.rules.specs.declared.Command.{Command}
@@ -28,7 +28,8 @@ use Rattle.rules.specs.declared.Contract.{Contract}
 use Rattle.rules.specs.declared.Order.{Order}
 use Rattle.rules.specs.declared.State.{State}
 use Rattle.rules.proofs.Codecs.{length-queue, order-at, put-queue}
-use Rattle.rules.proofs.Queue.{index-apart, index-notIn, first-within, length-without, lots-none, lots-number, numbered-found, numbered-none, numbered-append-found, numbered-append-none, once-append, without-none, without-number}
+use Rattle.rules.proofs.Queue.{length-without, once-append}
+use Rattle.book.proofs.Places.{index-apart, index-notIn, first-within, lots-none, lots-number, numbered-found, numbered-none, numbered-append-found, numbered-append-none, without-none, without-number}
 use Rattle.book.specs.Removal.{PulledIs}
 use Rattle.book.specs.declared.removal.Pulled.{Pulled}
 use Rattle.invariants.proofs.Accepted.{failed}

@@ -2,7 +2,7 @@
 -- and its report. Assumes nothing.
 use mathlib.Core.Bool.{true, false, not}
 use mathlib.Core.List.{List}
-use mathlib.Core.Path.{_≡_, refl, ap, _∙_, subst⁻¹}
+use mathlib.Core.Path.{_≡_, refl, ap, _∙_, subst, subst⁻¹}
 use Prim.Native.Nat.{ℕ, zero, suc, _<_, _≤_}
 use borrow.Author.Tests.{le-leb, lt-leb}
 use native.Mathlib.Omega.{arith}
@@ -130,3 +130,8 @@ pub executed : (m : Memory) (command : Command) {r : Response} {buys sells trade
     → ExecutedIs m command r buys sells trades
 unfolding respond
 executed m command w k = record { answer = rw w (k .answer); memory = rw w (k .memory); report = rw w (k .report) }
+
+-- a command that is told to be another
+pub executed-as : {m : Memory} {command told : Command} {r : Response} {buys sells trades : List ℕ} → told ≡ command → ExecutedIs m told r buys sells trades
+    → ExecutedIs m command r buys sells trades
+executed-as {m} {r = r} {buys = buys} {sells = sells} {trades = trades} e k = subst (λ (d : Command). ExecutedIs m d r buys sells trades) e k

@@ -123,7 +123,7 @@ pub fn step_at(
     requires { ⌜ WellFormedState state (now buys) (now sells) (now trades) × (at + 24 ≤ length (now bytes)) ⌝ }
     ensures { λ r. ⌜ ResponseIs (memory state (now (buys .entry)) (now (sells .entry)) (now (trades .entry))) (commandFrom (now (bytes .entry)) at) r (now (buys .exit)) (now (sells .exit)) (now (trades .exit)) ⌝ }
 {
-    let record = dayfile::bytes::record_at(bytes, at);
+    let record = endian::reading::record_at(bytes, at);
     let command = commands::command_of(record);
     step(state, buys, sells, trades, command)
 }

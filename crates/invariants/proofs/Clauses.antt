@@ -10,11 +10,11 @@ use lib.Dec.{leb, ltb, eqb}
 use lib.IntN.{natAbs}
 use lib.ListN.{length}
 use Rattle.laws.specs.Choice.{pick, all, allOf, all-at, all-true, allOf-at, allOf-true, both-true, true-both}
-use Rattle.laws.specs.Chains.{passed, join}
+use Rattle.laws.specs.Chains.{Passed, passed, join}
 use Rattle.rules.specs.Bounds.{within, allowedToday, inAuction, numbersEnd, maxContracts, maxTrades, maxResting, maxLots, maxSettlements, maxBalance, maxDayProfit}
 use Rattle.rules.specs.Exchange.{Exchange, Listing, listingAt, accountAt, holdingAt, own, restingOpens, restingCloses, noListing, noAccount}
 use Rattle.rules.specs.Holdings.{bookTrades, neverBelowZero, startOfDay, sameHoldings}
-use Rattle.rules.specs.WellFormed.{contractInRange, countersInRange, sorted, uncrossed, orderInRange, listingInRange, allNumbers, allStamps, usedOnce, markAllowed, quotes, queueQuoted, listingQuoted, markInRange, tradeInRange, replays, holdingInRange, holdingsInRange, balanceInRange, wellFormedContents}
+use Rattle.rules.specs.WellFormed.{contractInRange, countersInRange, markInRange, rangesKept, sorted, uncrossed, queuesSorted, orderInRange, ordersInRange, allNumbers, allStamps, usedOnce, markAllowed, quotes, queueQuoted, listingQuoted, restingInRange, tradeInRange, replays, holdingInRange, holdingsInRange, balanceInRange, wellFormedContents}
 use Rattle.rules.specs.declared.Account.{Account}
 use Rattle.rules.specs.declared.Contract.{Contract}
 use Rattle.rules.specs.declared.Holding.{Holding}
@@ -92,31 +92,33 @@ or-else true b h = refl
 or-else false b h = h refl
 
 module _ (accounts next nextstamp : ℕ) (m : Listing) where
-  abbrev listingTests : List Bool
-  listingTests =
-      sorted false (m .buys)
-      ∷ sorted true (m .sells)
-      ∷ (inAuction (m .contract) || uncrossed (m .buys) (m .sells))
-      ∷ allOf (orderInRange accounts next nextstamp (m .contract)) (m .buys)
-      ∷ allOf (orderInRange accounts next nextstamp (m .contract)) (m .sells)
-      ∷ []
+  abbrev queueTests : List Bool
+  queueTests = sorted true (m .sells) ∷ (inAuction (m .contract) || uncrossed (m .buys) (m .sells)) ∷ []
 
-  pub listing-ok : listingInRange accounts next nextstamp m ≡ true → ListingOk accounts next nextstamp m
-  unfolding listingInRange
-  listing-ok h =
-      let p = passed (contractInRange (m .contract)) listingTests h in
+  abbrev orderTest : List Order → Bool
+  orderTest queue = allOf (orderInRange accounts next nextstamp (m .contract)) queue
+
+  pub listing-ok : contractInRange (m .contract) ≡ true → queuesSorted m ≡ true → ordersInRange accounts next nextstamp m ≡ true → ListingOk accounts next nextstamp m
+  unfolding queuesSorted ordersInRange
+  listing-ok k h o =
+      let p = passed (sorted false (m .buys)) queueTests h in
+      let q = both-true (orderTest (m .buys)) (orderTest (m .sells)) o in
       record {
-        contract = p .0;
-        order = λ sell. elim sell [ false ↦ p .1 .0 | true ↦ p .1 .1 .0 ];
-        apart = unless (inAuction (m .contract)) (uncrossed (m .buys) (m .sells)) (p .1 .1 .1 .0);
-        orders = λ sell. elim sell [ false ↦ p .1 .1 .1 .1 .0 | true ↦ p .1 .1 .1 .1 .1 ];
+        contract = k;
+        order = λ sell. elim sell [ false ↦ p .0 | true ↦ p .1 .0 ];
+        apart = unless (inAuction (m .contract)) (uncrossed (m .buys) (m .sells)) (p .1 .1);
+        orders = λ sell. elim sell [ false ↦ q .0 | true ↦ q .1 ];
       }
 
-  pub listing-test : ListingOk accounts next nextstamp m → listingInRange accounts next nextstamp m ≡ true
-  unfolding listingInRange
-  listing-test k =
-      join (contractInRange (m .contract)) listingTests
-      (k .contract, (k .order false, (k .order true, (or-else (inAuction (m .contract)) (uncrossed (m .buys) (m .sells)) (k .apart), (k .orders false, k .orders true)))))
+  queues-test : ListingOk accounts next nextstamp m → queuesSorted m ≡ true
+  unfolding queuesSorted
+  queues-test k =
+      join (sorted false (m .buys)) queueTests
+      (k .order false, (k .order true, or-else (inAuction (m .contract)) (uncrossed (m .buys) (m .sells)) (k .apart)))
+
+  orders-test : ListingOk accounts next nextstamp m → ordersInRange accounts next nextstamp m ≡ true
+  unfolding ordersInRange
+  orders-test k = true-both (orderTest (m .buys)) (orderTest (m .sells)) (k .orders false) (k .orders true)
 
 -- ---- the quote marks of a queue
 
@@ -300,84 +302,132 @@ pub record WellFormed (x : Exchange) : Type 0 where
   pub balance : (a : ℕ) → a < length (x .accounts) → natAbs (accountAt (x .accounts) a .balance) ≤ maxBalance + x .settlements * maxDayProfit
 
 module _ (x : Exchange) where
+  abbrev contractTest : Bool
+  contractTest = allOf (λ l. contractInRange (l .contract)) (x .listings)
+
+  abbrev counterTests : List Bool
+  counterTests = leb (x .next) numbersEnd ∷ within 1 numbersEnd (x .nextstamp) ∷ leb (x .settlements) maxSettlements ∷ []
+
+  abbrev orderTestOf : Listing → Bool
+  orderTestOf = ordersInRange (length (x .accounts)) (x .next) (x .nextstamp)
+
+  abbrev onceTests : List Bool
+  onceTests = usedOnce (allNumbers (x .listings)) ∷ usedOnce (allStamps (x .listings)) ∷ allOf (listingQuoted (x .accounts)) (x .listings) ∷ []
+
+  abbrev replayTests : List Bool
+  replayTests = sameHoldings (bookTrades (startOfDay (x .accounts)) (x .trades)) (x .accounts) ∷ []
+
   abbrev stateTests : List Bool
   stateTests =
-      allOf (listingInRange (length (x .accounts)) (x .next) (x .nextstamp)) (x .listings)
-      ∷ usedOnce (allNumbers (x .listings))
-      ∷ usedOnce (allStamps (x .listings))
-      ∷ allOf (listingQuoted (x .accounts)) (x .listings)
-      ∷ allOf markInRange (x .accounts)
+      allOf queuesSorted (x .listings)
+      ∷ restingInRange x
       ∷ allOf (tradeInRange x) (x .trades)
       ∷ replays x
       ∷ all (holdingsInRange x) (length (x .accounts))
       ∷ allOf (balanceInRange (x .settlements)) (x .accounts)
       ∷ []
 
-  abbrev replayTests : List Bool
-  replayTests = sameHoldings (bookTrades (startOfDay (x .accounts)) (x .trades)) (x .accounts) ∷ []
+  -- the seven clauses, each passed
+  clauses : wellFormedContents x ≡ true → Passed (rangesKept x) stateTests
+  unfolding wellFormedContents
+  clauses h = passed (rangesKept x) stateTests h
 
   pub well-formed : wellFormedContents x ≡ true → WellFormed x
-  unfolding wellFormedContents countersInRange markInRange replays holdingsInRange balanceInRange listingAt accountAt
+  unfolding rangesKept countersInRange markInRange restingInRange replays holdingsInRange balanceInRange listingAt accountAt
   well-formed h =
-      let p = passed (countersInRange x) stateTests h in
-      let q = passed (leb 1 (x .next)) (leb (x .next) numbersEnd ∷ within 1 numbersEnd (x .nextstamp) ∷ leb (x .settlements) maxSettlements ∷ []) (p .0) in
-      let r = passed (neverBelowZero (startOfDay (x .accounts)) (x .trades)) replayTests (p .1 .1 .1 .1 .1 .1 .1 .0) in
-      let s = both-true (leb 1 (x .nextstamp)) (leb (x .nextstamp) numbersEnd) (q .1 .1 .0) in
+      let p = clauses h in
+      let ranges = passed (countersInRange x) (contractTest ∷ allOf markInRange (x .accounts) ∷ []) (p .0) in
+      let counters = passed (leb 1 (x .next)) counterTests (ranges .0) in
+      let stamp = both-true (leb 1 (x .nextstamp)) (leb (x .nextstamp) numbersEnd) (counters .1 .1 .0) in
+      let resting = passed (allOf orderTestOf (x .listings)) onceTests (p .1 .1 .0) in
+      let replay = passed (neverBelowZero (startOfDay (x .accounts)) (x .trades)) replayTests (p .1 .1 .1 .1 .0) in
       record {
-        next-low = leb-true _ _ (q .0);
-        next-high = leb-true _ _ (q .1 .0);
-        nextstamp-low = leb-true _ _ (s .0);
-        nextstamp-high = leb-true _ _ (s .1);
-        settlements = leb-true _ _ (q .1 .1 .1);
-        listing = λ c l. listing-ok _ _ _ _ (allOf-at (listingInRange (length (x .accounts)) (x .next) (x .nextstamp)) (x .listings) c noListing (p .1 .0) l);
-        once = p .1 .1 .0;
-        stamps-once = p .1 .1 .1 .0;
-        marks = λ c l. both-marks-ok (x .accounts) _ (allOf-at (listingQuoted (x .accounts)) (x .listings) c noListing (p .1 .1 .1 .1 .0) l);
-        makers = λ a l. leb-true _ _ (allOf-at markInRange (x .accounts) a noAccount (p .1 .1 .1 .1 .1 .0) l);
-        trades = p .1 .1 .1 .1 .1 .1 .0;
-        covered = r .0;
-        replay = r .1;
+        next-low = leb-true _ _ (counters .0);
+        next-high = leb-true _ _ (counters .1 .0);
+        nextstamp-low = leb-true _ _ (stamp .0);
+        nextstamp-high = leb-true _ _ (stamp .1);
+        settlements = leb-true _ _ (counters .1 .1 .1);
+        listing =
+            λ c l. listing-ok _ _ _ _ (allOf-at (λ l. contractInRange (l .contract)) (x .listings) c noListing (ranges .1 .0) l)
+            (allOf-at queuesSorted (x .listings) c noListing (p .1 .0) l) (allOf-at orderTestOf (x .listings) c noListing (resting .0) l);
+        once = resting .1 .0;
+        stamps-once = resting .1 .1 .0;
+        marks = λ c l. both-marks-ok (x .accounts) _ (allOf-at (listingQuoted (x .accounts)) (x .listings) c noListing (resting .1 .1 .1) l);
+        makers = λ a l. leb-true _ _ (allOf-at markInRange (x .accounts) a noAccount (ranges .1 .1) l);
+        trades = p .1 .1 .1 .0;
+        covered = replay .0;
+        replay = replay .1;
         holding =
             λ a c la lc. holding-ok _ _ _
             (all-at (λ c. holdingInRange (listingAt x c) a (holdingAt (x .accounts) a c)) c (length (x .listings))
-            (all-at (holdingsInRange x) a (length (x .accounts)) (p .1 .1 .1 .1 .1 .1 .1 .1 .0) la) lc);
-        balance = λ a l. leb-true _ _ (allOf-at (balanceInRange (x .settlements)) (x .accounts) a noAccount (p .1 .1 .1 .1 .1 .1 .1 .1 .1) l);
+            (all-at (holdingsInRange x) a (length (x .accounts)) (p .1 .1 .1 .1 .1 .0) la) lc);
+        balance = λ a l. leb-true _ _ (allOf-at (balanceInRange (x .settlements)) (x .accounts) a noAccount (p .1 .1 .1 .1 .1 .1) l);
       }
 
-  pub well-formed-test : WellFormed x → wellFormedContents x ≡ true
-  unfolding wellFormedContents countersInRange markInRange replays holdingsInRange balanceInRange listingAt accountAt
-  well-formed-test k =
-      join (countersInRange x) stateTests (
-        join (leb 1 (x .next)) (leb (x .next) numbersEnd ∷ within 1 numbersEnd (x .nextstamp) ∷ leb (x .settlements) maxSettlements ∷ [])
-            (le-leb _ _ (k .next-low), (le-leb _ _ (k .next-high), (true-both (leb 1 (x .nextstamp)) (leb (x .nextstamp) numbersEnd) (le-leb _ _ (k .nextstamp-low)) (le-leb _ _ (k .nextstamp-high)), le-leb _ _ (k .settlements)))),
-        (
-          allOf-true (listingInRange (length (x .accounts)) (x .next) (x .nextstamp)) (x .listings) noListing (λ c l. listing-test _ _ _ _ (k .listing c l)),
+  module _ (k : WellFormed x) where
+    ranges-test : rangesKept x ≡ true
+    unfolding rangesKept countersInRange markInRange listingAt accountAt
+    ranges-test =
+        join (countersInRange x) (contractTest ∷ allOf markInRange (x .accounts) ∷ []) (
+          join (leb 1 (x .next)) counterTests (
+            le-leb _ _ (k .next-low),
+            (
+              le-leb _ _ (k .next-high),
+              (
+                true-both (leb 1 (x .nextstamp)) (leb (x .nextstamp) numbersEnd) (le-leb _ _ (k .nextstamp-low)) (le-leb _ _ (k .nextstamp-high)),
+                le-leb _ _ (k .settlements),
+              ),
+            ),
+          ),
+          (
+            allOf-true (λ l. contractInRange (l .contract)) (x .listings) noListing (λ c l. k .listing c l .contract),
+            allOf-true markInRange (x .accounts) noAccount (λ a l. le-leb _ _ (k .makers a l)),
+          ),
+        )
+
+    resting-test : restingInRange x ≡ true
+    unfolding restingInRange listingAt
+    resting-test =
+        join (allOf orderTestOf (x .listings)) onceTests (
+          allOf-true orderTestOf (x .listings) noListing (λ c l. orders-test _ _ _ _ (k .listing c l)),
           (
             k .once,
             (
               k .stamps-once,
+              allOf-true (listingQuoted (x .accounts)) (x .listings) noListing (λ c l. both-marks-test (x .accounts) _ (k .marks c l)),
+            ),
+          ),
+        )
+
+    holdings-test : all (holdingsInRange x) (length (x .accounts)) ≡ true
+    unfolding holdingsInRange
+    holdings-test =
+        all-true (holdingsInRange x) (length (x .accounts))
+        (λ a la. all-true (λ c. holdingInRange (listingAt x c) a (holdingAt (x .accounts) a c)) (length (x .listings))
+        (λ c lc. holding-test _ _ _ (k .holding a c la lc)))
+
+    pub well-formed-test : wellFormedContents x ≡ true
+    unfolding wellFormedContents replays balanceInRange listingAt accountAt
+    well-formed-test =
+        join (rangesKept x) stateTests (
+          ranges-test,
+          (
+            allOf-true queuesSorted (x .listings) noListing (λ c l. queues-test _ _ _ _ (k .listing c l)),
+            (
+              resting-test,
               (
-                allOf-true (listingQuoted (x .accounts)) (x .listings) noListing (λ c l. both-marks-test (x .accounts) _ (k .marks c l)),
+                k .trades,
                 (
-                  allOf-true markInRange (x .accounts) noAccount (λ a l. le-leb _ _ (k .makers a l)),
+                  join (neverBelowZero (startOfDay (x .accounts)) (x .trades)) replayTests (k .covered, k .replay),
                   (
-                    k .trades,
-                    (
-                      join (neverBelowZero (startOfDay (x .accounts)) (x .trades)) replayTests (k .covered, k .replay),
-                      (
-                        all-true (holdingsInRange x) (length (x .accounts))
-                            (λ a la. all-true (λ c. holdingInRange (listingAt x c) a (holdingAt (x .accounts) a c)) (length (x .listings))
-                            (λ c lc. holding-test _ _ _ (k .holding a c la lc))),
-                        allOf-true (balanceInRange (x .settlements)) (x .accounts) noAccount (λ a l. le-leb _ _ (k .balance a l)),
-                      ),
-                    ),
+                    holdings-test,
+                    allOf-true (balanceInRange (x .settlements)) (x .accounts) noAccount (λ a l. le-leb _ _ (k .balance a l)),
                   ),
                 ),
               ),
             ),
           ),
-        ),
-      )
+        )
 
 -- ---- the counts, which `countsInRange` of Memory.antt tests: not part of `wellFormedContents`
 

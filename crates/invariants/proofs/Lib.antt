@@ -33,6 +33,8 @@ pub mod MemoryRoom
 pub mod MemoryLaws
 pub mod MemoryKeeps
 pub mod RoomBeyond
+pub mod PutTold
+pub mod ToldWhole
 pub mod Opening
 pub mod Condition3
 pub mod SameInUse

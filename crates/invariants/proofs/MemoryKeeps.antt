@@ -57,7 +57,7 @@ lengths-trans : {m m′ m″ : Memory} → SameLengths m m′ → SameLengths m�
 lengths-trans s t = record { buys = t .buys ∙ s .buys; sells = t .sells ∙ s .sells; trades = t .trades ∙ s .trades }
 
 -- a stage is there to be written: it has the state's shape, and its counts are in range
-abbrev Writable : Exchange → Exchange → Type 0
+abbrev pub Writable : Exchange → Exchange → Type 0
 Writable x y = SameShape x y × Counted y
 
 -- what stages of the shape of x leave in the memory, whose contents are x
@@ -68,7 +68,7 @@ record Left (m : Memory) (x : Exchange) (ys : List Exchange) : Type 0 where
   lengths : SameLengths m (written m ys)
 
 -- stages of the shape of x have the shape of the first of them
-shaped-as : (x y : Exchange) → SameShape x y → (zs : List Exchange) → Each (Writable x) zs → Each (Writable y) zs
+pub shaped-as : (x y : Exchange) → SameShape x y → (zs : List Exchange) → Each (Writable x) zs → Each (Writable y) zs
 shaped-as x y s [] h = tt
 shaped-as x y s (z ∷ zs) h = ((shape-trans (shape-sym s) (h .0 .0), h .0 .1), shaped-as x y s zs (h .1))
 
@@ -88,7 +88,7 @@ stages-left m k r x e (y ∷ ys) h =
           (rest .lengths);
     }
 
-both-each : (x : Exchange) (ys : List Exchange) → Each (SameShape x) ys → Each Counted ys → Each (Writable x) ys
+pub both-each : (x : Exchange) (ys : List Exchange) → Each (SameShape x) ys → Each Counted ys → Each (Writable x) ys
 both-each x [] s c = tt
 both-each x (y ∷ ys) s c = ((s .0, c .0), both-each x ys (s .1) (c .1))
 

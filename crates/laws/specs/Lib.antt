@@ -6,4 +6,5 @@ pub mod Lists
 pub mod Ring
 pub mod Sums
 pub mod Tabulate
+pub mod Tests
 pub mod Written

@@ -11,7 +11,7 @@ use Rattle.laws.specs.Choice.{pick}
 use Rattle.rules.specs.Lines.{digits, decimal, signed, fieldsOf, answerLine, tradeLine, tradeLines}
 use Rattle.rules.specs.declared.Answer.{Answer}
 use Rattle.rules.specs.declared.Trade.{Trade}
-use Rattle.lines.specs.Written.{priceLine, accountLine}
+use Rattle.lines.specs.Tables.{priceLine, accountLine}
 
 -- ---- numbers
 

@@ -12,7 +12,7 @@ use Rattle.rules.specs.Lines.{tradeLine, tradeLines, priceLines, accountLines}
 use Rattle.rules.specs.Margin.{charged}
 use Rattle.rules.specs.Settlement.{settlementPrice, closingProfit, holdingProfit}
 use Rattle.rules.specs.declared.Trade.{Trade}
-use Rattle.lines.specs.Written.{priceLine, accountLine}
+use Rattle.lines.specs.Tables.{priceLine, accountLine}
 
 pub price-turn : (x : Exchange) (c : ℕ) → priceLines x (c + 1) ≡ priceLines x c ++ priceLine c (settlementPrice x c)
 unfolding priceLines

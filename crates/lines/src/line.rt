@@ -3,10 +3,11 @@ ghost use mathlib.Core.List.{[], _∷_};
 ghost use Prim.Native.Nat.{_+_, _≤_};
 ghost use lib.ListN.{length};
 ghost use Rattle.rules.specs.Lines.{decimal, signed, fieldsOf, answerLine, tradeLine, brokenLine};
-ghost use Rattle.lines.specs.Written.{Written, priceLine, accountLine};
-use super::number::put_byte;
+ghost use Rattle.endian.specs.Written.{Written};
+ghost use Rattle.lines.specs.Tables.{priceLine, accountLine};
 use super::number::put_decimal;
 use super::number::put_signed;
+use endian::writing::put_byte;
 use rules::Answer;
 use rules::Trade;
 

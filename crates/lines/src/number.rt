@@ -1,19 +1,11 @@
 // Numbers as decimal digits, in ASCII.
-ghost use mathlib.Core.List.{[], _∷_};
 ghost use mathlib.Core.Path.{_≡_};
 ghost use Prim.Native.Nat.{_+_, _≤_};
 ghost use lib.IntN.{natAbs};
 ghost use lib.ListN.{length};
 ghost use Rattle.rules.specs.Lines.{digits, decimal, signed};
-ghost use Rattle.lines.specs.Written.{Written};
-
-pub fn put_byte(out: &mut [u8], at: usize, byte: u8) -> usize
-    requires { ⌜ at + 1 ≤ length (now out) ⌝ }
-    ensures { λ r. ⌜ Written 1 (now (out .entry)) at (byte ∷ []) (now (out .exit)) r ⌝ }
-{
-    out[at] = byte;
-    at + 1
-}
+ghost use Rattle.endian.specs.Written.{Written};
+use endian::writing::put_byte;
 
 // The last `places` digits of n, or fewer where n has fewer.
 fn put_digits(out: &mut [u8], at: usize, places: usize, n: u64) -> usize

@@ -11,7 +11,7 @@ use lib.Seq.{set-split}
 use Rattle.laws.specs.Choice.{pick}
 use Rattle.areas.specs.Records.{store}
 use Rattle.areas.proofs.Records.{length-store}
-use Rattle.rules.specs.EarlyStop.{countTrades}
+use Rattle.book.specs.EarlyStop.{countTrades}
 use Rattle.rules.specs.Exchange.{noOrder}
 use Rattle.rules.specs.Holdings.{bookTrade}
 use Rattle.rules.specs.Matching.{counterpart, tradePrice, tradeWith, withLots, Swept, untouched, sweep}
@@ -21,7 +21,7 @@ use Rattle.rules.specs.declared.Order.{Order}
 use Rattle.rules.specs.declared.Taker.{Taker}
 use Rattle.rules.specs.declared.Trade.{Trade}
 use Rattle.rules.proofs.Codecs.{trade-codec, length-queue, order-at, put-queue}
-use Rattle.rules.proofs.Fillable.{trades-counted, count-met}
+use Rattle.book.proofs.EarlyStop.{trades-counted, count-met}
 use Rattle.rules.proofs.Sweep.{trade-lots, trade-price, sweep-end, sweep-used, sweep-unmet, sweep-part, sweep-full}
 use Rattle.holdings.specs.Bounds.{HeldWithin}
 use Rattle.matching.specs.Sweep.{Parties, FilledIs}

@@ -6,22 +6,20 @@ use Prim.Native.Nat.{ℕ, zero, suc, _+_, _-_, _*_, _%_, _≤_, _<_}
 use native.Mathlib.Omega.{arith}
 use lib.Dec.{leb, ltb, eqb}
 use lib.ListN.{length, getD, take, drop, List·getD-append}
-use lib.Seq.{drop-drop, take-add, getD-take, getD-drop, getD-append-add}
+use lib.Seq.{drop-drop, take-add, getD-take, getD-drop, getD-append-add, take-at, take-all, drop-append-add, drop-append-seam, length-take-le}
 use borrow.Author.Tests.{eq-eqb, le-leb, lt-leb, ltb-true, ltb-false}
 use native.Mathlib.Nat.{zero-add}
-use lib.Seq.{take-at, take-all, drop-append-add, drop-append-seam, length-take-le}
-use Rattle.laws.specs.Choice.{all, all-ext, both-true}
-use Rattle.dayfile.proofs.Places.{contract-place, account-place, command-place, accounts-read, commands-read, sound-is as DayFile·sound-is, length-decides as DayFile·length-decides}
-use Rattle.dayfile.specs.Opening.{shaped}
+use Rattle.laws.specs.Choice.{all, all-ext, both-true, pick}
+use Rattle.dayfile.proofs.Places.{contract-place, account-place, command-place, accounts-read, commands-read, length-decides, length-ends, head-is, sound-head}
 use Rattle.rules.specs.DayFile.{sound as DayFile·sound}
-use Rattle.mending.proofs.Heads.{head, length-decides, sound-is, sound-head}
 use Rattle.mending.proofs.Records.{length-kept}
 use Rattle.mending.proofs.Whole.{kept-limit, length-mended, place-least, place-within, whole-within}
-use Rattle.mending.proofs.Writing.{length-four}
-use Rattle.laws.specs.Choice.{pick}
+use Rattle.endian.proofs.Writes.{length-four}
 use Rattle.rules.specs.Command.{commandOf, isMalformed}
 use Rattle.rules.specs.DayFile.{u8At, u16At, u32At, u64At, recordFrom, contractsIn, accountsIn, commandsIn, contractPlace, accountPlace, commandPlace, contractFrom, contractSound, balanceFrom, accountSound}
-use Rattle.mending.specs.Mend.{two, four, eight, reason, kept, keptBytes, keptCount, dropped, droppedList, headWhole, headSound, listFrom, mendedFile, wholeRecords}
+use Rattle.endian.specs.Numbers.{two, four, eight}
+use Rattle.dayfile.specs.FileHead.{headWhole, headSound}
+use Rattle.mending.specs.Mend.{reason, kept, keptBytes, keptCount, dropped, droppedList, listFrom, mendedFile, wholeRecords}
 
 -- ---- records that are all well formed, 2,000 at most, are all kept
 
@@ -295,9 +293,9 @@ module _ (file : List ℕ) (sound : headSound file ≡ true) where
   again-sound =
       let c = all (contractSound file) (contractsIn file) in
       let a = all (accountSound file) (accountsIn file) in
-      let p = both-true (headWhole file && c) a (sym (sound-is file) ∙ sound) in
+      let p = both-true (headWhole file && c) a (sym (head-is file) ∙ sound) in
       let q = both-true (headWhole file) c (p .0) in
-      sound-is again
+      head-is again
       ∙ rw (
         again-whole,
         same-contracts,
@@ -327,11 +325,6 @@ module _ (file : List ℕ) (sound : headSound file ≡ true) where
   -- A MENDED FILE IS A SOUND DAY FILE
   pub mended-sound : DayFile·sound (mendedFile file) ≡ true
   mended-sound =
-      let h = sound-head file sound in
-      let n = 12 + 20 * contractsIn again + 8 * accountsIn again + 24 * commandsIn again in
-      let p = both-true (headWhole again && all (contractSound again) (contractsIn again)) (all (accountSound again) (accountsIn again)) (sym (sound-is again) ∙ again-sound) in
-      let q = both-true (headWhole again) (all (contractSound again) (contractsIn again)) (p .0) in
-      let s : shaped again ≡ true =
-      DayFile·length-decides again (omega (arith, same-contracts)) (omega (arith, same-contracts)) (omega (arith, same-accounts)) (omega (arith, same-accounts)) (omega (arith, count-again, most))
-      ∙ eq-eqb (length again) n (omega (arith, length-mended file sound, same-contracts, same-accounts, count-again, place)) in
-      DayFile·sound-is again ∙ rw (s, q .1, p .1)
+      length-ends again again-sound (omega (arith, count-again, most)) (commandPlace again 0) refl
+      ∙ eq-eqb (length again) (commandPlace again 0 + 24 * commandsIn again)
+      (omega (arith, length-mended file sound, command-place again 0, same-contracts, same-accounts, count-again, place))

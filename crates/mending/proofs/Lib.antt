@@ -1,5 +1,3 @@
 pub mod Again
-pub mod Heads
 pub mod Records
 pub mod Whole
-pub mod Writing

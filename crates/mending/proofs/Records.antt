@@ -10,14 +10,18 @@ use lib.Dec.{eqb}
 use lib.ListN.{length, take, drop, length-append}
 use borrow.Author.Tests.{le-leb, lt-leb, ne-eqb}
 use Rattle.laws.specs.Choice.{pick}
-use Rattle.lines.specs.Written.{Written}
-use Rattle.lines.proofs.Text.{then, looser, no-byte}
+use Rattle.endian.specs.Written.{Written}
+use Rattle.endian.specs.Numbers.{two, four, eight}
+use Rattle.endian.proofs.Writes.{then, looser, no-byte, length-part}
 use Rattle.rules.specs.Command.{commandOf, isMalformed}
 use Rattle.rules.specs.DayFile.{recordFrom}
 use Rattle.rules.specs.declared.Command.{Command}
 use Rattle.rules.specs.declared.Record.{Record}
 use Rattle.mending.specs.Mend.{reason, kept, keptBytes, dropped, entry}
-use Rattle.mending.proofs.Writing.{length-part, length-entry}
+
+pub length-entry : (k why : ℕ) → length (entry k why) ≡ 9
+unfolding eight four two
+length-entry k why = refl
 
 -- ---- a record's verdict, from what the code reads
 

@@ -11,16 +11,16 @@ use lib.Seq.{length-take-le}
 use borrow.Author.Tests.{leb-false, lt-ltb, le-ltb, ne-eqb}
 use Rattle.areas.specs.Lists.{over}
 use Rattle.laws.specs.Choice.{pick}
-use Rattle.lines.specs.Written.{Written}
-use Rattle.lines.proofs.Text.{then}
+use Rattle.endian.specs.Written.{Written}
+use Rattle.endian.proofs.Writes.{then, length-four, length-eight}
 use Rattle.rules.specs.Answers.{firstOf}
 use Rattle.rules.specs.Command.{commandOf, isMalformed}
 use Rattle.rules.specs.DayFile.{commandPlace, recordFrom}
-use Rattle.dayfile.proofs.Places.{command-place}
-use Rattle.mending.specs.Mend.{MendIs, four, eight, entry, headSound, reason, kept, keptBytes, keptCount, dropped, droppedCount, droppedList, listFrom, mendCode, mendedFile, partialRecord, wholeRecords}
-use Rattle.mending.proofs.Heads.{sound-head}
-use Rattle.mending.proofs.Records.{length-kept, length-dropped}
-use Rattle.mending.proofs.Writing.{length-four, length-eight, length-entry}
+use Rattle.dayfile.proofs.Places.{command-place, sound-head}
+use Rattle.endian.specs.Numbers.{four, eight}
+use Rattle.dayfile.specs.FileHead.{headSound}
+use Rattle.mending.specs.Mend.{MendIs, entry, reason, kept, keptBytes, keptCount, dropped, droppedCount, droppedList, listFrom, mendCode, mendedFile, partialRecord, wholeRecords}
+use Rattle.mending.proofs.Records.{length-kept, length-dropped, length-entry}
 
 pub whole-within : (file : List ℕ) (first : ℕ) → first ≤ length file → first + 24 * wholeRecords file first ≤ length file
 whole-within file first h = omega (arith, div-mul-le-self (length file - first) 24)

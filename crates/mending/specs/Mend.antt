@@ -5,38 +5,14 @@ use mathlib.Core.Path.{_≡_}
 use Prim.Native.Nat.{ℕ, zero, suc, _+_, _-_, _*_, _/_, _%_}
 use lib.Dec.{leb, ltb, eqb}
 use lib.ListN.{length, take, drop}
-use Rattle.laws.specs.Choice.{pick, all}
+use Rattle.laws.specs.Choice.{pick}
 use Rattle.areas.specs.Lists.{over}
+use Rattle.endian.specs.Numbers.{four, eight}
+use Rattle.dayfile.specs.FileHead.{headSound}
 use Rattle.rules.specs.Answers.{firstOf, _when_}
-use Rattle.rules.specs.Bounds.{within, maxContracts, maxAccounts}
 use Rattle.rules.specs.Command.{isMalformed}
-use Rattle.rules.specs.DayFile.{maxCommands, contractsIn, accountsIn, commandPlace, contractSound, accountSound, commandFrom}
+use Rattle.rules.specs.DayFile.{maxCommands, commandPlace, commandFrom}
 use Rattle.mending.specs.declared.mend.Mended.{Mended}
-
--- ---- numbers of two, four and eight bytes, the lowest byte first
-
-unfoldable pub two : ℕ → List ℕ
-two n = n % 256 ∷ n / 256 ∷ []
-
-unfoldable pub four : ℕ → List ℕ
-four n = two (n % 65_536) ++ two (n / 65_536)
-
-unfoldable pub eight : ℕ → List ℕ
-eight n = four (n % 4_294_967_296) ++ four (n / 4_294_967_296)
-
--- ---- the head
-
--- "Contracts, accounts and the four bytes of the command count must be whole": the counts are in range, and the file reaches
--- to where the first command begins
-unfoldable pub headWhole : List ℕ → Bool
-headWhole file =
-    within 1 maxContracts (contractsIn file)
-    && within 1 maxAccounts (accountsIn file)
-    && leb (commandPlace file 0) (length file)
-
--- ".. contracts and accounts in range too"
-unfoldable pub headSound : List ℕ → Bool
-headSound file = headWhole file && all (contractSound file) (contractsIn file) && all (accountSound file) (accountsIn file)
 
 -- ---- the records, the first of which begins at `first`
 

@@ -8,7 +8,9 @@ use Rattle.rules.specs.Answers.{firstOf}
 use Rattle.rules.specs.Bounds.{onTick, tickMultiple, termsInRange}
 use Rattle.rules.specs.Command.{zeros, bits, commandOf, settleOf}
 use Rattle.rules.specs.DayFile.{u8At, u16At, u32At, u64At, contractsIn, contractPlace, accountsIn, accountPlace, commandPlace, recordFrom, contractFrom, contractSound, balanceFrom, accountSound}
-use Rattle.mending.specs.Mend.{two, four, eight, reason, kept, keptBytes, dropped, listFrom, mendedFile, droppedList, headWhole, headSound, mendCode}
+use Rattle.endian.specs.Numbers.{two, four, eight}
+use Rattle.dayfile.specs.FileHead.{headWhole, headSound}
+use Rattle.mending.specs.Mend.{reason, kept, keptBytes, dropped, listFrom, mendedFile, droppedList, mendCode}
 
 -- one contract and one account, up to the command count: contract 10, 1, 100, 10, 1,000, 1,000 and method 0, as in document 01's
 -- example; balance 10,000

@@ -1,5 +1,3 @@
 // Mending a day file (ticket 11 of document 02).
-pub mod bytes;
-pub mod head;
 pub mod mend;
 pub mod verdict;

@@ -6,18 +6,20 @@ ghost use Prim.Native.Nat.{_≤_};
 ghost use lib.ListN.{length};
 ghost use Rattle.areas.specs.Lists.{over};
 ghost use Rattle.rules.specs.DayFile.{commandPlace};
-ghost use Rattle.mending.specs.Mend.{MendIs, headSound, wholeRecords, kept as Mend·kept, droppedCount, mendedFile, listFrom};
-use super::bytes::put_part;
-use super::bytes::put_u32;
-use super::bytes::put_u64;
-use super::head::head_end;
-use super::head::head_sound;
+ghost use Rattle.dayfile.specs.FileHead.{headSound};
+ghost use Rattle.mending.specs.Mend.{MendIs, wholeRecords, kept as Mend·kept, droppedCount, mendedFile, listFrom};
 use super::verdict::count_kept;
 use super::verdict::put_dropped;
 use super::verdict::put_entry;
 use super::verdict::put_kept;
+use dayfile::head::head_end;
+use dayfile::head::head_sound;
+use endian::writing::put_part;
+use endian::writing::put_u32;
+use endian::writing::put_u64;
 
 // 0, or the code that refuses, and how many bytes of the two areas are written.
+#[repr(C)]
 pub struct Mended {
     pub code: u32,
     pub length: usize,

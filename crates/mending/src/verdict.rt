@@ -3,14 +3,14 @@
 ghost use mathlib.Core.Path.{_≡_};
 ghost use Prim.Native.Nat.{_+_, _-_, _*_, _≤_};
 ghost use lib.ListN.{length};
-ghost use Rattle.lines.specs.Written.{Written};
+ghost use Rattle.endian.specs.Written.{Written};
 ghost use Rattle.mending.specs.Mend.{reason as Mend·reason, kept as Mend·kept, keptBytes, dropped, entry};
-use super::bytes::put_part;
-use super::bytes::put_u64;
 use commands::command_of;
 use commands::is_malformed;
-use dayfile::bytes::record_at;
-use lines::number::put_byte;
+use endian::reading::record_at;
+use endian::writing::put_byte;
+use endian::writing::put_part;
+use endian::writing::put_u64;
 
 // Why record k is dropped where n are kept before it, or 0.
 pub fn reason(file: &[u8], first: usize, k: usize, n: usize) -> u8

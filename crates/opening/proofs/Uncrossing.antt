@@ -8,9 +8,9 @@ use native.Mathlib.Omega.{arith}
 use borrow.Author.Tests.{eqb-true, le-leb, le-ltb, lt-ltb, not-true}
 use lib.Dec.{eqb, leb, ltb}
 use lib.ListN.{length, getD}
-use Rattle.laws.specs.Choice.{allOf, allOf-imp, both-true, pick, true-both}
+use Rattle.laws.specs.Choice.{allOf, allOf-imp, both-true, pick, pick-true, true-both}
 use Rattle.rules.specs.Answers.{changeListed}
-use Rattle.rules.specs.Auction.{Matched, auctionMatch, matchOf}
+use Rattle.rules.specs.Auction.{Matched, auctionMatch, matchOf, unmatched}
 use Rattle.rules.specs.Bounds.{inAuction, maxLots, maxTrades}
 use Rattle.rules.specs.Exchange.{Exchange, Listing, accountAt, holdingAt, listingAt, noContract, own, placeOf}
 use Rattle.rules.specs.Kinds.{codeOf, done, kindOf}
@@ -105,7 +105,9 @@ module _ {s : State} {buys sells trades : List ℕ} (w : WellFormedState s buys 
 
   match-is : matchOf x c ≡ matched
   unfolding matchOf listingIn
-  match-is = rw (listing-is, parts .1)
+  match-is =
+      ap (λ l. pick (inAuction (l .contract)) (auctionMatch c (l .contract .last) (l .buys) (l .sells)) (unmatched (l .buys) (l .sells))) listing-is
+      ∙ pick-true (inAuction terms) matched (unmatched bids asks) (parts .1)
 
   room : QueuesRoom buys (getD (s .buys) c 0) sells (getD (s .sells) c 0) c
   room =

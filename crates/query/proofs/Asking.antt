@@ -1,4 +1,4 @@
--- From the tests as the code makes them to the answer of the rules: an order on a well-formed state, and 24 bytes on any. Assumes
+-- From the tests as the code makes them to the answer of the rules: an order on a well-formed state, and a record on any. Assumes
 -- nothing.
 use mathlib.Core.Bool.{true, false, not}
 use mathlib.Core.List.{List}
@@ -87,7 +87,7 @@ module _ {s : State} {buys sells trades : List ℕ} (w : WellFormedState s buys 
       let met = opposite-facing m f c (p .contract) (x .next) 0 (x .nextstamp) (listingAt x c .contract) o in
       rw (opposite-is m f c (p .contract) (o .sell)) (swept-fillable _ (o .lots) last _ (met .order) (met .best))
 
--- ---- 24 bytes on any state
+-- ---- a record on any state
 
 module _ (m : Memory) (r : Record) where
   pub not-formed : wellFormedMemory m ≡ false → refusedReading 21 ≡ gettableNow m r
@@ -104,3 +104,7 @@ module _ (m : Memory) (r : Record) where
     an-insert {o} i {a} q =
         let same : o ≡ newOrder r = inserts-its-order r i in
         q ∙ ap (orderReading (exchangeOf m)) same ∙ sym (rw (e, i))
+
+-- a record that is told to be another
+pub asked-as : (m : Memory) {asked told : Record} {a : Reading} → told ≡ asked → a ≡ gettableNow m told → a ≡ gettableNow m asked
+asked-as m e q = q ∙ ap (gettableNow m) e

@@ -10,12 +10,12 @@ use borrow.Author.Tests.{lt-ltb}
 use lib.Dec.{ltb}
 use lib.ListN.{drop}
 use Rattle.laws.specs.Choice.{pick-true}
-use Rattle.rules.specs.EarlyStop.{fillableFront}
+use Rattle.book.specs.EarlyStop.{fillableFront}
 use Rattle.rules.specs.Matching.{counterpart}
 use Rattle.rules.specs.Memory.{orderFrom, queueIn, firstWord}
 use Rattle.rules.specs.declared.Order.{Order}
 use Rattle.rules.specs.declared.Taker.{Taker}
-use Rattle.rules.proofs.Fillable.{front-end, front-met, front-unmet}
+use Rattle.book.proofs.EarlyStop.{front-end, front-met, front-unmet}
 use Rattle.book.proofs.Queues.{tally-none, tally-on, tally-stop, tally-end}
 use Rattle.refusals.specs.Insertion.{Facing}
 use Rattle.refusals.proofs.Arrivals.{facing-fillable}

@@ -14,11 +14,13 @@ use refusals::orders;
 use rules::Command;
 use rules::Contract;
 use rules::NewOrder;
+use rules::Record;
 use rules::State;
 
 pub mod scan;
 
 // The code, the lots that would trade, and the number of resting orders read to know it.
+#[repr(C)]
 pub struct Reading {
     pub code: u32,
     pub lots: u32,
@@ -82,7 +84,27 @@ fn reading_of<'a>(
     }
 }
 
-// A call for users: it answers on anything. The order is asked for by the 24 bytes that would insert it.
+// A call for users: it answers on anything. The order is asked for by the record that would insert it.
+pub fn gettable_record<'a>(
+    state: State,
+    buys: &'a [u32],
+    sells: &'a [u32],
+    trades: &'a [u32],
+    asked: Record,
+) -> Reading
+    ensures { λ r. ⌜ r ≡ gettableNow (memory state (now (buys .entry)) (now (sells .entry)) (now (trades .entry))) asked ⌝ }
+{
+    if !audit::well_formed(state, buys, sells, trades) {
+        return refused(21);
+    }
+    let command = commands::command_of(asked);
+    let Command::Insert(o) = command else {
+        return refused(1);
+    };
+    reading_of(state, buys, sells, trades, o)
+}
+
+// The same by the record's 24 bytes.
 pub fn gettable<'a>(
     state: State,
     buys: &'a [u32],
@@ -92,13 +114,6 @@ pub fn gettable<'a>(
 ) -> Reading
     ensures { λ r. ⌜ r ≡ gettableNow (memory state (now (buys .entry)) (now (sells .entry)) (now (trades .entry))) (recordFrom bytes 0) ⌝ }
 {
-    if !audit::well_formed(state, buys, sells, trades) {
-        return refused(21);
-    }
-    let record = dayfile::bytes::record_at(&bytes[..], 0);
-    let command = commands::command_of(record);
-    let Command::Insert(o) = command else {
-        return refused(1);
-    };
-    reading_of(state, buys, sells, trades, o)
+    let asked = endian::reading::record_at(&bytes[..], 0);
+    gettable_record(state, buys, sells, trades, asked)
 }

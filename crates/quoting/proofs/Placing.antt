@@ -28,7 +28,8 @@ use Rattle.rules.specs.declared.State.{State}
 use Rattle.rules.specs.declared.Trade.{Trade}
 use Rattle.rules.proofs.AuctionSteps.{entered-either, trades-needed}
 use Rattle.rules.proofs.Codecs.{length-queue}
-use Rattle.rules.proofs.Fillable.{swept-at-most, traded-nil, trades-counted}
+use Rattle.rules.proofs.Fillable.{swept-at-most, traded-nil}
+use Rattle.book.proofs.EarlyStop.{trades-counted}
 use Rattle.rules.proofs.Queue.{length-without}
 use Rattle.rules.proofs.Stages.{Each}
 use Rattle.book.specs.Removal.{PulledIs}

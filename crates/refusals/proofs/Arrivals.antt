@@ -10,14 +10,14 @@ use lib.Dec.{ltb}
 use lib.ListN.{length, getD, drop}
 use Rattle.laws.specs.Choice.{pick}
 use Rattle.rules.specs.Bounds.{maxResting, maxTrades}
-use Rattle.rules.specs.EarlyStop.{countTrades, fillableFront}
+use Rattle.book.specs.EarlyStop.{countTrades, fillableFront}
 use Rattle.rules.specs.Exchange.{bestPrice, noOrder}
 use Rattle.rules.specs.Matching.{counterpart, fillable}
 use Rattle.rules.specs.Memory.{orderFrom, queueIn, firstWord}
 use Rattle.rules.specs.declared.Order.{Order}
 use Rattle.rules.specs.declared.Taker.{Taker}
 use Rattle.rules.proofs.Codecs.{length-queue, order-at}
-use Rattle.rules.proofs.Fillable.{front-fillable}
+use Rattle.book.proofs.EarlyStop.{front-fillable}
 use Rattle.refusals.specs.Insertion.{Facing, QueueRoom, tradesRefused}
 
 -- ---- the best price

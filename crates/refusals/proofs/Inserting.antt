@@ -21,7 +21,7 @@ use Rattle.rules.specs.declared.Order.{Order}
 use Rattle.rules.specs.declared.State.{State}
 use Rattle.rules.specs.declared.Taker.{Taker}
 use Rattle.rules.proofs.Codecs.{length-queue}
-use Rattle.rules.proofs.Fillable.{trades-counted}
+use Rattle.book.proofs.EarlyStop.{trades-counted}
 use Rattle.invariants.proofs.Accepted.{failed}
 use Rattle.refusals.specs.Insertion.{Facing, Present, QueueRoom, accountRefusals, bookRefusals, fieldsRefusals, lotsRefused, sideArea, sideCount, takerFor}
 use Rattle.engine.specs.Outcome.{isAbsent}

@@ -16,7 +16,7 @@ use Rattle.rules.specs.Memory.{Memory, exchangeOf, queueIn, memory, WellFormedS
 use Rattle.rules.specs.declared.NewOrder.{NewOrder}
 use Rattle.rules.specs.declared.State.{State}
 use Rattle.rules.specs.declared.Taker.{Taker}
-use Rattle.rules.proofs.Fillable.{trades-counted}
+use Rattle.book.proofs.EarlyStop.{trades-counted}
 use Rattle.refusals.specs.Insertion.{Present, QueueRoom, accountRefusals, reentryRefusals, sideArea, sideCount, takerFor, tradesRefused}
 use Rattle.engine.proofs.Formed.{Formed, formed}
 use Rattle.engine.proofs.Puts.{trades-count}

@@ -11,7 +11,7 @@ use Rattle.laws.specs.Choice.{pick}
 use Rattle.rules.specs.Answers.{Refusal, _when_, holdingRefused, moneyRefused, isFillOrKill, isGoodForDay, mark, priceRefused, stampsUsedUp}
 use Rattle.rules.specs.Answers as rules
 use Rattle.rules.specs.Bounds.{inAuction, within, maxLots, maxResting, maxTrades, numbersEnd}
-use Rattle.rules.specs.EarlyStop.{countTrades}
+use Rattle.book.specs.EarlyStop.{countTrades}
 use Rattle.rules.specs.Exchange.{Exchange, bestPrice, noAccount, placeOf}
 use Rattle.rules.specs.Matching.{fillable, methodOf}
 use Rattle.rules.specs.Memory.{queueIn, firstWord}

@@ -43,7 +43,7 @@ module _ {A : Type 0} where
       let d : drop (at + length zs) (over l at ys) ≡ drop (at + length zs) l = drop-over l at ys b (at + length zs) (omega arith) in
       rw (t, d)
 
-  length-filled : (n : ℕ) (z : A) (os : List A) → length (padded n z os) ≡ max n (length os)
+  pub length-filled : (n : ℕ) (z : A) (os : List A) → length (padded n z os) ≡ max n (length os)
   unfolding padded
   length-filled n z os = simp (length-append, length-replicate) (omega arith)
 
@@ -151,7 +151,7 @@ module _ (area : List ℕ) (c n : ℕ) where
   unfolding queueIn
   take-queue i h = take-records order-codec area (queueStride * c) n i h
 
-before-or-after : (c d : ℕ) → (c ≡ d → ⊥) → (c < d) ⊎ (d < c)
+pub before-or-after : (c d : ℕ) → (c ≡ d → ⊥) → (c < d) ⊎ (d < c)
 before-or-after c d apart = go (ltb c d) refl
   where
     go : (b : Bool) → ltb c d ≡ b → (c < d) ⊎ (d < c)

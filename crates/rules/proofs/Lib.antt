@@ -1,4 +1,5 @@
 pub mod Codecs
+pub mod PutByPlace
 pub mod Sweep
 pub mod Queue
 pub mod Sorted
@@ -9,6 +10,7 @@ pub mod Holdings
 pub mod Rest
 pub mod InUse
 pub mod Terms
+pub mod LotsIncluded
 pub mod Stages
 pub mod EachKind
 pub mod AuctionTurns

@@ -11,7 +11,7 @@ use lib.ListN.{length}
 use Rattle.laws.specs.Choice.{pick, allOf}
 use Rattle.rules.specs.Bounds.{within, allowedToday, preOpen, continuous, noTrading, closed, auction, inAuction, maxLots, maxResting, maxTrades, maxSettlements, numbersEnd, maxAmount, maxBalance}
 use Rattle.rules.specs.Auction.{matchOf}
-use Rattle.rules.specs.Exchange.{Exchange, Listing, listingAt, accountAt, holdingAt, placeOf, absent, own, opposite, bestPrice, restingOpens, restingCloses}
+use Rattle.rules.specs.Exchange.{Exchange, Listing, listingNamed, phaseNow, holderOf, holdingOf, placeOf, absent, own, opposite, bestPrice, restingOpens, restingCloses}
 use Rattle.rules.specs.Margin.{charged, chargedWith}
 use Rattle.rules.specs.Matching.{sweep, fillable, methodOf}
 use Rattle.rules.specs.declared.Contract.{Contract}
@@ -56,7 +56,14 @@ mark true = 1
 mark false = 0
 
 unfoldable pub listingOf : Exchange → NewOrder → Listing
-listingOf x o = listingAt x (placeOf (o .contract))
+listingOf x o = listingNamed x (o .contract)
+
+-- the queue on the order's side, and the one it trades with
+abbrev pub ownQueue : Exchange → NewOrder → List Order
+ownQueue x o = own (o .sell) (listingOf x o)
+
+abbrev pub oppositeQueue : Exchange → NewOrder → List Order
+oppositeQueue x o = opposite (o .sell) (listingOf x o)
 
 -- the order with the number that it has, its quote mark (02, ticket 7), and the next time stamp: "new at insert and at each loss of
 -- place" (02, ticket 8)
@@ -72,17 +79,17 @@ takerOf x number quote o =
       quote = quote;
       condition = o .condition;
       method = methodOf (listingOf x o .contract);
-      best = bestPrice (opposite (o .sell) (listingOf x o));
+      best = bestPrice (oppositeQueue x o);
     }
 
 unfoldable pub fillableLots : Exchange → NewOrder → ℕ
-fillableLots x o = fillable (takerOf x (x .next) 0 o) (opposite (o .sell) (listingOf x o))
+fillableLots x o = fillable (takerOf x (x .next) 0 o) (oppositeQueue x o)
 
 -- how many trades the order would make: in auction none, since orders "rest without matching" (02, ticket 4)
 unfoldable pub tradesNeeded : Exchange → ℕ → NewOrder → ℕ
 tradesNeeded x number o =
     pick (inAuction (listingOf x o .contract)) 0
-    (length (sweep (takerOf x number 0 o) (o .lots) (listingOf x o .contract .last) (opposite (o .sell) (listingOf x o)) .trades))
+    (length (sweep (takerOf x number 0 o) (o .lots) (listingOf x o .contract .last) (oppositeQueue x o) .trades))
 
 -- ---- the tests of an insert
 
@@ -121,14 +128,14 @@ overHolding l a h sell lots =
 unfoldable pub holdingRefused : Exchange → NewOrder → Bool
 holdingRefused x o =
     pick (o .close)
-    (overHolding (listingOf x o) (placeOf (o .account)) (holdingAt (x .accounts) (placeOf (o .account)) (placeOf (o .contract))) (o .sell) (o .lots))
-    (overLimit (listingOf x o) (placeOf (o .account)) (holdingAt (x .accounts) (placeOf (o .account)) (placeOf (o .contract))) (o .sell) (o .lots))
+    (overHolding (listingOf x o) (placeOf (o .account)) (holdingOf x (o .account) (o .contract)) (o .sell) (o .lots))
+    (overLimit (listingOf x o) (placeOf (o .account)) (holdingOf x (o .account) (o .contract)) (o .sell) (o .lots))
 
 -- 9, open: "An open passes if all charged margin, its lots included, is at most the balance" (02, ticket 2)
 unfoldable pub moneyRefused : Exchange → NewOrder → Bool
 moneyRefused x o =
     not (o .close)
-    && ltZ (accountAt (x .accounts) (placeOf (o .account)) .balance)
+    && ltZ (holderOf x (o .account) .balance)
     (pos (chargedWith x (placeOf (o .account)) (placeOf (o .contract)) (o .sell) (o .lots)))
 
 -- 10: "order numbers used up"
@@ -159,7 +166,7 @@ orderRefusals x o =
     ∷ (11 when (isFillOrKill (o .time) && ltb (fillableLots x o) (o .lots)))
     ∷ (12 when tradesRefused x (x .next) o)
     -- "good for day, own side has 64, fillable lots below lots"; in auction "13 whenever the own side has 64" (02, ticket 4)
-    ∷ (13 when (isGoodForDay (o .time) && leb maxResting (length (own (o .sell) (listingOf x o))) && (inAuction (listingOf x o .contract) || ltb (fillableLots x o) (o .lots))))
+    ∷ (13 when (isGoodForDay (o .time) && leb maxResting (length (ownQueue x o)) && (inAuction (listingOf x o .contract) || ltb (fillableLots x o) (o .lots))))
     ∷ []
 
 -- "for insert 2 to 13 rising"
@@ -198,9 +205,9 @@ unfoldable pub cancelRefusals : Exchange → ℕ → ℕ → Bool → ℕ → Li
 cancelRefusals x account contract operator number =
     (2 when absent account (x .accounts))
     ∷ (3 when absent contract (x .listings))
-    ∷ (4 when removalRefused (listingAt x (placeOf contract) .contract) operator)
-    ∷ (14 when noSuchOrder (restingOrder (listingAt x (placeOf contract)) number))
-    ∷ (15 when ofAnother (placeOf account) (restingOrder (listingAt x (placeOf contract)) number))
+    ∷ (4 when removalRefused (listingNamed x contract .contract) operator)
+    ∷ (14 when noSuchOrder (restingOrder (listingNamed x contract) number))
+    ∷ (15 when ofAnother (placeOf account) (restingOrder (listingNamed x contract) number))
     ∷ []
 
 -- "pull 2, 3, 4"
@@ -208,7 +215,7 @@ unfoldable pub pullRefusals : Exchange → ℕ → ℕ → Bool → List Refusal
 pullRefusals x account contract operator =
     (2 when absent account (x .accounts))
     ∷ (3 when absent contract (x .listings))
-    ∷ (4 when removalRefused (listingAt x (placeOf contract) .contract) operator)
+    ∷ (4 when removalRefused (listingNamed x contract .contract) operator)
     ∷ []
 
 -- 16: "amount not 1 to 10^15, or deposit lifts the balance above 10^18"
@@ -216,7 +223,7 @@ unfoldable pub amountRefused : ℕ → Bool
 amountRefused amount = not (within 1 maxAmount amount)
 
 unfoldable pub liftsTooHigh : Exchange → ℕ → ℕ → Bool
-liftsTooHigh x account amount = ltZ (pos maxBalance) (accountAt (x .accounts) (placeOf account) .balance +ℤ pos amount)
+liftsTooHigh x account amount = ltZ (pos maxBalance) (holderOf x account .balance +ℤ pos amount)
 
 -- "deposit 2, 16"
 unfoldable pub depositRefusals : Exchange → ℕ → ℕ → List Refusal
@@ -228,7 +235,7 @@ depositRefusals x account amount =
 -- 9, withdraw: "a withdrawal passes if the balance after it is at least the charged margin" (02, ticket 2)
 unfoldable pub leavesTooLittle : Exchange → ℕ → ℕ → Bool
 leavesTooLittle x account amount =
-    ltZ (accountAt (x .accounts) (placeOf account) .balance -ℤ pos amount) (pos (charged x (placeOf account)))
+    ltZ (holderOf x account .balance -ℤ pos amount) (pos (charged x (placeOf account)))
 
 -- "withdraw 2, 16, 9"
 unfoldable pub withdrawRefusals : Exchange → ℕ → ℕ → List Refusal
@@ -255,7 +262,7 @@ changeListed from to =
 unfoldable pub phaseRefusals : Exchange → ℕ → ℕ → List Refusal
 phaseRefusals x contract phase =
     (3 when absent contract (x .listings))
-    ∷ (17 when not (changeListed (listingAt x (placeOf contract) .contract .phase) phase))
+    ∷ (17 when not (changeListed (phaseNow x contract) phase))
     ∷ (12 when ltb maxTrades (length (x .trades) + length (matchOf x (placeOf contract) .trades)))
     ∷ []
 

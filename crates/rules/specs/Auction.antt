@@ -7,7 +7,7 @@ use lib.Dec.{leb, ltb, eqb}
 use lib.ListN.{length}
 use Rattle.laws.specs.Choice.{pick}
 use Rattle.rules.specs.Bounds.{inAuction}
-use Rattle.rules.specs.Exchange.{Exchange, listingAt, lotsWhere}
+use Rattle.rules.specs.Exchange.{Exchange, listingAt, contractAt, lotsWhere}
 use Rattle.rules.specs.Matching.{stays}
 use Rattle.rules.specs.declared.Order.{Order}
 use Rattle.rules.specs.declared.Trade.{Trade}
@@ -146,6 +146,6 @@ auctionMatch contract last buys sells =
 -- change makes one
 unfoldable pub matchOf : Exchange → ℕ → Matched
 matchOf x c =
-    pick (inAuction (listingAt x c .contract))
-    (auctionMatch c (listingAt x c .contract .last) (listingAt x c .buys) (listingAt x c .sells))
+    pick (inAuction (contractAt x c))
+    (auctionMatch c (contractAt x c .last) (listingAt x c .buys) (listingAt x c .sells))
     (unmatched (listingAt x c .buys) (listingAt x c .sells))

@@ -7,7 +7,7 @@ use lib.ListN.{getD}
 use Rattle.laws.specs.Choice.{pick}
 use Rattle.rules.specs.Answers.{Refusal, _when_, numbered, restingOrder, noSuchOrder, ofAnother, holdingRefused, moneyRefused, stampsUsedUp, tradesRefused}
 use Rattle.rules.specs.Bounds.{allowedToday, continuous, maxLots}
-use Rattle.rules.specs.Exchange.{Exchange, Listing, listingAt, absent, placeOf, noOrder}
+use Rattle.rules.specs.Exchange.{Exchange, Listing, listingNamed, phaseNow, absent, placeOf, noOrder}
 use Rattle.rules.specs.Matching.{Entered, tradedLots, withLots}
 use Rattle.rules.specs.Step.{Effect, accepted, withListing, listingWithout, hasNumber, cancelled, enteredOf, exchangeAfter}
 use Rattle.rules.specs.declared.NewOrder.{NewOrder}
@@ -30,7 +30,7 @@ asked account contract number lots price =
 
 -- the contract's listing, the order as it rests, and its side: a sell where it is not among the buys
 abbrev pub listingFor : Exchange → Asked → Listing
-listingFor x k = listingAt x (placeOf (k .contract))
+listingFor x k = listingNamed x (k .contract)
 
 unfoldable pub oldOrder : Exchange → Asked → Order
 oldOrder x k = getD (restingOrder (listingFor x k) (k .number)) 0 noOrder
@@ -72,7 +72,7 @@ changeRefusals x k =
     (2 when absent (k .account) (x .accounts))
     ∷ (3 when absent (k .contract) (x .listings))
     -- "in continuous only"
-    ∷ (4 when not (eqb (listingFor x k .contract .phase) continuous))
+    ∷ (4 when not (eqb (phaseNow x (k .contract)) continuous))
     ∷ (14 when noSuchOrder (restingOrder (listingFor x k) (k .number)))
     ∷ (15 when ofAnother (placeOf (k .account)) (restingOrder (listingFor x k) (k .number)))
     -- "lots outside 1 to 1,000", zero aside

@@ -11,7 +11,7 @@ use lib.IntN.{ℤ, pos, _+ℤ_, _-ℤ_, _*ℤ_}
 use lib.ListN.{length}
 use Rattle.laws.specs.Choice.{pick}
 use Rattle.laws.specs.Sums.{sumOf, sumTo}
-use Rattle.rules.specs.Exchange.{Exchange, listingAt, accountAt, holdingAt}
+use Rattle.rules.specs.Exchange.{Exchange, contractAt, holderAt, heldAt}
 use Rattle.rules.specs.Kinds.{Move, paysIn, paysOut, makes, settles, nothing, kindOf}
 use Rattle.rules.specs.Memory.{Memory, exchangeOf, respond}
 use Rattle.rules.specs.Settlement.{settlementPrice}
@@ -106,20 +106,20 @@ abbrev pub contractsOf : Memory → ℕ
 contractsOf m = length (exchangeOf m .listings)
 
 abbrev pub balanceIn : Memory → ℕ → ℤ
-balanceIn m a = accountAt (exchangeOf m .accounts) a .balance
+balanceIn m a = holderAt (exchangeOf m) a .balance
 
 abbrev pub holdingIn : Memory → ℕ → ℕ → Holding
-holdingIn m a c = holdingAt (exchangeOf m .accounts) a c
+holdingIn m a c = heldAt (exchangeOf m) a c
 
 -- "the engine's long less short"
 abbrev pub netIn : Memory → ℕ → ℕ → ℤ
 netIn m a c = pos (holdingIn m a c .long) -ℤ pos (holdingIn m a c .short)
 
 abbrev pub multiplierIn : Memory → ℕ → ℕ
-multiplierIn m c = listingAt (exchangeOf m) c .contract .multiplier
+multiplierIn m c = contractAt (exchangeOf m) c .multiplier
 
 abbrev pub referenceIn : Memory → ℕ → ℕ
-referenceIn m c = listingAt (exchangeOf m) c .contract .reference
+referenceIn m c = contractAt (exchangeOf m) c .reference
 
 -- ---- where a list starts: the money that each account brings, and its net holding by contract
 

@@ -70,6 +70,29 @@ accountAt accounts a = getD accounts a noAccount
 unfoldable pub holdingAt : List Account → ℕ → ℕ → Holding
 holdingAt accounts a c = getD (accountAt accounts a .holdings) c noHolding
 
+-- the same of a whole state: the terms of the contract at a place, the account at a place, what it holds in a contract
+abbrev pub contractAt : Exchange → ℕ → Contract
+contractAt x c = listingAt x c .contract
+
+abbrev pub holderAt : Exchange → ℕ → Account
+holderAt x a = accountAt (x .accounts) a
+
+abbrev pub heldAt : Exchange → ℕ → ℕ → Holding
+heldAt x a c = holdingAt (x .accounts) a c
+
+-- and by the numbers that a command has: a contract's listing and its state, an account, what it holds in a contract
+abbrev pub listingNamed : Exchange → ℕ → Listing
+listingNamed x contract = listingAt x (placeOf contract)
+
+abbrev pub phaseNow : Exchange → ℕ → ℕ
+phaseNow x contract = contractAt x (placeOf contract) .phase
+
+abbrev pub holderOf : Exchange → ℕ → Account
+holderOf x account = holderAt x (placeOf account)
+
+abbrev pub holdingOf : Exchange → ℕ → ℕ → Holding
+holdingOf x account contract = heldAt x (placeOf account) (placeOf contract)
+
 -- ---- sides
 
 -- a side's own queue, and the one it trades with

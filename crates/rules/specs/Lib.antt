@@ -7,15 +7,15 @@ pub mod Quote
 pub mod Command
 pub mod Matching
 pub mod Between
-pub mod EarlyStop
-pub mod Places
 pub mod Margin
 pub mod Settlement
+pub mod Article32
 pub mod Auction
 pub mod Answers
 pub mod Step
 pub mod Kinds
 pub mod Memory
+pub mod Side
 pub mod Condition3
 pub mod DayFile
 pub mod Lines

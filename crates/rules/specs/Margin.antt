@@ -1,7 +1,9 @@
 -- Margin (document 01, "Margin and settlement", as ticket 2 of document 02 changes it; 002, Article 26). Assumes nothing.
 use mathlib.Core.Bool.{Bool}
 use Prim.Native.Nat.{ℕ, zero, suc, _+_, _*_, _/_, max}
+use lib.Dec.{eqb}
 use lib.ListN.{length}
+use Rattle.laws.specs.Choice.{pick}
 use Rattle.rules.specs.Exchange.{Exchange, Listing, listingAt, holdingAt, restingOpens}
 use Rattle.rules.specs.Holdings.{bookLeg}
 use Rattle.rules.specs.declared.Contract.{Contract}
@@ -26,7 +28,7 @@ chargedTo x a (suc c) = chargedTo x a c + charge (listingAt x c .contract) * cha
 abbrev pub charged : Exchange → ℕ → ℕ
 charged x a = chargedTo x a (length (x .listings))
 
--- the state in which an account already holds the lots of an open: a buy's are long, a sell's short
+-- the state with an open's lots included, as though the account held them already: a buy's are long, a sell's short
 abbrev pub withOpen : Exchange → ℕ → ℕ → Bool → ℕ → Exchange
 withOpen x a c sell lots =
     record { listings = x .listings; accounts = bookLeg (x .accounts) a c sell 0 lots; trades = x .trades; next = x .next; nextstamp = x .nextstamp; settlements = x .settlements }
@@ -34,3 +36,18 @@ withOpen x a c sell lots =
 -- "all charged margin, its lots included": what is charged with an open of the account in contract c
 abbrev pub chargedWith : Exchange → ℕ → ℕ → Bool → ℕ → ℕ
 chargedWith x a c sell lots = charged (withOpen x a c sell lots) a
+
+-- ---- the same sum written out: `chargedWith` is this of every account and contract that exist (`lots-included`, proofs/LotsIncluded)
+
+-- "the larger (house) of (long plus resting buy opens) and (short plus resting sell opens)", its lots included: those of a buy in the
+-- first, those of a sell in the second
+unfoldable pub chargedLotsWith : Listing → ℕ → Holding → Bool → ℕ → ℕ
+chargedLotsWith l a h sell lots =
+    max (h .long + restingOpens a (l .buys) + pick sell 0 lots) (h .short + restingOpens a (l .sells) + pick sell lots 0)
+
+-- over the first n contracts; the lots are in contract c
+unfoldable pub includedTo : Exchange → ℕ → ℕ → Bool → ℕ → ℕ → ℕ
+includedTo x a c sell lots zero = 0
+includedTo x a c sell lots (suc d) =
+    includedTo x a c sell lots d
+    + charge (listingAt x d .contract) * chargedLotsWith (listingAt x d) a (holdingAt (x .accounts) a d) sell (pick (eqb d c) lots 0)

@@ -131,7 +131,7 @@ exchangeOf m =
     }
 
 -- ---- "Room beyond a count .. is unaltered, except that places newly in use are written, and places no longer in use are
--- set to zero."
+-- set to zero." What that leaves at each place is one law: `put-told` (invariants, specs/ByPlace).
 
 -- contract c's queue written over one of n orders
 unfoldable pub putQueue : List ℕ → ℕ → ℕ → List Order → List ℕ
@@ -183,8 +183,9 @@ put m x =
       trades = putTrades (m .trades) (m .state .tradecount) (x .trades);
     }
 
--- ---- well formed: "counts .. keep the ranges above"; "each queue area has room for 64 orders and the trade area for 1,024
--- trades", the queue areas for each contract in use
+-- ---- well formed: of the first clause what the memory itself tells, "counts .. keep the ranges above" and "each queue area
+-- has room for 64 orders and the trade area for 1,024 trades", the queue areas for each contract in use. All else is
+-- `wellFormedContents`, which stands apart: a saved state is read "room of areas aside" (02, ticket 10).
 
 unfoldable pub countsInRange : State → Bool
 countsInRange s =

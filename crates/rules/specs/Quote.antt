@@ -6,7 +6,7 @@ use lib.Dec.{ltb, eqb}
 use Rattle.laws.specs.Choice.{pick}
 use Rattle.rules.specs.Answers.{Refusal, _when_, orderRefusals}
 use Rattle.rules.specs.Bounds.{continuous}
-use Rattle.rules.specs.Exchange.{Exchange, listingAt, accountAt, absent, placeOf}
+use Rattle.rules.specs.Exchange.{Exchange, listingNamed, phaseNow, holderOf, absent, placeOf}
 use Rattle.rules.specs.Matching.{Entered, tradedLots}
 use Rattle.rules.specs.Step.{Effect, withListing, listingWithout, enteredOf, exchangeAfter}
 use Rattle.rules.specs.WellFormed.{isQuoteOf}
@@ -51,7 +51,7 @@ sellOf q = half q true
 -- "The account's earlier quote in that contract .. is removed first": whatever is still marked
 unfoldable pub withoutQuote : Exchange → Offered → Exchange
 withoutQuote x q =
-    withListing x (placeOf (q .contract)) (listingWithout (isQuoteOf (placeOf (q .account))) (listingAt x (placeOf (q .contract))))
+    withListing x (placeOf (q .contract)) (listingWithout (isQuoteOf (placeOf (q .account))) (listingNamed x (q .contract)))
 
 -- an order of a quote entered, marked, with the next number
 abbrev pub enteredMarked : Exchange → NewOrder → Entered
@@ -80,8 +80,8 @@ quoteRefusals x q =
     (2 when absent (q .account) (x .accounts))
     ∷ (3 when absent (q .contract) (x .listings))
     -- "in continuous only"
-    ∷ (4 when not (eqb (listingAt x (placeOf (q .contract)) .contract .phase) continuous))
-    ∷ (23 when not (eqb (accountAt (x .accounts) (placeOf (q .account)) .maker) 1))
+    ∷ (4 when not (eqb (phaseNow x (q .contract)) continuous))
+    ∷ (23 when not (eqb (holderOf x (q .account) .maker) 1))
     ∷ (24 when not (ltb (q .buy) (q .sell)))
     ∷ (orderRefusals (withoutQuote x q) (buyOf q) ++ orderRefusals (withBuy x q) (sellOf q))
 

@@ -10,7 +10,7 @@ use Rattle.laws.specs.Choice.{pick}
 use Rattle.laws.specs.Sums.{sumTo, sumOf}
 use Rattle.laws.specs.Tabulate.{tabulate}
 use Rattle.rules.specs.Bounds.{preOpen}
-use Rattle.rules.specs.Exchange.{Exchange, Listing, listingAt, accountAt, holdingAt}
+use Rattle.rules.specs.Exchange.{Exchange, Listing, listingAt, contractAt, holderAt, heldAt}
 use Rattle.rules.specs.Matching.{middle, tradedLots}
 use Rattle.rules.specs.declared.Account.{Account}
 use Rattle.rules.specs.declared.Contract.{Contract}
@@ -45,9 +45,9 @@ priceFrom tick reference (t ∷ ts) buys sells = weightedPrice tick (t ∷ ts)
 
 unfoldable pub settlementPrice : Exchange → ℕ → ℕ
 settlementPrice x c =
-    priceFrom (listingAt x c .contract .tick) (listingAt x c .contract .reference) (tradesIn c (x .trades)) (listingAt x c .buys) (listingAt x c .sells)
+    priceFrom (contractAt x c .tick) (contractAt x c .reference) (tradesIn c (x .trades)) (listingAt x c .buys) (listingAt x c .sells)
 
--- ---- profit: Article 32
+-- ---- profit: Article 32. Its four sums, as the article writes them, stand in Article32.antt.
 
 -- a trade as one of its two accounts sees it
 pub data Leg : Type 0 where
@@ -125,7 +125,7 @@ afterLegs d (l ∷ ls) = afterLegs (afterDayLeg d l) ls
 unfoldable pub dayOf : Exchange → ℕ → ℕ → Day
 dayOf x a c =
     afterLegs
-    (dayStart (listingAt x c .contract .reference) (holdingAt (x .accounts) a c .startlong) (holdingAt (x .accounts) a c .startshort))
+    (dayStart (contractAt x c .reference) (heldAt x a c .startlong) (heldAt x a c .startshort))
     (legs a c (x .trades))
 
 -- the lots still open, against the settlement price
@@ -134,11 +134,11 @@ holdingGain price d = gain price (d .long) -ℤ gain price (d .short)
 
 -- "times multiplier", over all contracts
 unfoldable pub closingProfit : Exchange → ℕ → ℤ
-closingProfit x a = sumTo (length (x .listings)) (λ c. pos (listingAt x c .contract .multiplier) *ℤ dayOf x a c .closing)
+closingProfit x a = sumTo (length (x .listings)) (λ c. pos (contractAt x c .multiplier) *ℤ dayOf x a c .closing)
 
 unfoldable pub holdingProfit : Exchange → ℕ → ℤ
 holdingProfit x a =
-    sumTo (length (x .listings)) (λ c. pos (listingAt x c .contract .multiplier) *ℤ holdingGain (settlementPrice x c) (dayOf x a c))
+    sumTo (length (x .listings)) (λ c. pos (contractAt x c .multiplier) *ℤ holdingGain (settlementPrice x c) (dayOf x a c))
 
 -- ---- what a settlement leaves
 
@@ -150,9 +150,9 @@ carriedHolding h = record { long = h .long; short = h .short; startlong = h .lon
 unfoldable pub settledAccount : Exchange → ℕ → Account
 settledAccount x a =
     record {
-      balance = accountAt (x .accounts) a .balance +ℤ (closingProfit x a +ℤ holdingProfit x a);
-      maker = accountAt (x .accounts) a .maker;
-      holdings = map carriedHolding (accountAt (x .accounts) a .holdings);
+      balance = holderAt x a .balance +ℤ (closingProfit x a +ℤ holdingProfit x a);
+      maker = holderAt x a .maker;
+      holdings = map carriedHolding (holderAt x a .holdings);
     }
 
 -- "the settlement price becomes the reference, contracts return to pre-open"; the last price "passes from day to day"
@@ -172,7 +172,7 @@ settledContract c price =
 
 -- "resting orders go"
 unfoldable pub settledListing : Exchange → ℕ → Listing
-settledListing x c = record { contract = settledContract (listingAt x c .contract) (settlementPrice x c); buys = []; sells = [] }
+settledListing x c = record { contract = settledContract (contractAt x c) (settlementPrice x c); buys = []; sells = [] }
 
 -- "trades and order numbers start afresh", and time stamps, "given in turn from 1 each day" (02, ticket 8)
 unfoldable pub settled : Exchange → Exchange

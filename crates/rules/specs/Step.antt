@@ -6,10 +6,10 @@ use lib.Dec.{eqb}
 use lib.IntN.{ℤ, pos, _+ℤ_, _-ℤ_}
 use lib.ListN.{set}
 use Rattle.laws.specs.Choice.{pick}
-use Rattle.rules.specs.Answers.{takerOf, listingOf, isGoodForDay}
+use Rattle.rules.specs.Answers.{takerOf, listingOf, ownQueue, oppositeQueue, isGoodForDay}
 use Rattle.rules.specs.Auction.{Matched, matchOf}
 use Rattle.rules.specs.Bounds.{inAuction}
-use Rattle.rules.specs.Exchange.{Exchange, Listing, listingAt, accountAt, placeOf, own, opposite, withQueues, lotsWhere}
+use Rattle.rules.specs.Exchange.{Exchange, Listing, listingAt, holderAt, placeOf, withQueues, lotsWhere}
 use Rattle.rules.specs.Holdings.{bookTrades}
 use Rattle.rules.specs.Matching.{Entered, enter, restWhole, tradedLots, lastPrice}
 use Rattle.rules.specs.Settlement.{settled}
@@ -74,7 +74,7 @@ unfoldable pub paid : Exchange → ℕ → ℤ → Exchange
 paid x a balance =
     record {
       listings = x .listings;
-      accounts = set (x .accounts) a (withBalance (accountAt (x .accounts) a) balance);
+      accounts = set (x .accounts) a (withBalance (holderAt x a) balance);
       trades = x .trades;
       next = x .next;
       nextstamp = x .nextstamp;
@@ -82,10 +82,10 @@ paid x a balance =
     }
 
 unfoldable pub deposited : Exchange → ℕ → ℕ → Effect
-deposited x a amount = accepted 0 0 0 (paid x a (accountAt (x .accounts) a .balance +ℤ pos amount))
+deposited x a amount = accepted 0 0 0 (paid x a (holderAt x a .balance +ℤ pos amount))
 
 unfoldable pub withdrawn : Exchange → ℕ → ℕ → Effect
-withdrawn x a amount = accepted 0 0 0 (paid x a (accountAt (x .accounts) a .balance -ℤ pos amount))
+withdrawn x a amount = accepted 0 0 0 (paid x a (holderAt x a .balance -ℤ pos amount))
 
 -- ---- insert
 
@@ -99,10 +99,8 @@ limitOf Best = 0
 unfoldable pub enteredOf : Exchange → ℕ → ℕ → NewOrder → Entered
 enteredOf x number quote o =
     pick (inAuction (listingOf x o .contract))
-    (restWhole (takerOf x number quote o) (o .lots) (limitOf (o .condition)) (own (o .sell) (listingOf x o)) (opposite (o .sell) (listingOf x o)))
-    (enter (takerOf x number quote o) (o .lots) (limitOf (o .condition)) (isGoodForDay (o .time)) (listingOf x o .contract .last)
-    (own (o .sell) (listingOf x o))
-    (opposite (o .sell) (listingOf x o)))
+    (restWhole (takerOf x number quote o) (o .lots) (limitOf (o .condition)) (ownQueue x o) (oppositeQueue x o))
+    (enter (takerOf x number quote o) (o .lots) (limitOf (o .condition)) (isGoodForDay (o .time)) (listingOf x o .contract .last) (ownQueue x o) (oppositeQueue x o))
 
 -- the listing with an order entered, and the state
 unfoldable pub listingAfter : Listing → Bool → Entered → Listing

@@ -2,6 +2,8 @@
 //
 // A place counts from 0, a number from 1: the account with number 1 stands at place 0. Commands and printed lines speak
 // of numbers, the records below of places, except where they say "number".
+//
+// A record with `#[repr(C)]` lies in memory as a C compiler lays it out: programs in other languages hand it in as it is.
 
 // "Numbers that bound everything", by the names that they have in specs/ (Bounds, Memory, DayFile).
 pub const MAX_CONTRACTS: usize = 4;
@@ -45,6 +47,7 @@ pub const STAMP_WORD: usize = 5;
 // A contract's terms for the day, with the number of its pairing method, its phase (the paper's contract state) and its last
 // price. Rate and method are as wide as in the day file: four contracts then take 128 bytes, which a compiler still copies in
 // place.
+#[repr(C)]
 pub struct Contract {
     pub multiplier: u32,
     pub tick: u32,
@@ -69,6 +72,7 @@ pub const CLOSED: u32 = 3;
 pub const AUCTION: u32 = 4;
 
 // What one account holds in one contract: lots now, and lots at the start of the day.
+#[repr(C)]
 pub struct Holding {
     pub long: u32,
     pub short: u32,
@@ -77,6 +81,7 @@ pub struct Holding {
 }
 
 // `maker` is 1 for a market maker and 0 for others.
+#[repr(C)]
 pub struct Account {
     pub balance: i64,
     pub holdings: [Holding; MAX_CONTRACTS],
@@ -85,6 +90,7 @@ pub struct Account {
 
 // A resting order: its remaining lots, the account's place, 1 for a close and 0 for an open, its time stamp, 1 where it is part of
 // a quote and 0 elsewhere.
+#[repr(C)]
 pub struct Order {
     pub price: u32,
     pub number: u32,
@@ -97,6 +103,7 @@ pub struct Order {
 
 // A trade: the contract's place, the two orders' numbers, the two accounts' places, and for each leg 1 for a close and 0
 // for an open.
+#[repr(C)]
 pub struct Trade {
     pub contract: u32,
     pub price: u32,
@@ -112,6 +119,7 @@ pub struct Trade {
 // All of the state that does not lie in lent areas. The areas hold the queues and the day's trades, the counts here say
 // how many of each are in use: orders by contract, contracts, accounts, trades of the day. `next` is the next order number,
 // `nextstamp` the next time stamp.
+#[repr(C)]
 pub struct State {
     pub contracts: [Contract; MAX_CONTRACTS],
     pub accounts: [Account; MAX_ACCOUNTS],
@@ -126,6 +134,7 @@ pub struct State {
 }
 
 // A command's 24 bytes, field by field.
+#[repr(C)]
 pub struct Record {
     pub kind: u8,
     pub account: u8,
@@ -230,6 +239,7 @@ pub struct Taker {
 
 // "Each answer holds a code, an order number, lots traded and lots rested (insert; a vanished remainder isn't counted) or
 // removed (cancel, pull)."
+#[repr(C)]
 pub struct Answer {
     pub code: u32,
     pub number: u32,

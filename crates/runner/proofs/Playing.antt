@@ -23,8 +23,8 @@ use Rattle.accounting.proofs.Runs.{run-append}
 use Rattle.invariants.proofs.MemoryKeeps.{memory-keeps, read-back, run-keeps}
 use Rattle.exchange.proofs.Runs.{run-declared}
 use Rattle.dayfile.proofs.Places.{command-of}
-use Rattle.lines.specs.Written.{Written}
-use Rattle.lines.proofs.Text.{looser, no-byte, then}
+use Rattle.endian.specs.Written.{Written}
+use Rattle.endian.proofs.Writes.{looser, no-byte, then}
 use Rattle.runner.specs.Parts.{part, Playable, PlayedIs}
 use Rattle.runner.specs.Turns.{commandMost, TurnIs}
 use Rattle.runner.specs.declared.turn.Turn.{Turn}

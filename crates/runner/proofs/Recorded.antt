@@ -14,8 +14,8 @@ use Rattle.rules.specs.Lines.{tradeLine, tradeLines}
 use Rattle.rules.specs.Memory.{recordedTrades, tradeFrom, tradeStride}
 use Rattle.rules.specs.declared.Trade.{Trade}
 use Rattle.rules.proofs.Codecs.{trade-codec, length-trades}
-use Rattle.lines.specs.Written.{Written}
-use Rattle.lines.proofs.Text.{no-byte, looser, then}
+use Rattle.endian.specs.Written.{Written}
+use Rattle.endian.proofs.Writes.{no-byte, looser, then}
 use Rattle.lines.proofs.Turns.{trade-turn}
 
 module _ (area : List ℕ) where

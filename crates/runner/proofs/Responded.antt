@@ -33,7 +33,8 @@ use Rattle.engine.proofs.Formed.{formed, account-at, accounts-count, contracts-
 use Rattle.exchange.specs.Response.{ResponseIs, reportOf, settlementReport}
 use Rattle.exchange.specs.declared.settling.Report.{Report}
 use Rattle.exchange.specs.declared.settling.Response.{Response}
-use Rattle.lines.specs.Written.{Written, priceLine, accountLine}
+use Rattle.endian.specs.Written.{Written}
+use Rattle.lines.specs.Tables.{priceLine, accountLine}
 use Rattle.runner.specs.Rows.{rows, priceRow, accountRow, settlementRows, reportRows, responseRows}
 use Rattle.runner.specs.Turns.{commandMost, InRange, TurnIs}
 use Rattle.runner.proofs.Tables.{rows-ext}

@@ -6,8 +6,8 @@ use native.Mathlib.Nat.{le-refl}
 use native.Mathlib.Numerals.{add-one}
 use native.Mathlib.Omega.{arith}
 use lib.ListN.{length}
-use Rattle.lines.specs.Written.{Written}
-use Rattle.lines.proofs.Text.{no-byte, looser, then}
+use Rattle.endian.specs.Written.{Written}
+use Rattle.endian.proofs.Writes.{no-byte, looser, then}
 use Rattle.runner.specs.Rows.{rows}
 
 -- two tables whose lines are the same

@@ -9,7 +9,7 @@ use native.Mathlib.Omega.{arith}
 use lib.ListN.{length, take, drop, length-append}
 use lib.Seq.{take-append-seam, take-length, length-slice, length-take-le}
 use Rattle.areas.specs.Lists.{over}
-use Rattle.lines.specs.Written.{Written}
+use Rattle.endian.specs.Written.{Written}
 use Rattle.rules.specs.Condition3.{run}
 use Rattle.rules.specs.DayFile.{sound, commandsIn, opening, commandsOf}
 use Rattle.rules.specs.Lines.{brokenLine, output, runLines}

@@ -11,7 +11,7 @@ use Rattle.rules.specs.Lines.{runLines}
 use Rattle.rules.specs.Memory.{Memory, exchangeOf, WellFormedState}
 use Rattle.rules.specs.declared.Command.{Command}
 use Rattle.rules.specs.declared.State.{State}
-use Rattle.lines.specs.Written.{Written}
+use Rattle.endian.specs.Written.{Written}
 use Rattle.runner.specs.Turns.{commandMost}
 use Rattle.runner.specs.declared.play.Played.{Played}
 

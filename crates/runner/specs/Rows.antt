@@ -15,7 +15,7 @@ use Rattle.rules.specs.declared.Command.{Command}
 use Rattle.rules.specs.declared.State.{State}
 use Rattle.exchange.specs.declared.settling.Report.{Report}
 use Rattle.exchange.specs.declared.settling.Response.{Response}
-use Rattle.lines.specs.Written.{priceLine, accountLine}
+use Rattle.lines.specs.Tables.{priceLine, accountLine}
 
 unfoldable pub rows : (ℕ → List ℕ) → ℕ → List ℕ
 rows line zero = []

@@ -8,7 +8,7 @@ use Rattle.rules.specs.Lines.{stepLines}
 use Rattle.rules.specs.Memory.{Memory, exchangeOf, respond, tradeStride}
 use Rattle.rules.specs.declared.Command.{Command}
 use Rattle.exchange.specs.declared.settling.Response.{Response}
-use Rattle.lines.specs.Written.{Written}
+use Rattle.endian.specs.Written.{Written}
 use Rattle.runner.specs.declared.turn.Turn.{Turn}
 
 -- a P line for each contract and a B line for each account; with a C line and a T line for each trade of a day, what one

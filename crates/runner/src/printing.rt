@@ -5,7 +5,7 @@ ghost use lib.ListN.{length, drop};
 ghost use Rattle.rules.specs.Bounds.{maxTrades};
 ghost use Rattle.rules.specs.Lines.{tradeLines};
 ghost use Rattle.rules.specs.Memory.{recordedTrades, tradeStride};
-ghost use Rattle.lines.specs.Written.{Written};
+ghost use Rattle.endian.specs.Written.{Written};
 ghost use Rattle.runner.specs.Rows.{rows, priceRow, accountRow};
 use exchange::settling::Report;
 use lines::line::put_account;

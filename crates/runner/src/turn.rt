@@ -5,7 +5,7 @@ ghost use Prim.Native.Nat.{_+_, _≤_};
 ghost use lib.ListN.{length};
 ghost use Rattle.rules.specs.Command.{commandOf};
 ghost use Rattle.rules.specs.Memory.{memory, WellFormedState};
-ghost use Rattle.lines.specs.Written.{Written};
+ghost use Rattle.endian.specs.Written.{Written};
 ghost use Rattle.runner.specs.Rows.{settlementRows, reportRows, responseRows};
 ghost use Rattle.runner.specs.Turns.{commandMost, settlementMost, InRange, TurnIs};
 use crate::printing::put_accounts;

@@ -15,12 +15,12 @@ use Rattle.rules.specs.Bounds.{maxAccounts, maxContracts, within}
 use Rattle.rules.specs.DayFile.{u32At, contractFrom, contractsIn}
 use Rattle.rules.specs.WellFormed.{wellFormedContents}
 use Rattle.rules.specs.declared.Holding.{Holding}
-use Rattle.mending.specs.Mend.{four}
+use Rattle.endian.specs.Numbers.{four}
 use Rattle.statements.specs.Statement.{holdingBytes, section}
 use Rattle.saved.specs.Saved.{accountPlace, accountsIn, allEqual, asleep, contractPlace, countsRight, loadedFrom, markSound, rowPlace, savedBytes, savedContract, savedSound, settlementsPlace, shaped, writable}
 use Rattle.saved.proofs.Fields.{Entry, entry, entryBytes, entryOf, holding, listing, listingBytes, listingFrom}
 use Rattle.saved.proofs.Lists.{accounts-are, accountsOf, entries-again, entriesOf, listings-are, listingsOf, rows-again, rowsOf, savedRow}
-use Rattle.saved.proofs.Numbers.{Bytes, four-forth, parts}
+use Rattle.endian.proofs.Numbers.{Bytes, four-forth, parts}
 use Rattle.saved.proofs.Reading.{entries-encoded, rows-encoded}
 use Rattle.saved.proofs.Rows.{Field, length-records, records-all, records-forth, row}
 use Rattle.saved.proofs.Savable.{Savable, allOf-map}

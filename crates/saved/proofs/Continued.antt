@@ -13,7 +13,7 @@ use Rattle.laws.specs.Choice.{all-at, allOf-true}
 use Rattle.laws.specs.Sums.{sumOf, sumTo, sumTo-first}
 use Rattle.rules.specs.Answers.{firstOf}
 use Rattle.rules.specs.Bounds.{maxAccounts, maxContracts}
-use Rattle.rules.specs.Condition3.{Condition3, Loaded, TotalsEqual, loaded, run}
+use Rattle.rules.specs.Condition3.{Condition3, Loaded, Opening, TotalsEqual, loaded, opened, run}
 use Rattle.rules.specs.Exchange.{Exchange, accountAt, holdingAt, noAccount, noHolding}
 use Rattle.rules.specs.Memory.{Declared, Memory, exchangeOf, hasRoom, respond, wellFormedMemory}
 use Rattle.rules.specs.WellFormed.{wellFormedContents}
@@ -21,6 +21,7 @@ use Rattle.rules.specs.declared.Command.{Command}
 use Rattle.rules.proofs.InUse.{accounts-in-use, contracts-in-use}
 use Rattle.rules.proofs.Terms.{within-test}
 use Rattle.accounting.specs.Shape.{Shaped}
+use Rattle.accounting.proofs.Condition3.{as-loaded, as-opened, opening-loaded}
 use Rattle.accounting.proofs.Declared.{declared-shaped}
 use Rattle.accounting.proofs.Runs.{end-declared, run-append}
 use Rattle.invariants.proofs.Condition3.{claims-joined}
@@ -143,3 +144,9 @@ module _ (m : Memory) (d : Declared (m .state)) (w : wellFormedMemory m ≡ true
   claims-continue o bs one two =
       claims-joined m d w o as′ bs (writable-loaded (run m as′) ready) (run next bs) (same-run next (run m as′) begun bs .in-use) one
       (same-claim next (run m as′) begun bs (run next bs) two)
+
+  -- and so from a first day that opens without holdings
+  pub opened-continue : Opening m → (bs : List Command) → Condition3 (opened m) m as′ (run m as′) →
+      Condition3 (loaded next) next bs (run next bs) → Condition3 (opened m) m (as′ ++ bs) (run next bs)
+  opened-continue o bs one two =
+      as-opened m o (as′ ++ bs) (run next bs) (claims-continue (opening-loaded m o) bs (as-loaded m o as′ (run m as′) one) two)

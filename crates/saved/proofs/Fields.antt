@@ -18,10 +18,10 @@ use Rattle.rules.specs.declared.Account.{Account}
 use Rattle.rules.specs.declared.Contract.{Contract}
 use Rattle.rules.specs.declared.Holding.{Holding}
 use Rattle.rules.specs.declared.Order.{Order}
-use Rattle.mending.specs.Mend.{two, four, eight}
+use Rattle.endian.specs.Numbers.{two, four, eight}
 use Rattle.statements.specs.Statement.{holdingBytes, unsigned}
 use Rattle.saved.specs.Saved.{asleep, contractBytes, savedContract, savedHolding, signEnd, signedOf}
-use Rattle.saved.proofs.Numbers.{Bytes, parts, two-back, four-back, eight-back, one-forth, two-forth, four-forth, eight-forth, below-8, u8-drop, u16-drop, u32-drop, u64-drop}
+use Rattle.endian.proofs.Numbers.{Bytes, parts, two-back, four-back, eight-back, one-forth, two-forth, four-forth, eight-forth, below-8, u8-drop, u16-drop, u32-drop, u64-drop}
 use Rattle.saved.proofs.Rows.{Field}
 
 -- ---- signed numbers

@@ -3,7 +3,6 @@ pub mod Continued
 pub mod Fields
 pub mod Lists
 pub mod Loaded
-pub mod Numbers
 pub mod Opened
 pub mod Promises
 pub mod Reading

@@ -15,7 +15,7 @@ use Rattle.saved.specs.Saved.{allEqual, loadedFrom, loadedInto, readCode
 use Rattle.saved.proofs.Again.{loaded-savable, loaded-writable, sound-parts, write-again}
 use Rattle.saved.proofs.Continued.{loadable, writable-loaded, writes}
 use Rattle.saved.proofs.Loaded.{Loadable, loaded-declared, loaded-formed, loaded-in-use}
-use Rattle.saved.proofs.Numbers.{Bytes}
+use Rattle.endian.proofs.Numbers.{Bytes}
 use Rattle.saved.proofs.Reading.{length-saved, read-back, sound-back}
 use Rattle.saved.proofs.Savable.{Savable}
 

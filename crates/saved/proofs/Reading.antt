@@ -16,13 +16,13 @@ use Rattle.rules.specs.declared.Account.{Account}
 use Rattle.rules.specs.declared.Holding.{Holding}
 use Rattle.rules.specs.declared.Trade.{Trade}
 use Rattle.invariants.proofs.Clauses.{well-formed}
-use Rattle.mending.specs.Mend.{two, four}
-use Rattle.mending.proofs.Writing.{length-four}
+use Rattle.endian.specs.Numbers.{two, four}
+use Rattle.endian.proofs.Writes.{length-four}
 use Rattle.statements.specs.Statement.{holdingBytes, section}
 use Rattle.saved.specs.Saved.{accountBytes, accountPlace, accountsIn, contractPlace, countsRight, loadedFrom, markSound, rowBytes, rowPlace, savedBytes, savedSound, settlementsPlace, shaped}
 use Rattle.saved.proofs.Fields.{entry, entryBytes, entryOf, holding, listing, listingBytes}
 use Rattle.saved.proofs.Lists.{accounts-again, accounts-are, accountsOf, entriesOf, listings-are, listingsOf, marked, marks-are, rowsOf}
-use Rattle.saved.proofs.Numbers.{four-behind}
+use Rattle.endian.proofs.Numbers.{four-behind}
 use Rattle.saved.proofs.Rows.{Field, row, row-back, row-wide}
 use Rattle.saved.proofs.Savable.{Savable, allOf-map, entries-fit, holdings-fit, writable-parts}
 

@@ -13,7 +13,7 @@ use borrow.Author.Tests.{eqb-true}
 use Rattle.laws.specs.Choice.{allOf, both-true, true-both}
 use Rattle.laws.specs.Tabulate.{tabulate, tabulate-ext}
 use Rattle.areas.specs.Records.{decode, encode, records}
-use Rattle.saved.proofs.Numbers.{Bytes, bytes-drop}
+use Rattle.endian.proofs.Numbers.{Bytes, bytes-drop}
 
 pub record Field (A : Type 0) (W : ℕ) (fit : A → Bool) (words : A → List ℕ) (first : List ℕ → A) : Type 0 where
   pub wide : (o : A) → fit o ≡ true → length (words o) ≡ W

@@ -22,7 +22,7 @@ use Rattle.rules.specs.declared.Account.{Account}
 use Rattle.rules.specs.declared.Contract.{Contract}
 use Rattle.rules.specs.declared.Holding.{Holding}
 use Rattle.rules.specs.declared.State.{State}
-use Rattle.mending.specs.Mend.{two, four, eight}
+use Rattle.endian.specs.Numbers.{two, four, eight}
 use Rattle.statements.specs.Statement.{holdingBytes, section, unsigned}
 
 -- ---- what is written: "Sections in a fixed order, each after its count"

@@ -1,6 +1,6 @@
 -- A small state to bytes and back, byte by byte: one contract with last price 107, two accounts with balances -2 and 20,002, the second
 -- a maker, 3 lots long and 3 short, after one settlement. Assumes nothing.
-use mathlib.Core.Bool.{true, false}
+use mathlib.Core.Bool.{Bool, true, false}
 use mathlib.Core.List.{List, [], _∷_, _++_}
 use mathlib.Core.Path.{_≡_, refl}
 use Prim.Native.Nat.{ℕ, _*_}
@@ -13,15 +13,17 @@ use Rattle.areas.specs.Records.{decode, encode, records}
 use Rattle.rules.specs.Answers.{firstOf}
 use Rattle.rules.specs.Bounds.{onTick, tickMultiple, termsInRange}
 use Rattle.rules.specs.DayFile.{u8At, u16At, u32At, u64At, contractsIn, contractFrom}
-use Rattle.rules.specs.Exchange.{Exchange, accountAt, holdingAt, listingAt, lotsWhere, noContract, resting}
+use Rattle.rules.specs.Exchange.{Exchange, accountAt, holdingAt, listingAt, lotsWhere, noContract, noOrder, noTrade, resting}
 use Rattle.rules.specs.Holdings.{bookTrades, neverBelowZero, startOfDay, sameLots, sameHoldings}
 use Rattle.rules.specs.Memory.{Memory, countsInRange, exchangeOf, hasRoom, listingIn, memory, putAccounts, putState, queueIn, queueStride, recordedTrades, tradeStride, wellFormedMemory}
-use Rattle.rules.specs.WellFormed.{contractInRange, countersInRange, sorted, uncrossed, listingInRange, listed, allListed, usedOnce, quotes, markAllowed, queueQuoted, listingQuoted, markInRange, replays, holdingInRange, holdingsInRange, balanceInRange, wellFormedContents}
+use Rattle.rules.specs.WellFormed.{allListed, balanceInRange, contractInRange, countersInRange, holdingInRange, holdingsInRange, listed, listingQuoted, markAllowed, markInRange, ordersInRange, queueQuoted, queuesSorted, quotes, rangesKept, replays, restingInRange, sorted, uncrossed, usedOnce, wellFormedContents}
 use Rattle.rules.specs.declared.Account.{Account}
 use Rattle.rules.specs.declared.Contract.{Contract}
 use Rattle.rules.specs.declared.Holding.{Holding}
+use Rattle.rules.specs.declared.Order.{Order}
 use Rattle.rules.specs.declared.State.{State}
-use Rattle.mending.specs.Mend.{two, four, eight}
+use Rattle.rules.specs.declared.Trade.{Trade}
+use Rattle.endian.specs.Numbers.{two, four, eight}
 use Rattle.statements.specs.Statement.{holdingBytes, unsigned}
 use Rattle.saved.specs.Saved.{accountBytes, accountsIn, allEqual, asleep, contractBytes, countsRight, loadedAccount, loadedFrom, loadedInto, loadedListing, loadedState, markSound, readCode, rowBytes, savedAccount, savedBytes, savedContract, savedHolding, savedSound, shaped, signedOf, totalsEqual, writable, writeCode}
 
@@ -40,16 +42,38 @@ holders short =
     ∷ record { balance = pos 20_002; maker = 1; holdings = held 0 short ∷ [] }
     ∷ []
 
-unfoldable pub evening : Exchange
-evening =
+-- the rest of it left open
+abbrev standing : (phase : ℕ) (buys sells : List Order) (short : ℕ) (trades : List Trade) (next nextstamp : ℕ) → Exchange
+standing phase buys sells short trades next nextstamp =
     record {
-      listings = record { contract = terms 0; buys = []; sells = [] } ∷ [];
-      accounts = holders 3;
-      trades = [];
-      next = 1;
-      nextstamp = 1;
+      listings = record { contract = terms phase; buys = buys; sells = sells } ∷ [];
+      accounts = holders short;
+      trades = trades;
+      next = next;
+      nextstamp = nextstamp;
       settlements = 1;
     }
+
+unfoldable pub evening : Exchange
+evening = standing 0 [] [] 3 [] 1 1
+
+-- writable; and each thing that makes it not so by itself: another phase, a buy, a sell, other totals, a trade, a number given, a stamp
+-- given
+pub writable-cases : List Bool
+writable-cases =
+    writable (standing 0 [] [] 3 [] 1 1)
+    ∷ writable (standing 3 [] [] 3 [] 1 1)
+    ∷ writable (standing 0 (noOrder ∷ []) [] 3 [] 1 1)
+    ∷ writable (standing 0 [] (noOrder ∷ []) 3 [] 1 1)
+    ∷ writable (standing 0 [] [] 2 [] 1 1)
+    ∷ writable (standing 0 [] [] 3 (noTrade ∷ []) 1 1)
+    ∷ writable (standing 0 [] [] 3 [] 2 1)
+    ∷ writable (standing 0 [] [] 3 [] 1 2)
+    ∷ []
+
+pub writable-example : writable-cases ≡ true ∷ false ∷ false ∷ false ∷ false ∷ false ∷ false ∷ false ∷ []
+unfolding writable-cases terms holders all allOf sumOf asleep totalsEqual allEqual writable
+writable-example = refl
 
 -- ---- the file, some of its numbers left open
 
@@ -136,11 +160,11 @@ read-codes =
     ∷ []
 
 pub write-example : write-codes ≡ 0 ∷ 29 ∷ 28 ∷ 28 ∷ 28 ∷ 21 ∷ []
-unfolding write-codes terms holders all allOf sumOf tabulate decode encode records onTick tickMultiple termsInRange accountAt holdingAt listingAt lotsWhere resting bookTrades neverBelowZero startOfDay sameLots sameHoldings contractInRange countersInRange sorted uncrossed listingInRange listed allListed usedOnce quotes markAllowed queueQuoted listingQuoted markInRange replays holdingInRange holdingsInRange balanceInRange wellFormedContents countsInRange hasRoom exchangeOf listingIn queueIn recordedTrades wellFormedMemory two four eight unsigned contractBytes accountBytes rowBytes holdingBytes savedBytes asleep totalsEqual allEqual writable firstOf writeCode
+unfolding write-codes terms holders all allOf sumOf tabulate decode encode records onTick tickMultiple termsInRange accountAt holdingAt listingAt lotsWhere resting bookTrades neverBelowZero startOfDay sameLots sameHoldings contractInRange countersInRange sorted uncrossed rangesKept queuesSorted ordersInRange restingInRange listed allListed usedOnce quotes markAllowed queueQuoted listingQuoted markInRange replays holdingInRange holdingsInRange balanceInRange wellFormedContents countsInRange hasRoom exchangeOf listingIn queueIn recordedTrades wellFormedMemory two four eight unsigned contractBytes accountBytes rowBytes holdingBytes savedBytes asleep totalsEqual allEqual writable firstOf writeCode
 write-example = refl
 
 pub read-example : read-codes ≡ 0 ∷ 0 ∷ 20 ∷ 20 ∷ 20 ∷ 20 ∷ 20 ∷ 20 ∷ 30 ∷ 29 ∷ 30 ∷ []
-unfolding read-codes terms holders fileOf all allOf sumOf tabulate decode records onTick tickMultiple termsInRange u8At u16At u32At u64At contractsIn contractFrom accountAt holdingAt listingAt lotsWhere resting bookTrades neverBelowZero startOfDay sameLots sameHoldings contractInRange countersInRange sorted uncrossed listingInRange listed allListed usedOnce quotes markAllowed queueQuoted listingQuoted markInRange replays holdingInRange holdingsInRange balanceInRange wellFormedContents hasRoom putAccounts putState signedOf savedContract savedHolding savedAccount accountsIn loadedListing loadedAccount loadedFrom countsRight shaped markSound savedSound totalsEqual allEqual loadedState firstOf readCode
+unfolding read-codes terms holders fileOf all allOf sumOf tabulate decode records onTick tickMultiple termsInRange u8At u16At u32At u64At contractsIn contractFrom accountAt holdingAt listingAt lotsWhere resting bookTrades neverBelowZero startOfDay sameLots sameHoldings contractInRange countersInRange sorted uncrossed rangesKept queuesSorted ordersInRange restingInRange listed allListed usedOnce quotes markAllowed queueQuoted listingQuoted markInRange replays holdingInRange holdingsInRange balanceInRange wellFormedContents hasRoom putAccounts putState signedOf savedContract savedHolding savedAccount accountsIn loadedListing loadedAccount loadedFrom countsRight shaped markSound savedSound totalsEqual allEqual loadedState firstOf readCode
 read-example = refl
 
 -- ---- the state after reading: the second contract's places and counts stay as they were

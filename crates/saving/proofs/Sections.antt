@@ -10,10 +10,9 @@ use Rattle.areas.specs.Lists.{over}
 use Rattle.rules.specs.declared.Account.{Account}
 use Rattle.rules.specs.declared.Contract.{Contract}
 use Rattle.rules.specs.declared.State.{State}
-use Rattle.lines.specs.Written.{Written}
-use Rattle.lines.proofs.Text.{then}
-use Rattle.mending.specs.Mend.{two, four, eight}
-use Rattle.mending.proofs.Writing.{length-four}
+use Rattle.endian.specs.Written.{Written}
+use Rattle.endian.proofs.Writes.{then, length-four}
+use Rattle.endian.specs.Numbers.{two, four, eight}
 use Rattle.statements.specs.Statement.{section, unsigned}
 use Rattle.statements.proofs.Sections.{exact}
 use Rattle.saved.specs.Saved.{accountBytes, contractBytes}

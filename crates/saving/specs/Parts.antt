@@ -13,7 +13,7 @@ use Rattle.rules.specs.Memory.{Memory, memory, tradeStride}
 use Rattle.rules.specs.declared.Account.{Account}
 use Rattle.rules.specs.declared.Contract.{Contract}
 use Rattle.rules.specs.declared.State.{State}
-use Rattle.mending.specs.Mend.{four}
+use Rattle.endian.specs.Numbers.{four}
 use Rattle.clients.specs.Clients.{inRow}
 use Rattle.statements.specs.Parts.{accountsBytes}
 use Rattle.statements.specs.Statement.{section}

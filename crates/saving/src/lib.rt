@@ -4,7 +4,7 @@ ghost use mathlib.Core.Path.{_≡_};
 ghost use Rattle.rules.specs.Memory.{memory, wellFormedMemory};
 ghost use Rattle.saved.specs.Saved.{WrittenIs, ReadIs};
 ghost use Rattle.saving.specs.Parts.{inSpare};
-use dayfile::file::contract_count;
+use dayfile::head::contract_count;
 use rules::State;
 
 mod loading;
@@ -13,12 +13,14 @@ mod totals;
 mod writing;
 
 // 0, or the code that refuses, and how many bytes are written.
+#[repr(C)]
 pub struct Saved {
     pub code: u32,
     pub length: usize,
 }
 
 // 0, or the code that refuses, and the state: the file's, or the one given where the file is refused.
+#[repr(C)]
 pub struct Loaded {
     pub code: u32,
     pub state: State,

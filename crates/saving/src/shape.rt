@@ -7,9 +7,9 @@ ghost use Rattle.laws.specs.Choice.{all};
 ghost use Rattle.rules.specs.DayFile.{contractsIn};
 ghost use Rattle.saved.specs.Saved as saved;
 ghost use Rattle.saving.specs.Parts.{Laid};
-use dayfile::bytes::u8_at;
-use dayfile::bytes::u32_at;
-use dayfile::file::contract_count;
+use dayfile::head::contract_count;
+use endian::reading::u8_at;
+use endian::reading::u32_at;
 
 // How many bytes a file of so many contracts and accounts has.
 pub fn file_length(contracts: usize, accounts: usize) -> usize

@@ -17,8 +17,9 @@ use Rattle.rules.specs.Settlement.{carriedHolding}
 use Rattle.rules.specs.declared.Account.{Account}
 use Rattle.rules.specs.declared.Holding.{Holding}
 use Rattle.rules.specs.declared.State.{State}
-use Rattle.settlement.specs.Settling.{accountIn, closingTo, holdingTo, carriedAccount, paidAccount, AllPayable, BooksIs, TotalIs}
+use Rattle.settlement.specs.Settling.{accountIn, closingTo, holdingTo, carriedAccount, paidAccount, AllPayable, BooksIs}
 use Rattle.dayprofit.specs.declared.profit.Profit.{Profit}
+use Rattle.settlement.proofs.Totals.{TotalIs}
 use Rattle.settlement.proofs.Places.{written-mapped, written-accounts, written-padded}
 
 -- ---- the loop over an account's holdings: those in the first c contracts are carried over

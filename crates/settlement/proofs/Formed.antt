@@ -9,8 +9,8 @@ use native.Mathlib.Omega.{arith}
 use lib.IntN.{natAbs}
 use lib.ListN.{length, getD}
 use Rattle.laws.specs.Bound.{Within, within-abs}
-use Rattle.laws.specs.Choice.{allOf, both-true}
-use Rattle.rules.specs.Exchange.{Exchange, accountAt}
+use Rattle.laws.specs.Choice.{allOf, allOf-at, both-true}
+use Rattle.rules.specs.Exchange.{Exchange, accountAt, noTrade}
 use Rattle.rules.specs.Memory.{Memory, Declared, exchangeOf, listingIn, recordedTrades, wellFormedMemory}
 use Rattle.rules.specs.Settlement.{dayStart, legs, settlementPrice}
 use Rattle.rules.specs.WellFormed.{tradeInRange}
@@ -18,6 +18,7 @@ use Rattle.rules.specs.declared.Account.{Account}
 use Rattle.rules.specs.declared.Holding.{Holding}
 use Rattle.rules.specs.declared.State.{State}
 use Rattle.rules.specs.declared.Trade.{Trade}
+use Rattle.rules.proofs.Codecs.{length-trades}
 use Rattle.rules.proofs.InUse.{contracts-in-use, accounts-in-use, listing-in-use, account-in-use, holding-in-use}
 use Rattle.rules.proofs.Terms.{Terms, contract-terms}
 use Rattle.accounting.specs.Article32.{AllCovered}
@@ -28,6 +29,7 @@ use Rattle.invariants.proofs.Clauses.{HoldingOk, WellFormed, well-formed}
 use Rattle.invariants.proofs.MemoryRoom.{MemoryOk, memory-ok}
 use Rattle.margin.specs.Charge.{ChargeTerms, ChargeableIn, ChargeableAt}
 use Rattle.dayprofit.specs.Day.{AllSized, SizedTrades, Quotes, Priceable}
+use Rattle.dayprofit.specs.Slots.{PlacedTrades}
 use Rattle.settlement.specs.Settling.{contractIn, accountIn, holdingIn}
 
 -- the arrays have room for the accounts in use
@@ -128,6 +130,22 @@ module _ (m : Memory) (room : m .state .accountcount ≤ length (m .state .accou
         few = its .counts .trades;
         room = omega (arith, its .room .trades, its .counts .trades);
         sized = all-sized (exchangeOf m) (exchangeOf m .trades) (contents .trades);
+      }
+
+  -- trades between accounts and in contracts in use
+  pub placed-trades : PlacedTrades (m .trades) (s .tradecount)
+  unfolding exchangeOf
+  placed-trades =
+      record {
+        trades = sized-trades;
+        placed = λ i li.
+            let l : i < length (exchangeOf m .trades) = omega (arith, length-trades (m .trades) (s .tradecount)) in
+            let f = trade-facts (exchangeOf m) _ (allOf-at (tradeInRange (exchangeOf m)) (exchangeOf m .trades) i noTrade (contents .trades) l) in
+            record {
+              contract = omega (arith, f .contract, contracts-in-use m, contracts-four);
+              buyer = omega (arith, f .buyer, accounts-counted, accounts-few);
+              seller = omega (arith, f .seller, accounts-counted, accounts-few);
+            };
       }
 
   pub priceable : (c : ℕ) → c < s .contractcount

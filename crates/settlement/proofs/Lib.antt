@@ -2,6 +2,7 @@
 pub mod Places
 pub mod Clearing
 pub mod Totals
+pub mod Dues
 pub mod Carrying
 pub mod Formed
 pub mod Report

@@ -2,7 +2,7 @@
 -- report that the rules give. Assumes nothing.
 use mathlib.Core.Bool.{true}
 use mathlib.Core.List.{List, [], map}
-use mathlib.Core.Path.{_≡_, refl, sym, ap, _∙_}
+use mathlib.Core.Path.{_≡_, refl, sym, ap, ap₂, _∙_}
 use Prim.Native.Nat.{ℕ, zero, suc, _+_, _*_, _<_, _≤_}
 use native.Mathlib.Nat.{le-trans, le-of-eq}
 use native.Mathlib.Omega.{arith}
@@ -34,7 +34,7 @@ use Rattle.invariants.proofs.MemoryKeeps.{accepted-read, accepted-keeps}
 use Rattle.invariants.proofs.MemoryRoom.{memory-ok}
 use Rattle.settlement.specs.Settling.{Settleable, SettledIs, contractIn, holdingIn, dayIn, closingTo, holdingTo, AllPayable, paidAccount, BooksIs, AllClearable, ClearedAre, AllChargeable, ChargesAre, nextDay}
 use Rattle.dayprofit.specs.Sides.{dayOver}
-use Rattle.settlement.proofs.Formed.{accounts-declared, contracts-four, accounts-few, contract-at, price-high, holding-starts, legs-covered, chargeable, sized-trades, balance-within, accounts-counted}
+use Rattle.settlement.proofs.Formed.{accounts-declared, contracts-four, accounts-few, contract-at, price-high, holding-starts, legs-covered, chargeable, sized-trades, placed-trades, balance-within, accounts-counted}
 use Rattle.settlement.proofs.Places.{written-accounts}
 
 -- ---- the state of the next day, from its parts
@@ -52,7 +52,7 @@ next-day-is s accounts prices cs bids offers e f g =
 day-of : (x : Exchange) (l : Listing) (h : Holding) (a c : ℕ) → listingAt x c ≡ l → holdingAt (x .accounts) a c ≡ h
     → dayOver (l .contract .reference) h a c (x .trades) ≡ dayOf x a c
 unfolding dayOf
-day-of x l h a c e f = rw (e, f)
+day-of x l h a c e f = sym (ap₂ (λ k g. dayOver (k .contract .reference) g a c (x .trades)) e f)
 
 -- ---- queues that agree are written alike
 
@@ -106,6 +106,7 @@ module _ (s : State) (buys sells trades : List ℕ) (g : Settleable s buys sells
           accounts = accounts-few m room (g .state .formed);
           contracts = few-contracts;
           balance = balance-within m room (g .state .formed);
+          day = placed-trades m room (g .state .formed);
           each = λ a la. record {
             account = omega (arith, accounts-few m room (g .state .formed));
             contracts = few-contracts;
@@ -171,7 +172,7 @@ module _ (s : State) (buys sells trades : List ℕ) (g : Settleable s buys sells
 
     contract-is : (c : ℕ) → c < s .contractcount → settledContract (contractIn s c) (getD prices c 0) ≡ settledListing x c .contract
     unfolding settledListing listingIn
-    contract-is c lc = rw (listing-in-use m c lc, price-at prices e c lc)
+    contract-is c lc = sym (ap₂ (λ l price. settledContract (l .contract) price) (listing-in-use m c lc) (sym (price-at prices e c lc)))
 
     no-bids : (c : ℕ) → c < s .contractcount → 0 ≡ length (settledListing x c .buys)
     unfolding settledListing

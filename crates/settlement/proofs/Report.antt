@@ -1,7 +1,7 @@
 -- What a settlement prints, in arrays with zeros past the counts: prices contract by contract, charged margin account by account.
 -- Assumes nothing.
 use mathlib.Core.List.{List}
-use mathlib.Core.Path.{_≡_, _∙_}
+use mathlib.Core.Path.{_≡_, sym, ap, _∙_}
 use Prim.Native.Nat.{ℕ, _+_, _<_, _≤_}
 use lib.ListN.{getD, set, replicate}
 use Rattle.laws.specs.Tabulate.{tabulate}
@@ -23,7 +23,7 @@ use Rattle.settlement.proofs.Places.{written-padded}
 price-of : (x : Exchange) (l : Listing) (c : ℕ) → listingAt x c ≡ l
     → priceFrom (l .contract .tick) (l .contract .reference) (tradesIn c (x .trades)) (l .buys) (l .sells) ≡ settlementPrice x c
 unfolding settlementPrice
-price-of x l c e = rw e
+price-of x l c e = sym (ap (λ k. priceFrom (k .contract .tick) (k .contract .reference) (tradesIn c (x .trades)) (k .buys) (k .sells)) e)
 
 -- the price by what stands in the state is the rules' price
 pub price-in-use : (m : Memory) (c : ℕ) → c < m .state .contractcount → (r : ℕ)

@@ -1,4 +1,5 @@
 -- An account's profit over the contracts, as a loop adds it up. Assumes nothing.
+use mathlib.Core.Bool.{true, false}
 use mathlib.Core.List.{List}
 use mathlib.Core.Path.{_≡_, refl, ap, _∙_}
 use Prim.Native.Nat.{ℕ, _+_, _*_, _<_, _≤_}
@@ -6,17 +7,17 @@ use native.Mathlib.Nat.{mul-le-mul-left}
 use native.Mathlib.Numerals.{add-one}
 use native.Mathlib.Omega.{arith}
 use lib.IntN.{ℤ, pos, _+ℤ_, _*ℤ_, *ℤ-comm}
-use lib.ListN.{getD}
+use lib.ListN.{length, getD}
 use mir.Syntax.{w64}
 use mir.Val.{SFits, toZ, ofZ}
 use Rattle.laws.specs.Bound.{Within, within-le, within-zero, within-add, within-times}
-use Rattle.laws.specs.Sums.{sumTo}
+use Rattle.laws.specs.Sums.{sumTo, sumTo-ext}
 use Rattle.laws.proofs.Signed.{back, total-fits, total-back}
 use Rattle.rules.specs.Memory.{recordedTrades}
-use Rattle.rules.specs.Settlement.{holdingGain}
 use Rattle.rules.specs.declared.State.{State}
-use Rattle.settlement.specs.Settling.{contractIn, holdingIn, dayIn, closingTo, holdingTo, Payable, TotalIs}
-use Rattle.dayprofit.specs.Sides.{dayOver, ProfitIs}
+use Rattle.dayprofit.specs.Slots.{SumsAre, UsedAre, Rooms, DayFrom}
+use Rattle.dayprofit.proofs.Gains.{Summed, day-small, closing-by-slots, holding-by-slots}
+use Rattle.settlement.specs.Settling.{contractIn, holdingIn, dayIn, closingTo, holdingTo, closingIn, holdingPart, Totallable, TotalFrom, AllDue, AllPayable}
 use Rattle.dayprofit.specs.declared.profit.Profit.{Profit}
 
 -- a signed total t, as its bits, of the first c values of f, each of at most 4 x 10^15
@@ -57,66 +58,118 @@ module _ (k : ℕ) (z : ℤ) (h : k ≤ 1_000) (w : Within 4_000_000_000_000 z) 
     multiplied-small : Within 4_000_000_000_000_000 v
     multiplied-small = rw (multiplied-is, *ℤ-comm (pos k) z) (within-le (mul-le-mul-left 4_000_000_000_000 h) (within-times k w))
 
--- ---- one account's closing and holding profit
+-- ---- one account's closing and holding profit, from the sums of the day's legs
 
-pub record Totalling (s : State) (trades prices : List ℕ) (a closed held c : ℕ) : Type 0 where
+module _ (s : State) (closed closes opened opens used prices : List ℕ) (a : ℕ) where
+  abbrev closingTerm : ℕ → ℤ
+  closingTerm c = pos (contractIn s c .multiplier) *ℤ closingIn s closed closes opened opens used a c
+
+  abbrev holdingTerm : ℕ → ℤ
+  holdingTerm c = pos (contractIn s c .multiplier) *ℤ holdingPart s closed closes opened opens used prices a c
+
+pub record Totalling (s : State) (closed closes opened opens used prices : List ℕ) (a gained held c : ℕ) : Type 0 where
   pub within : c ≤ s .contractcount
-  pub closing : Adding (λ i. pos (contractIn s i .multiplier) *ℤ dayIn s trades a i .closing) closed c
-  pub holding : Adding (λ i. pos (contractIn s i .multiplier) *ℤ holdingGain (getD prices i 0) (dayIn s trades a i)) held c
+  pub closing : Adding (closingTerm s closed closes opened opens used prices a) gained c
+  pub holding : Adding (holdingTerm s closed closes opened opens used prices a) held c
 
-pub totalling-none : (s : State) (trades prices : List ℕ) (a : ℕ) → Totalling s trades prices a 0 0 0
-totalling-none s trades prices a = record { within = omega arith; closing = adding-none _; holding = adding-none _ }
+module _ (s : State) (closed closes opened opens used prices : List ℕ) (a : ℕ) where
+  pub totalling-none : Totalling s closed closes opened opens used prices a 0 0 0
+  totalling-none = record { within = omega arith; closing = adding-none _; holding = adding-none _ }
 
-module _ (s : State) (trades prices : List ℕ) (a : ℕ) (g : Payable s trades prices a) (closed held c : ℕ) (h : c < s .contractcount)
-    (w : Totalling s trades prices a closed held c) (p : Profit)
-    (q : ProfitIs (dayOver (contractIn s c .reference) (holdingIn s a c) a c (recordedTrades trades (s .tradecount))) (getD prices c 0) p) where
-  pub closing-bits : Within 4_000_000_000_000 (toZ w64 (ofZ w64 (p .closing)))
-  closing-bits = bits-small (contractIn s c .multiplier) (p .closing) (g .multiplier c h) (q .closing-small)
+  module _ (g : Totallable s closed closes opened opens used prices a) (gained held c : ℕ) where
+    module _ (h : c < s .contractcount) (w : Totalling s closed closes opened opens used prices a gained held c) (p : Profit)
+        (q : DayFrom closed closes opened opens used a c (contractIn s c .reference) (holdingIn s a c) (getD prices c 0) p) where
+      pub closing-bits : Within 4_000_000_000_000 (toZ w64 (ofZ w64 (p .closing)))
+      closing-bits = bits-small (contractIn s c .multiplier) (p .closing) (g .multiplier c h) (q .closing-small)
 
-  pub holding-bits : Within 4_000_000_000_000 (toZ w64 (ofZ w64 (p .holding)))
-  holding-bits = bits-small (contractIn s c .multiplier) (p .holding) (g .multiplier c h) (q .holding-small)
+      pub holding-bits : Within 4_000_000_000_000 (toZ w64 (ofZ w64 (p .holding)))
+      holding-bits = bits-small (contractIn s c .multiplier) (p .holding) (g .multiplier c h) (q .holding-small)
 
-  few : c < 4
-  few = omega (arith, g .contracts)
+      few : c < 4
+      few = omega (arith, g .contracts)
 
-  module _ (x y : ℤ) (e : x ≡ pos (contractIn s c .multiplier) *ℤ toZ w64 (ofZ w64 (p .closing))) where
-    closing-is : x ≡ pos (contractIn s c .multiplier) *ℤ dayIn s trades a c .closing
-    unfolding dayIn
-    closing-is = multiplied-is (contractIn s c .multiplier) (p .closing) (g .multiplier c h) (q .closing-small) x e ∙ rw (q .closing)
+      module _ (x y : ℤ) (e : x ≡ pos (contractIn s c .multiplier) *ℤ toZ w64 (ofZ w64 (p .closing))) where
+        closing-is : x ≡ closingTerm s closed closes opened opens used prices a c
+        closing-is = multiplied-is (contractIn s c .multiplier) (p .closing) (g .multiplier c h) (q .closing-small) x e ∙ ap (λ (z : ℤ). pos (contractIn s c .multiplier) *ℤ z) (q .closing)
 
-    closing-part : Within 4_000_000_000_000_000 x
-    closing-part = multiplied-small (contractIn s c .multiplier) (p .closing) (g .multiplier c h) (q .closing-small) x e
+        closing-part : Within 4_000_000_000_000_000 x
+        closing-part = multiplied-small (contractIn s c .multiplier) (p .closing) (g .multiplier c h) (q .closing-small) x e
 
-    pub closing-fits : SFits w64 (toZ w64 closed +ℤ toZ w64 (ofZ w64 x))
-    closing-fits = adding-fits _ closed c few (w .closing) x closing-is closing-part
+        pub closing-fits : SFits w64 (toZ w64 gained +ℤ toZ w64 (ofZ w64 x))
+        closing-fits = adding-fits _ gained c few (w .closing) x closing-is closing-part
 
-    module _ (f : y ≡ pos (contractIn s c .multiplier) *ℤ toZ w64 (ofZ w64 (p .holding))) where
-      holding-is : y ≡ pos (contractIn s c .multiplier) *ℤ holdingGain (getD prices c 0) (dayIn s trades a c)
-      unfolding dayIn
-      holding-is = multiplied-is (contractIn s c .multiplier) (p .holding) (g .multiplier c h) (q .holding-small) y f ∙ rw (q .holding)
+        module _ (f : y ≡ pos (contractIn s c .multiplier) *ℤ toZ w64 (ofZ w64 (p .holding))) where
+          holding-is : y ≡ holdingTerm s closed closes opened opens used prices a c
+          holding-is = multiplied-is (contractIn s c .multiplier) (p .holding) (g .multiplier c h) (q .holding-small) y f ∙ ap (λ (z : ℤ). pos (contractIn s c .multiplier) *ℤ z) (q .holding)
 
-      holding-part : Within 4_000_000_000_000_000 y
-      holding-part = multiplied-small (contractIn s c .multiplier) (p .holding) (g .multiplier c h) (q .holding-small) y f
+          holding-part : Within 4_000_000_000_000_000 y
+          holding-part = multiplied-small (contractIn s c .multiplier) (p .holding) (g .multiplier c h) (q .holding-small) y f
 
-      pub holding-fits : SFits w64 (toZ w64 held +ℤ toZ w64 (ofZ w64 y))
-      holding-fits = adding-fits _ held c few (w .holding) y holding-is holding-part
+          pub holding-fits : SFits w64 (toZ w64 held +ℤ toZ w64 (ofZ w64 y))
+          holding-fits = adding-fits _ held c few (w .holding) y holding-is holding-part
 
-      pub totalling-more : Totalling s trades prices a (ofZ w64 (toZ w64 closed +ℤ toZ w64 (ofZ w64 x))) (ofZ w64 (toZ w64 held +ℤ toZ w64 (ofZ w64 y))) (c + 1)
-      totalling-more =
-          record {
-            within = omega arith;
-            closing = adding-more _ closed c few (w .closing) x closing-is closing-part;
-            holding = adding-more _ held c few (w .holding) y holding-is holding-part;
-          }
+          pub totalling-more : Totalling s closed closes opened opens used prices a (ofZ w64 (toZ w64 gained +ℤ toZ w64 (ofZ w64 x))) (ofZ w64 (toZ w64 held +ℤ toZ w64 (ofZ w64 y))) (c + 1)
+          totalling-more =
+              record {
+                within = omega arith;
+                closing = adding-more _ gained c few (w .closing) x closing-is closing-part;
+                holding = adding-more _ held c few (w .holding) y holding-is holding-part;
+              }
 
-pub totalling-done : (s : State) (trades prices : List ℕ) (a : ℕ) → Payable s trades prices a → (closed held c : ℕ) → s .contractcount ≤ c
-    → Totalling s trades prices a closed held c → TotalIs s trades prices a (record { closing = toZ w64 closed; holding = toZ w64 held })
-unfolding closingTo holdingTo
-totalling-done s trades prices a g closed held c h w =
-    let e : c ≡ s .contractcount = omega (arith, w .within) in
-    record {
-      closing = w .closing .total ∙ ap (λ (n : ℕ). closingTo s trades a n) e;
-      holding = w .holding .total ∙ ap (λ (n : ℕ). holdingTo s trades prices a n) e;
-      closing-small = within-le (omega (arith, w .within, g .contracts)) (w .closing .small);
-      holding-small = within-le (omega (arith, w .within, g .contracts)) (w .holding .small);
-    }
+    pub totalling-done : s .contractcount ≤ c → Totalling s closed closes opened opens used prices a gained held c
+        → TotalFrom s closed closes opened opens used prices a (record { closing = toZ w64 gained; holding = toZ w64 held })
+    totalling-done h w =
+        let e : c ≡ s .contractcount = omega (arith, w .within) in
+        record {
+          closing = w .closing .total ∙ ap (λ (n : ℕ). sumTo n (closingTerm s closed closes opened opens used prices a)) e;
+          holding = w .holding .total ∙ ap (λ (n : ℕ). sumTo n (holdingTerm s closed closes opened opens used prices a)) e;
+          closing-small = within-le (omega (arith, w .within, g .contracts)) (w .closing .small);
+          holding-small = within-le (omega (arith, w .within, g .contracts)) (w .holding .small);
+        }
+
+-- ---- the sums are the day's: an account's total is its profit by Article 32
+
+pub record TotalIs (s : State) (trades prices : List ℕ) (a : ℕ) (r : Profit) : Type 0 where
+  pub closing : r .closing ≡ closingTo s trades a (s .contractcount)
+  pub holding : r .holding ≡ holdingTo s trades prices a (s .contractcount)
+  pub closing-small : Within 16_000_000_000_000_000 (r .closing)
+  pub holding-small : Within 16_000_000_000_000_000 (r .holding)
+
+module _ (s : State) (trades prices : List ℕ) (g : AllPayable s trades prices) (closed closes opened opens left used : List ℕ)
+    (p : SumsAre true (recordedTrades trades (s .tradecount)) closed closes) (q : SumsAre false (recordedTrades trades (s .tradecount)) opened opens)
+    (d : AllDue s closed left) (u : UsedAre (recordedTrades trades (s .tradecount)) left used) (a : ℕ) (la : a < s .accountcount) where
+  day-sums : Summed (recordedTrades trades (s .tradecount)) closed closes opened opens left used
+  day-sums = record { closing = p; opening = q; taken = u }
+
+  few-accounts : a < 32
+  few-accounts = omega (arith, g .accounts)
+
+  few-contracts : (c : ℕ) → c < s .contractcount → c < 4
+  few-contracts c lc = omega (arith, g .contracts)
+
+  pub totallable : Rooms closed closes opened opens used → Totallable s closed closes opened opens used prices a
+  totallable rooms =
+      record {
+        account = few-accounts;
+        contracts = g .contracts;
+        multiplier = g .each a la .multiplier;
+        each = λ c lc. day-small trades (s .tradecount) closed closes opened opens left used day-sums a c few-accounts (few-contracts c lc) _ (holdingIn s a c) _
+            (g .each a la .each c lc) (d .long a c la (few-contracts c lc)) (d .short a c la (few-contracts c lc)) rooms;
+      }
+
+  times : (c : ℕ) (y z : ℤ) → y ≡ z → pos (contractIn s c .multiplier) *ℤ y ≡ pos (contractIn s c .multiplier) *ℤ z
+  times c y z e = rw e
+
+  pub total-is : (r : Profit) → TotalFrom s closed closes opened opens used prices a r → TotalIs s trades prices a r
+  unfolding closingTo holdingTo dayIn
+  total-is r w =
+      record {
+        closing = w .closing ∙ sumTo-ext (s .contractcount) _ _ (λ c lc. times c _ _
+            (closing-by-slots trades (s .tradecount) closed closes opened opens left used day-sums a c few-accounts (few-contracts c lc) _ (holdingIn s a c) _
+            (g .each a la .each c lc) (d .long a c la (few-contracts c lc)) (d .short a c la (few-contracts c lc))));
+        holding = w .holding ∙ sumTo-ext (s .contractcount) _ _ (λ c lc. times c _ _
+            (holding-by-slots trades (s .tradecount) closed closes opened opens left used day-sums a c few-accounts (few-contracts c lc) _ (holdingIn s a c) _
+            (g .each a la .each c lc) (d .long a c la (few-contracts c lc)) (d .short a c la (few-contracts c lc))));
+        closing-small = w .closing-small;
+        holding-small = w .holding-small;
+      }

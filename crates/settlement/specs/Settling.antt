@@ -1,7 +1,8 @@
 -- What a settlement asks for, what it gives back, and its parts as the code makes them, on the state as it lies. Assumes nothing.
+use mathlib.Core.Bool.{true, false}
 use mathlib.Core.List.{List, [], map}
 use mathlib.Core.Path.{_≡_}
-use Prim.Native.Nat.{ℕ, _+_, _*_, _^_, _<_, _≤_}
+use Prim.Native.Nat.{ℕ, _+_, _-_, _*_, _^_, _<_, _≤_}
 use lib.IntN.{ℤ, pos, _+ℤ_, _*ℤ_}
 use lib.ListN.{length, getD, take}
 use Rattle.laws.specs.Bound.{Within}
@@ -20,8 +21,10 @@ use Rattle.rules.specs.declared.Contract.{Contract}
 use Rattle.rules.specs.declared.Holding.{Holding}
 use Rattle.rules.specs.declared.State.{State}
 use Rattle.margin.specs.Charge.{ChargeableAt}
-use Rattle.dayprofit.specs.Sides.{dayOver, Profitable}
+use Rattle.dayprofit.specs.Sides.{dayOver, Profitable, sideFrom, closingFrom, holdingFrom}
+use Rattle.dayprofit.specs.Slots.{slotOf, PlacedTrades, sumsAt, DaySmall}
 use Rattle.dayprofit.specs.declared.profit.Profit.{Profit}
+use Rattle.dayprofit.specs.declared.profit.Side.{Side}
 use Rattle.settlement.specs.declared.balances.Books.{Books}
 use Rattle.settlement.specs.declared.settle.Settled.{Settled}
 
@@ -69,11 +72,35 @@ pub record Payable (s : State) (trades prices : List ℕ) (a : ℕ) : Type 0 whe
   pub multiplier : (c : ℕ) → c < s .contractcount → contractIn s c .multiplier ≤ 1_000
   pub each : (c : ℕ) → c < s .contractcount → Profitable (contractIn s c .reference) (holdingIn s a c) a c trades (s .tradecount) (getD prices c 0)
 
-pub record TotalIs (s : State) (trades prices : List ℕ) (a : ℕ) (r : Profit) : Type 0 where
-  pub closing : r .closing ≡ closingTo s trades a (s .contractcount)
-  pub holding : r .holding ≡ holdingTo s trades prices a (s .contractcount)
+-- an account's closing and holding part in a contract, from the sums of the day's legs
+abbrev pub longIn : State → List ℕ → List ℕ → List ℕ → List ℕ → List ℕ → ℕ → ℕ → Side
+longIn s closed closes opened opens used a c = sideFrom (contractIn s c .reference) (holdingIn s a c .startlong) (sumsAt closed closes opened opens used a c false)
+
+abbrev pub shortIn : State → List ℕ → List ℕ → List ℕ → List ℕ → List ℕ → ℕ → ℕ → Side
+shortIn s closed closes opened opens used a c = sideFrom (contractIn s c .reference) (holdingIn s a c .startshort) (sumsAt closed closes opened opens used a c true)
+
+abbrev pub closingIn : State → List ℕ → List ℕ → List ℕ → List ℕ → List ℕ → ℕ → ℕ → ℤ
+closingIn s closed closes opened opens used a c = closingFrom (longIn s closed closes opened opens used a c) (shortIn s closed closes opened opens used a c)
+
+abbrev pub holdingPart : State → List ℕ → List ℕ → List ℕ → List ℕ → List ℕ → List ℕ → ℕ → ℕ → ℤ
+holdingPart s closed closes opened opens used prices a c = holdingFrom (getD prices c 0) (longIn s closed closes opened opens used a c) (shortIn s closed closes opened opens used a c)
+
+pub record Totallable (s : State) (closed closes opened opens used prices : List ℕ) (a : ℕ) : Type 0 where
+  pub account : a < 32
+  pub contracts : s .contractcount ≤ 4
+  pub multiplier : (c : ℕ) → c < s .contractcount → contractIn s c .multiplier ≤ 1_000
+  pub each : (c : ℕ) → c < s .contractcount → DaySmall closed closes opened opens used a c (contractIn s c .reference) (holdingIn s a c) (getD prices c 0)
+
+pub record TotalFrom (s : State) (closed closes opened opens used prices : List ℕ) (a : ℕ) (r : Profit) : Type 0 where
+  pub closing : r .closing ≡ sumTo (s .contractcount) (λ c. pos (contractIn s c .multiplier) *ℤ closingIn s closed closes opened opens used a c)
+  pub holding : r .holding ≡ sumTo (s .contractcount) (λ c. pos (contractIn s c .multiplier) *ℤ holdingPart s closed closes opened opens used prices a c)
   pub closing-small : Within 16_000_000_000_000_000 (r .closing)
   pub holding-small : Within 16_000_000_000_000_000 (r .holding)
+
+-- the lots that the closes of each account in use took of today's: start-of-day lots go first
+pub record AllDue (s : State) (closed left : List ℕ) : Type 0 where
+  pub long : (a c : ℕ) → a < s .accountcount → c < 4 → getD left (slotOf a c false) 0 ≡ getD closed (slotOf a c true) 0 - holdingIn s a c .startlong
+  pub short : (a c : ℕ) → a < s .accountcount → c < 4 → getD left (slotOf a c true) 0 ≡ getD closed (slotOf a c false) 0 - holdingIn s a c .startshort
 
 -- an account with a new balance: "holdings become start-of-day"
 abbrev pub carriedAccount : Account → ℕ → ℤ → Account
@@ -91,6 +118,7 @@ pub record AllPayable (s : State) (trades prices : List ℕ) : Type 0 where
   pub contracts : s .contractcount ≤ 4
   pub balance : (a : ℕ) → a < s .accountcount → Within (2 * 10 ^ 18) (accountIn s a .balance)
   pub each : (a : ℕ) → a < s .accountcount → Payable s trades prices a
+  pub day : PlacedTrades trades (s .tradecount)
 
 pub record BooksIs (s : State) (trades prices : List ℕ) (r : Books) : Type 0 where
   pub accounts : r .accounts ≡ putAccounts (tabulate (s .accountcount) (paidAccount s trades prices)) (s .accounts)

@@ -3,12 +3,14 @@
 ghost use mathlib.Core.Path.{_≡_};
 ghost use Prim.Native.Nat.{_*_, _^_, _≤_};
 ghost use lib.IntN.{pos, _+ℤ_, _*ℤ_};
+ghost use lib.ListN.{length};
 ghost use Rattle.laws.specs.Bound.{Within};
 ghost use Rattle.rules.specs.Memory.{putAccount};
 ghost use Rattle.rules.specs.Settlement as settlement;
-ghost use Rattle.settlement.specs.Settling.{Payable, TotalIs, carriedAccount, AllPayable, BooksIs};
+ghost use Rattle.settlement.specs.Settling.{Totallable, TotalFrom, AllDue, carriedAccount, AllPayable, BooksIs};
 use dayprofit::profit;
 use dayprofit::profit::Profit;
+use dayprofit::sums;
 use rules::Account;
 use rules::Holding;
 use rules::State;
@@ -28,14 +30,21 @@ fn multiplied(profit: i64, multiplier: u32) -> i64
 }
 
 // An account's profit: "times multiplier", over all contracts.
-fn total(state: State, trades: &[u32], prices: [u32; rules::MAX_CONTRACTS], a: usize) -> Profit
-    requires { ⌜ Payable state (now trades) prices a ⌝ }
-    ensures { λ r. ⌜ TotalIs state (now (trades .entry)) prices a r ⌝ }
+fn total<'a>(
+    state: State,
+    closed: &'a [u32],
+    closes: &'a [u64],
+    opened: &'a [u32],
+    opens: &'a [u64],
+    used: &'a [u64],
+    prices: [u32; rules::MAX_CONTRACTS],
+    a: usize,
+) -> Profit
+    requires { ⌜ Totallable state (now closed) (now closes) (now opened) (now opens) (now used) prices a ⌝ }
+    ensures { λ r. ⌜ TotalFrom state (now (closed .entry)) (now (closes .entry)) (now (opened .entry)) (now (opens .entry)) (now (used .entry)) prices a r ⌝ }
 {
-    let account = a as u32;
     let holder = state.accounts[a];
     let contracts = state.contractcount;
-    let count = state.tradecount;
     let mut closing: i64 = 0;
     let mut holding: i64 = 0;
     let mut c: usize = 0;
@@ -45,12 +54,41 @@ fn total(state: State, trades: &[u32], prices: [u32; rules::MAX_CONTRACTS], a: u
         let price = prices[c];
         let reference = contract.reference;
         let multiplier = contract.multiplier;
-        let p = profit::profit_of(trades, count, account, c as u32, reference, h, price);
+        let p = profit::profit_at(
+            closed,
+            closes,
+            opened,
+            opens,
+            used,
+            a,
+            c,
+            reference,
+            h,
+            price,
+        );
         closing += multiplied(p.closing, multiplier);
         holding += multiplied(p.holding, multiplier);
         c += 1;
     }
     Profit { closing, holding }
+}
+
+// How many of today's lots the closes of every account took in every contract.
+fn put_all_due(state: State, closed: &[u32], left: &mut [u32])
+    requires { ⌜ (state .accountcount ≤ 32) × (length (now closed) ≡ 256) × (length (now left) ≡ 256) ⌝ }
+    ensures { λ _. ⌜ AllDue state (now (closed .entry)) (now (left .exit)) ⌝ }
+{
+    let end = rules::MAX_CONTRACTS * state.accountcount;
+    let mut k: usize = 0;
+    while k < end {
+        let a = k / rules::MAX_CONTRACTS;
+        let c = k % rules::MAX_CONTRACTS;
+        let holder = state.accounts[a];
+        let h = holder.holdings[c];
+        sums::put_due(closed, left, a, c, false, h.startlong);
+        sums::put_due(closed, left, a, c, true, h.startshort);
+        k += 1;
+    }
 }
 
 // "holdings become start-of-day"
@@ -103,6 +141,17 @@ pub fn all_paid(state: State, trades: &[u32], prices: [u32; rules::MAX_CONTRACTS
     requires { ⌜ AllPayable state (now trades) prices ⌝ }
     ensures { λ r. ⌜ BooksIs state (now (trades .entry)) prices r ⌝ }
 {
+    let mut closed: [u32; sums::SLOTS] = [0; sums::SLOTS];
+    let mut closes: [u64; sums::SLOTS] = [0; sums::SLOTS];
+    let mut opened: [u32; sums::SLOTS] = [0; sums::SLOTS];
+    let mut opens: [u64; sums::SLOTS] = [0; sums::SLOTS];
+    let mut left: [u32; sums::SLOTS] = [0; sums::SLOTS];
+    let mut used: [u64; sums::SLOTS] = [0; sums::SLOTS];
+    let made = state.tradecount;
+    sums::add_up(trades, made, true, &mut closed, &mut closes);
+    sums::add_up(trades, made, false, &mut opened, &mut opens);
+    put_all_due(state, &closed, &mut left);
+    sums::take_first(trades, made, &mut left, &mut used);
     let contracts = state.contractcount;
     let count = state.accountcount;
     let mut accounts = state.accounts;
@@ -111,11 +160,11 @@ pub fn all_paid(state: State, trades: &[u32], prices: [u32; rules::MAX_CONTRACTS
     let mut a: usize = 0;
     while a < count {
         let account = state.accounts[a];
-        let p = total(state, trades, prices, a);
-        let closed = p.closing;
+        let p = total(state, &closed, &closes, &opened, &opens, &used, prices, a);
+        let gained = p.closing;
         let held = p.holding;
-        accounts[a] = paid(account, contracts, closed, held);
-        closing[a] = closed;
+        accounts[a] = paid(account, contracts, gained, held);
+        closing[a] = gained;
         holding[a] = held;
         a += 1;
     }

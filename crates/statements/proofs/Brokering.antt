@@ -25,7 +25,7 @@ use Rattle.accounting.proofs.Facts.{TradeFacts, facts, trade-facts}
 use Rattle.invariants.proofs.MemoryRoom.{memory-ok}
 use Rattle.dayprofit.specs.Day.{AllSized, SizedTrades}
 use Rattle.settlement.proofs.Formed.{accounts-declared, contract-at, contracts-four, price-high, priceable, sized-trades}
-use Rattle.audit.specs.Parts.{Booked}
+use Rattle.replaying.specs.Parts.{Booked}
 use Rattle.clients.specs.Parts.{clientTrades, clientsWith}
 use Rattle.statements.specs.Parts.{Brokered, Postable, PostedIs, ToldIs, broker, clientsDay, refusedWith}
 use Rattle.clients.specs.Clients.{Clients, clientAccount, clientExchange, clientPlace, clientTrade, isPosted, legCount, startHolding, startLong, startShort, startsAddUp, total, tradePosted}
@@ -190,6 +190,7 @@ module _ (s : State) (buys sells trades : List ℕ) (a clients : ℕ) (starts : 
           few = p .few;
           trades = few-trades;
           room = area-room;
+          sized = sized;
           each = each-booked;
           lots = lots;
           legs-are = e ∙ ap legCount (sym trades-are);

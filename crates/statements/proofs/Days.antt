@@ -14,7 +14,7 @@ use Rattle.laws.specs.Tabulate.{tabulate, length-tabulate, getD-tabulate}
 use Rattle.areas.specs.Lists.{padded}
 use Rattle.areas.proofs.Lists.{getD-padded}
 use Rattle.rules.specs.Exchange.{Exchange, Listing, accountAt, holdingAt, listingAt, noAccount, noHolding, noTrade}
-use Rattle.rules.specs.Holdings.{neverBelowZero, startOfDay}
+use Rattle.rules.specs.Holdings.{bookTrades, neverBelowZero, startOfDay}
 use Rattle.rules.specs.Memory.{Declared, exchangeOf, listingIn, recordedTrades, used, memory}
 use Rattle.rules.specs.Settlement.{Day, closingProfit, dayOf, dayStart, afterLegs, legs, holdingGain, holdingProfit, settlementPrice}
 use Rattle.rules.specs.declared.Account.{Account}
@@ -28,12 +28,14 @@ use Rattle.accounting.specs.Article32.{AllCovered}
 use Rattle.accounting.proofs.Replay.{replay-covered}
 use Rattle.settlement.specs.Settling.{AllPayable, BooksIs, accountIn, closingTo, contractIn, dayIn, holdingIn, holdingTo}
 use Rattle.settlement.specs.declared.balances.Books.{Books}
-use Rattle.mending.proofs.Writing.{length-four}
-use Rattle.clients.specs.Parts.{Replayable, ReplayIs, clientsWith}
+use Rattle.endian.proofs.Writes.{length-four}
+use Rattle.clients.specs.Parts.{clientsWith}
+use Rattle.replaying.specs.Parts.{Replayable, ReplayIs}
+use Rattle.replaying.proofs.Started.{start-at, used-day}
 use Rattle.statements.specs.Parts.{Brokered, Profitable, Tellable, accountsBytes, bookBytes, clientState, clientsDay, pricesDue, told}
 use Rattle.clients.specs.Clients.{clientAccount, holdingsNow, inRow, legCount, legsIn, neverClosesMore}
 use Rattle.statements.specs.Statement.{holdingBytes, holdingsBytes, profitBytes, profitsBytes, statementOf, tradeBytes, tradesBytes}
-use Rattle.clients.specs.declared.replay.Held.{Held}
+use Rattle.replaying.specs.declared.Held.{Held}
 use Rattle.clients.proofs.Rows.{length-row, length-row-total, row-ext, total-bound}
 use Rattle.statements.proofs.Sections.{length-holding, length-profit, length-trade, two-legs}
 
@@ -69,29 +71,35 @@ module _ (s : State) (buys sells area starts : List ℕ) (clients legs′ : ℕ)
       ∙ ap (λ (l : List Account). holdingAt l k c) used-clients
       ∙ used-holding n 17 (tabulate 17 (clientAccount (clientsWith clients starts))) k c lk lc
 
-  pub replayable : Replayable accounts n area (s .tradecount)
+  start : accounts ≡ startOfDay accounts
+  start = e ∙ same-starts clients starts ∙ ap startOfDay (sym e)
+
+  used-start : used n 17 accounts ≡ startOfDay (used n 17 accounts)
+  used-start = ap (used n 17) start ∙ used-day n 17 accounts
+
+  pub replayable : Replayable accounts n 17 area (s .tradecount)
   replayable =
       record {
         few = g .contracts;
+        fit = omega arith;
         trades = g .trades;
         room = g .room;
         each = g .each;
-        starts = λ k c lk lc. rw (client-at k c lk lc) (g .lots k c lk lc);
-        start = e ∙ same-starts clients starts ∙ ap startOfDay (sym e);
+        held = λ k c lk lc. rw (ap (λ (l : List Account). holdingAt l k c) start ∙ start-at accounts k c) (rw (client-at k c lk lc) (g .lots k c lk lc));
       }
 
   accounts-of : used n 17 accounts ≡ y .accounts
   unfolding clientsDay
   accounts-of = used-clients
 
-  module _ (h : Held) (q : ReplayIs accounts n area (s .tradecount) h) where
+  module _ (h : Held) (q : ReplayIs accounts n 17 area (s .tradecount) h) where
     pub covered-is : h .covered ≡ neverClosesMore y
     unfolding neverClosesMore clientsDay
-    covered-is = q .covered ∙ ap (λ (l : List Account). neverBelowZero (startOfDay l) ts) used-clients
+    covered-is = q .covered ∙ ap (λ (l : List Account). neverBelowZero l ts) (used-start ∙ ap startOfDay used-clients)
 
     holdings-are : h .covered ≡ true → used n 17 (h .accounts) ≡ holdingsNow y
     unfolding holdingsNow clientsDay
-    holdings-are t = q .held t ∙ rw used-clients
+    holdings-are t = q .held t ∙ ap (λ (l : List Account). bookTrades l ts) (used-start ∙ ap startOfDay used-clients)
 
   -- ---- contracts and prices
 
@@ -184,6 +192,10 @@ module _ (s : State) (buys sells area starts : List ℕ) (clients legs′ : ℕ)
           accounts = omega (arith, g .few);
           contracts = g .contracts;
           balance = λ k lk. rw (no-balance k (omega (arith, g .few))) (within-pos (omega arith));
+          day = record {
+            trades = g .sized;
+            placed = λ i li. let b = g .each i li in record { contract = omega (arith, b .contract, g .contracts); buyer = omega (arith, b .buyer); seller = omega (arith, b .seller) };
+          };
           each = λ k lk. record {
             account = omega (arith, g .few);
             contracts = g .contracts;
@@ -227,7 +239,7 @@ module _ (s : State) (buys sells area starts : List ℕ) (clients legs′ : ℕ)
 
   -- ---- the bytes that the code writes are the statement's
 
-  module _ (h : Held) (q : ReplayIs accounts n area (s .tradecount) h) (t : h .covered ≡ true) (r : Books) (w : BooksIs cs area (pricesDue cs buys sells area) r) where
+  module _ (h : Held) (q : ReplayIs accounts n 17 area (s .tradecount) h) (t : h .covered ≡ true) (r : Books) (w : BooksIs cs area (pricesDue cs buys sells area) r) where
     now-at : (k c : ℕ) → k < 17 → c < n → getD (getD (h .accounts) k noAccount .holdings) c noHolding ≡ holdingAt (holdingsNow y) k c
     unfolding holdingAt accountAt
     now-at k c lk lc = sym (used-holding n 17 (h .accounts) k c lk lc) ∙ ap (λ (l : List Account). holdingAt l k c) (holdings-are h q t)

@@ -20,10 +20,9 @@ use Rattle.rules.specs.Memory.{recordedTrades}
 use Rattle.rules.specs.declared.Holding.{Holding}
 use Rattle.rules.specs.declared.Trade.{Trade}
 use Rattle.rules.proofs.Codecs.{length-trades}
-use Rattle.lines.specs.Written.{Written}
-use Rattle.lines.proofs.Text.{then, no-byte, looser}
-use Rattle.mending.specs.Mend.{two, four, eight}
-use Rattle.mending.proofs.Writing.{length-four}
+use Rattle.endian.specs.Written.{Written}
+use Rattle.endian.proofs.Writes.{then, no-byte, looser, length-four}
+use Rattle.endian.specs.Numbers.{two, four, eight}
 use Rattle.clients.specs.Clients.{inRow, isClient, legsIn}
 use Rattle.statements.specs.Statement.{legBytes, tradeBytes, tradesBytes, holdingBytes, profitBytes, section, unsigned}
 use Rattle.clients.proofs.Rows.{row-more}

@@ -17,9 +17,9 @@ use Rattle.rules.specs.Settlement.{settlementPrice}
 use Rattle.rules.specs.declared.Account.{Account}
 use Rattle.rules.specs.declared.State.{State}
 use Rattle.rules.specs.declared.Trade.{Trade}
-use Rattle.dayprofit.specs.Day.{Priceable}
+use Rattle.dayprofit.specs.Day.{Priceable, SizedTrades}
 use Rattle.settlement.specs.Settling.{AllPayable, contractIn}
-use Rattle.audit.specs.Parts.{Booked}
+use Rattle.replaying.specs.Parts.{Booked}
 use Rattle.clients.specs.Parts.{clientsWith}
 use Rattle.clients.specs.Clients.{Clients, clientAccount, clientExchange, inRow, legCount, neverClosesMore, startsAddUp, tradePosted}
 use Rattle.statements.specs.Statement.{holdingBytes, profitBytes, section, statementOf, tradesBytes}
@@ -116,6 +116,7 @@ pub record Brokered (s : State) (buys sells area starts : List ℕ) (clients leg
   pub few : clients ≤ 16
   pub trades : s .tradecount ≤ maxTrades
   pub room : tradeStride * s .tradecount ≤ length area
+  pub sized : SizedTrades area (s .tradecount)
   pub each : (i : ℕ) → i < s .tradecount → Booked (s .contractcount) 17 (getD (recordedTrades area (s .tradecount)) i noTrade)
   pub lots : (k c : ℕ) → k < 17 → c < s .contractcount
       → (holdingAt (tabulate 17 (clientAccount (clientsWith clients starts))) k c .startlong ≤ 100_000)

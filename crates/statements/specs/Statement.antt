@@ -17,7 +17,7 @@ use Rattle.rules.specs.Settlement.{closingProfit, holdingProfit}
 use Rattle.rules.specs.declared.Account.{Account}
 use Rattle.rules.specs.declared.Holding.{Holding}
 use Rattle.rules.specs.declared.Trade.{Trade}
-use Rattle.mending.specs.Mend.{four, eight}
+use Rattle.endian.specs.Numbers.{four, eight}
 use Rattle.clients.specs.Clients.{Clients, clientExchange, holdingsNow, inRow, isClient, legCount, maxClients, neverClosesMore, startsAddUp, tradePosted}
 use Rattle.statements.specs.declared.Statement.{Statement}
 

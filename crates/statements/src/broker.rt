@@ -36,7 +36,7 @@ fn tell<'a>(
     let accounts = clients::starts::client_accounts(starts, clients);
     let contracts = state.contractcount;
     let count = state.tradecount;
-    let held = clients::replay::replay(accounts, contracts, area, count);
+    let held = replaying::replay(accounts, contracts, 17, area, count);
     if !held.covered {
         return refused(27);
     }

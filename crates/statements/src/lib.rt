@@ -12,6 +12,7 @@ mod profits;
 pub mod writing;
 
 // 0, or the code that refuses, and how many bytes are written.
+#[repr(C)]
 pub struct Statement {
     pub code: u32,
     pub length: usize,

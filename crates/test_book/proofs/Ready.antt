@@ -7,7 +7,7 @@ use native.Mathlib.Omega.{arith}
 use lib.IntN.{pos}
 use lib.ListN.{length, drop, getD, replicate}
 use Rattle.rules.specs.Bounds.{maxResting}
-use Rattle.rules.specs.EarlyStop.{countTrades}
+use Rattle.book.specs.EarlyStop.{countTrades}
 use Rattle.rules.specs.Exchange.{noOrder, noHolding, noAccount, accountAt, holdingAt}
 use Rattle.rules.specs.Matching.{restLots, restedLots, enter, sweep}
 use Rattle.rules.specs.Memory.{orderFrom, queueIn, orderStride, queueStride, firstWord}
@@ -17,7 +17,7 @@ use Rattle.rules.specs.declared.PairingMethod.the-variants.{Middle}
 use Rattle.rules.specs.declared.Taker.{Taker}
 use Rattle.rules.specs.declared.Trade.{Trade}
 use Rattle.rules.proofs.Codecs.{length-queue, order-at, order-words}
-use Rattle.rules.proofs.Fillable.{trades-counted}
+use Rattle.book.proofs.EarlyStop.{trades-counted}
 use Rattle.rules.proofs.Queue.{length-restIn}
 use Rattle.holdings.specs.Bounds.{HoldingWithin}
 use Rattle.matching.specs.Entry.{EntryReady}

@@ -140,6 +140,29 @@ fn bundle(
     }
 }
 
+// A list of commands with their answers: how many were played.
+fn run_list(
+    file: &[u8],
+    at: usize,
+    state: State,
+    buys: &mut [u32],
+    sells: &mut [u32],
+    trades: &mut [u32],
+    answers: &mut [u32],
+) -> Ran {
+    let mut bytes = [0u8; 3000];
+    let given = reading::bytes(file, at, &mut bytes);
+    let commands = reading::first_bytes(&bytes, given.length);
+    let ran = baskets::list::run(state, buys, sells, trades, commands, answers);
+    let told = reading::number(file, given.next);
+    let after = ran.state;
+    Ran {
+        state: after,
+        same: ran.played == reading::size(told.value),
+        next: told.next,
+    }
+}
+
 fn question<'a>(
     file: &[u8],
     at: usize,
@@ -460,6 +483,9 @@ fn run_call(
     }
     if call == 10 {
         return load_state(file, at, state, buys, sells, trades);
+    }
+    if call == 11 {
+        return run_list(file, at, state, buys, sells, trades, answers);
     }
     run_read_only(file, at, call, state, buys, sells, trades, all)
 }

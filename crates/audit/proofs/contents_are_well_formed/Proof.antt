@@ -73,7 +73,7 @@ returns-7 c = fails (contents-chain _ _ _ _ (fit (c .before .before .before .bef
 holdings-in-range-requires : tie.Need-holdings-in-range-requires
 holdings-in-range-requires c κs =
     let p = c .before .before .before .before .before .before .before .before .before .before .before .before .before .before .before .before .before .before .before .pre in
-    ready _ _ _ _ (p .0) (p .1)
+    (ready _ _ _ _ (p .0) (p .1), passed (c .before .before .before .before .before .before .before .before .before .before .before .before .before .listings-in-range .ensures) (c .before .before .before .before .before .before .before .before .before .before .before .before .if2 .left))
 
 returns-8 : tie.Need-returns-8
 returns-8 c = fails (contents-chain _ _ _ _ (fit (c .before .before .before .before .before .before .before .before .before .before .before .before .before .before .before .before .before .before .before .before .before))) 8 (refused (c .before .holdings-in-range .ensures) (c .if8 .taken))

@@ -1,3 +1,4 @@
+-- `margin::charge` meets its contract: two products that fit. Assumes nothing.
 use native.Mathlib.Omega.{arith}
 use Rattle.rules.specs.Margin.{chargeOf}
 use Rattle.margin.proofs.Charging.{value-small, rated-small}
@@ -7,31 +8,24 @@ use Rattle.margin.proofs.charge.Tie as tie
 use Rattle.margin.proofs.charge.Reads as reads
 use Rattle.margin.proofs.charge.Lts as lts
 
--- src/margin.rt:17:22
 cast-multiplier : tie.Need-cast-multiplier
 cast-multiplier c = search needs
 
--- src/margin.rt:18:21
 cast-reference : tie.Need-cast-reference
 cast-reference c = search needs
 
--- src/margin.rt:19:16
 cast-rate : tie.Need-cast-rate
 cast-rate c = search needs
 
--- src/margin.rt:20:6
 mul-result : tie.Need-mul-result
 mul-result c = omega (arith, value-small (c .before .before .before .args .c) (c .before .before .before .pre))
 
--- src/margin.rt:20:6
 mul-result-2 : tie.Need-mul-result-2
 mul-result-2 c = omega (arith, rated-small (c .before .before .before .args .c) (c .before .before .before .pre))
 
--- src/margin.rt:20:6
 add-result : tie.Need-add-result
 add-result c = omega (arith, rated-small (c .before .before .before .args .c) (c .before .before .before .pre))
 
--- src/margin.rt:13:1
 returns : tie.Need-returns
 unfolding chargeOf
 returns c = search needs

@@ -1,3 +1,4 @@
+-- `margin::charged` meets its contract: the charge of the contracts so far. Assumes nothing.
 use Prim.Native.Nat.{_-_}
 use Rattle.margin.proofs.Charging.{Charging, charging-none, total-fits, charging-more, charging-done}
 use native.Mathlib.Omega.{arith}
@@ -13,67 +14,51 @@ Inv-loop contracts buys sells a holdings terms bids offers account total₀ c₀
 abbrev μ-loop : tie.MeasureT-loop
 μ-loop contracts buys sells a holdings terms bids offers account total₀ c₀ total c = contracts - c
 
--- src/lib.rt:62:19
 cast-account : tie.Need-cast-account Inv-loop μ-loop
 cast-account c = omega arith
 
--- src/lib.rt:65:5
 loop-holds : tie.Need-loop-holds Inv-loop μ-loop
 loop-holds c = charging-none _ _ _ _ _ _ _ _ (c .before .before .pre)
 
--- src/lib.rt:66:24
 mul-contract : tie.Need-mul-contract Inv-loop μ-loop
 mul-contract c = omega arith
 
--- src/lib.rt:66:24
 array-copy-out-contract : tie.Need-array-copy-out-contract Inv-loop μ-loop
 array-copy-out-contract c = omega arith
 
--- src/lib.rt:67:17
 mul-h : tie.Need-mul-h Inv-loop μ-loop
 mul-h c = omega arith
 
--- src/lib.rt:67:17
 array-copy-out-h : tie.Need-array-copy-out-h Inv-loop μ-loop
 array-copy-out-h c = omega arith
 
--- src/lib.rt:68:24
 mul-buycount : tie.Need-mul-buycount Inv-loop μ-loop
 mul-buycount c = omega arith
 
--- src/lib.rt:68:24
 array-read-buycount : tie.Need-array-read-buycount Inv-loop μ-loop
 array-read-buycount c = omega arith
 
--- src/lib.rt:69:25
 mul-sellcount : tie.Need-mul-sellcount Inv-loop μ-loop
 mul-sellcount c = omega arith
 
--- src/lib.rt:69:25
 array-read-sellcount : tie.Need-array-read-sellcount Inv-loop μ-loop
 array-read-sellcount c = omega arith
 
--- src/lib.rt:70:18
 charged-in-requires : tie.Need-charged-in-requires Inv-loop μ-loop
 charged-in-requires c κs = c .before .before .before .before .before .before .pre .each _ (c .before .before .loop-test .taken)
 
--- src/lib.rt:70:9
 add-total : tie.Need-add-total Inv-loop μ-loop
 add-total c = total-fits _ _ _ _ _ _ _ _ (c .before .before .before .before .before .before .before .pre) _ _ _ (c .before .before .before .loop-test .taken) (c .before .before .before .before .loop .inv) (c .charged-in .ensures)
 
--- src/lib.rt:71:9
 add-c : tie.Need-add-c Inv-loop μ-loop
 add-c c = omega arith
 
--- src/lib.rt:65:5
 loop-less : tie.Need-loop-less Inv-loop μ-loop
 loop-less c = omega arith
 
--- src/lib.rt:65:5
 loop-again : tie.Need-loop-again Inv-loop μ-loop
 loop-again c = charging-more _ _ _ _ _ _ _ _ (c .before .before .before .before .before .before .before .pre) _ _ _ (c .before .before .before .loop-test .taken) (c .before .before .before .before .loop .inv) (c .charged-in .ensures)
 
--- src/lib.rt:49:1
 returns : tie.Need-returns Inv-loop μ-loop
 returns c = charging-done _ _ _ _ _ _ _ _ (c .before .before .before .before .pre) _ _ (c .loop-test .left) (c .before .loop .inv)
 

@@ -1,30 +1,12 @@
--- `query::gettable` meets its contract: code 21 by the audit, code 1 where the bytes are no insert, all else by `reading_of`. Assumes
--- nothing.
-use mathlib.Core.Bool.{true}
-use mathlib.Core.Path.{_≡_, sym, ap, _∙_}
-use borrow.Author.Tests.{not-true, not-false}
+-- `query::gettable` meets its contract: `gettable_record` of the bytes' record. Assumes nothing.
 use borrow.Author.Needs.{needs}
-use denote.Ref.{now}
-use Rattle.rules.specs.Command.{commandOf, isInsert}
-use Rattle.rules.proofs.EachKind.{other-kind}
-use Rattle.rules.specs.Memory.{wellFormedMemory, memory}
-use Rattle.engine.proofs.Declared.{declared}
-use Rattle.query.proofs.Asking.{an-insert, no-insert, not-formed}
+use Rattle.query.proofs.Asking.{asked-as}
 use Rattle.query.proofs.gettable.Statement.{statement}
 use Rattle.query.proofs.gettable.Tie as tie
-
--- the test passed
-sound : (c : tie.Else1) → wellFormedMemory (memory (c .before .before .before .before .before .args .state) (now (c .before .before .before .before .before .args .buys)) (now (c .before .before .before .before .before .args .sells)) (now (c .before .before .before .before .before .args .trades))) ≡ true
-sound c = sym (c .before .well-formed .ensures) ∙ not-false (c .before .well-formed .result) (c .if1 .left)
-
-well-formed-requires : tie.Need-well-formed-requires
-well-formed-requires c κs = search needs
-
-refused-requires : tie.Need-refused-requires
-refused-requires c κs = search needs
-
-returns : tie.Need-returns
-returns c = c .refused .ensures ∙ not-formed _ _ (sym (c .before .before .well-formed .ensures) ∙ not-true (c .before .before .well-formed .result) (c .before .if1 .taken))
+use Rattle.query.proofs.gettable.Reads as reads
+use Rattle.query.proofs.gettable.Lts as lts
+use Rattle.endian.proofs.reading.record_at.Reads as record-at-reads
+use Rattle.query.proofs.gettable_record.Reads as gettable-record-reads
 
 slice-aggregate-record-at : tie.Need-slice-aggregate-record-at
 slice-aggregate-record-at c = search needs
@@ -32,36 +14,13 @@ slice-aggregate-record-at c = search needs
 record-at-requires : tie.Need-record-at-requires
 record-at-requires c κs = search needs
 
-command-of-requires : tie.Need-command-of-requires
-command-of-requires c κs = search needs
+gettable-record-requires : tie.Need-gettable-record-requires
+gettable-record-requires c κs = search needs
 
-enum-known-command : tie.Need-enum-known-command
-enum-known-command c = search needs
-
-refused-requires-2 : tie.Need-refused-requires-2
-refused-requires-2 c κs = search needs
-
-returns-2 : tie.Need-returns-2
-returns-2 c = c .refused2 .ensures ∙ no-insert _ _ (sound (c .before .before .before .before .before)) (ap isInsert (sym (c .before .before .command-of .ensures ∙ ap commandOf (c .before .before .before .record-at .ensures))) ∙ other-kind 3 tt (c .before .before .command-of .result) (c .before .match .keys2))
-
-reading-of-requires : tie.Need-reading-of-requires
-reading-of-requires c κs = record { declared = declared (c .before .before .before .before .before .before .before .before .before .before .before .good .0); formed = sound (c .before .before .before .before .before .before) }
-
-returns-3 : tie.Need-returns-3
-returns-3 c = an-insert _ _ (sound (c .before .before .before .before .before .before .before)) (sym (c .before .before .before .before .command-of .ensures ∙ ap commandOf (c .before .before .before .before .before .record-at .ensures)) ∙ c .before .before .command .given .1) (c .reading-of .ensures)
+returns : tie.Need-returns
+returns c = asked-as _ (c .before .record-at .ensures) (c .gettable-record .ensures)
 
 pub gettable-spec : {M : Type 1} → statement M
 gettable-spec =
     tie.close
-    (tie.spec
-    well-formed-requires
-    refused-requires
-    returns
-    slice-aggregate-record-at
-    record-at-requires
-    command-of-requires
-    enum-known-command
-    refused-requires-2
-    returns-2
-    reading-of-requires
-    returns-3)
+    (tie.spec slice-aggregate-record-at record-at-requires gettable-record-requires returns)

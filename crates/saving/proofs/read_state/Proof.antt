@@ -1,5 +1,5 @@
 -- `read_state` meets its contract: the refusals in their order, then the state. Assumes nothing.
-use Rattle.audit.proofs.Chains.{passed, refused}
+use Rattle.laws.specs.Tests.{passed, refused}
 use Rattle.engine.proofs.Declared.{declared}
 use Rattle.saving.proofs.Loads.{formed-20, loaded-0, marks-20, misshapen-20, room-29, totals-30}
 use Rattle.saving.proofs.Shapes.{count-ready, shaped-laid, shaped-long}
@@ -9,7 +9,7 @@ use Rattle.saving.proofs.read_state.Tie as tie
 use Rattle.saving.proofs.read_state.Reads as reads
 use Rattle.saving.proofs.read_state.Lts as lts
 use Rattle.audit.proofs.well_formed.Reads as well-formed-reads
-use Rattle.dayfile.proofs.file.contract_count.Reads as contract-count-reads
+use Rattle.dayfile.proofs.head.contract_count.Reads as contract-count-reads
 use Rattle.saving.proofs.is_formed.Reads as is-formed-reads
 use Rattle.saving.proofs.loading.loaded_state.Reads as loaded-state-reads
 use Rattle.saving.proofs.shape.account_count.Reads as account-count-reads

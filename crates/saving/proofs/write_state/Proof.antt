@@ -1,5 +1,5 @@
 -- `write_state` meets its contract: the refusals in their order, then the file. Assumes nothing.
-use Rattle.audit.proofs.Chains.{passed, refused}
+use Rattle.laws.specs.Tests.{passed, refused}
 use Rattle.engine.proofs.Declared.{declared}
 use Rattle.saving.proofs.Writes.{by-0, by-21, by-28, by-29, few, fitting}
 use borrow.Author.Needs.{needs}

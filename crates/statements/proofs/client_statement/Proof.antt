@@ -3,7 +3,7 @@ use mathlib.Core.List.{[]}
 use mathlib.Core.Path.{sym, ap, _∙_}
 use Prim.Native.Nat.{ℕ, _-_}
 use native.Mathlib.Omega.{arith}
-use Rattle.audit.proofs.Chains.{passed, refused}
+use Rattle.laws.specs.Tests.{passed, refused}
 use Rattle.engine.proofs.Declared.{declared}
 use Rattle.engine.proofs.Formed.{formed}
 use Rattle.statements.proofs.Refusing.{by-21, no-such-account, account-low, account-high, too-many, not-adding, postable, adding}

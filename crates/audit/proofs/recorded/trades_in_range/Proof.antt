@@ -8,7 +8,7 @@ use Rattle.rules.specs.WellFormed.{tradeInRange}
 use Rattle.audit.specs.Parts.{tested}
 use Rattle.audit.proofs.Chains.{passed, refused}
 use Rattle.audit.proofs.Walks.{Each, each-end, each-out, each-turn}
-use Rattle.audit.proofs.TestedTrades.{next-trade, no-trades}
+use Rattle.replaying.proofs.Trades.{next-trade, no-trades}
 use Rattle.audit.proofs.recorded.trades_in_range.Statement.{statement}
 use Rattle.audit.proofs.recorded.trades_in_range.Tie as tie
 

@@ -1,5 +1,6 @@
 -- `basket::answer_all` meets its contract: the first k commands leave the rules' run of them, and their answers stand in the
 -- area. Assumes nothing.
+use mathlib.Core.Bool.{true}
 use mathlib.Core.Path.{_≡_, refl, _∙_}
 use Prim.Native.Nat.{_-_, _<_, _≤_}
 use native.Mathlib.Omega.{arith}
@@ -8,13 +9,12 @@ use lib.ListN.{length, take}
 use Rattle.laws.specs.Lists.{unmapped}
 use Rattle.rules.specs.Condition3.{run}
 use Rattle.rules.specs.Memory.{memory}
-use Rattle.baskets.proofs.Answering.{all-answered, answered, none-answered, none-ran, one-answered, one-ran, stays-formed}
+use Rattle.baskets.proofs.Answering.{all-answered, answered, none-answered, none-ran, one-answered, one-ran, still-known}
 use Rattle.baskets.proofs.basket.answer_all.Statement.{statement}
 use Rattle.baskets.proofs.basket.answer_all.Tie as tie
 use Rattle.baskets.proofs.basket.answer_all.Reads as reads
 use Rattle.baskets.proofs.basket.answer_all.Lts as lts
-use Rattle.baskets.proofs.answers.put_answer.Reads as put-answer-reads
-use Rattle.exchange.proofs.step.step.Reads as step-reads
+use Rattle.baskets.proofs.answers.answer_command.Reads as answer-command-reads
 
 abbrev Inv-loop : tie.InvT-loop
 Inv-loop buys₀ sells₀ trades₀ count answers₀ commands current₀ k₀ buys sells trades answers current k =
@@ -39,34 +39,31 @@ mul-command c = search needs
 array-copy-out-command : tie.Need-array-copy-out-command Inv-loop μ-loop
 array-copy-out-command c = omega (arith, c .before .before .before .before .before .before .pre .1)
 
-step-requires : tie.Need-step-requires Inv-loop μ-loop
-step-requires c κs = stays-formed _ (c .before .before .before .before .before .before .before .before .before .before .pre .0 .declared) (c .before .before .before .before .before .before .before .before .before .before .pre .0 .formed) _ (c .before .before .before .before .before .loop .inv .1 .0)
-
-put-answer-requires : tie.Need-put-answer-requires Inv-loop μ-loop
-put-answer-requires c κs = omega (arith, c .before .before .before .before .before .before .before .before .before .before .before .before .before .before .before .before .before .before .before .pre .2, c .before .before .before .before .before .before .before .before .before .before .before .before .before .before .loop .inv)
+answer-command-requires : tie.Need-answer-command-requires Inv-loop μ-loop
+answer-command-requires c κs = (still-known _ _ true (c .before .before .before .before .before .before .before .before .before .before .before .pre .0) (c .before .before .before .before .before .before .loop .inv .1 .0), omega (arith, c .before .before .before .before .before .before .before .before .before .before .before .pre .2, c .before .before .before .before .before .before .loop .inv))
 
 add-k : tie.Need-add-k Inv-loop μ-loop
-add-k c = record { fits = omega (arith, c .before .before .before .before .before .before .before .before .before .before .before .before .before .before .before .before .before .before .before .before .before .before .before .fits, c .before .before .before .before .before .before .before .before .before .before .before .before .before .before .before .before .before .before .before .before .before .before .before .pre .1) }
+add-k c = record { fits = omega (arith, c .before .before .before .before .before .before .before .before .before .before .before .before .before .before .before .before .before .before .before .before .fits, c .before .before .before .before .before .before .before .before .before .before .before .before .before .before .before .before .before .before .before .before .pre .1) }
 
 loop-less : tie.Need-loop-less Inv-loop μ-loop
 loop-less c = omega arith
 
 loop-again : tie.Need-loop-again Inv-loop μ-loop
 loop-again c =
-    let e : length (c .before .before .before .before .before .before .before .before .before .before .before .before .before .before .before .before .before .before .before .before .before .before .before .args .t5) ≡ 100 = hundred (c .before .before .before .before .before .before .before .before .before .before .before .before .before .before .before .before .before .before .before .before .before .before .before) in
-    let h : c .before .before .before .before .before .before .before .before .before .before .before .before .before .before .before .before .before .before .loop .k < length (c .before .before .before .before .before .before .before .before .before .before .before .before .before .before .before .before .before .before .before .before .before .before .before .args .t5) = omega (arith, c .before .before .before .before .before .before .before .before .before .before .before .before .before .before .before .before .before .before .before .before .before .before .before .pre .1, c .before .before .before .before .before .before .before .before .before .before .before .before .before .before .before .before .before .loop-test .taken) in (
+    let e : length (c .before .before .before .before .before .before .before .before .before .before .before .before .before .before .before .before .before .before .before .before .args .t5) ≡ 100 = hundred (c .before .before .before .before .before .before .before .before .before .before .before .before .before .before .before .before .before .before .before .before) in
+    let h : c .before .before .before .before .before .before .before .before .before .before .before .before .before .before .before .loop .k < length (c .before .before .before .before .before .before .before .before .before .before .before .before .before .before .before .before .before .before .before .before .args .t5) = omega (arith, c .before .before .before .before .before .before .before .before .before .before .before .before .before .before .before .before .before .before .before .before .pre .1, c .before .before .before .before .before .before .before .before .before .before .before .before .before .before .loop-test .taken) in (
       omega arith,
       (
-        one-ran _ _ (c .before .before .before .before .before .before .before .before .before .before .before .before .before .before .before .before .before .before .before .before .before .before .before .pre .0 .formed) _ h (c .before .before .before .before .before .before .before .before .before .before .before .before .before .before .before .before .before .before .loop .inv .1 .0) (c .before .before .before .before .before .before .before .before .before .before .before .before .step .ensures .memory),
+        one-ran _ _ _ h refl (c .before .before .before .before .before .before .before .before .before .before .before .before .before .before .before .loop .inv .1 .0) (c .before .before .before .before .before .before .before .before .answer-command .ensures .0),
         (
-          one-answered _ _ _ (c .before .before .before .before .before .before .before .before .before .before .before .before .before .before .before .before .before .before .before .before .before .before .before .pre .0 .formed) _ h (c .before .before .before .before .before .before .before .before .before .before .before .before .before .before .before .before .before .before .loop .inv .1 .0) (c .before .before .before .before .before .before .before .before .before .before .before .before .step .ensures .answer) (c .before .before .before .before .before .before .before .before .before .before .before .before .before .before .before .before .before .before .loop .inv .1 .1 .0) (c .before .before .before .put-answer .ensures),
+          one-answered _ _ _ _ h refl (c .before .before .before .before .before .before .before .before .before .before .before .before .before .before .before .loop .inv .1 .0) (c .before .before .before .before .before .before .before .before .before .before .before .before .before .before .before .loop .inv .1 .1 .0) (c .before .before .before .before .before .before .before .before .answer-command .ensures .1),
           (
-            c .before .before .before .before .before .before .before .before .before .before .before .before .step .kept .1 .0 ∙ c .before .before .before .before .before .before .before .before .before .before .before .before .before .before .before .before .before .before .loop .inv .1 .1 .1 .0,
+            c .before .before .before .before .before .before .before .before .answer-command .kept .1 .1 .0 ∙ c .before .before .before .before .before .before .before .before .before .before .before .before .before .before .before .loop .inv .1 .1 .1 .0,
             (
-              c .before .before .before .before .before .before .before .before .before .before .before .before .step .kept .1 .1 .0 ∙ c .before .before .before .before .before .before .before .before .before .before .before .before .before .before .before .before .before .before .loop .inv .1 .1 .1 .1 .0,
+              c .before .before .before .before .before .before .before .before .answer-command .kept .1 .1 .1 .0 ∙ c .before .before .before .before .before .before .before .before .before .before .before .before .before .before .before .loop .inv .1 .1 .1 .1 .0,
               (
-                c .before .before .before .before .before .before .before .before .before .before .before .before .step .kept .1 .1 .1 .0 ∙ c .before .before .before .before .before .before .before .before .before .before .before .before .before .before .before .before .before .before .loop .inv .1 .1 .1 .1 .1 .0,
-                c .before .before .before .put-answer .kept .0 ∙ c .before .before .before .before .before .before .before .before .before .before .before .before .before .before .before .before .before .before .loop .inv .1 .1 .1 .1 .1 .1,
+                c .before .before .before .before .before .before .before .before .answer-command .kept .1 .1 .1 .1 .0 ∙ c .before .before .before .before .before .before .before .before .before .before .before .before .before .before .before .loop .inv .1 .1 .1 .1 .1 .0,
+                c .before .before .before .before .before .before .before .before .answer-command .kept .1 .1 .1 .1 .1 .1 .0 ∙ c .before .before .before .before .before .before .before .before .before .before .before .before .before .before .before .loop .inv .1 .1 .1 .1 .1 .1,
               ),
             ),
           ),
@@ -100,8 +97,7 @@ answer-all-spec =
     loop-holds
     mul-command
     array-copy-out-command
-    step-requires
-    put-answer-requires
+    answer-command-requires
     add-k
     loop-less
     loop-again

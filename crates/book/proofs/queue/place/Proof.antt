@@ -6,7 +6,7 @@ use native.Mathlib.Omega.{arith}
 use borrow.Author.Needs.{needs}
 use lib.ListN.{drop}
 use Rattle.rules.specs.Memory.{queueIn}
-use Rattle.rules.specs.Places.{placeIn}
+use Rattle.book.specs.Places.{placeIn}
 use Rattle.book.proofs.Queues.{search-on, search-here, search-end}
 use Rattle.book.proofs.queue.place.Statement.{statement}
 use Rattle.book.proofs.queue.place.Tie as tie

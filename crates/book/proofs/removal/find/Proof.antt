@@ -6,7 +6,7 @@ use native.Mathlib.Omega.{arith}
 use borrow.Author.Tests.{eq-eqb, ne-eqb}
 use lib.ListN.{drop}
 use Rattle.rules.specs.Memory.{queueIn}
-use Rattle.rules.specs.Places.{indexOf}
+use Rattle.book.specs.Places.{indexOf}
 use Rattle.book.proofs.Queues.{search-on, search-here, search-end}
 use Rattle.book.proofs.removal.find.Statement.{statement}
 use Rattle.book.proofs.removal.find.Tie as tie

@@ -6,8 +6,8 @@ use native.Mathlib.Nat.{zero-add}
 use native.Mathlib.Omega.{arith}
 use borrow.Author.Needs.{needs}
 use lib.ListN.{drop}
-use Rattle.rules.proofs.Fillable.{count-end, count-unmet}
-use Rattle.rules.specs.EarlyStop.{countTrades}
+use Rattle.book.proofs.EarlyStop.{count-end, count-unmet}
+use Rattle.book.specs.EarlyStop.{countTrades}
 use Rattle.rules.specs.Memory.{queueIn}
 use Rattle.book.proofs.Queues.{tally-none, tally-on, tally-stop, tally-end}
 use Rattle.book.proofs.Scans.{test-failed, test-passed, trades-used, trades-on}

@@ -6,8 +6,8 @@ use native.Mathlib.Nat.{zero-add}
 use native.Mathlib.Omega.{arith}
 use borrow.Author.Needs.{needs}
 use lib.ListN.{drop}
-use Rattle.rules.proofs.Fillable.{front-end, front-unmet}
-use Rattle.rules.specs.EarlyStop.{fillableFront}
+use Rattle.book.proofs.EarlyStop.{front-end, front-unmet}
+use Rattle.book.specs.EarlyStop.{fillableFront}
 use Rattle.rules.specs.Memory.{queueIn}
 use Rattle.book.proofs.Queues.{tally-on, tally-stop, tally-end}
 use Rattle.book.proofs.Scans.{test-failed, test-passed, fillable-on}

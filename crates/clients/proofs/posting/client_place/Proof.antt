@@ -13,75 +13,57 @@ Inv-loop postings number clients n times₀ client₀ i₀ times client i = Met 
 abbrev μ-loop : tie.MeasureT-loop
 μ-loop postings number clients n times₀ client₀ i₀ times client i = n - i
 
--- src/posting.rt:28:5
 loop-holds : tie.Need-loop-holds Inv-loop μ-loop
 loop-holds c = met-none _ _
 
--- src/posting.rt:29:18
 mul-at : tie.Need-mul-at Inv-loop μ-loop
 mul-at c = omega arith
 
--- src/posting.rt:30:12
 mul-if1 : tie.Need-mul-if1 Inv-loop μ-loop
 mul-if1 c = omega arith
 
--- src/posting.rt:30:12
 shared-slice-read-if1 : tie.Need-shared-slice-read-if1 Inv-loop μ-loop
 shared-slice-read-if1 c = omega arith
 
--- src/posting.rt:31:13
 add-i : tie.Need-add-i Inv-loop μ-loop
 add-i c = omega arith
 
--- src/posting.rt:28:5
 loop-less : tie.Need-loop-less Inv-loop μ-loop
 loop-less c = omega arith
 
--- src/posting.rt:28:5
 loop-again : tie.Need-loop-again Inv-loop μ-loop
 loop-again c = met-other _ _ _ _ _ (c .before .before .loop-test .taken) (c .before .before .before .loop .inv) (c .if1 .taken)
 
--- src/posting.rt:34:27
 add-client : tie.Need-add-client Inv-loop μ-loop
 add-client c = omega arith
 
--- src/posting.rt:34:18
 mul-client : tie.Need-mul-client Inv-loop μ-loop
 mul-client c = omega arith
 
--- src/posting.rt:34:18
 shared-slice-read-client : tie.Need-shared-slice-read-client Inv-loop μ-loop
 shared-slice-read-client c = omega arith
 
--- src/posting.rt:35:9
 add-times : tie.Need-add-times Inv-loop μ-loop
 add-times c = omega (arith, c .before .before .before .before .loop .inv .few)
 
--- src/posting.rt:36:9
 add-i-2 : tie.Need-add-i-2 Inv-loop μ-loop
 add-i-2 c = omega arith
 
--- src/posting.rt:28:5
 loop-less-2 : tie.Need-loop-less-2 Inv-loop μ-loop
 loop-less-2 c = omega arith
 
--- src/posting.rt:28:5
 loop-again-2 : tie.Need-loop-again-2 Inv-loop μ-loop
 loop-again-2 c = met-more _ _ _ _ _ (c .before .before .before .loop-test .taken) (c .before .before .before .before .loop .inv) (c .before .if1 .left)
 
--- src/posting.rt:39:9
 returns : tie.Need-returns Inv-loop μ-loop
 returns c = place-times _ _ _ _ _ _ (c .before .loop-test .left) (c .before .before .loop .inv) (c .if2 .taken)
 
--- src/posting.rt:42:9
 returns-2 : tie.Need-returns-2 Inv-loop μ-loop
 returns-2 c = place-zero _ _ _ _ _ _ (c .before .before .loop-test .left) (c .before .before .before .loop .inv) (c .before .if2 .left) (c .if3 .taken)
 
--- src/posting.rt:45:9
 returns-3 : tie.Need-returns-3 Inv-loop μ-loop
 returns-3 c = place-past _ _ _ _ _ _ (c .before .before .before .loop-test .left) (c .before .before .before .before .loop .inv) (c .before .before .if2 .left) (c .before .if3 .left) (c .if4 .taken)
 
--- src/posting.rt:21:1
 returns-4 : tie.Need-returns-4 Inv-loop μ-loop
 returns-4 c = place-known _ _ _ _ _ _ (c .before .before .before .loop-test .left) (c .before .before .before .before .loop .inv) (c .before .before .if2 .left) (c .before .if3 .left) (c .if4 .left)
 

@@ -1,6 +1,6 @@
 -- `posting::is_posted` meets its contract. Assumes nothing.
 use borrow.Author.Needs.{needs}
-use Rattle.audit.proofs.Chains.{passed, refused}
+use Rattle.laws.specs.Tests.{passed, refused}
 use Rattle.clients.proofs.posting.is_posted.Statement.{statement}
 use Rattle.clients.proofs.posting.is_posted.Tie as tie
 use Rattle.clients.proofs.posting.is_posted.Reads as reads

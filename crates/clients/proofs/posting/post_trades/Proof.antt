@@ -3,7 +3,7 @@ use mathlib.Core.Path.{sym, _∙_}
 use Prim.Native.Nat.{_-_}
 use native.Mathlib.Omega.{arith}
 use borrow.Author.Needs.{needs}
-use Rattle.audit.proofs.Chains.{passed, refused}
+use Rattle.laws.specs.Tests.{passed, refused}
 use Rattle.clients.proofs.PostedTrades.{Going, going-first, going-more, not-posted, trade-posted, all-posted}
 use Rattle.clients.proofs.posting.post_trades.Statement.{statement}
 use Rattle.clients.proofs.posting.post_trades.Tie as tie

@@ -1,3 +1,4 @@
+-- `clients::starts::sum` meets its contract: the lots of the clients so far. Assumes nothing.
 use mathlib.Core.Path.{_∙_}
 -- `starts::sum` meets its contract: the words of the clients before k are added up. Assumes nothing.
 use Prim.Native.Nat.{_+_, _*_, _-_}

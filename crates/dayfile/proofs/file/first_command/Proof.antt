@@ -1,39 +1,14 @@
--- `dayfile::file::first_command` meets its contract: a sound file's counts are in range. Assumes nothing.
-use native.Mathlib.Omega.{arith}
+-- `dayfile::file::first_command` meets its contract: the head of a sound file is sound. Assumes nothing.
+use Rattle.dayfile.proofs.Places.{sound-whole}
 use borrow.Author.Needs.{needs}
-use Rattle.dayfile.proofs.Places.{command-place, sound-layout}
 use Rattle.dayfile.proofs.file.first_command.Statement.{statement}
 use Rattle.dayfile.proofs.file.first_command.Tie as tie
 
-contract-count-requires : tie.Need-contract-count-requires
-contract-count-requires c κs = let l = sound-layout _ (c .before .pre) in omega arith
-
-account-count-requires : tie.Need-account-count-requires
-account-count-requires c κs = let l = sound-layout _ (c .before .before .pre) in search needs
-
-mul-result : tie.Need-mul-result
-mul-result c = let l = sound-layout _ (c .before .before .before .pre) in omega arith
-
-add-result : tie.Need-add-result
-add-result c = let l = sound-layout _ (c .before .before .before .pre) in omega arith
-
-mul-result-2 : tie.Need-mul-result-2
-mul-result-2 c = let l = sound-layout _ (c .before .before .before .pre) in omega arith
-
-add-result-2 : tie.Need-add-result-2
-add-result-2 c = let l = sound-layout _ (c .before .before .before .pre) in omega arith
+head-end-requires : tie.Need-head-end-requires
+head-end-requires c κs = sound-whole _ (c .before .pre)
 
 returns : tie.Need-returns
-returns c = omega (arith, command-place (c .before .before .before .args .file .now) 0)
+returns c = search needs
 
 pub first-command-spec : {M : Type 1} → statement M
-first-command-spec =
-    tie.close
-    (tie.spec
-    contract-count-requires
-    account-count-requires
-    mul-result
-    add-result
-    mul-result-2
-    add-result-2
-    returns)
+first-command-spec = tie.close (tie.spec head-end-requires returns)

@@ -1,3 +1,4 @@
+-- `dayprofit::price::part` meets its contract: none of another contract's trade, all of this one's. Assumes nothing.
 use Rattle.dayprofit.proofs.Trading.{part-none, part-all, part-fits}
 use borrow.Author.Needs.{needs}
 use Rattle.dayprofit.proofs.price.part.Statement.{statement}
@@ -5,23 +6,18 @@ use Rattle.dayprofit.proofs.price.part.Tie as tie
 use Rattle.dayprofit.proofs.price.part.Reads as reads
 use Rattle.dayprofit.proofs.price.part.Lts as lts
 
--- src/price.rt:27:9
 returns : tie.Need-returns
 returns c = part-none _ _ (c .if1 .taken)
 
--- src/price.rt:29:17
 cast-price : tie.Need-cast-price
 cast-price c = search needs
 
--- src/price.rt:30:16
 cast-lots : tie.Need-cast-lots
 cast-lots c = search needs
 
--- src/price.rt:31:23
 mul-t6 : tie.Need-mul-t6
 mul-t6 c = part-fits 0 _ (c .before .before .before .before .pre)
 
--- src/price.rt:22:1
 returns-2 : tie.Need-returns-2
 returns-2 c = part-all _ _ (c .before .before .if1 .left)
 

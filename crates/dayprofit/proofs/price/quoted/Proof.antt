@@ -1,3 +1,4 @@
+-- `dayprofit::price::quoted` meets its contract: no bid, no offer, or both. Assumes nothing.
 use Rattle.dayprofit.proofs.Quoting.{no-bid, no-offer, both-quoted}
 use borrow.Author.Needs.{needs}
 use Rattle.dayprofit.proofs.price.quoted.Statement.{statement}
@@ -7,27 +8,21 @@ use Rattle.dayprofit.proofs.price.quoted.Lts as lts
 use Rattle.prices.proofs.middle.Reads as middle-reads
 use Rattle.book.proofs.queue.order_at.Reads as order-at-reads
 
--- src/price.rt:74:9
 returns : tie.Need-returns
 returns c = no-bid _ _ _ _ _ _ (c .if1 .taken)
 
--- src/price.rt:77:9
 returns-2 : tie.Need-returns-2
 returns-2 c = no-offer _ _ _ _ _ _ (c .if2 .taken)
 
--- src/price.rt:79:9
 order-at-requires : tie.Need-order-at-requires
 order-at-requires c κs = search needs
 
--- src/price.rt:80:9
 order-at-requires-2 : tie.Need-order-at-requires-2
 order-at-requires-2 c κs = search needs
 
--- src/price.rt:81:5
 middle-requires : tie.Need-middle-requires
 middle-requires c κs = search needs
 
--- src/price.rt:62:1
 returns-3 : tie.Need-returns-3
 returns-3 c = both-quoted _ _ _ _ _ _ _ _ _ (c .before .before .before .before .if1 .left) (c .before .before .before .if2 .left) (c .before .before .order-at .ensures) (c .before .order-at2 .ensures) (c .middle .ensures)
 

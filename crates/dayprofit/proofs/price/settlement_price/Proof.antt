@@ -1,3 +1,4 @@
+-- `dayprofit::price::settlement_price` meets its contract: the quotes where nothing traded, else the weighted price. Assumes nothing.
 use native.Mathlib.Omega.{arith}
 use Rattle.dayprofit.proofs.Trading.{contract-sized}
 use Rattle.dayprofit.proofs.Quoting.{price-quoted, price-weighted, turnover-low}
@@ -9,27 +10,21 @@ use Rattle.dayprofit.proofs.price.quoted.Reads as quoted-reads
 use Rattle.dayprofit.proofs.price.traded.Reads as traded-reads
 use Rattle.dayprofit.proofs.price.weighted.Reads as weighted-reads
 
--- src/price.rt:98:35
 cast-traded : tie.Need-cast-traded
 cast-traded c = omega arith
 
--- src/price.rt:98:9
 traded-requires : tie.Need-traded-requires
 traded-requires c κs = c .before .before .before .pre .trades
 
--- src/price.rt:102:9
 quoted-requires : tie.Need-quoted-requires
 quoted-requires c κs = c .before .before .before .before .before .pre .quotes
 
--- src/price.rt:102:9
 returns : tie.Need-returns
 returns c = price-quoted _ _ _ _ _ _ _ (contract-sized _ _ _ (c .before .before .before .before .before .before .pre .trades)) (c .before .before .traded .ensures) (c .before .if1 .taken) (c .quoted .ensures)
 
--- src/price.rt:104:5
 weighted-requires : tie.Need-weighted-requires
 weighted-requires c κs = (omega arith, omega arith, turnover-low _ _ (contract-sized _ _ _ (c .before .before .before .before .before .pre .trades)) (c .before .traded .ensures))
 
--- src/price.rt:85:1
 returns-2 : tie.Need-returns-2
 returns-2 c = price-weighted _ _ _ _ _ _ _ (c .before .before .traded .ensures) (c .before .if1 .left) (c .weighted .ensures)
 

@@ -1,3 +1,4 @@
+-- `dayprofit::price::traded` meets its contract: value and lots of the trades so far. Assumes nothing.
 use Prim.Native.Nat.{_-_}
 use native.Mathlib.Omega.{arith}
 use Rattle.dayprofit.proofs.Trading.{Trading, trading-none, trading-more, value-fits, lots-fits, trading-done, sized-at}
@@ -14,39 +15,30 @@ Inv-loop area count contract value₀ lots₀ i₀ value lots i = Trading area c
 abbrev μ-loop : tie.MeasureT-loop
 μ-loop area count contract value₀ lots₀ i₀ value lots i = count - i
 
--- src/price.rt:41:5
 loop-holds : tie.Need-loop-holds Inv-loop μ-loop
 loop-holds c = trading-none _ _ _
 
--- src/price.rt:42:13
 trade-at-requires : tie.Need-trade-at-requires Inv-loop μ-loop
 trade-at-requires c κs = omega arith
 
--- src/price.rt:43:13
 part-requires : tie.Need-part-requires Inv-loop μ-loop
 part-requires c κs = sized-at _ _ (c .before .before .before .before .pre) _ _ (c .before .loop-test .taken) (c .trade-at .ensures)
 
--- src/price.rt:44:9
 add-value : tie.Need-add-value Inv-loop μ-loop
 add-value c = value-fits _ _ _ (c .before .before .before .before .before .before .pre) _ _ _ _ _ (c .before .before .before .loop-test .taken) (c .before .before .before .before .loop .inv) (c .before .before .trade-at .ensures) (c .before .part .ensures)
 
--- src/price.rt:45:9
 add-lots : tie.Need-add-lots Inv-loop μ-loop
 add-lots c = lots-fits _ _ _ (c .before .before .before .before .before .before .before .pre) _ _ _ _ _ (c .before .before .before .before .loop-test .taken) (c .before .before .before .before .before .loop .inv) (c .before .before .before .trade-at .ensures) (c .before .before .part .ensures)
 
--- src/price.rt:46:9
 add-i : tie.Need-add-i Inv-loop μ-loop
 add-i c = omega arith
 
--- src/price.rt:41:5
 loop-less : tie.Need-loop-less Inv-loop μ-loop
 loop-less c = omega arith
 
--- src/price.rt:41:5
 loop-again : tie.Need-loop-again Inv-loop μ-loop
 loop-again c = trading-more _ _ _ (c .before .before .before .before .before .before .before .pre) _ _ _ _ _ (c .before .before .before .before .loop-test .taken) (c .before .before .before .before .before .loop .inv) (c .before .before .before .trade-at .ensures) (c .before .before .part .ensures)
 
--- src/price.rt:34:1
 returns : tie.Need-returns Inv-loop μ-loop
 returns c = trading-done _ _ _ (c .before .before .before .pre) _ _ _ (c .loop-test .left) (c .before .loop .inv)
 

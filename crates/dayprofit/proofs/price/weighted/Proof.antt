@@ -1,3 +1,4 @@
+-- `dayprofit::price::weighted` meets its contract: a product and a quotient that fit. Assumes nothing.
 use Rattle.dayprofit.proofs.Quoting.{weighted-fits, weighted-narrow}
 use borrow.Author.Needs.{needs}
 use Rattle.dayprofit.proofs.price.weighted.Statement.{statement}
@@ -5,23 +6,18 @@ use Rattle.dayprofit.proofs.price.weighted.Tie as tie
 use Rattle.dayprofit.proofs.price.weighted.Reads as reads
 use Rattle.dayprofit.proofs.price.weighted.Lts as lts
 
--- src/price.rt:56:19
 div-average : tie.Need-div-average
 div-average c = search needs
 
--- src/price.rt:58:6
 div-result : tie.Need-div-result
 div-result c = search needs
 
--- src/price.rt:58:6
 mul-result : tie.Need-mul-result
 mul-result c = weighted-fits _ _ _ (c .pre .2)
 
--- src/price.rt:58:5
 cast-result : tie.Need-cast-result
 cast-result c = weighted-narrow _ _ _ (c .pre .2)
 
--- src/price.rt:52:1
 returns : tie.Need-returns
 returns c = search needs
 

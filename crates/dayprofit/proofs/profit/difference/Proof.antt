@@ -1,3 +1,4 @@
+-- `dayprofit::profit::difference` meets its contract: two numbers far below an i64's end. Assumes nothing.
 use native.Mathlib.Omega.{arith}
 use Rattle.laws.specs.Bound.{within-pos}
 use Rattle.laws.proofs.Signed.{sub-fits, sub-back}
@@ -7,19 +8,15 @@ use Rattle.dayprofit.proofs.profit.difference.Tie as tie
 use Rattle.dayprofit.proofs.profit.difference.Reads as reads
 use Rattle.dayprofit.proofs.profit.difference.Lts as lts
 
--- src/profit.rt:154:5
 cast-result : tie.Need-cast-result
 cast-result c = search needs
 
--- src/profit.rt:154:20
 cast-result-2 : tie.Need-cast-result-2
 cast-result-2 c = search needs
 
--- src/profit.rt:154:5
 sub-result : tie.Need-sub-result
 sub-result c = sub-fits {m = 4_000_000_000_000} {n = 4_000_000_000_000} (within-pos (c .pre .0)) (within-pos (c .pre .1)) (omega arith)
 
--- src/profit.rt:150:1
 returns : tie.Need-returns
 returns c = sub-back {m = 4_000_000_000_000} {n = 4_000_000_000_000} (within-pos (c .pre .0)) (within-pos (c .pre .1)) (omega arith)
 

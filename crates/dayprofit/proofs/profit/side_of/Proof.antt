@@ -1,79 +1,52 @@
-use Rattle.dayprofit.proofs.Gains.{first-fits, kept-fits, closed-fits, opened-fits, side-is}
+use Rattle.dayprofit.proofs.Gains.{first-fits, closed-fits, start-fits, opened-fits, closed-below}
 use borrow.Author.Needs.{needs}
 use Rattle.dayprofit.proofs.profit.side_of.Statement.{statement}
 use Rattle.dayprofit.proofs.profit.side_of.Tie as tie
 use Rattle.dayprofit.proofs.profit.side_of.Reads as reads
 use Rattle.dayprofit.proofs.profit.side_of.Lts as lts
 use Rattle.laws.proofs.smaller.Reads as smaller-reads
-use Rattle.dayprofit.proofs.profit.closing_legs.Reads as closing-legs-reads
-use Rattle.dayprofit.proofs.profit.opening_legs.Reads as opening-legs-reads
 
--- src/profit.rt:131:9
-closing-legs-requires : tie.Need-closing-legs-requires
-closing-legs-requires c κs = search needs
-
--- src/profit.rt:133:9
 smaller-requires : tie.Need-smaller-requires
 smaller-requires c κs = search needs
 
--- src/profit.rt:134:16
-sub-kept : tie.Need-sub-kept
-sub-kept c = search needs
+cast-cost : tie.Need-cast-cost
+cast-cost c = search needs
 
--- src/profit.rt:135:56
-sub-opening-legs : tie.Need-sub-opening-legs
-sub-opening-legs c = search needs
+mul-cost : tie.Need-mul-cost
+mul-cost c = first-fits _ _ _ (c .before .pre) _ (c .smaller .ensures)
 
--- src/profit.rt:135:9
-opening-legs-requires : tie.Need-opening-legs-requires
-opening-legs-requires c κs = search needs
+add-cost : tie.Need-add-cost
+add-cost c = closed-fits _ _ _ (c .before .pre) _ (c .smaller .ensures)
 
--- src/profit.rt:142:25
-cast-t18 : tie.Need-cast-t18
-cast-t18 c = search needs
+add-t11 : tie.Need-add-t11
+add-t11 c = search needs
 
--- src/profit.rt:142:17
-mul-t19 : tie.Need-mul-t19
-mul-t19 c = first-fits _ _ _ _ _ _ _ (c .before .before .closing-legs .ensures) (c .before .smaller .ensures) (c .opening-legs .ensures) (c .before .before .before .before .pre .1) (c .before .before .before .before .pre .2)
+sub-t12 : tie.Need-sub-t12
+sub-t12 c = search needs
 
--- src/profit.rt:142:17
-add-t20 : tie.Need-add-t20
-add-t20 c = closed-fits _ _ _ _ _ _ _ (c .before .before .closing-legs .ensures) (c .before .smaller .ensures) (c .opening-legs .ensures) (c .before .before .before .before .pre .1) (c .before .before .before .before .pre .2)
+mul-t10 : tie.Need-mul-t10
+mul-t10 c = start-fits _ _ _ (c .before .before .pre)
 
--- src/profit.rt:143:15
-add-t17 : tie.Need-add-t17
-add-t17 c = search needs
+add-t13 : tie.Need-add-t13
+add-t13 c = opened-fits _ _ _ (c .before .before .before .pre)
 
--- src/profit.rt:144:25
-cast-t21 : tie.Need-cast-t21
-cast-t21 c = search needs
+sub-t14 : tie.Need-sub-t14
+sub-t14 c = closed-below _ _ _ (c .before .before .before .pre) _ (c .before .before .smaller .ensures)
 
--- src/profit.rt:144:17
-mul-t22 : tie.Need-mul-t22
-mul-t22 c = kept-fits _ _ _ _ _ _ _ (c .before .before .closing-legs .ensures) (c .before .smaller .ensures) (c .opening-legs .ensures) (c .before .before .before .before .pre .1) (c .before .before .before .before .pre .2)
-
--- src/profit.rt:144:17
-add-t23 : tie.Need-add-t23
-add-t23 c = opened-fits _ _ _ _ _ _ _ (c .before .before .closing-legs .ensures) (c .before .smaller .ensures) (c .opening-legs .ensures) (c .before .before .before .before .pre .1) (c .before .before .before .before .pre .2)
-
--- src/profit.rt:127:1
 returns : tie.Need-returns
-returns c = side-is _ _ _ _ _ _ _ (c .before .before .closing-legs .ensures) (c .before .smaller .ensures) (c .opening-legs .ensures) (c .before .before .before .before .pre .1) (c .before .before .before .before .pre .2)
+returns c = rw (c .before .before .smaller .ensures)
 
 pub side-of-spec : {M : Type 1} → statement M
 side-of-spec =
     tie.close
     (tie.spec
-    closing-legs-requires
     smaller-requires
-    sub-kept
-    sub-opening-legs
-    opening-legs-requires
-    cast-t18
-    mul-t19
-    add-t20
-    add-t17
-    cast-t21
-    mul-t22
-    add-t23
+    cast-cost
+    mul-cost
+    add-cost
+    add-t11
+    sub-t12
+    mul-t10
+    add-t13
+    sub-t14
     returns)

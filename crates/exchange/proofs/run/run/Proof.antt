@@ -40,50 +40,39 @@ typed c = declared (c .good .0)
 sound : (c : tie.Else1 Inv-loop μ-loop) → wellFormedMemory (memory (c .before .before .before .before .before .before .before .before .before .args .state) (now (c .before .before .before .before .before .before .before .before .before .args .buys)) (now (c .before .before .before .before .before .before .before .before .before .args .sells)) (now (c .before .before .before .before .before .before .before .before .before .args .trades))) ≡ true
 sound c = sym (c .before .well-formed .ensures) ∙ not-false (c .before .well-formed .result) (c .if1 .left)
 
--- src/run.rt:13:9
 well-formed-requires : tie.Need-well-formed-requires Inv-loop μ-loop
 well-formed-requires c κs = search needs
 
--- src/run.rt:14:9
 same-length : tie.Need-same-length Inv-loop μ-loop
 same-length c = search needs
 
--- src/run.rt:14:9
 same-length-2 : tie.Need-same-length-2 Inv-loop μ-loop
 same-length-2 c = search needs
 
--- src/run.rt:14:9
 same-length-3 : tie.Need-same-length-3 Inv-loop μ-loop
 same-length-3 c = search needs
 
--- src/run.rt:14:9
 returns : tie.Need-returns Inv-loop μ-loop
 returns c = refused-ran _ (typed (c .before .before .before .before .before .before .before .before .before)) _ (sym (c .before .well-formed .ensures) ∙ not-true (c .before .well-formed .result) (c .if1 .taken))
 
--- src/run.rt:19:5
 loop-holds : tie.Need-loop-holds Inv-loop μ-loop
 loop-holds c = (omega arith, (none-ran _ _, (refl, (refl, refl))))
 
--- src/run.rt:26:68
 mul-step-at : tie.Need-mul-step-at Inv-loop μ-loop
 mul-step-at c = omega (arith, whole (length (now (c .before .before .before .before .before .before .before .before .before .before .before .before .before .before .args .bytes))))
 
--- src/run.rt:26:13
 step-at-requires : tie.Need-step-at-requires Inv-loop μ-loop
 step-at-requires c κs = (running _ (typed (c .before .before .before .before .before .before .before .before .before .before .before .before .before .before)) _ (sound (c .before .before .before .before .before)) _ (c .before .before .before .before .loop .inv .1 .0), omega (arith, whole (length (now (c .before .before .before .before .before .before .before .before .before .before .before .before .before .before .args .bytes)))))
 
--- src/run.rt:24:9
 few : (c : tie.In-loop Inv-loop μ-loop) → c .before .loop .k + 1 < 2 ^ maxResting
 few c = omega (arith, whole (length (now (c .before .before .before .before .before .before .before .before .before .before .before .args .bytes))))
 
 add-k : tie.Need-add-k Inv-loop μ-loop
 add-k c = record { fits = few (c .before .before .before .before .before .before .before .before .before .before .before) }
 
--- src/run.rt:19:5
 loop-less : tie.Need-loop-less Inv-loop μ-loop
 loop-less c = omega arith
 
--- src/run.rt:19:5
 loop-again : tie.Need-loop-again Inv-loop μ-loop
 loop-again c = (
   omega arith,
@@ -93,19 +82,15 @@ loop-again c = (
   ),
 )
 
--- src/run.rt:10:1
 same-length-4 : tie.Need-same-length-4 Inv-loop μ-loop
 same-length-4 c = search needs
 
--- src/run.rt:10:1
 same-length-5 : tie.Need-same-length-5 Inv-loop μ-loop
 same-length-5 c = search needs
 
--- src/run.rt:10:1
 same-length-6 : tie.Need-same-length-6 Inv-loop μ-loop
 same-length-6 c = search needs
 
--- src/run.rt:10:1
 returns-2 : tie.Need-returns-2 Inv-loop μ-loop
 returns-2 c = all-ran _ (typed (c .before .before .before .before .before .before .before .before .before .before .before)) _ (sound (c .before .before)) _ _ (omega arith) (c .before .loop .inv .1 .0)
 

@@ -20,35 +20,27 @@ Inv-loop n contracts c₀ c = (c ≤ n) × (all (λ k. eqb (getD contracts k noC
 abbrev μ-loop : tie.MeasureT-loop
 μ-loop n contracts c₀ c = n - c
 
--- src/settling.rt:57:5
 loop-holds : tie.Need-loop-holds Inv-loop μ-loop
 loop-holds c = (omega arith, all-none _)
 
--- src/settling.rt:58:24
 mul-contract : tie.Need-mul-contract Inv-loop μ-loop
 mul-contract c = search needs
 
--- src/settling.rt:58:24
 array-copy-out-contract : tie.Need-array-copy-out-contract Inv-loop μ-loop
 array-copy-out-contract c = omega arith
 
--- src/settling.rt:60:13
 returns : tie.Need-returns Inv-loop μ-loop
 returns c = sym (all-stop _ _ _ (c .before .before .before .loop-test .taken) (ne-eqb _ _ (c .if1 .taken)))
 
--- src/settling.rt:62:9
 add-c : tie.Need-add-c Inv-loop μ-loop
 add-c c = omega arith
 
--- src/settling.rt:57:5
 loop-less : tie.Need-loop-less Inv-loop μ-loop
 loop-less c = omega arith
 
--- src/settling.rt:57:5
 loop-again : tie.Need-loop-again Inv-loop μ-loop
 loop-again c = (omega arith, all-more _ _ (c .before .before .before .before .loop .inv .1) (eq-eqb _ _ (c .if1 .left)))
 
--- src/settling.rt:52:1
 returns-2 : tie.Need-returns-2 Inv-loop μ-loop
 returns-2 c =
     let e : c .before .loop .c ≡ c .before .before .args .n = omega arith in

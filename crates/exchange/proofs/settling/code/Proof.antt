@@ -9,19 +9,15 @@ use Rattle.exchange.proofs.settling.code.Reads as reads
 use Rattle.exchange.proofs.settling.code.Lts as lts
 use Rattle.exchange.proofs.settling.all_closed.Reads as all-closed-reads
 
--- src/settling.rt:73:9
 all-closed-requires : tie.Need-all-closed-requires
 all-closed-requires c κs = formed (c .before .before .before .before .pre) .contracts-high
 
--- src/settling.rt:74:9
 returns : tie.Need-returns
 returns c = sym (settle-open (c .before .before .before .before .before .before .pre) (sym (c .before .all-closed .ensures) ∙ not-true (c .before .all-closed .result) (c .if1 .taken)))
 
--- src/settling.rt:77:9
 returns-2 : tie.Need-returns-2
 returns-2 c = sym (settle-many (c .before .before .before .before .before .before .before .before .pre) (sym (c .before .before .before .all-closed .ensures) ∙ not-false (c .before .before .before .all-closed .result) (c .before .before .if1 .left)) (c .if2 .taken))
 
--- src/settling.rt:68:1
 returns-3 : tie.Need-returns-3
 returns-3 c = sym (settle-none (c .before .before .before .before .before .before .before .before .pre) (sym (c .before .before .before .all-closed .ensures) ∙ not-false (c .before .before .before .all-closed .result) (c .before .before .if1 .left)) (c .if2 .left))
 

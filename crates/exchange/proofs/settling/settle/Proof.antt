@@ -11,52 +11,40 @@ use Rattle.exchange.proofs.settling.code.Reads as code-reads
 use Rattle.exchange.proofs.settling.plain.Reads as plain-reads
 use Rattle.settlement.proofs.settle.settle.Reads as settle-reads
 
--- src/settling.rt:86:9
 code-requires : tie.Need-code-requires
 code-requires c κs = search needs
 
--- src/settling.rt:88:22
 refused-requires : tie.Need-refused-requires
 refused-requires c κs = search needs
 
--- src/settling.rt:88:9
 plain-requires : tie.Need-plain-requires
 plain-requires c κs = search needs
 
--- src/settling.rt:88:9
 same-length : tie.Need-same-length
 same-length c = search needs
 
--- src/settling.rt:88:9
 same-length-2 : tie.Need-same-length-2
 same-length-2 c = search needs
 
--- src/settling.rt:88:9
 same-length-3 : tie.Need-same-length-3
 same-length-3 c = search needs
 
--- src/settling.rt:88:9
 returns : tie.Need-returns
 returns c =
     settle-refused (c .before .before .before .before .before .before .before .before .before .before .pre) (c .before .before .before .code .result) _ _ (c .before .before .if1 .taken) (sym (c .before .before .before .code .ensures)) (c .before .refused .ensures) (c .plain .ensures)
 
--- src/settling.rt:90:9
 settle-requires : tie.Need-settle-requires
 settle-requires c κs = search needs
 
--- src/settling.rt:82:1
 same-length-4 : tie.Need-same-length-4
 same-length-4 c = search needs
 
--- src/settling.rt:82:1
 same-length-5 : tie.Need-same-length-5
 same-length-5 c = search needs
 
--- src/settling.rt:82:1
 same-length-6 : tie.Need-same-length-6
 same-length-6 c = search needs
 
--- src/settling.rt:82:1
 returns-2 : tie.Need-returns-2
 returns-2 c =
     settle-made (c .before .before .before .before .before .before .before .before .before .before .before .before .before .before .before .before .before .before .before .before .before .before .before .pre) (c .before .before .before .before .before .before .before .before .before .before .before .settle .result) _ _ _ (sym (c .before .before .before .before .before .before .before .before .before .before .before .before .before .before .before .before .code .ensures) ∙ c .before .before .before .before .before .before .before .before .before .before .before .before .before .before .before .if1 .left) (c .before .before .before .before .before .before .before .before .before .before .before .settle .ensures)

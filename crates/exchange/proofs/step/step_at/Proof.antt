@@ -8,34 +8,27 @@ use Rattle.exchange.proofs.step.step_at.Tie as tie
 use Rattle.exchange.proofs.step.step_at.Reads as reads
 use Rattle.exchange.proofs.step.step_at.Lts as lts
 use Rattle.commands.proofs.command_of.Reads as command-of-reads
-use Rattle.dayfile.proofs.bytes.record_at.Reads as record-at-reads
+use Rattle.endian.proofs.reading.record_at.Reads as record-at-reads
 use Rattle.exchange.proofs.step.step.Reads as step-reads
 
--- src/step.rt:100:9
 record-at-requires : tie.Need-record-at-requires
 record-at-requires c κs = search needs
 
--- src/step.rt:101:9
 command-of-requires : tie.Need-command-of-requires
 command-of-requires c κs = search needs
 
--- src/step.rt:102:5
 step-requires : tie.Need-step-requires
 step-requires c κs = search needs
 
--- src/step.rt:89:1
 same-length : tie.Need-same-length
 same-length c = search needs
 
--- src/step.rt:89:1
 same-length-2 : tie.Need-same-length-2
 same-length-2 c = search needs
 
--- src/step.rt:89:1
 same-length-3 : tie.Need-same-length-3
 same-length-3 c = search needs
 
--- src/step.rt:89:1
 returns : tie.Need-returns
 returns c = response-as _ (sym ((c .before .before .before .before .before .before .before .before .before .before .command-of .ensures) ∙ ap commandOf (c .before .before .before .before .before .before .before .before .before .before .before .record-at .ensures))) (c .before .before .before .before .before .before .step .ensures)
 

@@ -2,7 +2,7 @@
 use mir.Facts.{toZ-ofZ}
 use borrow.Author.Needs.{needs}
 use Rattle.rules.specs.Lines.{fieldsOf}
-use Rattle.lines.proofs.Text.{then}
+use Rattle.endian.proofs.Writes.{then}
 use Rattle.lines.proofs.line.put_account.Statement.{statement}
 use Rattle.lines.proofs.line.put_account.Tie as tie
 

@@ -1,7 +1,7 @@
 -- `lines::line::put_answer` meets its contract: its parts in turn. Assumes nothing.
 use borrow.Author.Needs.{needs}
 use Rattle.rules.specs.Lines.{fieldsOf, answerLine}
-use Rattle.lines.proofs.Text.{then}
+use Rattle.endian.proofs.Writes.{then}
 use Rattle.lines.proofs.line.put_answer.Statement.{statement}
 use Rattle.lines.proofs.line.put_answer.Tie as tie
 

@@ -1,6 +1,6 @@
 -- `lines::line::put_field` meets its contract. Assumes nothing.
 use borrow.Author.Needs.{needs}
-use Rattle.lines.proofs.Text.{then}
+use Rattle.endian.proofs.Writes.{then}
 use Rattle.lines.proofs.line.put_field.Statement.{statement}
 use Rattle.lines.proofs.line.put_field.Tie as tie
 

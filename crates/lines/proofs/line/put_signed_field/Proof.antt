@@ -1,7 +1,7 @@
 -- `lines::line::put_signed_field` meets its contract. Assumes nothing.
 use mir.Facts.{toZ-ofZ}
 use borrow.Author.Needs.{needs}
-use Rattle.lines.proofs.Text.{then}
+use Rattle.endian.proofs.Writes.{then}
 use Rattle.lines.proofs.line.put_signed_field.Statement.{statement}
 use Rattle.lines.proofs.line.put_signed_field.Tie as tie
 

@@ -3,7 +3,7 @@ use mathlib.Core.Path.{_∙_}
 use native.Mathlib.Omega.{arith}
 use borrow.Author.Needs.{needs}
 use Rattle.rules.specs.Lines.{fieldsOf, tradeLine}
-use Rattle.lines.proofs.Text.{then}
+use Rattle.endian.proofs.Writes.{then}
 use Rattle.lines.proofs.line.put_trade.Statement.{statement}
 use Rattle.lines.proofs.line.put_trade.Tie as tie
 

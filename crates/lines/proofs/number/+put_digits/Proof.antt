@@ -9,7 +9,7 @@ use Rattle.lines.proofs.Text.{least, digits-none, digits-one, digits-mo
 use Rattle.lines.proofs.number.+put_digits.{statement}
 use Rattle.lines.proofs.number.put_digits.Reads as put-digits
 use Rattle.lines.proofs.number.+put_digits.Lts-put_digits as put-digits-lts
-use Rattle.lines.proofs.number.put_byte.Reads as put-byte-reads
+use Rattle.endian.proofs.writing.put_byte.Reads as put-byte-reads
 use Rattle.lines.proofs.number.+put_digits.Tie.{close}
 
 abbrev μ-put-digits : Measures 1 put-digits-kinds.ps ℕ

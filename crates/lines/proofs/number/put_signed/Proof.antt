@@ -1,7 +1,8 @@
 -- `lines::number::put_signed` meets its contract: the sign, then the magnitude. Assumes nothing.
 use mir.Facts.{toZ-ofZ}
 use borrow.Author.Needs.{needs}
-use Rattle.lines.proofs.Text.{then, signed-below, signed-above}
+use Rattle.endian.proofs.Writes.{then}
+use Rattle.lines.proofs.Text.{signed-below, signed-above}
 use Rattle.lines.proofs.number.put_signed.Statement.{statement}
 use Rattle.lines.proofs.number.put_signed.Tie as tie
 

@@ -2,14 +2,14 @@
 use Prim.Native.Nat.{_-_}
 use native.Mathlib.Omega.{arith}
 use Rattle.mending.proofs.Whole.{file-room-all, file-written, kept-limit, place-least, place-within, whole-within}
-use Rattle.mending.proofs.Writing.{length-four, length-part}
+use Rattle.endian.proofs.Writes.{length-four, length-part}
 use borrow.Author.Needs.{needs}
 use Rattle.mending.proofs.mend.put_file.Statement.{statement}
 use Rattle.mending.proofs.mend.put_file.Tie as tie
 use Rattle.mending.proofs.mend.put_file.Reads as reads
 use Rattle.mending.proofs.mend.put_file.Lts as lts
-use Rattle.mending.proofs.bytes.put_part.Reads as put-part-reads
-use Rattle.mending.proofs.bytes.put_u32.Reads as put-u32-reads
+use Rattle.endian.proofs.writing.put_part.Reads as put-part-reads
+use Rattle.endian.proofs.writing.put_u32.Reads as put-u32-reads
 use Rattle.mending.proofs.verdict.put_kept.Reads as put-kept-reads
 
 sub-put-part : tie.Need-sub-put-part

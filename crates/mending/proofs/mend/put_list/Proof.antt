@@ -2,13 +2,13 @@
 use native.Mathlib.Omega.{arith}
 use Rattle.mending.proofs.Records.{length-dropped}
 use Rattle.mending.proofs.Whole.{list-partial, list-room-all, list-room-last, list-whole, whole-within}
-use Rattle.mending.proofs.Writing.{length-eight}
+use Rattle.endian.proofs.Writes.{length-eight}
 use borrow.Author.Needs.{needs}
 use Rattle.mending.proofs.mend.put_list.Statement.{statement}
 use Rattle.mending.proofs.mend.put_list.Tie as tie
 use Rattle.mending.proofs.mend.put_list.Reads as reads
 use Rattle.mending.proofs.mend.put_list.Lts as lts
-use Rattle.mending.proofs.bytes.put_u64.Reads as put-u64-reads
+use Rattle.endian.proofs.writing.put_u64.Reads as put-u64-reads
 use Rattle.mending.proofs.verdict.put_dropped.Reads as put-dropped-reads
 use Rattle.mending.proofs.verdict.put_entry.Reads as put-entry-reads
 

@@ -2,7 +2,7 @@
 use mathlib.Core.Path.{_≡_}
 use Prim.Native.Nat.{_-_, _*_, _≤_}
 use native.Mathlib.Omega.{arith}
-use Rattle.lines.specs.Written.{Written}
+use Rattle.endian.specs.Written.{Written}
 use Rattle.mending.specs.Mend.{kept as Mend·kept, dropped}
 use Rattle.mending.proofs.Records.{kept-none, kept-most, count-keeps, count-drops, none-dropped, list-keeps, list-drops, list-room}
 use Rattle.mending.proofs.verdict.put_dropped.Statement.{statement}

@@ -1,12 +1,12 @@
 -- `verdict::put_entry` meets its contract: the place, then the reason. Assumes nothing.
 use borrow.Author.Needs.{needs}
-use Rattle.lines.proofs.Text.{then}
+use Rattle.endian.proofs.Writes.{then}
 use Rattle.mending.proofs.verdict.put_entry.Statement.{statement}
 use Rattle.mending.proofs.verdict.put_entry.Tie as tie
 use Rattle.mending.proofs.verdict.put_entry.Reads as reads
 use Rattle.mending.proofs.verdict.put_entry.Lts as lts
-use Rattle.lines.proofs.number.put_byte.Reads as put-byte-reads
-use Rattle.mending.proofs.bytes.put_u64.Reads as put-u64-reads
+use Rattle.endian.proofs.writing.put_byte.Reads as put-byte-reads
+use Rattle.endian.proofs.writing.put_u64.Reads as put-u64-reads
 
 add-put-u64 : tie.Need-add-put-u64
 add-put-u64 c = search needs

@@ -2,14 +2,14 @@
 use mathlib.Core.Path.{_≡_}
 use Prim.Native.Nat.{_-_, _*_, _≤_}
 use native.Mathlib.Omega.{arith}
-use Rattle.lines.specs.Written.{Written}
+use Rattle.endian.specs.Written.{Written}
 use Rattle.mending.specs.Mend.{kept as Mend·kept, keptBytes}
 use Rattle.mending.proofs.Records.{kept-none, kept-most, count-keeps, count-drops, none-kept, file-keeps, file-drops, file-room}
 use Rattle.mending.proofs.verdict.put_kept.Statement.{statement}
 use Rattle.mending.proofs.verdict.put_kept.Tie as tie
 use Rattle.mending.proofs.verdict.put_kept.Reads as reads
 use Rattle.mending.proofs.verdict.put_kept.Lts as lts
-use Rattle.mending.proofs.bytes.put_part.Reads as put-part-reads
+use Rattle.endian.proofs.writing.put_part.Reads as put-part-reads
 use Rattle.mending.proofs.verdict.reason.Reads as reason-reads
 
 abbrev Inv-loop : tie.InvT-loop

@@ -7,7 +7,7 @@ use Rattle.mending.proofs.verdict.reason.Tie as tie
 use Rattle.mending.proofs.verdict.reason.Reads as reads
 use Rattle.mending.proofs.verdict.reason.Lts as lts
 use Rattle.commands.proofs.command_of.Reads as command-of-reads
-use Rattle.dayfile.proofs.bytes.record_at.Reads as record-at-reads
+use Rattle.endian.proofs.reading.record_at.Reads as record-at-reads
 use Rattle.commands.proofs.is_malformed.Reads as is-malformed-reads
 
 mul-record-at : tie.Need-mul-record-at

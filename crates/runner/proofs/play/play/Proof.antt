@@ -9,7 +9,7 @@ use Rattle.rules.specs.DayFile.{commandsIn}
 use Rattle.rules.specs.Lines.{runLines}
 use Rattle.rules.specs.Memory.{exchangeOf, memory}
 use Rattle.dayfile.proofs.Places.{sound-layout}
-use Rattle.lines.specs.Written.{Written}
+use Rattle.endian.specs.Written.{Written}
 use Rattle.runner.specs.Parts.{part}
 use Rattle.runner.proofs.Playing.{none-played, none-printed, still-formed, one-played, one-printed, all-played, room-played}
 use Rattle.runner.proofs.play.play.Statement.{statement}

@@ -8,7 +8,7 @@ use mir.Syntax.{w64}
 use mir.Val.{toZ, ofZ}
 use lib.IntN.{pos}
 use Rattle.rules.specs.Exchange.{noAccount}
-use Rattle.lines.specs.Written.{Written}
+use Rattle.endian.specs.Written.{Written}
 use Rattle.runner.specs.Rows.{rows, accountRow}
 use Rattle.runner.proofs.Tables.{rows-none, rows-more}
 use Rattle.runner.proofs.printing.put_accounts.Statement.{statement}

@@ -5,8 +5,8 @@ use borrow.Author.Needs.{needs}
 use lib.ListN.{drop}
 use Rattle.rules.specs.Lines.{tradeLines}
 use Rattle.rules.specs.Memory.{recordedTrades}
-use Rattle.lines.specs.Written.{Written}
-use Rattle.lines.proofs.Text.{looser}
+use Rattle.endian.specs.Written.{Written}
+use Rattle.endian.proofs.Writes.{looser}
 use Rattle.runner.proofs.Recorded.{trades-none, trades-more, trades-done}
 use Rattle.runner.proofs.printing.put_trades.Statement.{statement}
 use Rattle.runner.proofs.printing.put_trades.Tie as tie

@@ -3,7 +3,7 @@ use mathlib.Core.Path.{sym, _∙_}
 use native.Mathlib.Omega.{arith}
 use borrow.Author.Needs.{needs}
 use borrow.Author.Tests.{not-true, not-false}
-use Rattle.lines.proofs.Text.{looser, no-byte}
+use Rattle.endian.proofs.Writes.{looser, no-byte}
 use Rattle.runner.proofs.Responded.{report-none, report-refused, report-made}
 use Rattle.runner.proofs.turn.put_report.Statement.{statement}
 use Rattle.runner.proofs.turn.put_report.Tie as tie

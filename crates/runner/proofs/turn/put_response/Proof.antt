@@ -1,7 +1,7 @@
 -- `turn::put_response` meets its contract: its parts in turn. Assumes nothing.
 use native.Mathlib.Omega.{arith}
 use borrow.Author.Needs.{needs}
-use Rattle.lines.proofs.Text.{looser, then}
+use Rattle.endian.proofs.Writes.{looser, then}
 use Rattle.runner.specs.Rows.{responseRows}
 use Rattle.runner.proofs.turn.put_response.Statement.{statement}
 use Rattle.runner.proofs.turn.put_response.Tie as tie

@@ -1,7 +1,7 @@
 -- `turn::put_settlement` meets its contract: its two tables. Assumes nothing.
 use native.Mathlib.Omega.{arith}
 use borrow.Author.Needs.{needs}
-use Rattle.lines.proofs.Text.{looser, then}
+use Rattle.endian.proofs.Writes.{looser, then}
 use Rattle.runner.specs.Rows.{settlementRows}
 use Rattle.runner.proofs.turn.put_settlement.Statement.{statement}
 use Rattle.runner.proofs.turn.put_settlement.Tie as tie

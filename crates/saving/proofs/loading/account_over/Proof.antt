@@ -9,8 +9,8 @@ use Rattle.saving.proofs.loading.account_over.Statement.{statement}
 use Rattle.saving.proofs.loading.account_over.Tie as tie
 use Rattle.saving.proofs.loading.account_over.Reads as reads
 use Rattle.saving.proofs.loading.account_over.Lts as lts
-use Rattle.dayfile.proofs.bytes.u64_at.Reads as u64-at-reads
-use Rattle.dayfile.proofs.bytes.u8_at.Reads as u8-at-reads
+use Rattle.endian.proofs.reading.u64_at.Reads as u64-at-reads
+use Rattle.endian.proofs.reading.u8_at.Reads as u8-at-reads
 use Rattle.saving.proofs.loading.holdings_over.Reads as holdings-over-reads
 use Rattle.saving.proofs.loading.signed.Reads as signed-reads
 

@@ -7,21 +7,17 @@ use Rattle.saving.proofs.loading.contract_from.Tie as tie
 use Rattle.saving.proofs.loading.contract_from.Reads as reads
 use Rattle.saving.proofs.loading.contract_from.Lts as lts
 use Rattle.dayfile.proofs.bytes.contract_at.Reads as contract-at-reads
-use Rattle.dayfile.proofs.bytes.u32_at.Reads as u32-at-reads
+use Rattle.endian.proofs.reading.u32_at.Reads as u32-at-reads
 
--- src/loading.rt:25:9
 contract-at-requires : tie.Need-contract-at-requires
 contract-at-requires c κs = search needs
 
--- src/loading.rt:26:27
 add-u32-at : tie.Need-add-u32-at
 add-u32-at c = search needs
 
--- src/loading.rt:26:5
 u32-at-requires : tie.Need-u32-at-requires
 u32-at-requires c κs = search needs
 
--- src/loading.rt:21:1
 returns : tie.Need-returns
 unfolding savedContract
 returns c = rw (c .before .contract-at .ensures, c .u32-at .ensures) refl

@@ -6,21 +6,17 @@ use Rattle.saving.proofs.loading.holding_from.Statement.{statement}
 use Rattle.saving.proofs.loading.holding_from.Tie as tie
 use Rattle.saving.proofs.loading.holding_from.Reads as reads
 use Rattle.saving.proofs.loading.holding_from.Lts as lts
-use Rattle.dayfile.proofs.bytes.u32_at.Reads as u32-at-reads
+use Rattle.endian.proofs.reading.u32_at.Reads as u32-at-reads
 
--- src/loading.rt:66:9
 u32-at-requires : tie.Need-u32-at-requires
 u32-at-requires c κs = search needs
 
--- src/loading.rt:67:30
 add-u32-at : tie.Need-add-u32-at
 add-u32-at c = search needs
 
--- src/loading.rt:67:9
 u32-at-requires-2 : tie.Need-u32-at-requires-2
 u32-at-requires-2 c κs = search needs
 
--- src/loading.rt:62:1
 returns : tie.Need-returns
 unfolding savedHolding
 returns c = rw (c .before .u32-at .ensures, c .u32-at2 .ensures) refl

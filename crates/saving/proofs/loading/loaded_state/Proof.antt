@@ -9,7 +9,7 @@ use Rattle.saving.proofs.loading.loaded_state.Statement.{statement}
 use Rattle.saving.proofs.loading.loaded_state.Tie as tie
 use Rattle.saving.proofs.loading.loaded_state.Reads as reads
 use Rattle.saving.proofs.loading.loaded_state.Lts as lts
-use Rattle.dayfile.proofs.bytes.u32_at.Reads as u32-at-reads
+use Rattle.endian.proofs.reading.u32_at.Reads as u32-at-reads
 use Rattle.saving.proofs.loading.accounts_over.Reads as accounts-over-reads
 use Rattle.saving.proofs.loading.contracts_over.Reads as contracts-over-reads
 use Rattle.settlement.proofs.reopen.no_orders.Reads as no-orders-reads

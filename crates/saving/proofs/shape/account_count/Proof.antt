@@ -5,25 +5,20 @@ use Rattle.saving.proofs.shape.account_count.Statement.{statement}
 use Rattle.saving.proofs.shape.account_count.Tie as tie
 use Rattle.saving.proofs.shape.account_count.Reads as reads
 use Rattle.saving.proofs.shape.account_count.Lts as lts
-use Rattle.dayfile.proofs.bytes.u32_at.Reads as u32-at-reads
+use Rattle.endian.proofs.reading.u32_at.Reads as u32-at-reads
 
--- src/shape.rt:27:22
 mul-u32-at : tie.Need-mul-u32-at
 mul-u32-at c = search needs
 
--- src/shape.rt:27:18
 add-u32-at : tie.Need-add-u32-at
 add-u32-at c = search needs
 
--- src/shape.rt:27:5
 u32-at-requires : tie.Need-u32-at-requires
 u32-at-requires c κs = search needs
 
--- src/shape.rt:27:5
 cast-result : tie.Need-cast-result
 cast-result c = search needs
 
--- src/shape.rt:23:1
 returns : tie.Need-returns
 unfolding accountsIn
 returns c = rw (← c .before .before .pre .0) (c .u32-at .ensures)

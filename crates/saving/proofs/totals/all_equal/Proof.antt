@@ -5,7 +5,7 @@ use Prim.Native.Nat.{_-_, _≤_}
 use native.Mathlib.Omega.{arith}
 use lib.ListN.{take}
 use Rattle.laws.specs.Choice.{all, all-more, all-none, all-stop}
-use Rattle.audit.proofs.Chains.{passed, refused}
+use Rattle.laws.specs.Tests.{passed, refused}
 use Rattle.audit.proofs.Walks.{all-end}
 use Rattle.saved.specs.Saved.{totalsEqual}
 use Rattle.saving.proofs.totals.all_equal.Statement.{statement}

@@ -1,5 +1,5 @@
 -- `totals::is_writable` meets its contract: the clauses in their order. Assumes nothing.
-use Rattle.audit.proofs.Chains.{passed, refused}
+use Rattle.laws.specs.Tests.{passed, refused}
 use Rattle.saving.proofs.AddedUp.{next-given, not-asleep, not-equal, some-trades, stamp-decides}
 use borrow.Author.Needs.{needs}
 use Rattle.saving.proofs.totals.is_writable.Statement.{statement}

@@ -6,7 +6,7 @@ use Rattle.saving.proofs.writing.put_account_section.Statement.{stateme
 use Rattle.saving.proofs.writing.put_account_section.Tie as tie
 use Rattle.saving.proofs.writing.put_account_section.Reads as reads
 use Rattle.saving.proofs.writing.put_account_section.Lts as lts
-use Rattle.mending.proofs.bytes.put_u32.Reads as put-u32-reads
+use Rattle.endian.proofs.writing.put_u32.Reads as put-u32-reads
 use Rattle.saving.proofs.writing.put_accounts.Reads as put-accounts-reads
 
 cast-put-u32 : tie.Need-cast-put-u32

@@ -6,7 +6,7 @@ use Rattle.saving.proofs.writing.put_contract_section.Statement.{statem
 use Rattle.saving.proofs.writing.put_contract_section.Tie as tie
 use Rattle.saving.proofs.writing.put_contract_section.Reads as reads
 use Rattle.saving.proofs.writing.put_contract_section.Lts as lts
-use Rattle.mending.proofs.bytes.put_u32.Reads as put-u32-reads
+use Rattle.endian.proofs.writing.put_u32.Reads as put-u32-reads
 use Rattle.saving.proofs.writing.put_contracts.Reads as put-contracts-reads
 
 cast-put-u32 : tie.Need-cast-put-u32

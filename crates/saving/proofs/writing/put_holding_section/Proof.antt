@@ -8,7 +8,7 @@ use Rattle.saving.proofs.writing.put_holding_section.Statement.{stateme
 use Rattle.saving.proofs.writing.put_holding_section.Tie as tie
 use Rattle.saving.proofs.writing.put_holding_section.Reads as reads
 use Rattle.saving.proofs.writing.put_holding_section.Lts as lts
-use Rattle.mending.proofs.bytes.put_u32.Reads as put-u32-reads
+use Rattle.endian.proofs.writing.put_u32.Reads as put-u32-reads
 use Rattle.statements.proofs.writing.put_holdings.Reads as put-holdings-reads
 
 mul-entries : tie.Need-mul-entries

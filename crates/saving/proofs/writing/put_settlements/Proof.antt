@@ -1,11 +1,11 @@
 -- `writing::put_settlements` meets its contract. Assumes nothing.
-use Rattle.lines.proofs.Text.{then}
+use Rattle.endian.proofs.Writes.{then}
 use borrow.Author.Needs.{needs}
 use Rattle.saving.proofs.writing.put_settlements.Statement.{statement}
 use Rattle.saving.proofs.writing.put_settlements.Tie as tie
 use Rattle.saving.proofs.writing.put_settlements.Reads as reads
 use Rattle.saving.proofs.writing.put_settlements.Lts as lts
-use Rattle.mending.proofs.bytes.put_u32.Reads as put-u32-reads
+use Rattle.endian.proofs.writing.put_u32.Reads as put-u32-reads
 
 put-u32-requires : tie.Need-put-u32-requires
 put-u32-requires c κs = search needs

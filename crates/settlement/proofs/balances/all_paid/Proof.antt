@@ -1,83 +1,135 @@
+use mathlib.Core.Path.{refl}
 use Prim.Native.Nat.{_-_}
 use native.Mathlib.Omega.{arith}
+use borrow.Author.Needs.{needs}
 use Rattle.settlement.proofs.Carrying.{Paying, paying-none, closing-reach, holding-reach, paying-more, paying-done}
+use Rattle.settlement.proofs.Totals.{totallable, total-is}
 use Rattle.settlement.proofs.balances.all_paid.Statement.{statement}
 use Rattle.settlement.proofs.balances.all_paid.Tie as tie
 use Rattle.settlement.proofs.balances.all_paid.Reads as reads
 use Rattle.settlement.proofs.balances.all_paid.Lts as lts
+use Rattle.dayprofit.proofs.sums.add_up.Reads as add-up-reads
+use Rattle.dayprofit.proofs.sums.take_first.Reads as take-first-reads
 use Rattle.settlement.proofs.balances.paid.Reads as paid-reads
+use Rattle.settlement.proofs.balances.put_all_due.Reads as put-all-due-reads
 use Rattle.settlement.proofs.balances.total.Reads as total-reads
 
 abbrev Inv-loop : tie.InvT-loop
-Inv-loop trades prices state contracts count accounts₀ closing₀ holding₀ a₀ accounts closing holding a = Paying state trades prices accounts closing holding a
+Inv-loop trades prices state closed closes opened opens used made contracts count accounts₀ closing₀ holding₀ a₀ accounts closing holding a =
+    Paying state trades prices accounts closing holding a
 
 abbrev μ-loop : tie.MeasureT-loop
-μ-loop trades prices state contracts count accounts₀ closing₀ holding₀ a₀ accounts closing holding a = count - a
+μ-loop trades prices state closed closes opened opens used made contracts count accounts₀ closing₀ holding₀ a₀ accounts closing holding a =
+    count - a
 
--- src/balances.rt:110:5
+slice-aggregate-add-up : tie.Need-slice-aggregate-add-up Inv-loop μ-loop
+slice-aggregate-add-up c = search needs
+
+slice-aggregate-add-up-2 : tie.Need-slice-aggregate-add-up-2 Inv-loop μ-loop
+slice-aggregate-add-up-2 c = search needs
+
+add-up-requires : tie.Need-add-up-requires Inv-loop μ-loop
+add-up-requires c κs = (c .before .before .before .pre .day, refl, refl)
+
+slice-aggregate-add-up-3 : tie.Need-slice-aggregate-add-up-3 Inv-loop μ-loop
+slice-aggregate-add-up-3 c = search needs
+
+slice-aggregate-add-up-4 : tie.Need-slice-aggregate-add-up-4 Inv-loop μ-loop
+slice-aggregate-add-up-4 c = search needs
+
+add-up-requires-2 : tie.Need-add-up-requires-2 Inv-loop μ-loop
+add-up-requires-2 c κs = (c .before .before .before .before .before .before .before .before .pre .day, refl, refl)
+
+slice-aggregate-put-all-due : tie.Need-slice-aggregate-put-all-due Inv-loop μ-loop
+slice-aggregate-put-all-due c = search needs
+
+slice-aggregate-put-all-due-2 : tie.Need-slice-aggregate-put-all-due-2 Inv-loop μ-loop
+slice-aggregate-put-all-due-2 c = search needs
+
+put-all-due-requires : tie.Need-put-all-due-requires Inv-loop μ-loop
+put-all-due-requires c κs = (c .before .before .before .before .before .before .before .before .before .before .before .before .before .pre .accounts, c .before .before .before .before .before .before .before .before .before .add-up .kept .1 .1 .1 .0, refl)
+
+slice-aggregate-take-first : tie.Need-slice-aggregate-take-first Inv-loop μ-loop
+slice-aggregate-take-first c = search needs
+
+slice-aggregate-take-first-2 : tie.Need-slice-aggregate-take-first-2 Inv-loop μ-loop
+slice-aggregate-take-first-2 c = search needs
+
+take-first-requires : tie.Need-take-first-requires Inv-loop μ-loop
+take-first-requires c κs = (c .before .before .before .before .before .before .before .before .before .before .before .before .before .before .before .before .before .pre .day, c .before .before .before .put-all-due .kept .1 .1 .0, refl)
+
 loop-holds : tie.Need-loop-holds Inv-loop μ-loop
 loop-holds c = paying-none _ _ _
 
--- src/balances.rt:111:23
 mul-account : tie.Need-mul-account Inv-loop μ-loop
-mul-account c = omega arith
+mul-account c = omega (arith, c .before .before .before .before .before .before .before .before .before .before .before .before .before .before .before .before .before .before .before .before .before .before .before .pre .accounts)
 
--- src/balances.rt:111:23
 element-copy-out-account : tie.Need-element-copy-out-account Inv-loop μ-loop
-element-copy-out-account c = omega arith
+element-copy-out-account c = omega (arith, c .before .before .before .before .before .before .before .before .before .before .before .before .before .before .before .before .before .before .before .before .before .before .before .pre .accounts)
 
--- src/balances.rt:112:13
+slice-aggregate-total : tie.Need-slice-aggregate-total Inv-loop μ-loop
+slice-aggregate-total c = search needs
+
+slice-aggregate-total-2 : tie.Need-slice-aggregate-total-2 Inv-loop μ-loop
+slice-aggregate-total-2 c = search needs
+
+slice-aggregate-total-3 : tie.Need-slice-aggregate-total-3 Inv-loop μ-loop
+slice-aggregate-total-3 c = search needs
+
+slice-aggregate-total-4 : tie.Need-slice-aggregate-total-4 Inv-loop μ-loop
+slice-aggregate-total-4 c = search needs
+
+slice-aggregate-total-5 : tie.Need-slice-aggregate-total-5 Inv-loop μ-loop
+slice-aggregate-total-5 c = search needs
+
 total-requires : tie.Need-total-requires Inv-loop μ-loop
-total-requires c κs = c .before .before .before .before .before .pre .each _ (c .before .loop-test .taken)
+total-requires c κs =
+    totallable _ _ _ (c .before .before .before .before .before .before .before .before .before .before .before .before .before .before .before .before .before .before .before .before .before .before .before .before .before .before .before .before .before .pre) _ _ _ _ _ _ (c .before .before .before .before .before .before .before .before .before .before .before .before .before .before .before .before .before .before .before .before .before .before .before .before .before .add-up .ensures) (c .before .before .before .before .before .before .before .before .before .before .before .before .before .before .before .before .before .before .before .before .add-up2 .ensures) (c .before .before .before .before .before .before .before .before .before .before .before .before .before .before .before .put-all-due .ensures) (c .before .before .before .before .before .before .before .before .before .before .before .take-first .ensures) _ (c .before .before .before .before .before .before .loop-test .taken)
+    (record {
+      closed-room = c .before .before .before .before .before .before .before .before .before .before .before .before .before .before .before .before .before .before .before .before .before .before .before .before .before .add-up .kept .1 .1 .1 .0;
+      closes-room = c .before .before .before .before .before .before .before .before .before .before .before .before .before .before .before .before .before .before .before .before .before .before .before .before .before .add-up .kept .1 .1 .1 .1 .0;
+      opened-room = c .before .before .before .before .before .before .before .before .before .before .before .before .before .before .before .before .before .before .before .before .add-up2 .kept .1 .1 .1 .0;
+      opens-room = c .before .before .before .before .before .before .before .before .before .before .before .before .before .before .before .before .before .before .before .before .add-up2 .kept .1 .1 .1 .1 .0;
+      used-room = c .before .before .before .before .before .before .before .before .before .before .before .take-first .kept .1 .1 .1 .0;
+    })
 
--- src/balances.rt:115:23
 paid-requires : tie.Need-paid-requires Inv-loop μ-loop
 paid-requires c κs = (
-  c .before .before .before .before .before .before .before .before .pre .contracts,
-  c .before .before .before .before .before .before .before .before .pre .balance _ (c .before .before .before .before .loop-test .taken),
-  closing-reach _ _ _ (c .before .before .before .before .before .before .before .before .pre) _ _ _ _ (c .before .before .before .before .before .loop .inv) _ (c .before .before .total .ensures),
-  holding-reach _ _ _ (c .before .before .before .before .before .before .before .before .pre) _ _ _ _ (c .before .before .before .before .before .loop .inv) _ (c .before .before .total .ensures),
+  c .before .before .before .before .before .before .before .before .before .before .before .before .before .before .before .before .before .before .before .before .before .before .before .before .before .before .before .before .before .before .before .before .pre .contracts,
+  c .before .before .before .before .before .before .before .before .before .before .before .before .before .before .before .before .before .before .before .before .before .before .before .before .before .before .before .before .before .before .before .before .pre .balance _ (c .before .before .before .before .before .before .before .before .before .loop-test .taken),
+  closing-reach _ _ _ (c .before .before .before .before .before .before .before .before .before .before .before .before .before .before .before .before .before .before .before .before .before .before .before .before .before .before .before .before .before .before .before .before .pre) _ _ _ _ (c .before .before .before .before .before .before .before .before .before .before .loop .inv) _ (total-is _ _ _ (c .before .before .before .before .before .before .before .before .before .before .before .before .before .before .before .before .before .before .before .before .before .before .before .before .before .before .before .before .before .before .before .before .pre) _ _ _ _ _ _ (c .before .before .before .before .before .before .before .before .before .before .before .before .before .before .before .before .before .before .before .before .before .before .before .before .before .before .before .before .add-up .ensures) (c .before .before .before .before .before .before .before .before .before .before .before .before .before .before .before .before .before .before .before .before .before .before .before .add-up2 .ensures) (c .before .before .before .before .before .before .before .before .before .before .before .before .before .before .before .before .before .before .put-all-due .ensures) (c .before .before .before .before .before .before .before .before .before .before .before .before .before .before .take-first .ensures) _ (c .before .before .before .before .before .before .before .before .before .loop-test .taken) _ (c .before .before .total .ensures)),
+  holding-reach _ _ _ (c .before .before .before .before .before .before .before .before .before .before .before .before .before .before .before .before .before .before .before .before .before .before .before .before .before .before .before .before .before .before .before .before .pre) _ _ _ _ (c .before .before .before .before .before .before .before .before .before .before .loop .inv) _ (total-is _ _ _ (c .before .before .before .before .before .before .before .before .before .before .before .before .before .before .before .before .before .before .before .before .before .before .before .before .before .before .before .before .before .before .before .before .pre) _ _ _ _ _ _ (c .before .before .before .before .before .before .before .before .before .before .before .before .before .before .before .before .before .before .before .before .before .before .before .before .before .before .before .before .add-up .ensures) (c .before .before .before .before .before .before .before .before .before .before .before .before .before .before .before .before .before .before .before .before .before .before .before .add-up2 .ensures) (c .before .before .before .before .before .before .before .before .before .before .before .before .before .before .before .before .before .before .put-all-due .ensures) (c .before .before .before .before .before .before .before .before .before .before .before .before .before .before .take-first .ensures) _ (c .before .before .before .before .before .before .before .before .before .loop-test .taken) _ (c .before .before .total .ensures)),
 )
 
--- src/balances.rt:115:9
 mul-accounts : tie.Need-mul-accounts Inv-loop μ-loop
-mul-accounts c = omega arith
+mul-accounts c = omega (arith, c .before .before .before .before .before .before .before .before .before .before .before .before .before .before .before .before .before .before .before .before .before .before .before .before .before .before .before .before .before .before .before .before .before .pre .accounts, c .before .before .before .before .before .before .before .before .before .before .loop-test .taken)
 
--- src/balances.rt:115:9
 array-set-from-accounts : tie.Need-array-set-from-accounts Inv-loop μ-loop
-array-set-from-accounts c = omega arith
+array-set-from-accounts c = omega (arith, c .before .before .before .before .before .before .before .before .before .before .before .before .before .before .before .before .before .before .before .before .before .before .before .before .before .before .before .before .before .before .before .before .before .pre .accounts, c .before .before .before .before .before .before .before .before .before .before .loop-test .taken)
 
--- src/balances.rt:116:9
 mul-closing : tie.Need-mul-closing Inv-loop μ-loop
-mul-closing c = omega arith
+mul-closing c = omega (arith, c .before .before .before .before .before .before .before .before .before .before .before .before .before .before .before .before .before .before .before .before .before .before .before .before .before .before .before .before .before .before .before .before .before .pre .accounts, c .before .before .before .before .before .before .before .before .before .before .loop-test .taken)
 
--- src/balances.rt:116:9
 array-set-from-closing : tie.Need-array-set-from-closing Inv-loop μ-loop
-array-set-from-closing c = omega arith
+array-set-from-closing c = omega (arith, c .before .before .before .before .before .before .before .before .before .before .before .before .before .before .before .before .before .before .before .before .before .before .before .before .before .before .before .before .before .before .before .before .before .pre .accounts, c .before .before .before .before .before .before .before .before .before .before .loop-test .taken)
 
--- src/balances.rt:117:9
 mul-holding : tie.Need-mul-holding Inv-loop μ-loop
-mul-holding c = omega arith
+mul-holding c = omega (arith, c .before .before .before .before .before .before .before .before .before .before .before .before .before .before .before .before .before .before .before .before .before .before .before .before .before .before .before .before .before .before .before .before .before .pre .accounts, c .before .before .before .before .before .before .before .before .before .before .loop-test .taken)
 
--- src/balances.rt:117:9
 array-set-from-holding : tie.Need-array-set-from-holding Inv-loop μ-loop
-array-set-from-holding c = omega arith
+array-set-from-holding c = omega (arith, c .before .before .before .before .before .before .before .before .before .before .before .before .before .before .before .before .before .before .before .before .before .before .before .before .before .before .before .before .before .before .before .before .before .pre .accounts, c .before .before .before .before .before .before .before .before .before .before .loop-test .taken)
 
--- src/balances.rt:118:9
 add-a : tie.Need-add-a Inv-loop μ-loop
-add-a c = omega arith
+add-a c = omega (arith, c .before .before .before .before .before .before .before .before .before .before .before .before .before .before .before .before .before .before .before .before .before .before .before .before .before .before .before .before .before .before .before .before .before .pre .accounts, c .before .before .before .before .before .before .before .before .before .before .loop-test .taken)
 
--- src/balances.rt:110:5
 loop-less : tie.Need-loop-less Inv-loop μ-loop
-loop-less c = omega arith
+loop-less c = omega (arith, c .before .before .before .before .before .before .before .before .before .before .before .before .before .before .before .before .before .before .before .before .before .before .before .before .before .before .before .before .before .before .before .before .before .pre .accounts, c .before .before .before .before .before .before .before .before .before .before .loop-test .taken)
 
--- src/balances.rt:110:5
 loop-again : tie.Need-loop-again Inv-loop μ-loop
-loop-again c = paying-more _ _ _ (c .before .before .before .before .before .before .before .before .before .pre) _ _ _ _ (c .before .before .before .before .before .before .loop .inv) _ (c .before .before .before .total .ensures) (c .before .before .before .before .before .loop-test .taken) _ (c .paid .ensures)
+loop-again c = paying-more _ _ _ (c .before .before .before .before .before .before .before .before .before .before .before .before .before .before .before .before .before .before .before .before .before .before .before .before .before .before .before .before .before .before .before .before .before .pre) _ _ _ _ (c .before .before .before .before .before .before .before .before .before .before .before .loop .inv) _ (total-is _ _ _ (c .before .before .before .before .before .before .before .before .before .before .before .before .before .before .before .before .before .before .before .before .before .before .before .before .before .before .before .before .before .before .before .before .before .pre) _ _ _ _ _ _ (c .before .before .before .before .before .before .before .before .before .before .before .before .before .before .before .before .before .before .before .before .before .before .before .before .before .before .before .before .before .add-up .ensures) (c .before .before .before .before .before .before .before .before .before .before .before .before .before .before .before .before .before .before .before .before .before .before .before .before .add-up2 .ensures) (c .before .before .before .before .before .before .before .before .before .before .before .before .before .before .before .before .before .before .before .put-all-due .ensures) (c .before .before .before .before .before .before .before .before .before .before .before .before .before .before .before .take-first .ensures) _ (c .before .before .before .before .before .before .before .before .before .before .loop-test .taken) _ (c .before .before .before .total .ensures)) (c .before .before .before .before .before .before .before .before .before .before .loop-test .taken) _ (c .paid .ensures)
 
--- src/balances.rt:100:1
 returns : tie.Need-returns Inv-loop μ-loop
-returns c = paying-done _ _ _ (c .before .before .before .before .pre) _ _ _ _ (c .before .loop .inv) (c .loop-test .left)
+returns c = paying-done _ _ _ (c .before .before .before .before .before .before .before .before .before .before .before .before .before .before .before .before .before .before .before .before .before .before .before .pre) _ _ _ _ (c .before .loop .inv) (c .loop-test .left)
 
 pub all-paid-spec : {M : Type 1} → statement M
 all-paid-spec =
@@ -85,9 +137,26 @@ all-paid-spec =
     (tie.spec
     Inv-loop
     μ-loop
+    slice-aggregate-add-up
+    slice-aggregate-add-up-2
+    add-up-requires
+    slice-aggregate-add-up-3
+    slice-aggregate-add-up-4
+    add-up-requires-2
+    slice-aggregate-put-all-due
+    slice-aggregate-put-all-due-2
+    put-all-due-requires
+    slice-aggregate-take-first
+    slice-aggregate-take-first-2
+    take-first-requires
     loop-holds
     mul-account
     element-copy-out-account
+    slice-aggregate-total
+    slice-aggregate-total-2
+    slice-aggregate-total-3
+    slice-aggregate-total-4
+    slice-aggregate-total-5
     total-requires
     paid-requires
     mul-accounts

@@ -1,3 +1,4 @@
+-- `settlement::balances::carried_over` meets its contract: the holdings of the contracts so far. Assumes nothing.
 use mathlib.Core.Path.{_≡_}
 use Prim.Native.Nat.{_-_}
 use native.Mathlib.Omega.{arith}
@@ -21,43 +22,33 @@ abbrev μ-loop : tie.MeasureT-loop
 four : (c : tie.Start Inv-loop μ-loop) → length (c .args .t1 .holdings) ≡ 4
 four c = search (needs, unmapped)
 
--- src/balances.rt:72:5
 loop-holds : tie.Need-loop-holds Inv-loop μ-loop
 loop-holds c = carrying-none _ _
 
--- src/balances.rt:73:17
 mul-h : tie.Need-mul-h Inv-loop μ-loop
 mul-h c = omega arith
 
--- src/balances.rt:73:17
 element-copy-out-h : tie.Need-element-copy-out-h Inv-loop μ-loop
 element-copy-out-h c = omega arith
 
--- src/balances.rt:74:28
 carried-requires : tie.Need-carried-requires Inv-loop μ-loop
 carried-requires c κs = search needs
 
--- src/balances.rt:74:9
 mul-t9 : tie.Need-mul-t9 Inv-loop μ-loop
 mul-t9 c = omega arith
 
--- src/balances.rt:74:9
 element-set-from-next : tie.Need-element-set-from-next Inv-loop μ-loop
 element-set-from-next c = omega arith
 
--- src/balances.rt:75:9
 add-c : tie.Need-add-c Inv-loop μ-loop
 add-c c = omega arith
 
--- src/balances.rt:72:5
 loop-less : tie.Need-loop-less Inv-loop μ-loop
 loop-less c = omega arith
 
--- src/balances.rt:72:5
 loop-again : tie.Need-loop-again Inv-loop μ-loop
 loop-again c = carrying-more _ _ (omega (arith, four (c .before .before .before .before))) _ _ (c .before .before .before .loop .inv) (c .before .before .loop-test .taken) _ (c .carried .ensures)
 
--- src/balances.rt:66:1
 returns : tie.Need-returns Inv-loop μ-loop
 returns c = carrying-done _ _ (omega (arith, four (c .before .before))) _ _ (c .before .loop .inv) (c .loop-test .left)
 

@@ -1,3 +1,4 @@
+-- `settlement::balances::multiplied` meets its contract: a product that fits. Assumes nothing.
 use mathlib.Core.Path.{_∙_}
 use native.Mathlib.Omega.{arith}
 use lib.IntN.{*ℤ-comm, pos}
@@ -8,15 +9,12 @@ use Rattle.settlement.proofs.balances.multiplied.Tie as tie
 use Rattle.settlement.proofs.balances.multiplied.Reads as reads
 use Rattle.settlement.proofs.balances.multiplied.Lts as lts
 
--- src/balances.rt:25:14
 cast-result : tie.Need-cast-result
 cast-result c = search needs
 
--- src/balances.rt:25:5
 mul-result : tie.Need-mul-result
 mul-result c = mul-fits {n = 1_000} (c .args .multiplier) (c .pre .0) (c .pre .1) (omega arith) (omega arith)
 
--- src/balances.rt:21:1
 returns : tie.Need-returns
 returns c = mul-back {n = 1_000} (c .args .multiplier) (c .pre .0) (c .pre .1) (omega arith) (omega arith) ∙ *ℤ-comm (c .args .profit) (pos (c .args .multiplier))
 

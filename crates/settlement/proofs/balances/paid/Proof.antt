@@ -1,3 +1,4 @@
+-- `settlement::balances::paid` meets its contract: the balance, then the holdings. Assumes nothing.
 use Rattle.settlement.proofs.Carrying.{carried-paid}
 use borrow.Author.Needs.{needs}
 use Rattle.settlement.proofs.balances.paid.Statement.{statement}
@@ -7,15 +8,12 @@ use Rattle.settlement.proofs.balances.paid.Lts as lts
 use Rattle.settlement.proofs.balances.carried_over.Reads as carried-over-reads
 use Rattle.settlement.proofs.balances.with_profit.Reads as with-profit-reads
 
--- src/balances.rt:93:9
 with-profit-requires : tie.Need-with-profit-requires
 with-profit-requires c κs = search needs
 
--- src/balances.rt:94:9
 carried-over-requires : tie.Need-carried-over-requires
 carried-over-requires c κs = search needs
 
--- src/balances.rt:89:1
 returns : tie.Need-returns
 returns c =
     carried-paid (c .before .before .before .args .account) _ (c .before .before .before .args .contracts) _ (c .before .before .before .args .closing) (c .before .before .before .args .holding) (c .before .before .before .pre .1) (c .before .before .before .pre .2) (c .before .before .before .pre .3) (record { sfits = c .before .with-profit .ok })

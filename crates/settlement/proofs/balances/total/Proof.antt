@@ -6,100 +6,68 @@ use Rattle.settlement.proofs.balances.total.Statement.{statement}
 use Rattle.settlement.proofs.balances.total.Tie as tie
 use Rattle.settlement.proofs.balances.total.Reads as reads
 use Rattle.settlement.proofs.balances.total.Lts as lts
+use Rattle.dayprofit.proofs.profit.profit_at.Reads as profit-at-reads
 use Rattle.settlement.proofs.balances.multiplied.Reads as multiplied-reads
-use Rattle.dayprofit.proofs.profit.profit_of.Reads as profit-of-reads
 
 abbrev Inv-loop : tie.InvT-loop
-Inv-loop trades a state prices account holder contracts count closing₀ holding₀ c₀ closing holding c = Totalling state trades prices a closing holding c
+Inv-loop closed closes opened opens used a state prices holder contracts closing₀ holding₀ c₀ closing holding c = Totalling state closed closes opened opens used prices a closing holding c
 
 abbrev μ-loop : tie.MeasureT-loop
-μ-loop trades a state prices account holder contracts count closing₀ holding₀ c₀ closing holding c = contracts - c
+μ-loop closed closes opened opens used a state prices holder contracts closing₀ holding₀ c₀ closing holding c = contracts - c
 
--- src/balances.rt:33:19
-cast-account : tie.Need-cast-account Inv-loop μ-loop
-cast-account c = omega arith
-
--- src/balances.rt:34:18
 mul-holder : tie.Need-mul-holder Inv-loop μ-loop
 mul-holder c = omega arith
 
--- src/balances.rt:34:18
 element-copy-out-holder : tie.Need-element-copy-out-holder Inv-loop μ-loop
 element-copy-out-holder c = omega arith
 
--- src/balances.rt:40:5
 loop-holds : tie.Need-loop-holds Inv-loop μ-loop
-loop-holds c = totalling-none _ _ _ _
+loop-holds c = totalling-none _ _ _ _ _ _ _ _
 
--- src/balances.rt:41:24
 mul-contract : tie.Need-mul-contract Inv-loop μ-loop
 mul-contract c = omega arith
 
--- src/balances.rt:41:24
 element-copy-out-contract : tie.Need-element-copy-out-contract Inv-loop μ-loop
 element-copy-out-contract c = omega arith
 
--- src/balances.rt:42:17
 mul-h : tie.Need-mul-h Inv-loop μ-loop
 mul-h c = omega arith
 
--- src/balances.rt:42:17
 element-copy-out-h : tie.Need-element-copy-out-h Inv-loop μ-loop
 element-copy-out-h c = omega arith
 
--- src/balances.rt:43:21
 mul-price : tie.Need-mul-price Inv-loop μ-loop
 mul-price c = omega arith
 
--- src/balances.rt:43:21
 array-read-price : tie.Need-array-read-price Inv-loop μ-loop
 array-read-price c = omega arith
 
--- src/balances.rt:46:59
-cast-profit-of : tie.Need-cast-profit-of Inv-loop μ-loop
-cast-profit-of c = omega arith
+profit-at-requires : tie.Need-profit-at-requires Inv-loop μ-loop
+profit-at-requires c κs = c .before .before .before .before .before .before .before .before .before .before .pre .each _ (c .before .before .loop-test .taken)
 
--- src/balances.rt:46:13
-profit-of-requires : tie.Need-profit-of-requires Inv-loop μ-loop
-profit-of-requires c κs = c .before .before .before .before .before .before .pre .each _ (c .before .before .loop-test .taken)
-
--- src/balances.rt:47:20
 multiplied-requires : tie.Need-multiplied-requires Inv-loop μ-loop
-multiplied-requires c κs = (
-  closing-bits _ _ _ _ (c .before .before .before .before .before .before .before .before .pre) _ _ _ (c .before .before .before .before .loop-test .taken) (c .before .before .before .before .before .loop .inv) _ (c .before .profit-of .ensures),
-  c .before .before .before .before .before .before .before .before .pre .multiplier _ (c .before .before .before .before .loop-test .taken),
-)
+multiplied-requires c κs = (closing-bits _ _ _ _ _ _ _ _ (c .before .before .before .before .before .before .before .before .before .before .before .before .pre) _ _ _ (c .before .before .before .before .loop-test .taken) (c .before .before .before .before .before .loop .inv) _ (c .before .profit-at .ensures), c .before .before .before .before .before .before .before .before .before .before .before .before .pre .multiplier _ (c .before .before .before .before .loop-test .taken))
 
--- src/balances.rt:47:9
 add-closing : tie.Need-add-closing Inv-loop μ-loop
-add-closing c = closing-fits _ _ _ _ (c .before .before .before .before .before .before .before .before .before .pre) _ _ _ (c .before .before .before .before .before .loop-test .taken) (c .before .before .before .before .before .before .loop .inv) _ (c .before .before .profit-of .ensures) _ (pos 0) (c .multiplied .ensures)
+add-closing c = closing-fits _ _ _ _ _ _ _ _ (c .before .before .before .before .before .before .before .before .before .before .before .before .before .pre) _ _ _ (c .before .before .before .before .before .loop-test .taken) (c .before .before .before .before .before .before .loop .inv) _ (c .before .before .profit-at .ensures) _ (pos 0) (c .multiplied .ensures)
 
--- src/balances.rt:48:20
 multiplied-requires-2 : tie.Need-multiplied-requires-2 Inv-loop μ-loop
-multiplied-requires-2 c κs = (
-  holding-bits _ _ _ _ (c .before .before .before .before .before .before .before .before .before .before .pre) _ _ _ (c .before .before .before .before .before .before .loop-test .taken) (c .before .before .before .before .before .before .before .loop .inv) _ (c .before .before .before .profit-of .ensures),
-  c .before .before .before .before .before .before .before .before .before .before .pre .multiplier _ (c .before .before .before .before .before .before .loop-test .taken),
-)
+multiplied-requires-2 c κs = (holding-bits _ _ _ _ _ _ _ _ (c .before .before .before .before .before .before .before .before .before .before .before .before .before .before .pre) _ _ _ (c .before .before .before .before .before .before .loop-test .taken) (c .before .before .before .before .before .before .before .loop .inv) _ (c .before .before .before .profit-at .ensures), c .before .before .before .before .before .before .before .before .before .before .before .before .before .before .pre .multiplier _ (c .before .before .before .before .before .before .loop-test .taken))
 
--- src/balances.rt:48:9
 add-holding : tie.Need-add-holding Inv-loop μ-loop
-add-holding c = holding-fits _ _ _ _ (c .before .before .before .before .before .before .before .before .before .before .before .pre) _ _ _ (c .before .before .before .before .before .before .before .loop-test .taken) (c .before .before .before .before .before .before .before .before .loop .inv) _ (c .before .before .before .before .profit-of .ensures) _ _ (c .before .before .multiplied .ensures) (c .multiplied2 .ensures)
+add-holding c = holding-fits _ _ _ _ _ _ _ _ (c .before .before .before .before .before .before .before .before .before .before .before .before .before .before .before .pre) _ _ _ (c .before .before .before .before .before .before .before .loop-test .taken) (c .before .before .before .before .before .before .before .before .loop .inv) _ (c .before .before .before .before .profit-at .ensures) _ _ (c .before .before .multiplied .ensures) (c .multiplied2 .ensures)
 
--- src/balances.rt:49:9
 add-c : tie.Need-add-c Inv-loop μ-loop
 add-c c = omega arith
 
--- src/balances.rt:40:5
 loop-less : tie.Need-loop-less Inv-loop μ-loop
 loop-less c = omega arith
 
--- src/balances.rt:40:5
 loop-again : tie.Need-loop-again Inv-loop μ-loop
-loop-again c = totalling-more _ _ _ _ (c .before .before .before .before .before .before .before .before .before .before .before .pre) _ _ _ (c .before .before .before .before .before .before .before .loop-test .taken) (c .before .before .before .before .before .before .before .before .loop .inv) _ (c .before .before .before .before .profit-of .ensures) _ _ (c .before .before .multiplied .ensures) (c .multiplied2 .ensures)
+loop-again c = totalling-more _ _ _ _ _ _ _ _ (c .before .before .before .before .before .before .before .before .before .before .before .before .before .before .before .pre) _ _ _ (c .before .before .before .before .before .before .before .loop-test .taken) (c .before .before .before .before .before .before .before .before .loop .inv) _ (c .before .before .before .before .profit-at .ensures) _ _ (c .before .before .multiplied .ensures) (c .multiplied2 .ensures)
 
--- src/balances.rt:29:1
 returns : tie.Need-returns Inv-loop μ-loop
-returns c = totalling-done _ _ _ _ (c .before .before .before .before .pre) _ _ _ (c .loop-test .left) (c .before .loop .inv)
+returns c = totalling-done _ _ _ _ _ _ _ _ (c .before .before .before .before .before .before .before .before .pre) _ _ _ (c .loop-test .left) (c .before .loop .inv)
 
 pub total-spec : {M : Type 1} → statement M
 total-spec =
@@ -107,7 +75,6 @@ total-spec =
     (tie.spec
     Inv-loop
     μ-loop
-    cast-account
     mul-holder
     element-copy-out-holder
     loop-holds
@@ -117,8 +84,7 @@ total-spec =
     element-copy-out-h
     mul-price
     array-read-price
-    cast-profit-of
-    profit-of-requires
+    profit-at-requires
     multiplied-requires
     add-closing
     multiplied-requires-2

@@ -1,3 +1,4 @@
+-- `settlement::balances::with_profit` meets its contract: two sums that fit. Assumes nothing.
 use native.Mathlib.Omega.{arith}
 use Rattle.laws.proofs.Signed.{add-fits}
 use Rattle.settlement.proofs.Carrying.{balance-fits, balance-back}
@@ -6,15 +7,12 @@ use Rattle.settlement.proofs.balances.with_profit.Tie as tie
 use Rattle.settlement.proofs.balances.with_profit.Reads as reads
 use Rattle.settlement.proofs.balances.with_profit.Lts as lts
 
--- src/balances.rt:85:16
 add-result : tie.Need-add-result
 add-result c = add-fits (c .pre .1) (c .pre .2) (omega arith)
 
--- src/balances.rt:85:5
 add-result-2 : tie.Need-add-result-2
 add-result-2 c = balance-fits _ _ _ (c .pre .0) (c .pre .1) (c .pre .2)
 
--- src/balances.rt:81:1
 returns : tie.Need-returns
 returns c = balance-back _ _ _ (c .pre .0) (c .pre .1) (c .pre .2)
 

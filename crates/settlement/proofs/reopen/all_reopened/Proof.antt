@@ -1,3 +1,4 @@
+-- `settlement::reopen::all_reopened` meets its contract: the first places hold reopened contracts. Assumes nothing.
 use mathlib.Core.Path.{_≡_, sym, _∙_}
 use Prim.Native.Nat.{_-_}
 use native.Mathlib.Omega.{arith}
@@ -24,51 +25,39 @@ abbrev μ-loop : tie.MeasureT-loop
 four : (c : tie.Start Inv-loop μ-loop) → length (c .args .t1) ≡ 4
 four c = search (needs, unmapped)
 
--- src/reopen.rt:30:5
 loop-holds : tie.Need-loop-holds Inv-loop μ-loop
 loop-holds c = writing-none _ _ _
 
--- src/reopen.rt:31:24
 mul-contract : tie.Need-mul-contract Inv-loop μ-loop
 mul-contract c = omega arith
 
--- src/reopen.rt:31:24
 array-copy-out-contract : tie.Need-array-copy-out-contract Inv-loop μ-loop
 array-copy-out-contract c = omega arith
 
--- src/reopen.rt:32:21
 mul-price : tie.Need-mul-price Inv-loop μ-loop
 mul-price c = omega arith
 
--- src/reopen.rt:32:21
 array-read-price : tie.Need-array-read-price Inv-loop μ-loop
 array-read-price c = omega arith
 
--- src/reopen.rt:33:19
 reopened-requires : tie.Need-reopened-requires Inv-loop μ-loop
 reopened-requires c κs = search needs
 
--- src/reopen.rt:33:9
 mul-next : tie.Need-mul-next Inv-loop μ-loop
 mul-next c = omega arith
 
--- src/reopen.rt:33:9
 array-set-from-next : tie.Need-array-set-from-next Inv-loop μ-loop
 array-set-from-next c = omega arith
 
--- src/reopen.rt:34:9
 add-c : tie.Need-add-c Inv-loop μ-loop
 add-c c = omega arith
 
--- src/reopen.rt:30:5
 loop-less : tie.Need-loop-less Inv-loop μ-loop
 loop-less c = omega arith
 
--- src/reopen.rt:30:5
 loop-again : tie.Need-loop-again Inv-loop μ-loop
 loop-again c = writing-more _ _ _ (omega (arith, four (c .before .before .before .before))) _ _ _ (c .before .before .loop-test .taken) (c .reopened .ensures) (c .before .before .before .loop .inv)
 
--- src/reopen.rt:24:1
 returns : tie.Need-returns Inv-loop μ-loop
 returns c = writing-done _ _ _ _ _ (c .loop-test .left) (c .before .loop .inv) ∙ sym (written-first _ _ _)
 

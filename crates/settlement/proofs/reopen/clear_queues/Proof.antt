@@ -1,3 +1,4 @@
+-- `settlement::reopen::clear_queues` meets its contract: the queues of the contracts so far are empty. Assumes nothing.
 use Prim.Native.Nat.{_-_}
 use native.Mathlib.Omega.{arith}
 use borrow.Author.Needs.{needs}
@@ -14,67 +15,51 @@ Inv-loop area₀ contracts counts c₀ area c = Clearing area₀ counts contract
 abbrev μ-loop : tie.MeasureT-loop
 μ-loop area₀ contracts counts c₀ area c = contracts - c
 
--- src/reopen.rt:59:5
 loop-holds : tie.Need-loop-holds Inv-loop μ-loop
 loop-holds c = clearing-none _ _ _
 
--- src/reopen.rt:60:21
 mul-count : tie.Need-mul-count Inv-loop μ-loop
 mul-count c = omega arith
 
--- src/reopen.rt:60:21
 array-read-count : tie.Need-array-read-count Inv-loop μ-loop
 array-read-count c = omega arith
 
--- src/reopen.rt:61:17
 mul-a : tie.Need-mul-a Inv-loop μ-loop
 mul-a c = omega arith
 
--- src/reopen.rt:62:21
 mul-e : tie.Need-mul-e Inv-loop μ-loop
 mul-e c = omega (arith, c .before .before .before .pre .counts _ (c .loop-test .taken))
 
--- src/reopen.rt:62:17
 add-e : tie.Need-add-e Inv-loop μ-loop
 add-e c = omega (arith, c .before .before .before .pre .counts _ (c .loop-test .taken))
 
--- src/reopen.rt:63:22
 mul-clear : tie.Need-mul-clear Inv-loop μ-loop
 mul-clear c = omega arith
 
--- src/reopen.rt:63:22
 sub-clear : tie.Need-sub-clear Inv-loop μ-loop
 sub-clear c = omega arith
 
--- src/reopen.rt:63:22
 part-clear-start : tie.Need-part-clear-start Inv-loop μ-loop
 part-clear-start c = search needs
 
--- src/reopen.rt:63:22
 part-clear-end : tie.Need-part-clear-end Inv-loop μ-loop
 part-clear-end c = omega (arith, c .before .before .before .pre .counts _ (c .loop-test .taken))
 
--- src/reopen.rt:63:9
 clear-requires : tie.Need-clear-requires Inv-loop μ-loop
 clear-requires c κs = search needs
 
--- src/reopen.rt:64:9
 add-c : tie.Need-add-c Inv-loop μ-loop
 add-c c = omega arith
 
--- src/reopen.rt:59:5
 loop-less : tie.Need-loop-less Inv-loop μ-loop
 loop-less c = omega arith
 
--- src/reopen.rt:59:5
 loop-again : tie.Need-loop-again Inv-loop μ-loop
 loop-again c = clearing-more _ _ _ (c .before .before .before .before .before .before .before .pre) _ _ (c .before .before .before .before .loop-test .taken) (c .before .before .before .before .before .loop .inv) _ (c .before .before .clear .ensures)
 
--- src/reopen.rt:54:1
 same-length : tie.Need-same-length Inv-loop μ-loop
 same-length c = c .before .loop .inv .long
 
--- src/reopen.rt:54:1
 returns : tie.Need-returns Inv-loop μ-loop
 returns c = clearing-done _ _ _ _ _ (c .loop-test .left) (c .before .loop .inv)
 

@@ -1,3 +1,4 @@
+-- `settlement::reopen::no_orders` meets its contract: the first places are 0. Assumes nothing.
 use mathlib.Core.Path.{_≡_, refl, sym, _∙_}
 use Prim.Native.Nat.{_-_}
 use native.Mathlib.Omega.{arith}
@@ -21,31 +22,24 @@ abbrev μ-loop : tie.MeasureT-loop
 four : (c : tie.Start Inv-loop μ-loop) → length (c .args .counts) ≡ 4
 four c = search (needs, unmapped)
 
--- src/reopen.rt:46:5
 loop-holds : tie.Need-loop-holds Inv-loop μ-loop
 loop-holds c = writing-none _ _ _
 
--- src/reopen.rt:47:9
 mul-next : tie.Need-mul-next Inv-loop μ-loop
 mul-next c = omega arith
 
--- src/reopen.rt:47:9
 array-write-next : tie.Need-array-write-next Inv-loop μ-loop
 array-write-next c = omega arith
 
--- src/reopen.rt:48:9
 add-c : tie.Need-add-c Inv-loop μ-loop
 add-c c = omega arith
 
--- src/reopen.rt:46:5
 loop-less : tie.Need-loop-less Inv-loop μ-loop
 loop-less c = omega arith
 
--- src/reopen.rt:46:5
 loop-again : tie.Need-loop-again Inv-loop μ-loop
 loop-again c = writing-more _ _ _ (omega (arith, four (c .before .before))) _ _ _ (c .loop-test .taken) refl (c .before .loop .inv)
 
--- src/reopen.rt:40:1
 returns : tie.Need-returns Inv-loop μ-loop
 returns c = writing-done _ _ _ _ _ (c .loop-test .left) (c .before .loop .inv) ∙ sym (written-first _ _ _)
 

@@ -1,3 +1,4 @@
+-- `settlement::reopen::reopened` meets its contract: by the definition. Assumes nothing.
 use borrow.Author.Needs.{needs}
 use Rattle.rules.specs.Settlement.{settledContract}
 use Rattle.settlement.proofs.reopen.reopened.Statement.{statement}
@@ -5,7 +6,6 @@ use Rattle.settlement.proofs.reopen.reopened.Tie as tie
 use Rattle.settlement.proofs.reopen.reopened.Reads as reads
 use Rattle.settlement.proofs.reopen.reopened.Lts as lts
 
--- src/reopen.rt:15:1
 returns : tie.Need-returns
 unfolding settledContract
 returns c = search needs

@@ -1,3 +1,4 @@
+-- `settlement::settle::charges` meets its contract: the charges of the accounts so far. Assumes nothing.
 use Prim.Native.Nat.{_-_}
 use native.Mathlib.Omega.{arith}
 use Rattle.settlement.proofs.Report.{ChargesSoFar, charges-none, charges-more, charges-done}
@@ -13,43 +14,33 @@ Inv-loop state buys sells accounts holders terms bids offers charged₀ a₀ cha
 abbrev μ-loop : tie.MeasureT-loop
 μ-loop state buys sells accounts holders terms bids offers charged₀ a₀ charged a = accounts - a
 
--- src/settle.rt:67:5
 loop-holds : tie.Need-loop-holds Inv-loop μ-loop
 loop-holds c = charges-none _ _ _
 
--- src/settle.rt:68:22
 mul-holder : tie.Need-mul-holder Inv-loop μ-loop
 mul-holder c = omega arith
 
--- src/settle.rt:68:22
 array-copy-out-holder : tie.Need-array-copy-out-holder Inv-loop μ-loop
 array-copy-out-holder c = omega arith
 
--- src/settle.rt:70:22
 charged-requires : tie.Need-charged-requires Inv-loop μ-loop
 charged-requires c κs = c .before .before .before .before .before .before .before .before .before .before .pre .each _ (c .before .before .loop-test .taken)
 
--- src/settle.rt:70:9
 mul-charged : tie.Need-mul-charged Inv-loop μ-loop
 mul-charged c = omega arith
 
--- src/settle.rt:70:9
 array-write-charged : tie.Need-array-write-charged Inv-loop μ-loop
 array-write-charged c = omega arith
 
--- src/settle.rt:80:9
 add-a : tie.Need-add-a Inv-loop μ-loop
 add-a c = omega arith
 
--- src/settle.rt:67:5
 loop-less : tie.Need-loop-less Inv-loop μ-loop
 loop-less c = omega arith
 
--- src/settle.rt:67:5
 loop-again : tie.Need-loop-again Inv-loop μ-loop
 loop-again c = charges-more _ _ _ (c .before .before .before .before .before .before .before .before .before .before .before .pre) _ _ _ (c .before .before .before .loop-test .taken) (c .charged .ensures) (c .before .before .before .before .loop .inv)
 
--- src/settle.rt:56:1
 returns : tie.Need-returns Inv-loop μ-loop
 returns c = charges-done _ _ _ _ _ (c .loop-test .left) (c .before .loop .inv)
 

@@ -1,3 +1,4 @@
+-- `settlement::settle::next_day` meets its contract: by its parts. Assumes nothing.
 use Rattle.settlement.proofs.Outcome.{next-day-is}
 use borrow.Author.Needs.{needs}
 use Rattle.settlement.proofs.settle.next_day.Statement.{statement}
@@ -7,23 +8,18 @@ use Rattle.settlement.proofs.settle.next_day.Lts as lts
 use Rattle.settlement.proofs.reopen.all_reopened.Reads as all-reopened-reads
 use Rattle.settlement.proofs.reopen.no_orders.Reads as no-orders-reads
 
--- src/settle.rt:71:9
 all-reopened-requires : tie.Need-all-reopened-requires
 all-reopened-requires c κs = search needs
 
--- src/settle.rt:72:9
 no-orders-requires : tie.Need-no-orders-requires
 no-orders-requires c κs = search needs
 
--- src/settle.rt:73:9
 no-orders-requires-2 : tie.Need-no-orders-requires-2
 no-orders-requires-2 c κs = search needs
 
--- src/settle.rt:83:22
 add-t11 : tie.Need-add-t11
 add-t11 c = search needs
 
--- src/settle.rt:63:1
 returns : tie.Need-returns
 returns c = next-day-is (c .before .before .before .before .before .before .before .args .state) (c .before .before .before .before .before .before .before .args .accounts) (c .before .before .before .before .before .before .before .args .prices) _ _ _ (c .before .before .before .all-reopened .ensures) (c .before .before .no-orders .ensures) (c .before .no-orders2 .ensures)
 

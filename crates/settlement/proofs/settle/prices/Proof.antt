@@ -1,3 +1,4 @@
+-- `settlement::settle::prices` meets its contract: the prices of the contracts so far. Assumes nothing.
 use Prim.Native.Nat.{_-_, _≤_}
 use native.Mathlib.Omega.{arith}
 use Rattle.laws.specs.Written.{writing-none, writing-more}
@@ -19,59 +20,45 @@ abbrev μ-loop : tie.MeasureT-loop
 few : (c : tie.Start Inv-loop μ-loop) → c .args .t1 .contractcount ≤ 4
 few c = contracts-four _ (accounts-declared _ (c .pre .state .declared) (c .pre .state .formed)) (c .pre .state .formed)
 
--- src/settle.rt:33:5
 loop-holds : tie.Need-loop-holds Inv-loop μ-loop
 loop-holds c = writing-none _ _ _
 
--- src/settle.rt:34:24
 mul-contract : tie.Need-mul-contract Inv-loop μ-loop
 mul-contract c = omega (arith, few (c .before .before .before .before .before))
 
--- src/settle.rt:34:24
 element-copy-out-contract : tie.Need-element-copy-out-contract Inv-loop μ-loop
 element-copy-out-contract c = omega (arith, few (c .before .before .before .before .before))
 
--- src/settle.rt:35:24
 mul-buycount : tie.Need-mul-buycount Inv-loop μ-loop
 mul-buycount c = omega (arith, few (c .before .before .before .before .before .before))
 
--- src/settle.rt:35:24
 element-copy-out-buycount : tie.Need-element-copy-out-buycount Inv-loop μ-loop
 element-copy-out-buycount c = omega (arith, few (c .before .before .before .before .before .before))
 
--- src/settle.rt:36:25
 mul-sellcount : tie.Need-mul-sellcount Inv-loop μ-loop
 mul-sellcount c = omega (arith, few (c .before .before .before .before .before .before .before))
 
--- src/settle.rt:36:25
 element-copy-out-sellcount : tie.Need-element-copy-out-sellcount Inv-loop μ-loop
 element-copy-out-sellcount c = omega (arith, few (c .before .before .before .before .before .before .before))
 
--- src/settle.rt:37:21
 settlement-price-requires : tie.Need-settlement-price-requires Inv-loop μ-loop
 settlement-price-requires c κs = priceable _ (accounts-declared _ (c .before .before .before .before .before .before .before .before .pre .state .declared) (c .before .before .before .before .before .before .before .before .pre .state .formed)) (c .before .before .before .before .before .before .before .before .pre .state .formed) _ (c .before .before .before .loop-test .taken)
 
--- src/settle.rt:37:9
 mul-prices : tie.Need-mul-prices Inv-loop μ-loop
 mul-prices c = omega (arith, few (c .before .before .before .before .before .before .before .before .before))
 
--- src/settle.rt:37:9
 array-write-prices : tie.Need-array-write-prices Inv-loop μ-loop
 array-write-prices c = omega (arith, few (c .before .before .before .before .before .before .before .before .before))
 
--- src/settle.rt:38:9
 add-c : tie.Need-add-c Inv-loop μ-loop
 add-c c = omega (arith, few (c .before .before .before .before .before .before .before .before .before))
 
--- src/settle.rt:33:5
 loop-less : tie.Need-loop-less Inv-loop μ-loop
 loop-less c = omega arith
 
--- src/settle.rt:33:5
 loop-again : tie.Need-loop-again Inv-loop μ-loop
 loop-again c = writing-more _ _ _ (few (c .before .before .before .before .before .before .before .before .before)) _ _ _ (c .before .before .before .before .loop-test .taken) (price-in-use _ _ (c .before .before .before .before .loop-test .taken) _ (c .settlement-price .ensures)) (c .before .before .before .before .before .loop .inv)
 
--- src/settle.rt:25:1
 returns : tie.Need-returns Inv-loop μ-loop
 returns c = prices-done _ _ _ (c .loop-test .left) (c .before .loop .inv)
 

@@ -1,3 +1,4 @@
+-- `settlement::settle::settle` meets its contract: the parts make the state of the next day and the report. Assumes nothing.
 use Rattle.settlement.proofs.Outcome.{settlements-left, few-contracts, all-clearable, all-payable, all-chargeable, settled-is}
 use borrow.Author.Needs.{needs}
 use Rattle.settlement.proofs.settle.settle.Statement.{statement}
@@ -10,39 +11,30 @@ use Rattle.settlement.proofs.settle.charges.Reads as charges-reads
 use Rattle.settlement.proofs.settle.next_day.Reads as next-day-reads
 use Rattle.settlement.proofs.settle.prices.Reads as prices-reads
 
--- src/settle.rt:91:9
 prices-requires : tie.Need-prices-requires
 prices-requires c κs = search needs
 
--- src/settle.rt:92:9
 all-paid-requires : tie.Need-all-paid-requires
 all-paid-requires c κs = all-payable _ _ _ _ (c .before .before .before .before .before .before .before .before .pre) _ (c .before .prices .ensures)
 
--- src/settle.rt:96:5
 clear-areas-requires : tie.Need-clear-areas-requires
 clear-areas-requires c κs = all-clearable _ _ _ _ (c .before .before .before .before .before .before .before .before .before .before .before .before .before .before .before .pre)
 
--- src/settle.rt:97:9
 next-day-requires : tie.Need-next-day-requires
 next-day-requires c κs = (few-contracts _ _ _ _ (c .before .before .before .before .before .before .before .before .before .before .before .before .before .before .before .before .before .before .before .before .before .before .pre), settlements-left _ _ _ _ (c .before .before .before .before .before .before .before .before .before .before .before .before .before .before .before .before .before .before .before .before .before .before .pre))
 
--- src/settle.rt:98:9
 charges-requires : tie.Need-charges-requires
 charges-requires c κs = all-chargeable _ _ _ _ (c .before .before .before .before .before .before .before .before .before .before .before .before .before .before .before .before .before .before .before .before .before .before .before .before .before .pre) _ (c .before .before .before .before .before .before .before .before .before .before .before .before .before .before .before .before .before .before .prices .ensures) _ (c .before .before .before .before .before .before .before .before .before .before .before .before .before .before .before .before .all-paid .ensures .accounts) _ _ _ (c .before .before .before .before .before .before .before .before .before .clear-areas .ensures) _ (c .before .before .next-day .ensures)
 
--- src/settle.rt:87:1
 same-length : tie.Need-same-length
 same-length c = search needs
 
--- src/settle.rt:87:1
 same-length-2 : tie.Need-same-length-2
 same-length-2 c = search needs
 
--- src/settle.rt:87:1
 same-length-3 : tie.Need-same-length-3
 same-length-3 c = search needs
 
--- src/settle.rt:87:1
 returns : tie.Need-returns
 returns c = settled-is _ _ _ _ (c .before .before .before .before .before .before .before .before .before .before .before .before .before .before .before .before .before .before .before .before .before .before .before .before .before .before .pre) _ (c .before .before .before .before .before .before .before .before .before .before .before .before .before .before .before .before .before .before .before .prices .ensures) _ (c .before .before .before .before .before .before .before .before .before .before .before .before .before .before .before .before .before .all-paid .ensures .accounts) _ _ _ (c .before .before .before .before .before .before .before .before .before .before .clear-areas .ensures) _ _ _ _ (c .before .before .before .next-day .ensures) (c .before .before .before .before .before .before .before .before .before .before .before .before .before .before .before .before .before .all-paid .ensures) (c .charges .ensures)
 

@@ -5,7 +5,7 @@ use mathlib.Core.List.{List}
 use Prim.Native.Nat.{ℕ}
 use borrow.Author.Tests.{not-false}
 use Rattle.areas.specs.Lists.{over}
-use Rattle.audit.proofs.Chains.{passed, refused}
+use Rattle.laws.specs.Tests.{passed, refused}
 use Rattle.statements.proofs.Answering.{told-27, told-29, told-0}
 use Rattle.statements.proofs.Days.{replayable, covered-is, profitable, few-legs, statement-length, told-is, tellable}
 use Rattle.statements.proofs.Sections.{few-entries}
@@ -17,7 +17,7 @@ use Rattle.statements.proofs.broker.tell.Lts as lts
 use Rattle.statements.proofs.broker.with_clients.Reads as with-clients-reads
 use Rattle.statements.proofs.profits.books.Reads as books-reads
 use Rattle.statements.proofs.refused.Reads as refused-reads
-use Rattle.clients.proofs.replay.replay.Reads as replay-reads
+use Rattle.replaying.proofs.replay.Reads as replay-reads
 use Rattle.clients.proofs.starts.client_accounts.Reads as client-accounts-reads
 use Rattle.statements.proofs.writing.put_statement.Reads as put-statement-reads
 

@@ -5,7 +5,7 @@ use Rattle.statements.proofs.writing.put_holding.Statement.{statement}
 use Rattle.statements.proofs.writing.put_holding.Tie as tie
 use Rattle.statements.proofs.writing.put_holding.Reads as reads
 use Rattle.statements.proofs.writing.put_holding.Lts as lts
-use Rattle.mending.proofs.bytes.put_u32.Reads as put-u32-reads
+use Rattle.endian.proofs.writing.put_u32.Reads as put-u32-reads
 
 put-u32-requires : tie.Need-put-u32-requires
 put-u32-requires c κs = search needs

@@ -1,0 +1,37 @@
+-- `endian::writing::put_u16` meets its contract: the low half, then the high half. Assumes nothing.
+use Rattle.endian.proofs.Writes.{two-bytes}
+use borrow.Author.Needs.{needs}
+use Rattle.endian.proofs.writing.put_u16.Statement.{statement}
+use Rattle.endian.proofs.writing.put_u16.Tie as tie
+use Rattle.endian.proofs.writing.put_u16.Reads as reads
+use Rattle.endian.proofs.writing.put_u16.Lts as lts
+use Rattle.endian.proofs.writing.put_byte.Reads as put-byte-reads
+
+cast-put-byte : tie.Need-cast-put-byte
+cast-put-byte c = search needs
+
+put-byte-requires : tie.Need-put-byte-requires
+put-byte-requires c κs = search needs
+
+cast-put-byte-2 : tie.Need-cast-put-byte-2
+cast-put-byte-2 c = search needs
+
+put-byte-requires-2 : tie.Need-put-byte-requires-2
+put-byte-requires-2 c κs = search needs
+
+same-length : tie.Need-same-length
+same-length c = search needs
+
+returns : tie.Need-returns
+returns c = two-bytes _ (c .before .before .before .before .before .before .put-byte .ensures) (c .before .before .put-byte2 .ensures)
+
+pub put-u16-spec : {M : Type 1} → statement M
+put-u16-spec =
+    tie.close
+    (tie.spec
+    cast-put-byte
+    put-byte-requires
+    cast-put-byte-2
+    put-byte-requires-2
+    same-length
+    returns)

@@ -1,0 +1,31 @@
+-- `endian::writing::put_u64` meets its contract: the low half, then the high half. Assumes nothing.
+use Rattle.endian.proofs.Writes.{eight-bytes}
+use borrow.Author.Needs.{needs}
+use Rattle.endian.proofs.writing.put_u64.Statement.{statement}
+use Rattle.endian.proofs.writing.put_u64.Tie as tie
+use Rattle.endian.proofs.writing.put_u64.Reads as reads
+use Rattle.endian.proofs.writing.put_u64.Lts as lts
+use Rattle.endian.proofs.writing.put_u32.Reads as put-u32-reads
+
+cast-put-u32 : tie.Need-cast-put-u32
+cast-put-u32 c = search needs
+
+put-u32-requires : tie.Need-put-u32-requires
+put-u32-requires c κs = search needs
+
+cast-put-u32-2 : tie.Need-cast-put-u32-2
+cast-put-u32-2 c = search needs
+
+put-u32-requires-2 : tie.Need-put-u32-requires-2
+put-u32-requires-2 c κs = search needs
+
+same-length : tie.Need-same-length
+same-length c = search needs
+
+returns : tie.Need-returns
+returns c = eight-bytes _ (c .before .before .before .before .before .before .put-u32 .ensures) (c .before .before .put-u322 .ensures)
+
+pub put-u64-spec : {M : Type 1} → statement M
+put-u64-spec =
+    tie.close
+    (tie.spec cast-put-u32 put-u32-requires cast-put-u32-2 put-u32-requires-2 same-length returns)

@@ -1,0 +1,60 @@
+// Bytes and little-endian numbers written into a lent area. Each call gives the place after what it wrote. For the
+// crates of this repository: each requires room.
+ghost use mathlib.Core.List.{[], _∷_};
+ghost use Prim.Native.Nat.{_+_, _≤_};
+ghost use lib.ListN.{length, take, drop};
+ghost use Rattle.endian.specs.Numbers.{two, four, eight};
+ghost use Rattle.endian.specs.Written.{Written};
+
+pub fn put_byte(out: &mut [u8], at: usize, byte: u8) -> usize
+    requires { ⌜ at + 1 ≤ length (now out) ⌝ }
+    ensures { λ r. ⌜ Written 1 (now (out .entry)) at (byte ∷ []) (now (out .exit)) r ⌝ }
+{
+    out[at] = byte;
+    at + 1
+}
+
+pub fn put_u16(out: &mut [u8], at: usize, n: u16) -> usize
+    requires { ⌜ at + 2 ≤ length (now out) ⌝ }
+    ensures { λ r. ⌜ Written 2 (now (out .entry)) at (two n) (now (out .exit)) r ⌝ }
+{
+    let low = n % 256;
+    let high = n / 256;
+    let next = put_byte(out, at, low as u8);
+    put_byte(out, next, high as u8)
+}
+
+pub fn put_u32(out: &mut [u8], at: usize, n: u32) -> usize
+    requires { ⌜ at + 4 ≤ length (now out) ⌝ }
+    ensures { λ r. ⌜ Written 4 (now (out .entry)) at (four n) (now (out .exit)) r ⌝ }
+{
+    let low = n % 65536;
+    let high = n / 65536;
+    let next = put_u16(out, at, low as u16);
+    put_u16(out, next, high as u16)
+}
+
+pub fn put_u64(out: &mut [u8], at: usize, n: u64) -> usize
+    requires { ⌜ at + 8 ≤ length (now out) ⌝ }
+    ensures { λ r. ⌜ Written 8 (now (out .entry)) at (eight n) (now (out .exit)) r ⌝ }
+{
+    let low = n % 4294967296;
+    let high = n / 4294967296;
+    let next = put_u32(out, at, low as u32);
+    put_u32(out, next, high as u32)
+}
+
+// The n bytes of the file from `from` on.
+pub fn put_part(out: &mut [u8], at: usize, file: &[u8], from: usize, n: usize) -> usize
+    requires { ⌜ (at + n ≤ length (now out)) × (from + n ≤ length (now file)) ⌝ }
+    ensures { λ r. ⌜ Written n (now (out .entry)) at (take n (drop from (now (file .entry)))) (now (out .exit)) r ⌝ }
+{
+    let mut next = at;
+    let mut i: usize = 0;
+    while i < n {
+        let byte = file[from + i];
+        next = put_byte(out, next, byte);
+        i += 1;
+    }
+    next
+}

@@ -1,0 +1,65 @@
+-- `query::gettable_record` meets its contract: code 21 by the audit, code 1 where the record is no insert, all else by `reading_of`.
+-- Assumes nothing.
+use mathlib.Core.Bool.{true}
+use mathlib.Core.Path.{_≡_, sym, ap, _∙_}
+use borrow.Author.Tests.{not-true, not-false}
+use borrow.Author.Needs.{needs}
+use denote.Ref.{now}
+use Rattle.rules.specs.Command.{isInsert}
+use Rattle.rules.specs.Memory.{wellFormedMemory, memory}
+use Rattle.rules.proofs.EachKind.{other-kind}
+use Rattle.engine.proofs.Declared.{declared}
+use Rattle.query.proofs.Asking.{an-insert, no-insert, not-formed}
+use Rattle.query.proofs.gettable_record.Statement.{statement}
+use Rattle.query.proofs.gettable_record.Tie as tie
+use Rattle.query.proofs.gettable_record.Reads as reads
+use Rattle.query.proofs.gettable_record.Lts as lts
+use Rattle.audit.proofs.well_formed.Reads as well-formed-reads
+use Rattle.commands.proofs.command_of.Reads as command-of-reads
+use Rattle.query.proofs.reading_of.Reads as reading-of-reads
+use Rattle.query.proofs.refused.Reads as refused-reads
+
+-- the test passed
+sound : (c : tie.Else1) → wellFormedMemory (memory (c .before .before .before .before .before .args .state) (now (c .before .before .before .before .before .args .buys)) (now (c .before .before .before .before .before .args .sells)) (now (c .before .before .before .before .before .args .trades))) ≡ true
+sound c = sym (c .before .well-formed .ensures) ∙ not-false (c .before .well-formed .result) (c .if1 .left)
+
+well-formed-requires : tie.Need-well-formed-requires
+well-formed-requires c κs = search needs
+
+refused-requires : tie.Need-refused-requires
+refused-requires c κs = search needs
+
+returns : tie.Need-returns
+returns c = c .refused .ensures ∙ not-formed _ _ (sym (c .before .before .well-formed .ensures) ∙ not-true (c .before .before .well-formed .result) (c .before .if1 .taken))
+
+command-of-requires : tie.Need-command-of-requires
+command-of-requires c κs = search needs
+
+enum-known-command : tie.Need-enum-known-command
+enum-known-command c = search needs
+
+refused-requires-2 : tie.Need-refused-requires-2
+refused-requires-2 c κs = search needs
+
+returns-2 : tie.Need-returns-2
+returns-2 c = c .refused2 .ensures ∙ no-insert _ _ (sound (c .before .before .before)) (ap isInsert (sym (c .before .before .command-of .ensures)) ∙ other-kind 3 tt (c .before .before .command-of .result) (c .before .match .keys2))
+
+reading-of-requires : tie.Need-reading-of-requires
+reading-of-requires c κs = record { declared = declared (c .before .before .before .before .before .before .before .before .before .good .0); formed = sound (c .before .before .before .before) }
+
+returns-3 : tie.Need-returns-3
+returns-3 c = an-insert _ _ (sound (c .before .before .before .before .before)) (sym (c .before .before .before .before .command-of .ensures) ∙ c .before .before .command .given .1) (c .reading-of .ensures)
+
+pub gettable-record-spec : {M : Type 1} → statement M
+gettable-record-spec =
+    tie.close
+    (tie.spec
+    well-formed-requires
+    refused-requires
+    returns
+    command-of-requires
+    enum-known-command
+    refused-requires-2
+    returns-2
+    reading-of-requires
+    returns-3)

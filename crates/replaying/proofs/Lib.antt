@@ -1,0 +1,4 @@
+pub mod Started
+pub mod Trades
+pub mod Turns
+pub mod UsedLegs

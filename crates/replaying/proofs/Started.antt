@@ -1,0 +1,29 @@
+-- The accounts as they stood at the start of the day: their number, their holdings, and those in use. Assumes nothing.
+use mathlib.Core.List.{List, [], _∷_}
+use mathlib.Core.Path.{_≡_, refl, ap, ap₂, _∙_}
+use Prim.Native.Nat.{ℕ, zero, suc}
+use lib.ListN.{length, getD, length-map, List·getD-map}
+use Rattle.laws.specs.Lists.{take-map}
+use Rattle.rules.specs.Exchange.{accountAt, holdingAt, noAccount, noHolding}
+use Rattle.rules.specs.Holdings.{startAccount, startHolding, startOfDay}
+use Rattle.rules.specs.Memory.{used}
+use Rattle.rules.specs.declared.Account.{Account}
+use Rattle.rules.specs.declared.Holding.{Holding}
+
+pub length-day : (l : List Account) → length (startOfDay l) ≡ length l
+unfolding startOfDay
+length-day l = length-map l startAccount
+
+pub start-at : (l : List Account) (a c : ℕ) → holdingAt (startOfDay l) a c ≡ startHolding (holdingAt l a c)
+unfolding startOfDay holdingAt accountAt
+start-at l a c =
+    ap (λ (x : Account). getD (x .holdings) c noHolding) (List·getD-map startAccount l a noAccount)
+    ∙ List·getD-map startHolding (getD l a noAccount .holdings) c noHolding
+
+module _ (k : ℕ) where
+  pub used-day : (n : ℕ) (l : List Account) → used k n (startOfDay l) ≡ startOfDay (used k n l)
+  unfolding startOfDay
+  used-day zero l = refl
+  used-day (suc n) [] = refl
+  used-day (suc n) (a ∷ l) =
+      ap₂ (λ (hs : List Holding) (xs : List Account). record { balance = a .balance; maker = a .maker; holdings = hs } ∷ xs) (take-map startHolding k (a .holdings)) (used-day n l)

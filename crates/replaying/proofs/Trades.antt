@@ -1,0 +1,21 @@
+-- Recorded trades read in turn from their area. Assumes nothing.
+use mathlib.Core.List.{List, [], _∷_}
+use mathlib.Core.Path.{_≡_, sym, subst, ap, _∙_}
+use Prim.Native.Nat.{ℕ, _+_, _*_, _<_, _≤_}
+use native.Mathlib.Numerals.{add-one}
+use lib.ListN.{length, getD, drop, drop-of-length-le}
+use lib.Seq.{drop-cons}
+use Rattle.rules.specs.Exchange.{noTrade}
+use Rattle.rules.specs.Memory.{tradeFrom, recordedTrades, tradeStride}
+use Rattle.rules.specs.declared.Trade.{Trade}
+use Rattle.rules.proofs.Codecs.{length-trades, trade-at}
+use Rattle.replaying.specs.Parts.{Booked}
+
+module _ (area : List ℕ) (n i : ℕ) where
+  pub next-trade : {t : Trade} → i < n → t ≡ tradeFrom (drop (tradeStride * i) area) → drop i (recordedTrades area n) ≡ t ∷ drop (i + 1) (recordedTrades area n)
+  next-trade {t} h e =
+      rw add-one (drop-cons (recordedTrades area n) i noTrade (rw (length-trades area n) h))
+      ∙ ap (λ (u : Trade). u ∷ drop (i + 1) (recordedTrades area n)) (trade-at area n i h ∙ sym e)
+
+  pub no-trades : n ≤ i → drop i (recordedTrades area n) ≡ []
+  no-trades h = drop-of-length-le (recordedTrades area n) {i = i} (rw (length-trades area n) h)

@@ -1,0 +1,574 @@
+/*
+ * zelvorm.h. Made by tools/make_header.py from crates/exports and the records that it uses. Do not edit.
+ *
+ * The engine of a practice futures exchange: order book, accounts, margin and settlement.
+ *
+ * A state is a record of its own and three areas of 32-bit words, which the caller keeps and lends to each call: the
+ * buy queues and the sell queues (QUEUES_WORDS have room for every contract) and the day's trades (TRADES_WORDS). An
+ * order and a trade lie there word by word as their records below do. The library keeps nothing between two calls, so
+ * that calls on different states may run at the same time; it asks for no memory, and takes up to 100 KB of stack.
+ *
+ * An area is lent as a pointer and a number of elements; with 0 elements the pointer may be null. What a call writes
+ * must not overlap anything else that it is lent. That is all that a call asks for: on any state, any areas, of any
+ * length, and any command it answers, with a code where something is wrong, and touches nothing outside the areas.
+ *
+ * In the records a place counts from 0 and a number from 1; commands name accounts, contracts and orders by number.
+ */
+#ifndef ZELVORM_H
+#define ZELVORM_H
+
+#include <stdbool.h>
+#include <stddef.h>
+#include <stdint.h>
+
+#ifdef __cplusplus
+extern "C" {
+#define ZELVORM_ASSERT(test) static_assert(test, #test)
+#else
+#define ZELVORM_ASSERT(test) _Static_assert(test, #test)
+#endif
+
+/* "Numbers that bound everything", by the names that they have in specs/ (Bounds, Memory, DayFile). */
+#define ZELVORM_MAX_CONTRACTS 4u
+#define ZELVORM_MAX_ACCOUNTS 32u
+#define ZELVORM_MAX_RESTING 64u
+#define ZELVORM_MAX_TRADES 1024u
+#define ZELVORM_MAX_SETTLEMENTS 250u
+#define ZELVORM_NUMBERS_END 1000000u
+#define ZELVORM_MAX_LOTS 1000u
+#define ZELVORM_MAX_PRICE 1000000u
+#define ZELVORM_MAX_BALANCE UINT64_C(1000000000000000000)
+#define ZELVORM_MAX_AMOUNT UINT64_C(1000000000000000)
+#define ZELVORM_MAX_DAY_PROFIT UINT64_C(3000000000000000)
+#define ZELVORM_MAX_METHOD 2u
+#define ZELVORM_MAX_COMMANDS 2000u
+
+/* How many words an order and a trade take in the lent areas, and all the places of one queue. */
+#define ZELVORM_ORDER_STRIDE 7u
+#define ZELVORM_QUEUE_STRIDE 448u
+#define ZELVORM_TRADE_STRIDE 9u
+
+/* The words of an order that hold its number and its time stamp. */
+#define ZELVORM_NUMBER_WORD 1u
+#define ZELVORM_STAMP_WORD 5u
+
+/* A contract's phases. */
+#define ZELVORM_PRE_OPEN 0u
+#define ZELVORM_CONTINUOUS 1u
+#define ZELVORM_NO_TRADING 2u
+#define ZELVORM_CLOSED 3u
+#define ZELVORM_AUCTION 4u
+
+/* How many words the areas of buys and of sells need for every contract, and the area of trades for a day. */
+#define ZELVORM_QUEUES_WORDS 1792u
+#define ZELVORM_TRADES_WORDS 9216u
+
+/* The flags of an insert: what is not set is a buy, an open, limit and good for day. */
+#define ZELVORM_FLAG_SELL 1u
+#define ZELVORM_FLAG_CLOSE 2u
+#define ZELVORM_FLAG_MARKET 4u
+#define ZELVORM_FLAG_BEST 8u
+#define ZELVORM_FLAG_IMMEDIATE_OR_CANCEL 16u
+#define ZELVORM_FLAG_FILL_OR_KILL 32u
+
+/* The flag of a cancel and of a pull. The flags of a phase command are the phase. */
+#define ZELVORM_FLAG_OPERATOR 1u
+
+/* The kinds of a command. */
+#define ZELVORM_KIND_DEPOSIT 1u
+#define ZELVORM_KIND_WITHDRAW 2u
+#define ZELVORM_KIND_INSERT 3u
+#define ZELVORM_KIND_CANCEL 4u
+#define ZELVORM_KIND_PULL 5u
+#define ZELVORM_KIND_PHASE 6u
+#define ZELVORM_KIND_SETTLE 7u
+#define ZELVORM_KIND_QUOTE 8u
+#define ZELVORM_KIND_CHANGE 9u
+
+/* The codes. Where several apply, the first one in the papers' order is given. */
+
+/* accepted */
+#define ZELVORM_CODE_ACCEPTED 0u
+
+/* the kind, a flag or an unused field of the command is wrong */
+#define ZELVORM_CODE_MALFORMED 1u
+
+/* no such account */
+#define ZELVORM_CODE_NO_ACCOUNT 2u
+
+/* no such contract */
+#define ZELVORM_CODE_NO_CONTRACT 3u
+
+/* the contract's state does not permit it now */
+#define ZELVORM_CODE_PHASE_FORBIDS 4u
+
+/* fewer than 1 or more than 1,000 lots (a change to 0 lots removes the order) */
+#define ZELVORM_CODE_LOTS 5u
+
+/* a market or best order must not be good for day; in auction, every order must be limit good for day */
+#define ZELVORM_CODE_CONDITIONS 6u
+
+/* the limit is off the tick or outside the day's low to high; or a market or best order names a price */
+#define ZELVORM_CODE_PRICE 7u
+
+/* an open would pass the holding limit; or a close is for more lots than are held and not yet offered */
+#define ZELVORM_CODE_HOLDING 8u
+
+/* an open: all charged margin, its lots included, would be above the balance; a withdrawal: less than the charged
+ * margin would be left */
+#define ZELVORM_CODE_MARGIN 9u
+
+/* the day's order numbers are used up, or its time stamps (of a change, the time stamps alone; a quote needs two of
+ * each) */
+#define ZELVORM_CODE_NUMBERS_USED_UP 10u
+
+/* fill or kill: not all lots can be filled */
+#define ZELVORM_CODE_NOT_FILLABLE 11u
+
+/* it would make more trades than the day has room for: an order, or the match when a contract leaves auction */
+#define ZELVORM_CODE_NO_ROOM_FOR_TRADES 12u
+
+/* the order would have to rest, and its side is full (in auction every order rests) */
+#define ZELVORM_CODE_SIDE_FULL 13u
+
+/* no such order rests in that contract */
+#define ZELVORM_CODE_NO_ORDER 14u
+
+/* the order belongs to another account */
+#define ZELVORM_CODE_ORDER_OF_ANOTHER 15u
+
+/* the amount is not 1 to 10^15; or the deposit would lift the balance above 10^18 */
+#define ZELVORM_CODE_AMOUNT 16u
+
+/* the contract cannot go from its state to that one */
+#define ZELVORM_CODE_PHASE_CHANGE 17u
+
+/* settle: a contract is not closed */
+#define ZELVORM_CODE_NOT_CLOSED 18u
+
+/* settle: 250 settlements are made already */
+#define ZELVORM_CODE_SETTLEMENTS_USED_UP 19u
+
+/* the day file or the file of a saved state is broken (of a day file printed as X 20, and no command is carried out); a
+ * file to be mended: its contracts, its accounts or the four bytes of its command count are not whole and in range */
+#define ZELVORM_CODE_BROKEN_FILE 20u
+
+/* the state is not well formed (cannot happen in a day file's run) */
+#define ZELVORM_CODE_NOT_WELL_FORMED 21u
+
+/* a bundle has more than 100 commands, or the area for their answers is too short */
+#define ZELVORM_CODE_BUNDLE 22u
+
+/* a quote: the account is no market maker */
+#define ZELVORM_CODE_NOT_A_MAKER 23u
+
+/* a quote: its buy price is not below its sell price */
+#define ZELVORM_CODE_QUOTE_PRICES 24u
+
+/* a client statement: more than 16 clients, or their starting lots do not add up to the account's */
+#define ZELVORM_CODE_CLIENTS 25u
+
+/* a client statement: an order of the account that traded is posted to no client, twice, or to an unknown one */
+#define ZELVORM_CODE_POSTINGS 26u
+
+/* a client statement: a client would close more than it holds */
+#define ZELVORM_CODE_CLIENT_HOLDING 27u
+
+/* the state cannot be saved: a contract is not in pre-open, orders or trades exist, an order number or time stamp is
+ * used, or a contract's long and short lots are not equal */
+#define ZELVORM_CODE_NOT_WRITABLE 28u
+
+/* the area for a client statement, for a mended file, for the list of what it lost or for a saved state is too short;
+ * or an area lent for a state to be read has no room for it */
+#define ZELVORM_CODE_AREA_TOO_SHORT 29u
+
+/* a saved state: a contract's long and short lots are not equal */
+#define ZELVORM_CODE_TOTALS_DIFFER 30u
+
+/* A contract's terms for the day, with the number of its pairing method, its phase (the paper's contract state) and its
+ * last price. Rate and method are as wide as in the day file: four contracts then take 128 bytes, which a compiler
+ * still copies in place. */
+typedef struct zelvorm_contract {
+    uint32_t multiplier;
+    uint32_t tick;
+    uint32_t reference;
+    uint32_t band;
+    uint32_t limit;
+    uint16_t rate;
+    uint16_t method;
+    uint32_t phase;
+    uint32_t last;
+} zelvorm_contract;
+
+ZELVORM_ASSERT(sizeof(zelvorm_contract) == 32);
+ZELVORM_ASSERT(offsetof(zelvorm_contract, multiplier) == 0);
+ZELVORM_ASSERT(offsetof(zelvorm_contract, tick) == 4);
+ZELVORM_ASSERT(offsetof(zelvorm_contract, reference) == 8);
+ZELVORM_ASSERT(offsetof(zelvorm_contract, band) == 12);
+ZELVORM_ASSERT(offsetof(zelvorm_contract, limit) == 16);
+ZELVORM_ASSERT(offsetof(zelvorm_contract, rate) == 20);
+ZELVORM_ASSERT(offsetof(zelvorm_contract, method) == 22);
+ZELVORM_ASSERT(offsetof(zelvorm_contract, phase) == 24);
+ZELVORM_ASSERT(offsetof(zelvorm_contract, last) == 28);
+
+/* What one account holds in one contract: lots now, and lots at the start of the day. */
+typedef struct zelvorm_holding {
+    uint32_t long_;
+    uint32_t short_;
+    uint32_t startlong;
+    uint32_t startshort;
+} zelvorm_holding;
+
+ZELVORM_ASSERT(sizeof(zelvorm_holding) == 16);
+ZELVORM_ASSERT(offsetof(zelvorm_holding, long_) == 0);
+ZELVORM_ASSERT(offsetof(zelvorm_holding, short_) == 4);
+ZELVORM_ASSERT(offsetof(zelvorm_holding, startlong) == 8);
+ZELVORM_ASSERT(offsetof(zelvorm_holding, startshort) == 12);
+
+/* `maker` is 1 for a market maker and 0 for others. */
+typedef struct zelvorm_account {
+    int64_t balance;
+    zelvorm_holding holdings[4];
+    uint64_t maker;
+} zelvorm_account;
+
+ZELVORM_ASSERT(sizeof(zelvorm_account) == 80);
+ZELVORM_ASSERT(offsetof(zelvorm_account, balance) == 0);
+ZELVORM_ASSERT(offsetof(zelvorm_account, holdings) == 8);
+ZELVORM_ASSERT(offsetof(zelvorm_account, maker) == 72);
+
+/* All of the state that does not lie in lent areas. The areas hold the queues and the day's trades, the counts here say
+ * how many of each are in use: orders by contract, contracts, accounts, trades of the day. `next` is the next order
+ * number, `nextstamp` the next time stamp. */
+typedef struct zelvorm_state {
+    zelvorm_contract contracts[4];
+    zelvorm_account accounts[32];
+    size_t buys[4];
+    size_t sells[4];
+    size_t contractcount;
+    size_t accountcount;
+    size_t tradecount;
+    uint32_t next;
+    uint32_t nextstamp;
+    uint32_t settlements;
+} zelvorm_state;
+
+ZELVORM_ASSERT(sizeof(zelvorm_state) == 2792);
+ZELVORM_ASSERT(offsetof(zelvorm_state, contracts) == 0);
+ZELVORM_ASSERT(offsetof(zelvorm_state, accounts) == 128);
+ZELVORM_ASSERT(offsetof(zelvorm_state, buys) == 2688);
+ZELVORM_ASSERT(offsetof(zelvorm_state, sells) == 2720);
+ZELVORM_ASSERT(offsetof(zelvorm_state, contractcount) == 2752);
+ZELVORM_ASSERT(offsetof(zelvorm_state, accountcount) == 2760);
+ZELVORM_ASSERT(offsetof(zelvorm_state, tradecount) == 2768);
+ZELVORM_ASSERT(offsetof(zelvorm_state, next) == 2776);
+ZELVORM_ASSERT(offsetof(zelvorm_state, nextstamp) == 2780);
+ZELVORM_ASSERT(offsetof(zelvorm_state, settlements) == 2784);
+
+/* 0, or 20 where the file is broken; the place of the first command's first byte in the file, and the number of
+ * commands, 24 bytes each; the state that the file's run begins with. With 20 all else is zero, and every call on that
+ * state is refused. */
+typedef struct zelvorm_opened {
+    uint32_t code;
+    size_t first;
+    size_t commands;
+    zelvorm_state state;
+} zelvorm_opened;
+
+ZELVORM_ASSERT(sizeof(zelvorm_opened) == 2816);
+ZELVORM_ASSERT(offsetof(zelvorm_opened, code) == 0);
+ZELVORM_ASSERT(offsetof(zelvorm_opened, first) == 8);
+ZELVORM_ASSERT(offsetof(zelvorm_opened, commands) == 16);
+ZELVORM_ASSERT(offsetof(zelvorm_opened, state) == 24);
+
+/* A command's 24 bytes, field by field. */
+typedef struct zelvorm_record {
+    uint8_t kind;
+    uint8_t account;
+    uint8_t contract;
+    uint8_t flags;
+    uint32_t lots;
+    uint32_t price;
+    uint32_t number;
+    uint64_t amount;
+} zelvorm_record;
+
+ZELVORM_ASSERT(sizeof(zelvorm_record) == 24);
+ZELVORM_ASSERT(offsetof(zelvorm_record, kind) == 0);
+ZELVORM_ASSERT(offsetof(zelvorm_record, account) == 1);
+ZELVORM_ASSERT(offsetof(zelvorm_record, contract) == 2);
+ZELVORM_ASSERT(offsetof(zelvorm_record, flags) == 3);
+ZELVORM_ASSERT(offsetof(zelvorm_record, lots) == 4);
+ZELVORM_ASSERT(offsetof(zelvorm_record, price) == 8);
+ZELVORM_ASSERT(offsetof(zelvorm_record, number) == 12);
+ZELVORM_ASSERT(offsetof(zelvorm_record, amount) == 16);
+
+/* "Each answer holds a code, an order number, lots traded and lots rested (insert; a vanished remainder isn't counted)
+ * or removed (cancel, pull)." */
+typedef struct zelvorm_answer {
+    uint32_t code;
+    uint32_t number;
+    uint32_t traded;
+    uint32_t lots;
+} zelvorm_answer;
+
+ZELVORM_ASSERT(sizeof(zelvorm_answer) == 16);
+ZELVORM_ASSERT(offsetof(zelvorm_answer, code) == 0);
+ZELVORM_ASSERT(offsetof(zelvorm_answer, number) == 4);
+ZELVORM_ASSERT(offsetof(zelvorm_answer, traded) == 8);
+ZELVORM_ASSERT(offsetof(zelvorm_answer, lots) == 12);
+
+/* What a settlement reports: each contract's settlement price; each account's closing and holding profit, and its
+ * charged margin after the settlement. All zero where there was none. */
+typedef struct zelvorm_report {
+    uint32_t prices[4];
+    int64_t closing[32];
+    int64_t holding[32];
+    uint64_t charged[32];
+} zelvorm_report;
+
+ZELVORM_ASSERT(sizeof(zelvorm_report) == 784);
+ZELVORM_ASSERT(offsetof(zelvorm_report, prices) == 0);
+ZELVORM_ASSERT(offsetof(zelvorm_report, closing) == 16);
+ZELVORM_ASSERT(offsetof(zelvorm_report, holding) == 272);
+ZELVORM_ASSERT(offsetof(zelvorm_report, charged) == 528);
+
+/* An answer, the state after it and the report. */
+typedef struct zelvorm_response {
+    zelvorm_answer answer;
+    zelvorm_state state;
+    zelvorm_report report;
+} zelvorm_response;
+
+ZELVORM_ASSERT(sizeof(zelvorm_response) == 3592);
+ZELVORM_ASSERT(offsetof(zelvorm_response, answer) == 0);
+ZELVORM_ASSERT(offsetof(zelvorm_response, state) == 16);
+ZELVORM_ASSERT(offsetof(zelvorm_response, report) == 2808);
+
+/* How many commands were played, and the state after them. */
+typedef struct zelvorm_ran {
+    size_t played;
+    zelvorm_state state;
+} zelvorm_ran;
+
+ZELVORM_ASSERT(sizeof(zelvorm_ran) == 2800);
+ZELVORM_ASSERT(offsetof(zelvorm_ran, played) == 0);
+ZELVORM_ASSERT(offsetof(zelvorm_ran, state) == 8);
+
+/* 0, or the code that refuses the whole bundle, and the state after it. */
+typedef struct zelvorm_receipt {
+    uint32_t code;
+    zelvorm_state state;
+} zelvorm_receipt;
+
+ZELVORM_ASSERT(sizeof(zelvorm_receipt) == 2800);
+ZELVORM_ASSERT(offsetof(zelvorm_receipt, code) == 0);
+ZELVORM_ASSERT(offsetof(zelvorm_receipt, state) == 8);
+
+/* The code, the lots that would trade, and the number of resting orders read to know it. */
+typedef struct zelvorm_reading {
+    uint32_t code;
+    uint32_t lots;
+    size_t read;
+} zelvorm_reading;
+
+ZELVORM_ASSERT(sizeof(zelvorm_reading) == 16);
+ZELVORM_ASSERT(offsetof(zelvorm_reading, code) == 0);
+ZELVORM_ASSERT(offsetof(zelvorm_reading, lots) == 4);
+ZELVORM_ASSERT(offsetof(zelvorm_reading, read) == 8);
+
+/* A part of an area: its first word, and how many words it has. An empty part begins at 0. */
+typedef struct zelvorm_part {
+    size_t first;
+    size_t words;
+} zelvorm_part;
+
+ZELVORM_ASSERT(sizeof(zelvorm_part) == 16);
+ZELVORM_ASSERT(offsetof(zelvorm_part, first) == 0);
+ZELVORM_ASSERT(offsetof(zelvorm_part, words) == 8);
+
+/* 0, or the code that refuses, and how many bytes of the two areas are written. */
+typedef struct zelvorm_mended {
+    uint32_t code;
+    size_t length;
+    size_t listed;
+} zelvorm_mended;
+
+ZELVORM_ASSERT(sizeof(zelvorm_mended) == 24);
+ZELVORM_ASSERT(offsetof(zelvorm_mended, code) == 0);
+ZELVORM_ASSERT(offsetof(zelvorm_mended, length) == 8);
+ZELVORM_ASSERT(offsetof(zelvorm_mended, listed) == 16);
+
+/* 0, or the code that refuses, and how many bytes are written. */
+typedef struct zelvorm_statement {
+    uint32_t code;
+    size_t length;
+} zelvorm_statement;
+
+ZELVORM_ASSERT(sizeof(zelvorm_statement) == 16);
+ZELVORM_ASSERT(offsetof(zelvorm_statement, code) == 0);
+ZELVORM_ASSERT(offsetof(zelvorm_statement, length) == 8);
+
+/* 0, or the code that refuses, and how many bytes are written. */
+typedef struct zelvorm_saved {
+    uint32_t code;
+    size_t length;
+} zelvorm_saved;
+
+ZELVORM_ASSERT(sizeof(zelvorm_saved) == 16);
+ZELVORM_ASSERT(offsetof(zelvorm_saved, code) == 0);
+ZELVORM_ASSERT(offsetof(zelvorm_saved, length) == 8);
+
+/* 0, or the code that refuses, and the state: the file's, or the one given where the file is refused. */
+typedef struct zelvorm_loaded {
+    uint32_t code;
+    zelvorm_state state;
+} zelvorm_loaded;
+
+ZELVORM_ASSERT(sizeof(zelvorm_loaded) == 2800);
+ZELVORM_ASSERT(offsetof(zelvorm_loaded, code) == 0);
+ZELVORM_ASSERT(offsetof(zelvorm_loaded, state) == 8);
+
+/* A resting order: its remaining lots, the account's place, 1 for a close and 0 for an open, its time stamp, 1 where it
+ * is part of a quote and 0 elsewhere. */
+typedef struct zelvorm_order {
+    uint32_t price;
+    uint32_t number;
+    uint32_t account;
+    uint32_t lots;
+    uint32_t close;
+    uint32_t stamp;
+    uint32_t quote;
+} zelvorm_order;
+
+ZELVORM_ASSERT(sizeof(zelvorm_order) == 28);
+ZELVORM_ASSERT(offsetof(zelvorm_order, price) == 0);
+ZELVORM_ASSERT(offsetof(zelvorm_order, number) == 4);
+ZELVORM_ASSERT(offsetof(zelvorm_order, account) == 8);
+ZELVORM_ASSERT(offsetof(zelvorm_order, lots) == 12);
+ZELVORM_ASSERT(offsetof(zelvorm_order, close) == 16);
+ZELVORM_ASSERT(offsetof(zelvorm_order, stamp) == 20);
+ZELVORM_ASSERT(offsetof(zelvorm_order, quote) == 24);
+
+/* A trade: the contract's place, the two orders' numbers, the two accounts' places, and for each leg 1 for a close and
+ * 0 for an open. */
+typedef struct zelvorm_trade {
+    uint32_t contract;
+    uint32_t price;
+    uint32_t lots;
+    uint32_t buyorder;
+    uint32_t sellorder;
+    uint32_t buyer;
+    uint32_t seller;
+    uint32_t buyclose;
+    uint32_t sellclose;
+} zelvorm_trade;
+
+ZELVORM_ASSERT(sizeof(zelvorm_trade) == 36);
+ZELVORM_ASSERT(offsetof(zelvorm_trade, contract) == 0);
+ZELVORM_ASSERT(offsetof(zelvorm_trade, price) == 4);
+ZELVORM_ASSERT(offsetof(zelvorm_trade, lots) == 8);
+ZELVORM_ASSERT(offsetof(zelvorm_trade, buyorder) == 12);
+ZELVORM_ASSERT(offsetof(zelvorm_trade, sellorder) == 16);
+ZELVORM_ASSERT(offsetof(zelvorm_trade, buyer) == 20);
+ZELVORM_ASSERT(offsetof(zelvorm_trade, seller) == 24);
+ZELVORM_ASSERT(offsetof(zelvorm_trade, buyclose) == 28);
+ZELVORM_ASSERT(offsetof(zelvorm_trade, sellclose) == 32);
+
+/* Opens a day file: the state that its run begins with, and where its commands stand. */
+zelvorm_opened zelvorm_open(
+    const uint8_t *file, size_t file_bytes);
+
+/* Whether a state and the areas lent with it are well formed. Every other call that has code 21 makes this test itself. */
+bool zelvorm_well_formed(
+    zelvorm_state state,
+    const uint32_t *buys, size_t buys_words,
+    const uint32_t *sells, size_t sells_words,
+    const uint32_t *trades, size_t trades_words);
+
+/* Carries out one command. A refusal leaves the state and the areas as they were. */
+zelvorm_response zelvorm_execute(
+    zelvorm_state state,
+    uint32_t *buys, size_t buys_words,
+    uint32_t *sells, size_t sells_words,
+    uint32_t *trades, size_t trades_words,
+    zelvorm_record command);
+
+/* Carries out a list of commands, 24 bytes each, and writes the answer to each, four words, one after the other. It
+ * plays as many commands as there are places for answers, and says how many. A settlement's report is given by
+ * `zelvorm_execute` alone. */
+zelvorm_ran zelvorm_run(
+    zelvorm_state state,
+    uint32_t *buys, size_t buys_words,
+    uint32_t *sells, size_t sells_words,
+    uint32_t *trades, size_t trades_words,
+    const uint8_t *commands, size_t commands_bytes,
+    uint32_t *answers, size_t answers_words);
+
+/* Carries out a bundle of up to 100 commands, or refuses it whole: 21, then 22. */
+zelvorm_receipt zelvorm_bundle(
+    zelvorm_state state,
+    uint32_t *buys, size_t buys_words,
+    uint32_t *sells, size_t sells_words,
+    uint32_t *trades, size_t trades_words,
+    const uint8_t *commands, size_t commands_bytes,
+    uint32_t *answers, size_t answers_words);
+
+/* How much could I get: the lots that an insert would trade now, and how many resting orders were read to know it.
+ * Nothing is changed. */
+zelvorm_reading zelvorm_gettable(
+    zelvorm_state state,
+    const uint32_t *buys, size_t buys_words,
+    const uint32_t *sells, size_t sells_words,
+    const uint32_t *trades, size_t trades_words,
+    zelvorm_record command);
+
+/* One side's resting orders: which part of `buys` or of `sells` holds them. The contract is named by its number. */
+zelvorm_part zelvorm_side(
+    zelvorm_state state,
+    const uint32_t *buys, size_t buys_words,
+    const uint32_t *sells, size_t sells_words,
+    bool sell,
+    size_t contract);
+
+/* Mends a day file: what is kept goes into `out`, the list of what is dropped into `list`. */
+zelvorm_mended zelvorm_mend(
+    const uint8_t *file, size_t file_bytes,
+    uint8_t *out, size_t out_bytes,
+    uint8_t *list, size_t list_bytes);
+
+/* A statement of an account's clients. `starts` has eight words for each client: long and short lots at the start of
+ * the day in each of four contracts. `postings` has two words for each posting: an order's number and a client's. */
+zelvorm_statement zelvorm_client_statement(
+    zelvorm_state state,
+    const uint32_t *buys, size_t buys_words,
+    const uint32_t *sells, size_t sells_words,
+    const uint32_t *trades, size_t trades_words,
+    uint32_t account,
+    uint32_t clients,
+    const uint32_t *starts, size_t starts_words,
+    const uint32_t *postings, size_t postings_words,
+    uint8_t *out, size_t out_bytes);
+
+/* Writes a state after its settlement, to be read tomorrow. */
+zelvorm_saved zelvorm_write(
+    zelvorm_state state,
+    const uint32_t *buys, size_t buys_words,
+    const uint32_t *sells, size_t sells_words,
+    const uint32_t *trades, size_t trades_words,
+    uint8_t *out, size_t out_bytes);
+
+/* Reads a state that was written. The areas are those that it is to be used with: they are looked at for their room
+ * alone. Of the state given nothing is looked at; places that the file's state does not use stay as they are there. */
+zelvorm_loaded zelvorm_read(
+    const uint8_t *file, size_t file_bytes,
+    zelvorm_state state,
+    const uint32_t *buys, size_t buys_words,
+    const uint32_t *sells, size_t sells_words,
+    const uint32_t *trades, size_t trades_words);
+
+#ifdef __cplusplus
+}
+#endif
+
+#endif

@@ -1,0 +1,345 @@
+#!/usr/bin/env python3
+"""make_header.py: makes include/zelvorm.h, and the same for Rust and for Python, from the Rattle source.
+
+    tools/make_header.py            makes include/zelvorm.h, include/zelvorm.rs and include/zelvorm.py
+    tools/make_header.py check      tells which of them is not what this tool makes; status 1 where there is one
+"""
+
+import re
+import sys
+import textwrap
+
+from interface import TOP, Array, Interface, Slice
+
+FOLDER = TOP / "include"
+
+MADE = "Made by tools/make_header.py from crates/exports and the records that it uses. Do not edit."
+
+ABOUT = """\
+The engine of a practice futures exchange: order book, accounts, margin and settlement.
+
+A state is a record of its own and three areas of 32-bit words, which the caller keeps and lends to each call: the buy queues and the \
+sell queues (QUEUES_WORDS have room for every contract) and the day's trades (TRADES_WORDS). An order and a trade lie there word by \
+word as their records below do. The library keeps nothing between two calls, so that calls on different states may run at the same \
+time; it asks for no memory, and takes up to 100 KB of stack.
+
+An area is lent as a pointer and a number of elements; with 0 elements the pointer may be null. What a call writes must not overlap \
+anything else that it is lent. That is all that a call asks for: on any state, any areas, of any length, and any command it answers, \
+with a code where something is wrong, and touches nothing outside the areas.
+
+In the records a place counts from 0 and a number from 1; commands name accounts, contracts and orders by number."""
+
+C_TYPES = {
+    "bool": "bool",
+    "u8": "uint8_t",
+    "u16": "uint16_t",
+    "u32": "uint32_t",
+    "u64": "uint64_t",
+    "usize": "size_t",
+    "i64": "int64_t",
+}
+
+C_KEYWORDS = {"long", "short"}
+
+ELEMENTS = {"u8": "bytes", "u32": "words"}
+
+
+def snake(name):
+    return re.sub(r"(?<!^)(?=[A-Z])", "_", name).lower()
+
+
+def wrapped(words, first, rest, width=120):
+    text = " ".join(words) if isinstance(words, list) else words
+    return textwrap.wrap(text, width, initial_indent=first, subsequent_indent=rest, break_on_hyphens=False)
+
+
+def paragraphs(text, prefix):
+    lines = []
+    for part in text.split("\n\n"):
+        lines += [*([prefix.rstrip()] if lines else []), *wrapped(part, prefix, prefix)]
+    return lines
+
+
+# Constants in groups: those that stand under one comment.
+def groups(constants):
+    found = []
+    for constant in constants:
+        if constant.words or not found:
+            found.append((constant.words, []))
+        found[-1][1].append(constant)
+    return found
+
+
+# =====================================================================================================================
+# C
+# =====================================================================================================================
+
+
+def c_comment(words):
+    lines = wrapped(words, "/* ", " * ")
+    return [*lines[:-1], lines[-1] + " */"] if lines else []
+
+
+def c_value(constant):
+    if constant.value < 2**31:
+        return f"{constant.value}u"
+    return f"UINT64_C({constant.value})"
+
+
+def c_name(field):
+    return field + "_" if field in C_KEYWORDS else field
+
+
+def c_type(made):
+    return C_TYPES[made] if isinstance(made, str) else "zelvorm_" + snake(made.name)
+
+
+def c_field(field):
+    if isinstance(field.type, Array):
+        return f"{c_type(field.type.of)} {c_name(field.name)}[{field.type.length}];"
+    return f"{c_type(field.type)} {c_name(field.name)};"
+
+
+def c_struct(struct):
+    name = c_type(struct)
+    yield from c_comment(struct.words)
+    yield f"typedef struct {name} {{"
+    yield from ("    " + c_field(field) for field in struct.fields)
+    yield f"}} {name};"
+    yield ""
+    yield f"ZELVORM_ASSERT(sizeof({name}) == {struct.size});"
+    for field in struct.fields:
+        yield f"ZELVORM_ASSERT(offsetof({name}, {c_name(field.name)}) == {field.offset});"
+
+
+def c_parameter(name, made):
+    if isinstance(made, Slice):
+        const = "" if made.is_written else "const "
+        return f"{const}{C_TYPES[made.of]} *{name}, size_t {name}_{ELEMENTS[made.of]}"
+    return f"{c_type(made)} {name}"
+
+
+def c_call(call):
+    yield from c_comment(call.words)
+    yield f"{c_type(call.result)} {call.name}("
+    parameters = [c_parameter(*parameter) for parameter in call.parameters]
+    yield from (f"    {parameter}," for parameter in parameters[:-1])
+    yield f"    {parameters[-1]});"
+
+
+def c_header(interface):
+    yield from ["/*", *paragraphs(f"zelvorm.h. {MADE}", " * "), " *", *paragraphs(ABOUT, " * "), " */"]
+    yield from ["#ifndef ZELVORM_H", "#define ZELVORM_H", ""]
+    yield from ["#include <stdbool.h>", "#include <stddef.h>", "#include <stdint.h>", ""]
+    yield from ["#ifdef __cplusplus", 'extern "C" {', "#define ZELVORM_ASSERT(test) static_assert(test, #test)"]
+    yield from ["#else", "#define ZELVORM_ASSERT(test) _Static_assert(test, #test)", "#endif"]
+    for words, constants in groups(interface.constants):
+        yield from ["", *c_comment(words)]
+        yield from (f"#define ZELVORM_{constant.name} {c_value(constant)}" for constant in constants)
+    yield from ["", *c_comment("The kinds of a command.")]
+    yield from (f"#define ZELVORM_KIND_{name.upper()} {number}u" for name, number in interface.kinds.items())
+    yield from ["", *c_comment("The codes. Where several apply, the first one in the papers' order is given.")]
+    for code in interface.codes:
+        yield from ["", *c_comment(code.sentence), f"#define ZELVORM_CODE_{code.name} {code.number}u"]
+    for struct in interface.structs.values():
+        yield from ["", *c_struct(struct)]
+    for call in interface.calls:
+        yield from ["", *c_call(call)]
+    yield from ["", "#ifdef __cplusplus", "}", "#endif", "", "#endif"]
+
+
+# =====================================================================================================================
+# Rust
+# =====================================================================================================================
+
+
+def rust_type(made):
+    if isinstance(made, Array):
+        return f"[{rust_type(made.of)}; {made.length}]"
+    return made if isinstance(made, str) else made.name
+
+
+def rust_comment(words):
+    return wrapped(words, "/// ", "/// ")
+
+
+def rust_struct(struct):
+    yield from rust_comment(struct.words)
+    yield from ["#[repr(C)]", "#[derive(Clone, Copy, Debug, PartialEq)]", f"pub struct {struct.name} {{"]
+    yield from (f"    pub {field.name}: {rust_type(field.type)}," for field in struct.fields)
+    yield "}"
+    yield ""
+    yield f"const _: () = assert!(size_of::<{struct.name}>() == {struct.size});"
+
+
+def rust_linked(call):
+    parameters = []
+    for name, made in call.parameters:
+        if isinstance(made, Slice):
+            parameters += [f"{name}: *{'mut' if made.is_written else 'const'} {made.of}", f"{name}_{ELEMENTS[made.of]}: usize"]
+        else:
+            parameters.append(f"{name}: {rust_type(made)}")
+    yield f"        pub fn {call.name}("
+    yield from (f"            {parameter}," for parameter in parameters)
+    yield f"        ) -> {rust_type(call.result)};"
+
+
+def rust_call(call):
+    parameters, given = [], []
+    for name, made in call.parameters:
+        if isinstance(made, Slice):
+            parameters.append(f"{name}: &{'mut ' if made.is_written else ''}[{made.of}]")
+            given += [f"{name}.as_{'mut_' if made.is_written else ''}ptr()", f"{name}.len()"]
+        else:
+            parameters.append(f"{name}: {rust_type(made)}")
+            given.append(name)
+    name = call.name.removeprefix("zelvorm_")
+    yield from rust_comment(call.words)
+    if len(parameters) > 7:
+        yield "#[allow(clippy::too_many_arguments)]"
+    yield f"pub fn {name}("
+    yield from (f"    {parameter}," for parameter in parameters)
+    yield f") -> {rust_type(call.result)} {{"
+    yield f"    unsafe {{ linked::{call.name}({', '.join(given)}) }}"
+    yield "}"
+
+
+def rust_module(interface):
+    yield from paragraphs(f"zelvorm.rs. {MADE}", "//! ")
+    yield from ["//!", *paragraphs(ABOUT, "//! "), "//!"]
+    yield from paragraphs("A slice is valid and what is written is lent to nobody else, so every call is safe.", "//! ")
+    yield from ["#![allow(dead_code)]", "", "use std::mem::size_of;"]
+    for words, constants in groups(interface.constants):
+        yield from ["", *wrapped(words, "// ", "// ")]
+        yield from (f"pub const {constant.name}: {constant.type} = {constant.value};" for constant in constants)
+    yield from ["", "// The kinds of a command."]
+    yield from (f"pub const KIND_{name.upper()}: u8 = {number};" for name, number in interface.kinds.items())
+    yield from ["", "// The codes. Where several apply, the first one in the papers' order is given."]
+    for code in interface.codes:
+        yield from ["", *rust_comment(code.sentence), f"pub const CODE_{code.name}: u32 = {code.number};"]
+    for struct in interface.structs.values():
+        yield from ["", *rust_struct(struct)]
+    yield from ["", "mod linked {", "    use super::*;", "", '    extern "C" {']
+    for call in interface.calls:
+        yield from rust_linked(call)
+    yield from ["    }", "}"]
+    for call in interface.calls:
+        yield from ["", *rust_call(call)]
+
+
+# =====================================================================================================================
+# Python
+# =====================================================================================================================
+
+PYTHON_TYPES = {
+    "bool": "c_bool",
+    "u8": "c_uint8",
+    "u16": "c_uint16",
+    "u32": "c_uint32",
+    "u64": "c_uint64",
+    "usize": "c_size_t",
+    "i64": "c_int64",
+}
+
+PYTHON_LOADING = '''\
+# An area of so many words, or of so many bytes, zero at first; `lent` has what a call takes of it.
+def words(count):
+    return (ctypes.c_uint32 * count)()
+
+
+def room(count):
+    return (ctypes.c_uint8 * count)()
+
+
+def lent(area):
+    """The pointer and the number of elements of an area, or of bytes that are only read."""
+    if isinstance(area, (bytes, bytearray)):
+        area = (ctypes.c_uint8 * len(area)).from_buffer_copy(area)
+    return ctypes.cast(area, ctypes.POINTER(area._type_)), len(area)
+
+
+def load(path):
+    """The shared library at a path, each call with its types."""
+    library = ctypes.CDLL(str(path))
+    for name, (result, *parameters) in CALLS.items():
+        call = getattr(library, name)
+        call.restype = result
+        call.argtypes = parameters
+    return library'''
+
+
+def python_type(made):
+    if isinstance(made, Array):
+        return f"{python_type(made.of)} * {made.length}"
+    return "ctypes." + PYTHON_TYPES[made] if isinstance(made, str) else made.name
+
+
+def python_struct(struct):
+    yield from wrapped(struct.words, "# ", "# ")
+    yield f"class {struct.name}(ctypes.Structure):"
+    yield "    _fields_ = ["
+    yield from (f'        ("{field.name}", {python_type(field.type)}),' for field in struct.fields)
+    yield "    ]"
+    yield ""
+    yield ""
+    yield f"assert ctypes.sizeof({struct.name}) == {struct.size}"
+
+
+def python_call(call):
+    yield from wrapped(call.words, "    # ", "    # ")
+    parameters = []
+    for _, made in call.parameters:
+        if isinstance(made, Slice):
+            parameters += [f"ctypes.POINTER({python_type(made.of)})", "ctypes.c_size_t"]
+        else:
+            parameters.append(python_type(made))
+    yield f'    "{call.name}": ('
+    yield f"        {python_type(call.result)},"
+    yield from (f"        {parameter}," for parameter in parameters)
+    yield "    ),"
+
+
+def python_module(interface):
+    yield from [f'"""zelvorm.py. {MADE}', "", *paragraphs(ABOUT, ""), '"""', "", "import ctypes"]
+    for words, constants in groups(interface.constants):
+        yield from ["", *wrapped(words, "# ", "# ")]
+        yield from (f"{constant.name} = {constant.value}" for constant in constants)
+    yield from ["", "# The kinds of a command."]
+    yield from (f"KIND_{name.upper()} = {number}" for name, number in interface.kinds.items())
+    yield from ["", "# The codes. Where several apply, the first one in the papers' order is given."]
+    for code in interface.codes:
+        yield from ["", *wrapped(code.sentence, "# ", "# "), f"CODE_{code.name} = {code.number}"]
+    for struct in interface.structs.values():
+        yield from ["", "", *python_struct(struct)]
+    yield from ["", "", "# The result and the parameters of each call.", "CALLS = {"]
+    for call in interface.calls:
+        yield from python_call(call)
+    yield from ["}", "", "", PYTHON_LOADING]
+
+
+# =====================================================================================================================
+
+
+def made_files(top=TOP):
+    """The content of every file that is made, by its path."""
+    interface = Interface(top)
+    makers = {"zelvorm.h": c_header, "zelvorm.rs": rust_module, "zelvorm.py": python_module}
+    return {top / "include" / name: "\n".join(maker(interface)) + "\n" for name, maker in makers.items()}
+
+
+def main():
+    files = made_files()
+    if sys.argv[1:] == ["check"]:
+        stale = [path for path, text in files.items() if not path.is_file() or path.read_text() != text]
+        for path in stale:
+            print(f"{path.relative_to(TOP)} is not what tools/make_header.py makes")
+        sys.exit(1 if stale else 0)
+    if sys.argv[1:]:
+        sys.exit(__doc__)
+    FOLDER.mkdir(exist_ok=True)
+    for path, text in files.items():
+        path.write_text(text)
+
+
+if __name__ == "__main__":
+    main()

@@ -1,0 +1,185 @@
+"""The interface read from the Rattle source, what is made of it for C, Rust and Python, and the examples over the built library."""
+
+import shutil
+import subprocess
+import sys
+import tempfile
+import unittest
+from pathlib import Path
+
+import interface
+import make_header
+from interface import TOP, Array, Interface, Slice, Unknown
+
+LIBRARY = TOP / "target" / "library"
+EXAMPLES = TOP / "examples"
+DAY = TOP / "samples" / "paper-example.day"
+WANTED = {"day": TOP / "samples" / "paper-example.out"} | {
+    name: EXAMPLES / f"{name}.out" for name in ("bundle", "asking", "statement")
+}
+
+
+def needs(tool):
+    return unittest.skipUnless(shutil.which(tool), f"no {tool} here")
+
+
+def library_is_current():
+    return subprocess.run([TOP / "tools" / "build_library", "current"]).returncode == 0
+
+
+def compiled(*words):
+    return subprocess.run([str(word) for word in words], capture_output=True, text=True)
+
+
+class Made(unittest.TestCase):
+    def test_files_are_what_the_tool_makes(self):
+        for path, text in make_header.made_files().items():
+            self.assertEqual(path.read_text(), text, f"{path.name}: run tools/make_header.py")
+
+    @needs("cc")
+    def test_header_is_c(self):
+        checked = compiled("cc", "-std=c11", "-Wall", "-Wextra", "-Wpedantic", "-Werror", "-fsyntax-only", "-x", "c", TOP / "include/zelvorm.h")
+        self.assertEqual((checked.returncode, checked.stderr), (0, ""))
+
+    @needs("c++")
+    def test_header_is_cpp(self):
+        checked = compiled("c++", "-std=c++14", "-Wall", "-Wextra", "-Werror", "-fsyntax-only", "-x", "c++", TOP / "include/zelvorm.h")
+        self.assertEqual((checked.returncode, checked.stderr), (0, ""))
+
+    def test_python_knows_every_call(self):
+        sys.path.insert(0, str(TOP / "include"))
+        import zelvorm
+
+        self.assertEqual(list(zelvorm.CALLS), [call.name for call in Interface().calls])
+
+
+class Source(unittest.TestCase):
+    def setUp(self):
+        self.found = Interface()
+
+    def test_calls(self):
+        names = [call.name for call in self.found.calls]
+        self.assertEqual(len(names), len(set(names)))
+        self.assertTrue(all(name.startswith("zelvorm_") for name in names))
+        execute = {call.name: call for call in self.found.calls}["zelvorm_execute"]
+        self.assertEqual([name for name, _ in execute.parameters], ["state", "buys", "sells", "trades", "command"])
+        self.assertEqual(execute.parameters[1][1], Slice("u32", True))
+        self.assertEqual(execute.result.name, "Response")
+        self.assertTrue(all(call.words for call in self.found.calls))
+
+    def test_no_name_is_a_call_and_a_record(self):
+        calls = {call.name for call in self.found.calls}
+        self.assertEqual(calls & {make_header.c_type(struct) for struct in self.found.structs.values()}, set())
+
+    # A command's record is its 24 bytes.
+    def test_record(self):
+        record = self.found.structs["Record"]
+        self.assertEqual((record.size, [field.offset for field in record.fields]), (24, [0, 1, 2, 3, 4, 8, 12, 16]))
+
+    def test_codes_are_readme_s(self):
+        self.assertEqual([code.number for code in self.found.codes][:23], list(range(23)))
+        self.assertTrue(all(code.sentence for code in self.found.codes))
+
+    def test_kinds(self):
+        self.assertEqual(self.found.kinds["deposit"], 1)
+        self.assertEqual(self.found.kinds["change"], 9)
+
+    def test_layout(self):
+        with crates(exports=HEAD + "#[repr(C)]\npub struct Small {\n    pub a: u8,\n    pub b: u64,\n    pub c: [u16; 3],\n}\n") as top:
+            small = Interface.struct(Bare(top), "Small", interface.source_of(top, "exports"))
+        self.assertEqual((small.size, small.alignment), (24, 8))
+        self.assertEqual([(field.name, field.offset) for field in small.fields], [("a", 0), ("b", 8), ("c", 16)])
+        self.assertEqual(small.fields[2].type, Array("u16", 3))
+
+    def test_unknown_forms_are_refused(self):
+        for fields in ("pub a: f64", "pub a: &'static [u8; 2]", "pub a: Other"):
+            with crates(exports=HEAD + f"#[repr(C)]\npub struct Small {{\n    {fields},\n}}\n") as top:
+                with self.assertRaises(Unknown):
+                    Interface.struct(Bare(top), "Small", interface.source_of(top, "exports"))
+        # a record without #[repr(C)]
+        with crates(exports="pub struct Small {\n    pub a: u8,\n}\n") as top:
+            with self.assertRaises(Unknown):
+                Interface.struct(Bare(top), "Small", interface.source_of(top, "exports"))
+
+
+HEAD = "// A file.\n\n"
+
+
+class Bare:
+    """What an interface needs to read one record."""
+
+    def __init__(self, top):
+        self.top, self.structs, self.constants = top, {}, []
+
+    type = Interface.type
+    struct = Interface.struct
+
+
+class crates:
+    """A folder with the source of some crates."""
+
+    def __init__(self, **sources):
+        self.sources = sources
+
+    def __enter__(self):
+        self.folder = tempfile.TemporaryDirectory()
+        top = Path(self.folder.name)
+        for name, text in self.sources.items():
+            (top / "crates" / name / "src").mkdir(parents=True)
+            (top / "crates" / name / "src" / "lib.rt").write_text(text)
+        return top
+
+    def __exit__(self, *_):
+        self.folder.cleanup()
+
+
+@unittest.skipUnless(library_is_current(), "target/library is not built for these sources: tools/build_library builds it")
+class Examples(unittest.TestCase):
+    """Each example in each language prints what stands beside it."""
+
+    def setUp(self):
+        folder = tempfile.TemporaryDirectory()
+        self.addCleanup(folder.cleanup)
+        self.room = Path(folder.name)
+
+    def assert_prints(self, name, *words):
+        ran = compiled(*words)
+        self.assertEqual((ran.returncode, ran.stderr), (0, ""), words)
+        self.assertEqual(ran.stdout, WANTED[name].read_text(), words)
+
+    @needs("cc")
+    def test_c(self):
+        warnings = ("-Wall", "-Wextra", "-Wpedantic", "-Werror")
+        for name in WANTED:
+            program = self.room / name
+            made = compiled("cc", "-std=c11", *warnings, "-I", TOP / "include", EXAMPLES / "c" / f"{name}.c", LIBRARY / "libzelvorm.a", "-o", program)
+            self.assertEqual((made.returncode, made.stderr), (0, ""))
+            self.assert_prints(name, program, DAY)
+
+    @needs("rustc")
+    def test_rust(self):
+        for name in WANTED:
+            program = self.room / name
+            links = ("-L", f"native={LIBRARY}", "-l", "static=zelvorm")
+            made = compiled("rustc", "--edition", "2021", "-D", "warnings", *links, "-o", program, EXAMPLES / "rust" / f"{name}.rs")
+            self.assertEqual((made.returncode, made.stderr), (0, ""))
+            self.assert_prints(name, program, DAY)
+
+    def test_python(self):
+        for name in WANTED:
+            self.assert_prints(name, sys.executable, EXAMPLES / "python" / f"{name}.py", LIBRARY / "libzelvorm.so", DAY)
+
+    # A day file of another day, a broken one among them, prints what the runner prints for it.
+    @needs("cc")
+    def test_days(self):
+        program = self.room / "day"
+        compiled("cc", "-std=c11", "-I", TOP / "include", EXAMPLES / "c" / "day.c", LIBRARY / "libzelvorm.a", "-o", program)
+        for day in sorted((TOP / "samples").glob("*.day")):
+            ran = compiled(program, day)
+            self.assertEqual(ran.stdout, day.with_suffix(".out").read_text(), day.name)
+        for day in sorted((TOP / "samples" / "broken").glob("*.day")):
+            self.assertEqual(compiled(program, day).stdout, "X 20\n", day.name)
+
+
+if __name__ == "__main__":
+    unittest.main()
