@@ -41,7 +41,7 @@ class Days(unittest.TestCase):
         self.assertIn("account 10020", played.stderr)
 
     def test_something_else_expected(self):
-        text = (SAMPLES / "second-day.txt").read_text().replace("=> order 1 rested 4", "=> order 1 rested 3")
+        text = (SAMPLES / "second-day.txt").read_text().replace("=> order 1 traded 0 rested 8", "=> order 1 traded 0 rested 7")
         with tempfile.TemporaryDirectory() as folder:
             other = Path(folder) / "other.txt"
             other.write_text(text)
