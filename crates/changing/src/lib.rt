@@ -182,6 +182,19 @@ fn put_back(buys: &mut [u32], sells: &mut [u32], c: usize, count: usize, r: Rest
     queue::insert_at(buys, c, count, place, order);
 }
 
+fn take_out(state: State, buys: &mut [u32], sells: &mut [u32], c: usize, r: Resting) -> State
+{
+    let bids = orders::side_count(false, state, c);
+    let offers = orders::side_count(true, state, c);
+    let place = r.place;
+    if r.sell {
+        queue::remove(sells, c, offers, place);
+        return removal::with_counts(state, c, bids, offers - 1);
+    }
+    queue::remove(buys, c, bids, place);
+    removal::with_counts(state, c, bids - 1, offers)
+}
+
 // The place lost: "tested as though the old order were gone, then matched at once". A refusal puts it back.
 fn lose_place(
     state: State,
@@ -202,24 +215,18 @@ fn lose_place(
     let a = laws::wide(account) - 1;
     let who = state.accounts[a];
     let o = arriving(account, contract, r, lots, price);
-    let taken = removal::cancel(
-        state,
-        buys,
-        sells,
-        &trades[..],
-        account,
-        contract,
-        false,
-        number,
-    );
-    let gone = taken.state;
+    let gone = take_out(state, buys, sells, c, r);
     let code = codes::reentry_code(gone, who, &buys[..], &sells[..], &trades[..], o, number);
     if code != 0 {
         let count = orders::side_count(r.sell, gone, c);
         put_back(buys, sells, c, count, r);
         return answers::refused(state, code);
     }
-    insertion::enter_order(gone, buys, sells, trades, o, number, 0, gone.next)
+    let arriving = insertion::arrival_of(gone, o, number, 0);
+    let accounts = gone.accounts;
+    let e = insertion::enter(accounts, arriving, buys, sells, trades);
+    let after = insertion::with_entry(gone, arriving, e, gone.next);
+    answers::accepted(after, number, e.traded, e.rested)
 }
 
 pub fn change(
@@ -250,19 +257,10 @@ pub fn change(
     if code != 0 {
         return answers::refused(state, code);
     }
-    if lots == 0 {
-        return removal::cancel(
-            state,
-            buys,
-            sells,
-            &trades[..],
-            account,
-            contract,
-            false,
-            number,
-        );
-    }
     let order = r.order;
+    if lots == 0 {
+        return answers::accepted(take_out(state, buys, sells, c, r), number, 0, order.lots);
+    }
     if loses_place(order, lots, price) {
         return lose_place(
             state,
