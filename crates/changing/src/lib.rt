@@ -10,8 +10,8 @@ ghost use Rattle.rules.specs.Bounds.{termsInRange};
 ghost use Rattle.rules.specs.Memory.{memory, queueIn, stepIn, firstWord, orderStride, WellFormedState};
 ghost use Rattle.rules.specs.declared.Command.the-variants.{Change};
 ghost use Rattle.engine.specs.Outcome.{OutcomeIs};
-ghost use Rattle.refusals.specs.Insertion.{sideArea};
-ghost use Rattle.changing.specs.Resting.{RestingIs, Changeable, stateRefusals, orderRefusals, loses, arrivingFor, lessenedIn, putBackIn};
+ghost use Rattle.refusals.specs.Insertion.{sideArea, sideCount};
+ghost use Rattle.changing.specs.Resting.{RestingIs, Changeable, stateRefusals, orderRefusals, loses, arrivingFor, lessenedIn, putBackIn, removedIn, takenOut};
 use book::queue;
 use engine::answers;
 use engine::answers::Outcome;
@@ -182,7 +182,12 @@ fn put_back(buys: &mut [u32], sells: &mut [u32], c: usize, count: usize, r: Rest
     queue::insert_at(buys, c, count, place, order);
 }
 
+// The order is taken out of its queue. The state after it.
 fn take_out(state: State, buys: &mut [u32], sells: &mut [u32], c: usize, r: Resting) -> State
+    requires { ⌜ (c < 4) × (r .place < sideCount (r .sell) state c) × (firstWord c (sideCount (r .sell) state c) ≤ length (sideArea (r .sell) (now buys) (now sells))) ⌝ }
+    ensures { λ t. ⌜ t ≡ takenOut state c r ⌝ }
+    ensures { λ _. ⌜ now (buys .exit) ≡ pick (r .sell) (now (buys .entry)) (removedIn (now (buys .entry)) c (sideCount false state c) (r .place)) ⌝ }
+    ensures { λ _. ⌜ now (sells .exit) ≡ pick (r .sell) (removedIn (now (sells .entry)) c (sideCount true state c) (r .place)) (now (sells .entry)) ⌝ }
 {
     let bids = orders::side_count(false, state, c);
     let offers = orders::side_count(true, state, c);
