@@ -1,0 +1,81 @@
+//! The best design that we know, in Rust: an account's resting lots kept as sums, so that margin reads no queue, and a settlement that
+//! reads the trades twice, whatever the number of accounts.
+
+use crate::cases::{ACCOUNTS, TRADE};
+use crate::design::{profit, Design, Resting, Settlement, Side, Traded};
+use crate::exchange::{Areas, State};
+
+/// Resting lots by account, contract, side and open or close.
+#[derive(Clone, Default)]
+pub struct Best {
+    lots: [[[[u32; 2]; 2]; 4]; ACCOUNTS],
+}
+
+impl Best {
+    fn sum(&mut self, of: Resting) -> &mut u32 {
+        &mut self.lots[of.account][of.contract][of.side][of.close as usize]
+    }
+}
+
+/// The buyer's and the seller's leg of a trade: a buy opens long lots or closes short ones, a sell the other way round.
+fn legs(t: &[u32]) -> impl Iterator<Item = Resting> + '_ {
+    [0, 1].into_iter().map(|side| Resting::of_leg(t, side))
+}
+
+impl Design for Best {
+    #[inline(always)]
+    fn rest(&mut self, of: Resting, lots: u32) {
+        *self.sum(of) += lots;
+    }
+
+    #[inline(always)]
+    fn leave(&mut self, of: Resting, lots: u32) {
+        *self.sum(of) -= lots;
+    }
+
+    #[inline(always)]
+    fn resting_lots(s: &State<Best>, _: &Areas, of: Resting) -> u64 {
+        s.design.lots[of.account][of.contract][of.side][of.close as usize] as u64
+    }
+
+    fn settlement(s: &State<Best>, areas: &Areas) -> Settlement {
+        let trades = || areas.trades[..TRADE * s.made].chunks_exact(TRADE);
+        let mut traded = [Traded::default(); 4];
+        // by account, contract, and long or short
+        let mut sides = [[[Side::default(); 2]; 4]; ACCOUNTS];
+        for t in trades() {
+            traded[t[0] as usize].add(t);
+            for leg in legs(t).filter(|leg| leg.close) {
+                sides[leg.account][leg.contract][1 - leg.side].close(t);
+            }
+        }
+        for (sides, account) in sides.iter_mut().zip(&s.accounts[..s.accountcount]) {
+            for c in 0..s.contractcount {
+                for short in [0, 1] {
+                    sides[c][short].start(s.contracts[c].reference, account.holdings[c].start(short));
+                }
+            }
+        }
+        for t in trades() {
+            for leg in legs(t).filter(|leg| !leg.close) {
+                sides[leg.account][leg.contract][leg.side].open(t);
+            }
+        }
+        Best::paid(s, areas, &traded, &sides)
+    }
+}
+
+impl Best {
+    fn paid(s: &State<Best>, areas: &Areas, traded: &[Traded; 4], sides: &[[[Side; 2]; 4]; ACCOUNTS]) -> Settlement {
+        let mut out = Settlement { prices: [0; 4], profits: [[0; 2]; ACCOUNTS] };
+        for c in 0..s.contractcount {
+            out.prices[c] = s.settlement_price(areas, c, &traded[c]);
+            for a in 0..s.accountcount {
+                let [closing, holding] = profit(&sides[a][c], &s.contracts[c], out.prices[c]);
+                out.profits[a][0] += closing;
+                out.profits[a][1] += holding;
+            }
+        }
+        out
+    }
+}
