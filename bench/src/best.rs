@@ -4,6 +4,7 @@
 use crate::cases::{ACCOUNTS, TRADE};
 use crate::design::{profit, Design, Resting, Settlement, Side, Traded};
 use crate::exchange::{Areas, State};
+use std::array::from_fn;
 
 /// Resting lots by account, contract, side and open or close.
 #[derive(Clone, Default)]
@@ -12,6 +13,7 @@ pub struct Best {
 }
 
 impl Best {
+    #[inline(always)]
     fn sum(&mut self, of: Resting) -> &mut u32 {
         &mut self.lots[of.account][of.contract][of.side][of.close as usize]
     }
@@ -42,18 +44,13 @@ impl Design for Best {
         let trades = || areas.trades[..TRADE * s.made].chunks_exact(TRADE);
         let mut traded = [Traded::default(); 4];
         // by account, contract, and long or short
-        let mut sides = [[[Side::default(); 2]; 4]; ACCOUNTS];
+        let mut sides = s.accounts.map(|account| {
+            from_fn(|c| [0, 1].map(|short| Side::start(s.contracts[c].reference, account.holdings[c].start(short))))
+        });
         for t in trades() {
             traded[t[0] as usize].add(t);
             for leg in legs(t).filter(|leg| leg.close) {
-                sides[leg.account][leg.contract][1 - leg.side].close(t);
-            }
-        }
-        for (sides, account) in sides.iter_mut().zip(&s.accounts[..s.accountcount]) {
-            for c in 0..s.contractcount {
-                for short in [0, 1] {
-                    sides[c][short].start(s.contracts[c].reference, account.holdings[c].start(short));
-                }
+                sides[leg.account][leg.contract][1 - leg.side].close(t, s.contracts[leg.contract].reference);
             }
         }
         for t in trades() {

@@ -37,15 +37,34 @@ pub fn counted_of(program: &Path, function: &str, words: &[String], input: Stdio
     (String::from_utf8_lossy(&said.stdout).trim().to_string(), total)
 }
 
-pub fn head(title: &str, versions: &[&str]) {
-    print!("\n{title:34} {:>9}", "ours");
-    versions.iter().for_each(|version| print!(" {version:>10} {:>6}", "ratio"));
+/// A number as README writes it: "1,234".
+fn grouped(n: f64) -> String {
+    let digits = format!("{n:.0}");
+    let groups: Vec<&str> = digits.as_bytes().rchunks(3).rev().map(|group| std::str::from_utf8(group).unwrap()).collect();
+    groups.join(",")
+}
+
+/// One line of a table as README has it: a name, and what stands in the columns.
+pub fn line(name: &str, cells: &[String]) {
+    print!("| {name:34} |");
+    cells.iter().for_each(|cell| print!(" {cell:>10} |"));
     println!();
 }
 
-/// Ours, and each other version with the ratio to it.
-pub fn row(name: &str, counts: &[f64]) {
-    print!("{name:34} {:9.0}", counts[0]);
-    counts[1..].iter().for_each(|count| print!(" {count:10.0} {:6.2}", counts[0] / count));
+/// The first lines of a table.
+pub fn head(title: &str, columns: &[&str]) {
     println!();
+    line(title, &columns.iter().map(|column| column.to_string()).collect::<Vec<_>>());
+    println!("|---{}|", "|---".repeat(columns.len()));
+}
+
+/// Counts, each in its column.
+pub fn counts(name: &str, counts: &[f64]) {
+    line(name, &counts.iter().map(|count| grouped(*count)).collect::<Vec<_>>());
+}
+
+/// Ours, and each other version with the ratio to it.
+pub fn row(name: &str, ours: f64, others: &[f64]) {
+    let beside = others.iter().flat_map(|other| [grouped(*other), format!("{:.2}", ours / other)]);
+    line(name, &[grouped(ours)].into_iter().chain(beside).collect::<Vec<_>>());
 }

@@ -62,9 +62,9 @@ impl Traded {
     }
 }
 
-/// Article 32 for one side of an account's day in a contract: what its closes came to, their lots that are not opened yet, what the
-/// closed lots were opened for, the lots open, and what those were opened for.
-#[derive(Clone, Copy, Default)]
+/// Article 32 for one side of an account's day in a contract: what its closes came to, closed lots that were opened today, what the closed
+/// lots were opened for, the lots open, and what those were opened for.
+#[derive(Clone, Copy)]
 pub struct Side {
     closes: i64,
     closed: u32,
@@ -74,22 +74,22 @@ pub struct Side {
 }
 
 impl Side {
-    /// Every close comes before `start`.
-    pub fn close(&mut self, t: &[u32]) {
+    /// With the lots that the day started with.
+    pub fn start(reference: u32, lots: u32) -> Side {
+        Side { closes: 0, closed: 0, cost: 0, lots, opened: reference as i64 * lots as i64 }
+    }
+
+    /// A close: start-of-day lots go first. Every close is told before the first open.
+    pub fn close(&mut self, t: &[u32], reference: u32) {
+        let taken = self.lots.min(t[2]);
         self.closes += t[1] as i64 * t[2] as i64;
-        self.closed += t[2];
+        self.closed += t[2] - taken;
+        self.cost += reference as i64 * taken as i64;
+        self.lots -= taken;
+        self.opened -= reference as i64 * taken as i64;
     }
 
-    /// Start-of-day lots are closed first.
-    pub fn start(&mut self, reference: u32, lots: u32) {
-        let taken = self.closed.min(lots);
-        self.closed -= taken;
-        self.cost = reference as i64 * taken as i64;
-        self.lots = lots - taken;
-        self.opened = reference as i64 * self.lots as i64;
-    }
-
-    /// Then today's, in trade order.
+    /// An open, in trade order.
     pub fn open(&mut self, t: &[u32]) {
         let taken = self.closed.min(t[2]);
         self.closed -= taken;
@@ -119,13 +119,13 @@ impl Plain {
     fn side(s: &State<Plain>, areas: &Areas, a: usize, c: usize, short: usize) -> Side {
         // the leg that opens this side is the buyer's for long lots, the seller's for short ones
         let leg = |t: &[u32], seller: usize| (t[5 + seller] as usize == a).then(|| t[7 + seller] != 0);
-        let mut side = Side::default();
+        let reference = s.contracts[c].reference;
+        let mut side = Side::start(reference, s.accounts[a].holdings[c].start(short));
         for t in Plain::trades(s, areas, c) {
             if leg(t, 1 - short) == Some(true) {
-                side.close(t);
+                side.close(t, reference);
             }
         }
-        side.start(s.contracts[c].reference, s.accounts[a].holdings[c].start(short));
         for t in Plain::trades(s, areas, c) {
             if leg(t, short) == Some(false) {
                 side.open(t);
@@ -142,6 +142,7 @@ impl Design for Plain {
     #[inline(always)]
     fn leave(&mut self, _: Resting, _: u32) {}
 
+    #[inline(always)]
     fn resting_lots(s: &State<Plain>, areas: &Areas, of: Resting) -> u64 {
         orders(s.queue(areas, of.side == 1, of.contract))
             .filter(|o| o[2] as usize == of.account && o[4] == of.close as u32)

@@ -102,6 +102,9 @@ fn long(bytes: &[u8], at: usize) -> u64 {
 }
 
 impl Record {
+    // Both are always inlined: each design is counted as a compiler makes it that sees this one alone.
+
+    #[inline(always)]
     fn read(b: &[u8]) -> Record {
         Record {
             kind: b[0],
@@ -116,6 +119,7 @@ impl Record {
     }
 
     /// "kind, flag value or unused field is wrong"
+    #[inline(always)]
     fn malformed(&self) -> bool {
         let order_fields = self.lots != 0 || self.price != 0;
         match self.kind {

@@ -2,7 +2,7 @@
 
 use crate::best::Best;
 use crate::cases::{Random, ACCOUNTS, ORDER, TRADE};
-use crate::count::{counted, counted_from, head, row};
+use crate::count::{counted, counted_from, counts, head, line, row};
 use crate::days::{deposit, encode, file, filled_list, kind_lists, match_lists, mixed, Command, Memory, Prepared, CONTRACTS, KINDS, POOR, RICH};
 use crate::design::{Design, Plain, Resting};
 use crate::exchange::{self, State};
@@ -70,7 +70,9 @@ fn compare_run(day: &[u8], list: &[Command]) {
     }
 }
 
-fn compare_runs(lists: usize) {
+/// Random lists, and those counted.
+pub fn compare() {
+    let lists = 50;
     let mut r = Random::new();
     for i in 0..lists {
         let day = file(1 + r.below(32) as usize, [RICH, POOR][i % 2]);
@@ -80,6 +82,7 @@ fn compare_runs(lists: usize) {
         let (accounts, [_, with]) = pair(number);
         compare_run(&file(accounts, RICH), &with);
     }
+    println!("exchange: same results of {lists} random lists of commands and of those counted");
 }
 
 fn mixed_list() -> Vec<Command> {
@@ -158,31 +161,39 @@ fn per_command(number: usize, which: usize) -> f64 {
     (more - less) / (with.len() - without.len()) as f64
 }
 
+pub const VERSIONS: [&str; 5] = ["ours", "plain Rust", "ratio", "best Rust", "ratio"];
+
 /// Ours beside the two Rust versions.
 fn versions() {
-    let all = |number: usize| [OURS_ALONE, PLAIN_RUST, BEST_RUST].map(|which| per_command(number, which));
+    let all = |name: &str, number: usize| {
+        let [ours, plain, best] = [OURS_ALONE, PLAIN_RUST, BEST_RUST].map(|which| per_command(number, which));
+        row(name, ours, &[plain, best]);
+    };
     let settlements = plain_run(&file(32, RICH), &encode(&mixed_list()), &mut Memory::new()).settlements;
-    head("instructions per command", &["plain", "best"]);
-    row(&format!("2,000 commands, {settlements} settlements"), &all(MIXED));
+    head("Instructions per command", &VERSIONS);
+    all(&format!("2,000 commands, {settlements} settlements"), MIXED);
     for (kind, name) in KINDS.iter().enumerate() {
-        row(name, &all(kind_pair(kind, 0)));
+        all(name, kind_pair(kind, 0));
     }
-    row("match of 64 orders on each side", &all(MATCH));
-    head("settle, by accounts and trades", &["plain", "best"]);
+    all("match of 64 orders on each side", MATCH);
+    head("Settle, by accounts and trades", &VERSIONS);
     for configuration in [1, 0, 4, 3] {
         let Prepared { accounts, trades, .. } = CONFIGURATIONS[configuration];
-        row(&format!("{accounts} accounts, {trades} trades"), &all(kind_pair(KINDS.len() - 1, configuration)));
+        all(&format!("{accounts} accounts, {trades} trades"), kind_pair(KINDS.len() - 1, configuration));
     }
 }
 
 /// What a command's cost grows with.
 fn growth() {
-    println!("\n{:34} {:>9} {:>9} {:>9} {:>9}", "ours", "as above", "2", "44", "1,000");
-    println!("{:34} {:>9} {:>9} {:>9} {:>9}", "", "", "accounts", "a side", "trades");
+    let configurations = &CONFIGURATIONS[..4];
+    let label = |of: fn(&Prepared) -> usize| configurations.iter().map(|p| of(p).to_string()).collect::<Vec<_>>();
+    let accounts = label(|p| p.accounts);
+    head("Ours, accounts", &accounts.iter().map(String::as_str).collect::<Vec<_>>());
+    line("orders a side of a contract", &label(|p| p.orders));
+    line("recorded trades", &label(|p| p.trades));
     for (kind, name) in KINDS.iter().enumerate() {
-        print!("{name:34}");
-        (0..4).for_each(|configuration| print!(" {:9.0}", per_command(kind_pair(kind, configuration), OURS_ALONE)));
-        println!();
+        let number = |configuration| kind_pair(kind, configuration);
+        counts(name, &[0, 1, 2, 3].map(|configuration| per_command(number(configuration), OURS_ALONE)));
     }
 }
 
@@ -204,38 +215,36 @@ pub fn exercise_execute(number: usize) {
     assert!(left.balance == RICH as i64 + 1_000);
 }
 
-/// What the test of the whole state takes, and one command by itself, which makes it first, beside the same command in a list.
+/// What the test of the whole state takes, by orders and trades.
 fn whole_state() {
-    let behind = |function: &str, words: &[String]| counted_from(function, WHOLE_STATE_TEST, words);
-    println!("\n{:34} {:>9} {:>9} {:>9}", "whole-state test, trades", 0, 512, "1,024");
+    head("Whole-state test, trades", &["0", "512", "1,024"]);
     for orders in [0, 256, 512] {
-        print!("{:34}", format!("{orders} orders"));
-        for trades in [0, 512, 1_024] {
-            print!(" {:9.0}", behind("bench_test", &["test".into(), orders.to_string(), trades.to_string()]));
-        }
-        println!();
+        let words = |trades: usize| ["test".to_string(), orders.to_string(), trades.to_string()];
+        counts(&format!("{orders} orders"), &[0, 512, 1_024].map(|trades| counted_from("bench_test", WHOLE_STATE_TEST, &words(trades))));
     }
-    println!("\n{:34} {:>9} {:>9}", "one deposit", "execute", "in a list");
+}
+
+/// One command by itself, which tests the whole state first, beside the same command in a list.
+fn single() {
+    head("One deposit", &["`execute`", "in a list"]);
     for (name, number) in [("on the opening state", DEPOSIT_AT_OPENING), ("on the full state", DEPOSIT_IN_FULL)] {
-        let alone = behind("bench_execute", &["execute".into(), number.to_string()]);
-        println!("{name:34} {alone:9.0} {:9.0}", per_command(number, OURS_ALONE));
+        let alone = counted_from("bench_execute", WHOLE_STATE_TEST, &["execute".into(), number.to_string()]);
+        counts(name, &[alone, per_command(number, OURS_ALONE)]);
     }
 }
 
 /// What a command of a list takes more in a program that calls `execute` too.
 fn beside_execute() {
-    println!("\n{:34} {:>9} {:>9}", "library with", "run", "execute");
+    head("A command of a list, program with", &["`run` alone", "and execute"]);
     for (name, number) in [("2,000 commands", MIXED), ("deposit", kind_pair(0, 0)), ("cancel", kind_pair(4, 0))] {
-        println!("{name:34} {:9.0} {:9.0}", per_command(number, OURS_ALONE), per_command(number, OURS_WITH_EXECUTE));
+        counts(name, &[OURS_ALONE, OURS_WITH_EXECUTE].map(|which| per_command(number, which)));
     }
 }
 
 pub fn rows() {
-    let lists = 50;
-    compare_runs(lists);
-    println!("\nexchange: same results of {lists} random lists of commands and of those counted");
     versions();
     growth();
     whole_state();
+    single();
     beside_execute();
 }

@@ -87,7 +87,8 @@ fn differ(operation: &str) -> ! {
 }
 
 /// Runs the same random operations on each book: the answers and all areas have to be equal, word for word.
-fn compare(rounds: usize) {
+fn compare() {
+    let rounds = 50_000;
     let mut r = Random::new();
     for i in 0..rounds {
         let case = queue_case(&mut r, i % 64, 3);
@@ -113,6 +114,7 @@ fn compare(rounds: usize) {
             differ("sweep");
         }
     }
+    println!("book: same results of {rounds} random inserts, cancels and sweeps each");
 }
 
 /// Runs one book on the inputs of one operation, and gives the number of operations.
@@ -151,12 +153,9 @@ fn per_operation(operation: usize, which: usize) -> f64 {
 }
 
 fn book() {
-    let rounds = 50_000;
-    compare(rounds);
-    println!("book: same results of {rounds} random inserts, cancels and sweeps each");
-    head("instructions per operation", &["Rust"]);
+    head("Instructions per operation", &["ours", "Rust", "ratio"]);
     for (operation, name) in OPERATIONS.iter().enumerate() {
-        row(name, &[0, 1].map(|which| per_operation(operation, which)));
+        row(name, per_operation(operation, 0), &[per_operation(operation, 1)]);
     }
 }
 
@@ -181,7 +180,7 @@ fn sample(day: usize, kind: &str) -> Vec<u8> {
 
 fn runners() {
     println!("\nday runner: all print the lines of the samples");
-    head("instructions per command", &["plain", "best"]);
+    head("Instructions per command", &exchanges::VERSIONS);
     for (day, name) in DAYS.iter().enumerate() {
         let file = sample(day, "day");
         let input = std::fs::File::open(format!("samples/{name}.day")).unwrap();
@@ -195,7 +194,8 @@ fn runners() {
         }
         let state = State::<Plain>::open(&file);
         let commands = (file.len() - 12 - 20 * state.contractcount - 8 * state.accountcount) / exchange::RECORD;
-        row(&format!("{name}, {commands} commands"), &runs.map(|(_, total)| total / commands as f64));
+        let [ours, plain, best] = runs.map(|(_, total)| total / commands as f64);
+        row(&format!("`{name}`, {commands} commands"), ours, &[plain, best]);
     }
 }
 
@@ -209,7 +209,13 @@ fn main() {
         (Some("execute"), &[number]) => exchanges::exercise_execute(number),
         (Some("plain_day"), &[day]) => plain_day(&sample(day, "day")),
         (Some("best_day"), &[day]) => best_day(&sample(day, "day")),
+        (Some("compare"), _) => {
+            compare();
+            exchanges::compare();
+        }
         _ => {
+            compare();
+            exchanges::compare();
             book();
             exchanges::rows();
             runners();
