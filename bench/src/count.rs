@@ -1,5 +1,6 @@
 //! Instructions counted by valgrind, and the lines that tell them.
 
+use std::fmt::Display;
 use std::path::Path;
 use std::process::{exit, Command, Stdio};
 
@@ -38,23 +39,23 @@ pub fn counted_of(program: &Path, function: &str, words: &[String], input: Stdio
 }
 
 /// A number as README writes it: "1,234".
-fn grouped(n: f64) -> String {
+pub fn grouped(n: f64) -> String {
     let digits = format!("{n:.0}");
     let groups: Vec<&str> = digits.as_bytes().rchunks(3).rev().map(|group| std::str::from_utf8(group).unwrap()).collect();
     groups.join(",")
 }
 
 /// One line of a table as README has it: a name, and what stands in the columns.
-pub fn line(name: &str, cells: &[String]) {
+fn line(name: &str, cells: &[impl Display]) {
     print!("| {name:34} |");
     cells.iter().for_each(|cell| print!(" {cell:>10} |"));
     println!();
 }
 
 /// The first lines of a table.
-pub fn head(title: &str, columns: &[&str]) {
+pub fn head(title: &str, columns: &[impl Display]) {
     println!();
-    line(title, &columns.iter().map(|column| column.to_string()).collect::<Vec<_>>());
+    line(title, columns);
     println!("|---{}|", "|---".repeat(columns.len()));
 }
 

@@ -646,21 +646,21 @@ impl<D: Design> State<D> {
         let c = r.contract - 1;
         let mut lots = 0;
         for side in [0, 1] {
-            let count = self.resting[side][c];
-            let queue = &mut areas.queues[side][QUEUE * c..][..ORDER * count];
-            let mut kept = 0;
-            for i in 0..count {
-                let o = &queue[ORDER * i..][..ORDER];
-                if o[2] as usize == r.account - 1 {
-                    lots += o[3];
-                    self.design.leave(Resting::of_order(side, c, o), o[3]);
-                } else {
-                    queue.copy_within(ORDER * i..ORDER * (i + 1), ORDER * kept);
-                    kept += 1;
-                }
+            let queue = &mut areas.queues[side][QUEUE * c..][..ORDER * self.resting[side][c]];
+            let (mut from, mut kept) = (0, 0);
+            loop {
+                // the orders of others up to the next own one move as one block
+                let others = orders(&queue[from..]).take_while(|o| o[2] as usize != r.account - 1).count() * ORDER;
+                queue.copy_within(from..from + others, kept);
+                from += others;
+                kept += others;
+                let Some(o) = queue.get(from..from + ORDER) else { break };
+                lots += o[3];
+                self.design.leave(Resting::of_order(side, c, o), o[3]);
+                from += ORDER;
             }
-            queue[ORDER * kept..].fill(0);
-            self.resting[side][c] = kept;
+            queue[kept..].fill(0);
+            self.resting[side][c] = kept / ORDER;
         }
         Answer { lots, ..Answer::default() }
     }

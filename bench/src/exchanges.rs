@@ -2,7 +2,7 @@
 
 use crate::best::Best;
 use crate::cases::{Random, ACCOUNTS, ORDER, TRADE};
-use crate::count::{counted, counted_from, counts, head, line, row};
+use crate::count::{counted, counted_from, counts, grouped, head, row};
 use crate::days::{deposit, encode, file, filled_list, kind_lists, match_lists, mixed, Command, Memory, Prepared, CONTRACTS, KINDS, POOR, RICH};
 use crate::design::{Design, Plain, Resting};
 use crate::exchange::{self, State};
@@ -70,7 +70,13 @@ fn compare_run(day: &[u8], list: &[Command]) {
     }
 }
 
-/// Random lists, and those counted.
+/// Whether every command of a list is accepted.
+fn accepted(day: &[u8], list: &[Command]) -> bool {
+    let (mut state, mut memory) = (State::<Plain>::open(day), Memory::new());
+    list.iter().all(|command| state.step(&mut memory.areas(), &command.bytes()).code == 0)
+}
+
+/// Random lists, and those counted; of these all but the mixed one are accepted whole.
 pub fn compare() {
     let lists = 50;
     let mut r = Random::new();
@@ -80,7 +86,9 @@ pub fn compare() {
     }
     for number in 0..pair_count() {
         let (accounts, [_, with]) = pair(number);
-        compare_run(&file(accounts, RICH), &with);
+        let day = file(accounts, RICH);
+        assert!(number == MIXED || accepted(&day, &with));
+        compare_run(&day, &with);
     }
     println!("exchange: same results of {lists} random lists of commands and of those counted");
 }
@@ -179,21 +187,19 @@ fn versions() {
     head("Settle, by accounts and trades", &VERSIONS);
     for configuration in [1, 0, 4, 3] {
         let Prepared { accounts, trades, .. } = CONFIGURATIONS[configuration];
-        all(&format!("{accounts} accounts, {trades} trades"), kind_pair(KINDS.len() - 1, configuration));
+        all(&format!("{accounts} accounts, {} trades", grouped(trades as f64)), kind_pair(KINDS.len() - 1, configuration));
     }
 }
 
 /// What a command's cost grows with.
 fn growth() {
-    let configurations = &CONFIGURATIONS[..4];
-    let label = |of: fn(&Prepared) -> usize| configurations.iter().map(|p| of(p).to_string()).collect::<Vec<_>>();
-    let accounts = label(|p| p.accounts);
-    head("Ours, accounts", &accounts.iter().map(String::as_str).collect::<Vec<_>>());
-    line("orders a side of a contract", &label(|p| p.orders));
-    line("recorded trades", &label(|p| p.trades));
+    let columns = [0, 1, 2, 3];
+    let told = |of: fn(Prepared) -> usize| columns.map(|configuration| of(CONFIGURATIONS[configuration]) as f64);
+    head("Ours, accounts", &told(|p| p.accounts).map(grouped));
+    counts("orders a side of a contract", &told(|p| p.orders));
+    counts("recorded trades", &told(|p| p.trades));
     for (kind, name) in KINDS.iter().enumerate() {
-        let number = |configuration| kind_pair(kind, configuration);
-        counts(name, &[0, 1, 2, 3].map(|configuration| per_command(number(configuration), OURS_ALONE)));
+        counts(name, &columns.map(|configuration| per_command(kind_pair(kind, configuration), OURS_ALONE)));
     }
 }
 

@@ -15,7 +15,7 @@ mod runner;
 
 use best::Best;
 use cases::{any_sweeps, queue_case, whole_sweeps, Random, Sweeps, SweepsCase, Swept};
-use count::{counted, counted_of, head, row};
+use count::{counted, counted_of, grouped, head, row};
 use design::Plain;
 use exchange::State;
 use plain::Order;
@@ -195,7 +195,7 @@ fn runners() {
         let state = State::<Plain>::open(&file);
         let commands = (file.len() - 12 - 20 * state.contractcount - 8 * state.accountcount) / exchange::RECORD;
         let [ours, plain, best] = runs.map(|(_, total)| total / commands as f64);
-        row(&format!("`{name}`, {commands} commands"), ours, &[plain, best]);
+        row(&format!("`{name}`, {} commands", grouped(commands as f64)), ours, &[plain, best]);
     }
 }
 
