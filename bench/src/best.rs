@@ -2,7 +2,7 @@
 //! reads the trades twice, whatever the number of accounts.
 
 use crate::cases::{ACCOUNTS, TRADE};
-use crate::design::{profit, Design, Resting, Settlement, Side, Traded};
+use crate::design::{Design, Resting, Settlement, Side, Traded};
 use crate::exchange::{Areas, State};
 use std::array::from_fn;
 
@@ -44,7 +44,7 @@ impl Design for Best {
         let trades = || areas.trades[..TRADE * s.made].chunks_exact(TRADE);
         let mut traded = [Traded::default(); 4];
         // by account, contract, and long or short
-        let mut sides = s.accounts.map(|account| {
+        let mut sides: [[[Side; 2]; 4]; ACCOUNTS] = s.accounts.map(|account| {
             from_fn(|c| [0, 1].map(|short| Side::start(s.contracts[c].reference, account.holdings[c].start(short))))
         });
         for t in trades() {
@@ -58,19 +58,11 @@ impl Design for Best {
                 sides[leg.account][leg.contract][leg.side].open(t);
             }
         }
-        Best::paid(s, areas, &traded, &sides)
-    }
-}
-
-impl Best {
-    fn paid(s: &State<Best>, areas: &Areas, traded: &[Traded; 4], sides: &[[[Side; 2]; 4]; ACCOUNTS]) -> Settlement {
-        let mut out = Settlement { prices: [0; 4], profits: [[0; 2]; ACCOUNTS] };
+        let mut out = Settlement::default();
         for c in 0..s.contractcount {
             out.prices[c] = s.settlement_price(areas, c, &traded[c]);
             for a in 0..s.accountcount {
-                let [closing, holding] = profit(&sides[a][c], &s.contracts[c], out.prices[c]);
-                out.profits[a][0] += closing;
-                out.profits[a][1] += holding;
+                out.add(a, c, &sides[a][c], s.contracts[c].multiplier);
             }
         }
         out

@@ -2,7 +2,7 @@
 //! settlement. Here with the plain design; the best one is in `best.rs`.
 
 use crate::cases::{ACCOUNTS, TRADE};
-use crate::exchange::{orders, Areas, Contract, State};
+use crate::exchange::{orders, Areas, State};
 
 /// An account's resting opens or closes on a side (0 buy, 1 sell) of a contract.
 #[derive(Clone, Copy)]
@@ -25,9 +25,21 @@ impl Resting {
 }
 
 /// Each contract's settlement price, each account's closing and holding profit.
+#[derive(Default)]
 pub struct Settlement {
     pub prices: [u32; 4],
     pub profits: [[i64; 2]; ACCOUNTS],
+}
+
+impl Settlement {
+    /// Adds what an account's long and short lots in a contract gained.
+    pub fn add(&mut self, a: usize, c: usize, [long, short]: &[Side; 2], multiplier: u32) {
+        let price = self.prices[c] as i64;
+        let closing = (long.closes - long.cost) + (short.cost - short.closes);
+        let holding = (price * long.lots as i64 - long.opened) + (short.opened - price * short.lots as i64);
+        self.profits[a][0] += closing * multiplier as i64;
+        self.profits[a][1] += holding * multiplier as i64;
+    }
 }
 
 /// A design of the exchange: what it keeps beside the state, and what it reads.
@@ -99,13 +111,6 @@ impl Side {
     }
 }
 
-/// An account's closing and holding profit of its long and its short lots in a contract.
-pub fn profit([long, short]: &[Side; 2], terms: &Contract, price: u32) -> [i64; 2] {
-    let closing = (long.closes - long.cost) + (short.cost - short.closes);
-    let holding = (price as i64 * long.lots as i64 - long.opened) + (short.opened - price as i64 * short.lots as i64);
-    [closing, holding].map(|gain| gain * terms.multiplier as i64)
-}
-
 /// The same design as ours had first: nothing is kept, so that resting lots are read from the queues, and a settlement reads the trades
 /// for each contract's price and for each side of each account's day.
 #[derive(Clone, Default)]
@@ -151,7 +156,7 @@ impl Design for Plain {
     }
 
     fn settlement(s: &State<Plain>, areas: &Areas) -> Settlement {
-        let mut out = Settlement { prices: [0; 4], profits: [[0; 2]; ACCOUNTS] };
+        let mut out = Settlement::default();
         for c in 0..s.contractcount {
             let mut traded = Traded::default();
             Plain::trades(s, areas, c).for_each(|t| traded.add(t));
@@ -160,9 +165,7 @@ impl Design for Plain {
         for a in 0..s.accountcount {
             for c in 0..s.contractcount {
                 let sides = [0, 1].map(|short| Plain::side(s, areas, a, c, short));
-                let [closing, holding] = profit(&sides, &s.contracts[c], out.prices[c]);
-                out.profits[a][0] += closing;
-                out.profits[a][1] += holding;
+                out.add(a, c, &sides, s.contracts[c].multiplier);
             }
         }
         out
