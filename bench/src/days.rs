@@ -197,9 +197,8 @@ fn opening(r: &mut Random) -> impl DoubleEndedIterator<Item = Command> {
     (1..=CONTRACTS).map(move |c| phase(c, if c == auction { AUCTION as u8 } else { 1 }))
 }
 
-/// A mixed list: orders, cancels, changes, quotes, money, state changes, and two settlements at the end of each 500 commands, the second
-/// soon after the first, as far as the list goes. One contract in four opens by an auction. The commands are chosen by the state that they
-/// meet.
+/// A mixed list: orders, cancels, changes, quotes, money, state changes, and two settlements about each 500th command, 13 commands apart, as
+/// far as the list goes. One contract in four opens by an auction. The commands are chosen by the state that they meet.
 pub fn mixed(r: &mut Random, day: &[u8], count: usize) -> Vec<Command> {
     let mut state = State::open(day);
     let mut memory = Memory::new();
