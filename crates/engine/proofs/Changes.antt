@@ -35,33 +35,33 @@ use Rattle.engine.proofs.Tests.{place-below}
 module _ (to : ℕ) where
   pub from-pre-open : changeListed 0 to ≡ (eqb to 4 || (eqb to 1 || eqb to 3))
   unfolding changeListed
-  from-pre-open = go (eqb to 1) (eqb to 3) (eqb to 4)
+  from-pre-open = by-phase (eqb to 1) (eqb to 3) (eqb to 4)
     where
-      go : (a b c : Bool) → (a || b || false || false || false || false || c || false) ≡ (c || (a || b))
-      go true b true = refl
-      go true b false = refl
-      go false true true = refl
-      go false true false = refl
-      go false false true = refl
-      go false false false = refl
+      by-phase : (a b c : Bool) → (a || b || false || false || false || false || c || false) ≡ (c || (a || b))
+      by-phase true b true = refl
+      by-phase true b false = refl
+      by-phase false true true = refl
+      by-phase false true false = refl
+      by-phase false false true = refl
+      by-phase false false false = refl
 
   pub from-continuous : changeListed 1 to ≡ (eqb to 2 || eqb to 3)
   unfolding changeListed
-  from-continuous = go (eqb to 2) (eqb to 3)
+  from-continuous = by-phase (eqb to 2) (eqb to 3)
     where
-      go : (a b : Bool) → (false || false || a || false || b || false || false || false) ≡ (a || b)
-      go true b = refl
-      go false true = refl
-      go false false = refl
+      by-phase : (a b : Bool) → (false || false || a || false || b || false || false || false) ≡ (a || b)
+      by-phase true b = refl
+      by-phase false true = refl
+      by-phase false false = refl
 
   pub from-no-trading : changeListed 2 to ≡ (eqb to 1 || eqb to 3)
   unfolding changeListed
-  from-no-trading = go (eqb to 1) (eqb to 3)
+  from-no-trading = by-phase (eqb to 1) (eqb to 3)
     where
-      go : (a b : Bool) → (false || false || false || a || false || b || false || false) ≡ (a || b)
-      go true b = refl
-      go false true = refl
-      go false false = refl
+      by-phase : (a b : Bool) → (false || false || false || a || false || b || false || false) ≡ (a || b)
+      by-phase true b = refl
+      by-phase false true = refl
+      by-phase false false = refl
 
   pub from-auction : changeListed 4 to ≡ eqb to 1
   unfolding changeListed
