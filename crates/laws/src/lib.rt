@@ -21,7 +21,7 @@ pub fn wide(x: u32) -> usize
     x as usize
 }
 
-pub fn wide32(x: u32) -> u64
+pub fn wide64(x: u32) -> u64
     ensures { λ r. ⌜ r ≡ x ⌝ }
 {
     x as u64
