@@ -140,15 +140,15 @@ stage-declared m d w y s = put-declared m d y (shaped-fits m d (counts m w) y s)
 -- no command changes the lengths of the arrays
 pub declared-kept : (m : Memory) (command : Command) → Declared (m .state) → Declared (respond m command .memory .state)
 unfolding respond stepIn
-declared-kept m command d = by (wellFormedMemory m) refl
+declared-kept m command d = by-wellformed (wellFormedMemory m) refl
   where
     stages : List Exchange
     stages = kindOf (exchangeOf m) command .effect .stages
 
-    by : (w : Bool) → wellFormedMemory m ≡ w → Declared (respond m command .memory .state)
-    by true w =
+    by-wellformed : (w : Bool) → wellFormedMemory m ≡ w → Declared (respond m command .memory .state)
+    by-wellformed true w =
         rw w
         (decided (λ e. Declared (written m (e .stages) .state)) (exchangeOf m) command
         (λ e. written-declared m d stages (each-fits m d (counts m w) stages (kind-shape (exchangeOf m) command)))
         (λ e. d))
-    by false w = rw w d
+    by-wellformed false w = rw w d

@@ -143,7 +143,7 @@ fn balance_in_range(settlements: u32, a: Account) -> bool
     requires { ⌜ settlements ≤ 250 ⌝ }
     ensures { λ r. ⌜ r ≡ balanceInRange settlements a ⌝ }
 {
-    let most = rules::MAX_BALANCE + laws::wide32(settlements) * rules::MAX_DAY_PROFIT;
+    let most = rules::MAX_BALANCE + laws::wide64(settlements) * rules::MAX_DAY_PROFIT;
     let limit = most as i64;
     let balance = a.balance;
     if limit < balance {

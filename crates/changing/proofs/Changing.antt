@@ -125,13 +125,13 @@ module _ {s : State} {buys sells trades : List ℕ} (w : WellFormedState s buys 
   -- 2, 3 and 4
   state-is : firstOf statePart ≡ firstOf (stateRefusals s account contract)
   unfolding firstOf listingIn
-  state-is = rw (no-account m f account, no-contract m f contract) (go (isAbsent contract (s .contractcount)) refl)
+  state-is = rw (no-account m f account, no-contract m f contract) (by-absent-contract (isAbsent contract (s .contractcount)) refl)
     where
-      go : (b : Bool) → isAbsent contract (s .contractcount) ≡ b
+      by-absent-contract : (b : Bool) → isAbsent contract (s .contractcount) ≡ b
           → codes (isAbsent account (s .accountcount)) b (not (eqb (listingFor x k .contract .phase) continuous))
           ≡ codes (isAbsent account (s .accountcount)) b (not (eqb (getD (s .contracts) c noContract .phase) continuous))
-      go true e = refl
-      go false e = rw (listing-at m f c (place-below contract (s .contractcount) e .1))
+      by-absent-contract true e = refl
+      by-absent-contract false e = rw (listing-at m f c (place-below contract (s .contractcount) e .1))
 
   pub refused-early : {code : ℕ} {o : Outcome} → code ≡ firstOf (stateRefusals s account contract) → (code ≡ 0 → ⊥) → o ≡ refusedWith s code
       → OutcomeIs (stepIn m command) o buys sells trades
@@ -189,13 +189,13 @@ module _ {s : State} {buys sells trades : List ℕ} (w : WellFormedState s buys 
     module _ {r : Resting} (rs : RestingIs number bought sold r) where
       order-is : firstOf orderPart ≡ firstOf (orderRefusals (getD (s .contracts) c noContract) (placeOf account) r lots price)
       unfolding firstOf ofAnother noSuchOrder listingIn
-      order-is = go (r .found) refl
+      order-is = by-found (r .found) refl
         where
-          go : (b : Bool) → r .found ≡ b → firstOf orderPart ≡ firstOf (orderRefusals (getD (s .contracts) c noContract) (placeOf account) r lots price)
-          go false e =
+          by-found : (b : Bool) → r .found ≡ b → firstOf orderPart ≡ firstOf (orderRefusals (getD (s .contracts) c noContract) (placeOf account) r lots price)
+          by-found false e =
               let no : noSuchOrder resting ≡ true = ap noSuchOrder resting-is ∙ sym (rs .found) ∙ ap not e in
               rw (no, e)
-          go true e =
+          by-found true e =
               let one : resting ≡ r .order ∷ [] = resting-is ∙ rs .order e in
               rw (one, e, listing-is)
 

@@ -121,19 +121,11 @@ module _ (m : Memory) (f : Formed m) where
   unfolding exchangeOf
   account-put a v h e = put-account-set (m .state .contractcount) (m .state .accountcount) (m .state .accounts) a v few-accounts wide h e
 
--- ---- places as the code computes them: k is a number as the code widens it
+-- ---- the place of a number that is not absent is one of the arrays'
 
-module _ {s : State} {buys sells trades : List ℕ} (w : WellFormedState s buys sells trades) (number : ℕ) {k : ℕ} (is : k ≡ number) where
-  module _ (present : isAbsent number (s .accountcount) ≡ false) where
-    pub account-low : 1 ≤ k
-    account-low = omega (arith, is, place-below number (s .accountcount) present .0)
+module _ {s : State} {buys sells trades : List ℕ} (w : WellFormedState s buys sells trades) (number : ℕ) {place : ℕ} (is : place ≡ number - 1) where
+  pub account-fits : isAbsent number (s .accountcount) ≡ false → place < 32
+  account-fits present = omega (arith, is, place-below number (s .accountcount) present .1, formed w .accounts-high)
 
-    pub account-fits : k - 1 < 32
-    account-fits = omega (arith, is, place-below number (s .accountcount) present .1, formed w .accounts-high)
-
-  module _ (present : isAbsent number (s .contractcount) ≡ false) where
-    pub contract-low : 1 ≤ k
-    contract-low = omega (arith, is, place-below number (s .contractcount) present .0)
-
-    pub contract-fits : k - 1 < 4
-    contract-fits = omega (arith, is, place-below number (s .contractcount) present .1, formed w .contracts-high)
+  pub contract-fits : isAbsent number (s .contractcount) ≡ false → place < 4
+  contract-fits present = omega (arith, is, place-below number (s .contractcount) present .1, formed w .contracts-high)

@@ -171,11 +171,11 @@ lots-high : (accounts next nextstamp : ℕ) (contract : Contract) (test : Order 
 unfolding lotsWhere
 lots-high accounts next nextstamp contract test os h =
     sumOf-bound (λ o. pick (test o) (o .lots) 0) maxLots os noOrder
-    (λ i l. go (test (getD os i noOrder)) (getD os i noOrder) (order-ok accounts next nextstamp contract (getD os i noOrder) (allOf-at (orderInRange accounts next nextstamp contract) os i noOrder h l)))
+    (λ i l. by-test (test (getD os i noOrder)) (getD os i noOrder) (order-ok accounts next nextstamp contract (getD os i noOrder) (allOf-at (orderInRange accounts next nextstamp contract) os i noOrder h l)))
   where
-    go : (b : Bool) (o : Order) → OrderOk accounts next nextstamp contract o → pick b (o .lots) 0 ≤ maxLots
-    go true o k = k .lots-high
-    go false o k = omega arith
+    by-test : (b : Bool) (o : Order) → OrderOk accounts next nextstamp contract o → pick b (o .lots) 0 ≤ maxLots
+    by-test true o k = k .lots-high
+    by-test false o k = omega arith
 
 -- ---- the whole state
 
@@ -197,13 +197,13 @@ module _ {s : State} {buys sells trades : List ℕ} (w : WellFormedState s buys 
 
   shared-code : firstOf (pullRefusals (exchangeOf m) account contract operator) ≡ removalCode s account contract operator
   unfolding firstOf pullRefusals removalCode listingIn
-  shared-code = rw (no-account m f account, no-contract m f contract) (go (isAbsent contract (s .contractcount)) refl)
+  shared-code = rw (no-account m f account, no-contract m f contract) (by-absent-contract (isAbsent contract (s .contractcount)) refl)
     where
-      go : (b : Bool) → isAbsent contract (s .contractcount) ≡ b
+      by-absent-contract : (b : Bool) → isAbsent contract (s .contractcount) ≡ b
           → codes (isAbsent account (s .accountcount)) b (removalRefused (listingAt (exchangeOf m) (contract - 1) .contract) operator)
           ≡ codes (isAbsent account (s .accountcount)) b (removalRefused (getD (s .contracts) (contract - 1) noContract) operator)
-      go true e = refl
-      go false e = rw (listing-at m f (contract - 1) (place-below contract (s .contractcount) e .1))
+      by-absent-contract true e = refl
+      by-absent-contract false e = rw (listing-at m f (contract - 1) (place-below contract (s .contractcount) e .1))
 
   pull-code : codeOf (exchangeOf m) (Pull account contract operator) ≡ removalCode s account contract operator
   unfolding codeOf kindOf

@@ -159,11 +159,11 @@ module _ (m : Memory) (c : Command) (w : wellFormedMemory m ≡ true) where
 -- of any memory, well formed or not
 pub respond-lengths : (m : Memory) (c : Command) → SameLengths m (respond m c .memory)
 unfolding respond
-respond-lengths m c = by (wellFormedMemory m) refl
+respond-lengths m c = by-wellformed (wellFormedMemory m) refl
   where
-    by : (b : Bool) → wellFormedMemory m ≡ b → SameLengths m (respond m c .memory)
-    by true w = rw w (step-in-lengths m w c)
-    by false w = rw w (same-lengths m)
+    by-wellformed : (b : Bool) → wellFormedMemory m ≡ b → SameLengths m (respond m c .memory)
+    by-wellformed true w = rw w (step-in-lengths m w c)
+    by-wellformed false w = rw w (same-lengths m)
 
 -- ---- a run: well formed at its start is well formed throughout
 

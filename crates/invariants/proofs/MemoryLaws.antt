@@ -33,14 +33,14 @@ put-first-at f ls room c l =
 
 -- as many values as are read are read back
 front-read : {A : Type 0} (n : ℕ) (vs room : List A) → length vs ≡ length (take n room) → take n (putFirst vs room) ≡ vs
-front-read n vs room e = go (leb n (length room)) refl
+front-read n vs room e = by-room (leb n (length room)) refl
   where
     e′ : length vs ≡ min n (length room)
     e′ = e ∙ length-take n room
 
-    go : (b : Bool) → leb n (length room) ≡ b → take n (vs ++ drop (length vs) room) ≡ vs
-    go true h = take-at vs (drop (length vs) room) n (omega (arith, e′, leb-true n (length room) h))
-    go false h =
+    by-room : (b : Bool) → leb n (length room) ≡ b → take n (vs ++ drop (length vs) room) ≡ vs
+    by-room true h = take-at vs (drop (length vs) room) n (omega (arith, e′, leb-true n (length room) h))
+    by-room false h =
         let l = leb-false n (length room) h in
         rw (drop-of-length-le room {i = length vs} (omega (arith, e′)), append-nil vs) (take-all n vs (omega (arith, e′)))
 

@@ -82,11 +82,10 @@ module _ {s : State} {buys sells trades : List ℕ} (w : WellFormedState s buys 
   here : c < s .contractcount
   here = place-below contract (s .contractcount) (parts .0) .1
 
-  -- k is the contract's number as the code widens it
-  pub place-low : {k : ℕ} → k ≡ contract → 1 ≤ k
-  place-low is = omega (arith, place-below contract (s .contractcount) (parts .0) .0)
+  pub contract-low : 1 ≤ contract
+  contract-low = place-below contract (s .contractcount) (parts .0) .0
 
-  pub place-fits : {k : ℕ} → k ≡ contract → k - 1 < 4
+  pub place-fits : {place : ℕ} → place ≡ c → place < 4
   place-fits is = omega (arith, here, f .contracts-high)
 
   -- ---- its queues as they lie
@@ -118,7 +117,7 @@ module _ {s : State} {buys sells trades : List ℕ} (w : WellFormedState s buys 
         sells-room = omega (arith, here, f .sells-high c here, f .sells-room);
       }
 
-  pub queues : {k : ℕ} → k ≡ contract → QueuesRoom buys (getD (s .buys) (k - 1) 0) sells (getD (s .sells) (k - 1) 0) (k - 1)
+  pub queues : {place : ℕ} → place ≡ c → QueuesRoom buys (getD (s .buys) place 0) sells (getD (s .sells) place 0) place
   queues is = rw is room
 
   -- their orders are of accounts in use, of at most 1,000 lots
@@ -141,12 +140,12 @@ module _ {s : State} {buys sells trades : List ℕ} (w : WellFormedState s buys 
 
   -- ---- the match at the level that the code has found
 
-  module _ {k : ℕ} (is : k ≡ contract) {level : Level}
-      (el : level ≡ chosenLevel (getD (s .contracts) (k - 1) noContract .last) (queueIn buys (k - 1) (getD (s .buys) (k - 1) 0)) (queueIn sells (k - 1) (getD (s .sells) (k - 1) 0))) where
+  module _ {place : ℕ} (is : place ≡ c) {level : Level}
+      (el : level ≡ chosenLevel (getD (s .contracts) place noContract .last) (queueIn buys place (getD (s .buys) place 0)) (queueIn sells place (getD (s .sells) place 0))) where
     level-is : levelMatch c level bids asks ≡ matched
     level-is = level-auction c (terms .last) bids asks (rw is at el)
 
-    module _ {needed : ℕ} (en : needed ≡ length (levelMatch (k - 1) level (queueIn buys (k - 1) (getD (s .buys) (k - 1) 0)) (queueIn sells (k - 1) (getD (s .sells) (k - 1) 0)) .trades)) where
+    module _ {needed : ℕ} (en : needed ≡ length (levelMatch place level (queueIn buys place (getD (s .buys) place 0)) (queueIn sells place (getD (s .sells) place 0)) .trades)) where
       needed-is : needed ≡ length (matched .trades)
       needed-is = (rw is at en) ∙ ap (λ (r : Matched). length (r .trades)) level-is
 
@@ -183,7 +182,7 @@ module _ {s : State} {buys sells trades : List ℕ} (w : WellFormedState s buys 
                   };
             }
 
-        pub left-ready : MatchReady (levelMatch c level (queueIn buys c (getD (s .buys) (k - 1) 0)) (queueIn sells c (getD (s .sells) (k - 1) 0))) c (s .accounts) buys (getD (s .buys) (k - 1) 0) sells (getD (s .sells) (k - 1) 0) trades (s .tradecount)
+        pub left-ready : MatchReady (levelMatch c level (queueIn buys c (getD (s .buys) place 0)) (queueIn sells c (getD (s .sells) place 0))) c (s .accounts) buys (getD (s .buys) place 0) sells (getD (s .sells) place 0) trades (s .tradecount)
         left-ready = rw is ready
 
         -- ---- what it leaves
@@ -200,11 +199,11 @@ module _ {s : State} {buys sells trades : List ℕ} (w : WellFormedState s buys 
         counted = phase-counted x contract 1 accepted (f .contents) (sound m (w .formed) .counts)
 
         module _ {r : Match} {buys′ sells′ area′ : List ℕ}
-            (outcome : MatchedIs (levelMatch c level (queueIn buys c (getD (s .buys) (k - 1) 0)) (queueIn sells c (getD (s .sells) (k - 1) 0))) c (getD (s .contracts) (k - 1) noContract .last) (s .accounts) buys (getD (s .buys) (k - 1) 0) sells (getD (s .sells) (k - 1) 0) trades (s .tradecount) r buys′ sells′ area′) where
+            (outcome : MatchedIs (levelMatch c level (queueIn buys c (getD (s .buys) place 0)) (queueIn sells c (getD (s .sells) place 0))) c (getD (s .contracts) place noContract .last) (s .accounts) buys (getD (s .buys) place 0) sells (getD (s .sells) place 0) trades (s .tradecount) r buys′ sells′ area′) where
           made : MatchedIs matched c (terms .last) (s .accounts) buys (getD (s .buys) c 0) sells (getD (s .sells) c 0) trades (s .tradecount) r buys′ sells′ area′
           made = rw (is, level-is) at outcome
 
-          lies : written m (kindOf x (Phase contract 1) .effect .stages) ≡ memory (withMatch s (k - 1) r) buys′ sells′ area′
+          lies : written m (kindOf x (Phase contract 1) .effect .stages) ≡ memory (withMatch s place r) buys′ sells′ area′
           unfolding kindOf phaseChanged exchangeMatched listingMatched exchangeOf listingIn
           lies =
               put-traded m f c listing (matchOf x c .trades) (x .next) (x .nextstamp) here kept counted
@@ -214,6 +213,6 @@ module _ {s : State} {buys sells trades : List ℕ} (w : WellFormedState s buys 
           unfolding kindOf phaseChanged
           answer-is = rw (match-is, made .booked .traded)
 
-          pub left-accepted : {next : State} {result : Outcome} → next ≡ withMatch s (k - 1) r → result ≡ acceptedWith next 0 (r .traded) 0
+          pub left-accepted : {next : State} {result : Outcome} → next ≡ withMatch s place r → result ≡ acceptedWith next 0 (r .traded) 0
               → OutcomeIs (stepIn m (Phase contract 1)) result buys′ sells′ area′
           left-accepted en e = acceptance s buys sells trades (Phase contract 1) accepted answer-is (lies ∙ rw en) e

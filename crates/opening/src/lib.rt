@@ -59,7 +59,7 @@ fn leave_auction(
     requires { ⌜ WellFormedState state (now buys) (now sells) (now trades) × (isMatch state contract 1 ≡ true) ⌝ }
     ensures { λ r. ⌜ OutcomeIs (stepIn (memory state (now (buys .entry)) (now (sells .entry)) (now (trades .entry))) (Phase contract 1)) r (now (buys .exit)) (now (sells .exit)) (now (trades .exit)) ⌝ }
 {
-    let c = laws::wide(contract) - 1;
+    let c = laws::place_of(contract);
     let bids = state.buys;
     let offers = state.sells;
     let bought = bids[c];

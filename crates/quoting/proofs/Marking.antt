@@ -26,11 +26,11 @@ use Rattle.quoting.specs.Placing.{Markable, markedIn}
 
 -- a code that is told, whichever way it went
 told-either : (code : ℕ) (entered : Responded) (m : Memory) → entered .answer .code ≡ 0 → pick (eqb code 0) entered (inMemory m (refused code)) .answer .code ≡ code
-told-either code entered m z = by (eqb code 0) refl
+told-either code entered m z = by-code (eqb code 0) refl
   where
-    by : (b : Bool) → eqb code 0 ≡ b → pick b entered (inMemory m (refused code)) .answer .code ≡ code
-    by true e = z ∙ sym (eqb-true code 0 e)
-    by false e = refl
+    by-code : (b : Bool) → eqb code 0 ≡ b → pick b entered (inMemory m (refused code)) .answer .code ≡ code
+    by-code true e = z ∙ sym (eqb-true code 0 e)
+    by-code false e = refl
 
 -- what an order's outcome tells
 module _ (m : Memory) (o : NewOrder) {r : Outcome} {buys′ sells′ trades′ : List ℕ} (is : OutcomeIs (markedIn m o) r buys′ sells′ trades′) where

@@ -61,11 +61,11 @@ use Rattle.quoting.proofs.Undo.{made-room, undo-both, undo-nothing, und
 -- an order trades at most once with each order that it meets
 needed-few : (y : Exchange) (number : ℕ) (o : NewOrder) → tradesNeeded y number o ≤ length (opposite (o .sell) (listingOf y o))
 unfolding tradesNeeded
-needed-few y number o = by (inAuction (listingOf y o .contract))
+needed-few y number o = by-auction (inAuction (listingOf y o .contract))
   where
-    by : (b : Bool) → pick b 0 (length (sweep (takerOf y number 0 o) (o .lots) (listingOf y o .contract .last) (opposite (o .sell) (listingOf y o)) .trades)) ≤ length (opposite (o .sell) (listingOf y o))
-    by true = omega arith
-    by false = omega (arith, trades-counted (takerOf y number 0 o) (o .lots) (listingOf y o .contract .last) (opposite (o .sell) (listingOf y o)), count-within (takerOf y number 0 o) (o .lots) (opposite (o .sell) (listingOf y o)))
+    by-auction : (b : Bool) → pick b 0 (length (sweep (takerOf y number 0 o) (o .lots) (listingOf y o .contract .last) (opposite (o .sell) (listingOf y o)) .trades)) ≤ length (opposite (o .sell) (listingOf y o))
+    by-auction true = omega arith
+    by-auction false = omega (arith, trades-counted (takerOf y number 0 o) (o .lots) (listingOf y o .contract .last) (opposite (o .sell) (listingOf y o)), count-within (takerOf y number 0 o) (o .lots) (opposite (o .sell) (listingOf y o)))
 
 -- an order trades and rests at most its lots
 rested-lots : (b : Bool) (lots : ℕ) (ts : List Trade) → restedLots b lots ts ≤ lots
@@ -136,14 +136,14 @@ module _ {s : State} {buys sells trades : List ℕ} (w : WellFormedState s buys 
 
   early-same : firstOf rulesEarly ≡ firstOf early
   unfolding firstOf
-  early-same = rw (no-account m f account, no-contract m f contract) (by (isAbsent account (s .accountcount)) refl (isAbsent contract (s .contractcount)) refl)
+  early-same = rw (no-account m f account, no-contract m f contract) (by-absence (isAbsent account (s .accountcount)) refl (isAbsent contract (s .contractcount)) refl)
     where
-      by : (b : Bool) → isAbsent account (s .accountcount) ≡ b → (d : Bool) → isAbsent contract (s .contractcount) ≡ d
+      by-absence : (b : Bool) → isAbsent account (s .accountcount) ≡ b → (d : Bool) → isAbsent contract (s .contractcount) ≡ d
           → _≡_ {A = ℕ} (pick b 2 (pick d 3 (pick (not (eqb (listingAt x c .contract .phase) continuous)) 4 (pick (not (eqb (accountAt (x .accounts) a .maker) 1)) 23 (pick (not (ltb buy sell)) 24 0)))))
           (pick b 2 (pick d 3 (pick (not (eqb (getD (s .contracts) c noContract .phase) continuous)) 4 (pick (not (eqb (getD (s .accounts) a noAccount .maker) 1)) 23 (pick (not (ltb buy sell)) 24 0)))))
-      by true e d h = refl
-      by false e true h = refl
-      by false e false h = rw (contract-is m f c (place-below contract (s .contractcount) h .1), maker-is (place-below account (s .accountcount) e .1)) refl
+      by-absence true e d h = refl
+      by-absence false e true h = refl
+      by-absence false e false h = rw (contract-is m f c (place-below contract (s .contractcount) h .1), maker-is (place-below account (s .accountcount) e .1)) refl
 
   abbrev orderCodes : List Refusal
   orderCodes = orderRefusals (withoutQuote x q) (buyOf q) ++ orderRefusals (withBuy x q) (sellOf q)

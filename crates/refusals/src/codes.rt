@@ -106,14 +106,14 @@ fn lots_refused(terms: Contract, h: Holding, rested: u64, o: NewOrder) -> bool
     requires { ⌜ rested ≤ 1000000 ⌝ }
     ensures { λ r. ⌜ r ≡ lotsRefused terms h rested o ⌝ }
 {
-    let lots = laws::wide32(o.lots);
+    let lots = laws::wide64(o.lots);
     let close = o.close;
     if close {
         let held = orders::by_side(o.sell, h.long, h.short);
-        return laws::wide32(held) < rested + lots;
+        return laws::wide64(held) < rested + lots;
     }
     let held = orders::by_side(o.sell, h.short, h.long);
-    laws::wide32(terms.limit) < laws::wide32(held) + rested + lots
+    laws::wide64(terms.limit) < laws::wide64(held) + rested + lots
 }
 
 // 9: an open passes if all charged margin, its lots included, is at most the balance. A close is never refused for money. `who` is
@@ -186,7 +186,7 @@ fn is_short(area: &[u32], c: usize, count: usize, t: Taker, lots: u32) -> bool
     requires { ⌜ Facing t (now area) c count ⌝ }
     ensures { λ r. ⌜ r ≡ ltb (matching.fillable t (queueIn (now (area .entry)) c count)) lots ⌝ }
 {
-    book::scan::fillable(area, c, count, t) < laws::wide32(lots)
+    book::scan::fillable(area, c, count, t) < laws::wide64(lots)
 }
 
 // 11: "fill or kill: fillable lots below lots".
