@@ -81,8 +81,8 @@ fn held_in_range(state: State, c: usize, buys: &[u32], sells: &[u32]) -> bool
 {
     let contract = state.contracts[c];
     let limit = contract.limit;
-    let bids = state.buys[c];
-    let asks = state.sells[c];
+    let bids = state.buycounts[c];
+    let asks = state.sellcounts[c];
     let accounts = state.accountcount;
     let bought = resting_lots(buys, c, bids);
     let sold = resting_lots(sells, c, asks);

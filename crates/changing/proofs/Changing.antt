@@ -79,10 +79,10 @@ module _ {s : State} {buys sells trades : List ℕ} (w : WellFormedState s buys 
   command = Change account contract number lots price
 
   abbrev bought : List Order
-  bought = queueIn buys c (getD (s .buys) c 0)
+  bought = queueIn buys c (getD (s .buycounts) c 0)
 
   abbrev sold : List Order
-  sold = queueIn sells c (getD (s .sells) c 0)
+  sold = queueIn sells c (getD (s .sellcounts) c 0)
 
   pub few-contracts : s .contractcount ≤ 4
   few-contracts = f .contracts-high
@@ -173,7 +173,7 @@ module _ {s : State} {buys sells trades : List ℕ} (w : WellFormedState s buys 
     unfolding removalCode firstOf
     none = rw (tests .0, tests .1 .0, ← in-continuous (getD (s .contracts) c noContract) false phase-is)
 
-    pub rooms : {n : ℕ} → n ≡ contract → {bids offers : ℕ} → bids ≡ getD (s .buys) (n - 1) 0 → offers ≡ getD (s .sells) (n - 1) 0
+    pub rooms : {n : ℕ} → n ≡ contract → {bids offers : ℕ} → bids ≡ getD (s .buycounts) (n - 1) 0 → offers ≡ getD (s .sellcounts) (n - 1) 0
         → (firstWord (n - 1) bids ≤ length buys) × (firstWord (n - 1) offers ≤ length sells)
     rooms e eb es = rw (eb, es) (side-room w account contract false none e false, side-room w account contract false none e true)
 
@@ -200,7 +200,7 @@ module _ {s : State} {buys sells trades : List ℕ} (w : WellFormedState s buys 
               rw (one, e, listing-is)
 
     -- n is the contract's number as the code widens it
-    module _ {n : ℕ} (is : n ≡ contract) {bids offers : ℕ} (eb : bids ≡ getD (s .buys) (n - 1) 0) (es : offers ≡ getD (s .sells) (n - 1) 0) {r : Resting}
+    module _ {n : ℕ} (is : n ≡ contract) {bids offers : ℕ} (eb : bids ≡ getD (s .buycounts) (n - 1) 0) (es : offers ≡ getD (s .sellcounts) (n - 1) 0) {r : Resting}
         (rs : RestingIs number (queueIn buys (n - 1) bids) (queueIn sells (n - 1) offers) r) {code : ℕ}
         (ec : code ≡ firstOf (orderRefusals (getD (s .contracts) (n - 1) noContract) (account - 1) r lots price)) where
       found-here : RestingIs number bought sold r
@@ -347,7 +347,7 @@ module _ {s : State} {buys sells trades : List ℕ} (w : WellFormedState s buys 
     Cancelled t buys′ sells′ = OutcomeIs (stepIn m (Cancel account contract false number)) (acceptedWith t number 0 (r .order .lots)) buys′ sells′ trades
 
     as-cancelled : (side : Bool) → r .sell ≡ side
-        → Cancelled (withCountsIn s (set (s .buys) c (pick side (count false) (count false - 1))) (set (s .sells) c (pick side (count true - 1) (count true))))
+        → Cancelled (withCountsIn s (set (s .buycounts) c (pick side (count false) (count false - 1))) (set (s .sellcounts) c (pick side (count true - 1) (count true))))
         (pick side buys (removedIn buys c (count false) (r .place))) (pick side (removedIn sells c (count true) (r .place)) sells)
     unfolding kindOf cancelled
     as-cancelled true e =
@@ -433,8 +433,8 @@ module _ {s : State} {buys sells trades : List ℕ} (w : WellFormedState s buys 
               less-length number lots sold,
               length-queue buys c (count false),
               length-queue sells c (count true),
-              set-getD (s .buys) c 0,
-              set-getD (s .sells) c 0,
+              set-getD (s .buycounts) c 0,
+              set-getD (s .sellcounts) c 0,
               less-buys (r .sell) refl,
               less-sells (r .sell) refl,
             ))
@@ -476,11 +476,11 @@ module _ {s : State} {buys sells trades : List ℕ} (w : WellFormedState s buys 
         left-few side = omega (arith, length-without (hasNumber number) (queue side), length-queue (area side) c (count side), few side)
 
         gone-lies : put m (gone x k)
-            ≡ memory (withCountsIn s (set (s .buys) c (length (left false))) (set (s .sells) c (length (left true)))) (putQueue buys c (count false) (left false)) (putQueue sells c (count true) (left true)) trades
+            ≡ memory (withCountsIn s (set (s .buycounts) c (length (left false))) (set (s .sellcounts) c (length (left true)))) (putQueue buys c (count false) (left false)) (putQueue sells c (count true) (left true)) trades
         unfolding gone listingIn
         gone-lies = rw (listing-is st′) (put-queues m f c (here st′) (left false) (left true) (left-few false) (left-few true))
 
-        gone-state : t .state ≡ withCountsIn s (set (s .buys) c (length (left false))) (set (s .sells) c (length (left true)))
+        gone-state : t .state ≡ withCountsIn s (set (s .buycounts) c (length (left false))) (set (s .sellcounts) c (length (left true)))
         gone-state = ap (λ (n : Memory). n .state) (lies ∙ gone-lies)
 
         gone-buys : buys′ ≡ putQueue buys c (count false) (left false)
@@ -496,8 +496,8 @@ module _ {s : State} {buys sells trades : List ℕ} (w : WellFormedState s buys 
             (record {
               contracts = d .contracts;
               accounts = d .accounts;
-              buys = length-set (s .buys) c (length (left false)) ∙ d .buys;
-              sells = length-set (s .sells) c (length (left true)) ∙ d .sells;
+              buys = length-set (s .buycounts) c (length (left false)) ∙ d .buys;
+              sells = length-set (s .sellcounts) c (length (left true)) ∙ d .sells;
               holdings = d .holdings;
             })
 
@@ -531,15 +531,15 @@ module _ {s : State} {buys sells trades : List ℕ} (w : WellFormedState s buys 
               kept-other : (side : Bool) → r .sell ≡ side → putQueue (area (not side)) c (count (not side)) (left (not side)) ≡ area (not side)
               kept-other side e = rw (without-none (hasNumber number) (queue (not side)) (other side e)) (put-queue (area (not side)) c (count (not side)) (room (not side)))
 
-              counts-in : c < length (s .buys)
+              counts-in : c < length (s .buycounts)
               counts-in = omega (arith, w .declared .buys, here st′, f .contracts-high)
 
-              counts-in-sells : c < length (s .sells)
+              counts-in-sells : c < length (s .sellcounts)
               counts-in-sells = omega (arith, w .declared .sells, here st′, f .contracts-high)
 
               count-is : (side : Bool) → r .sell ≡ side → sideCount side (t .state) c ≡ count side - 1
-              count-is true e = rw gone-state (getD-set-same (s .sells) c (length (left true)) 0 counts-in-sells ∙ out-length true e)
-              count-is false e = rw gone-state (getD-set-same (s .buys) c (length (left false)) 0 counts-in ∙ out-length false e)
+              count-is true e = rw gone-state (getD-set-same (s .sellcounts) c (length (left true)) 0 counts-in-sells ∙ out-length true e)
+              count-is false e = rw gone-state (getD-set-same (s .buycounts) c (length (left false)) 0 counts-in ∙ out-length false e)
 
               less-one : count₁ ≡ count (r .sell) - 1
               less-one = en ∙ rw is (count-is (r .sell) refl)

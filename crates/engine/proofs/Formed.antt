@@ -29,8 +29,8 @@ pub record Formed (m : Memory) : Type 0 where
   pub accounts-low : 1 ≤ m .state .accountcount
   pub accounts-high : m .state .accountcount ≤ 32
   pub trades-high : m .state .tradecount ≤ maxTrades
-  pub buys-high : (c : ℕ) → c < m .state .contractcount → getD (m .state .buys) c 0 ≤ maxResting
-  pub sells-high : (c : ℕ) → c < m .state .contractcount → getD (m .state .sells) c 0 ≤ maxResting
+  pub buys-high : (c : ℕ) → c < m .state .contractcount → getD (m .state .buycounts) c 0 ≤ maxResting
+  pub sells-high : (c : ℕ) → c < m .state .contractcount → getD (m .state .sellcounts) c 0 ≤ maxResting
   pub buys-room : queueStride * m .state .contractcount ≤ length (m .buys)
   pub sells-room : queueStride * m .state .contractcount ≤ length (m .sells)
   pub trades-room : tradeStride * maxTrades ≤ length (m .trades)
@@ -49,7 +49,7 @@ module _ {s : State} {buys sells trades : List ℕ} (w : WellFormedState s buys 
       let n : ℕ = s .contractcount in
       let parts = passed (countsInRange s) (hasRoom m ∷ wellFormedContents (exchangeOf m) ∷ []) (w .formed) in
       let counts = passed (within 1 maxContracts n)
-      (within 1 maxAccounts (s .accountcount) ∷ leb (s .tradecount) maxTrades ∷ all (λ c. leb (getD (s .buys) c 0) maxResting) n ∷ all (λ c. leb (getD (s .sells) c 0) maxResting) n ∷ [])
+      (within 1 maxAccounts (s .accountcount) ∷ leb (s .tradecount) maxTrades ∷ all (λ c. leb (getD (s .buycounts) c 0) maxResting) n ∷ all (λ c. leb (getD (s .sellcounts) c 0) maxResting) n ∷ [])
       (parts .0) in
       let contracts = both-true (leb 1 n) (leb n maxContracts) (counts .0) in
       let accounts = both-true (leb 1 (s .accountcount)) (leb (s .accountcount) maxAccounts) (counts .1 .0) in
@@ -60,8 +60,8 @@ module _ {s : State} {buys sells trades : List ℕ} (w : WellFormedState s buys 
         accounts-low = leb-true _ _ (accounts .0);
         accounts-high = leb-true _ _ (accounts .1);
         trades-high = leb-true _ _ (counts .1 .1 .0);
-        buys-high = few (s .buys) n (counts .1 .1 .1 .0);
-        sells-high = few (s .sells) n (counts .1 .1 .1 .1);
+        buys-high = few (s .buycounts) n (counts .1 .1 .1 .0);
+        sells-high = few (s .sellcounts) n (counts .1 .1 .1 .1);
         buys-room = leb-true _ _ (rooms .0);
         sells-room = leb-true _ _ (rooms .1 .0);
         trades-room = leb-true _ _ (rooms .1 .1);

@@ -250,7 +250,7 @@ module _ {s : State} {buys sells trades : List ℕ} (w : WellFormedState s buys 
       area sell = pick sell sells buys
 
       abbrev count : Bool → ℕ
-      count sell = getD (pick sell (s .sells) (s .buys)) (k - 1) 0
+      count sell = getD (pick sell (s .sellcounts) (s .buycounts)) (k - 1) 0
 
       abbrev orders : Bool → List Order
       orders sell = queueIn (area sell) (k - 1) (count sell)
@@ -286,7 +286,7 @@ module _ {s : State} {buys sells trades : List ℕ} (w : WellFormedState s buys 
         short sell = omega (arith, length-without test (orders sell), length-queue (area sell) (k - 1) (count sell), side-few sell)
 
         pub lies : put m (withListing (exchangeOf m) (contract - 1) (listingWithout test (listingAt (exchangeOf m) (contract - 1))))
-            ≡ memory (withCountsIn s (set (s .buys) (k - 1) bought) (set (s .sells) (k - 1) sold)) buys′ sells′ trades
+            ≡ memory (withCountsIn s (set (s .buycounts) (k - 1) bought) (set (s .sellcounts) (k - 1) sold)) buys′ sells′ trades
         unfolding listingIn
         lies =
             rw (← is, listing-at m f (k - 1) here)
@@ -299,7 +299,7 @@ module _ {s : State} {buys sells trades : List ℕ} (w : WellFormedState s buys 
 
         pub removal-accepted : (command : Command) {r : Outcome} {next : State} {number lots : ℕ} → codeOf (exchangeOf m) command ≡ 0
             → kindOf (exchangeOf m) command .effect ≡ removed (exchangeOf m) (contract - 1) test number
-            → next ≡ withCountsIn s (set (s .buys) (k - 1) bought) (set (s .sells) (k - 1) sold) → lots ≡ bid + offer → r ≡ acceptedWith next number 0 lots
+            → next ≡ withCountsIn s (set (s .buycounts) (k - 1) bought) (set (s .sellcounts) (k - 1) sold) → lots ≡ bid + offer → r ≡ acceptedWith next number 0 lots
             → OutcomeIs (stepIn m command) r buys′ sells′ trades
         unfolding removed
         removal-accepted command e c n l a = acceptance s buys sells trades command e (ap (λ (t : Effect). done t .answer) c ∙ answer l) (rw (c, n) lies) a
@@ -324,7 +324,7 @@ module _ {s : State} {buys sells trades : List ℕ} (w : WellFormedState s buys 
               ∙ sym (b .code)
 
           pub bid-done : {r : Outcome} {next : State} → bid .code ≡ 0
-              → next ≡ withCountsIn s (set (s .buys) (k - 1) (bid .count)) (set (s .sells) (k - 1) (count true)) → r ≡ acceptedWith next number 0 (bid .lots) → CancelIs r buys′ sells
+              → next ≡ withCountsIn s (set (s .buycounts) (k - 1) (bid .count)) (set (s .sellcounts) (k - 1) (count true)) → r ≡ acceptedWith next number 0 (bid .lots) → CancelIs r buys′ sells
           unfolding kindOf cancelled
           bid-done e n a =
               removal-accepted (hasNumber number) (b .done e)
@@ -346,7 +346,7 @@ module _ {s : State} {buys sells trades : List ℕ} (w : WellFormedState s buys 
             offer-refused e a = rw (b .kept p, o .kept e) (refusal s buys sells trades (Cancel account contract operator number) (offer .code) (omega arith) offer-code a)
 
             pub offer-done : {r : Outcome} {next : State} → offer .code ≡ 0
-                → next ≡ withCountsIn s (set (s .buys) (k - 1) (count false)) (set (s .sells) (k - 1) (offer .count)) → r ≡ acceptedWith next number 0 (offer .lots) → CancelIs r buys′ sells′
+                → next ≡ withCountsIn s (set (s .buycounts) (k - 1) (count false)) (set (s .sellcounts) (k - 1) (offer .count)) → r ≡ acceptedWith next number 0 (offer .lots) → CancelIs r buys′ sells′
             unfolding kindOf cancelled
             offer-done e n a =
                 rw (b .kept p)
@@ -370,7 +370,7 @@ module _ {s : State} {buys sells trades : List ℕ} (w : WellFormedState s buys 
 
       pub pull-accepted : {r : Outcome} {next : State} {lots : ℕ} {bid offer : Pulled} {buys′ sells′ : List ℕ}
           → PulledIs (isOf (account - 1)) buys (k - 1) (count false) bid buys′ → PulledIs (isOf (account - 1)) sells (k - 1) (count true) offer sells′
-          → next ≡ withCountsIn s (set (s .buys) (k - 1) (bid .count)) (set (s .sells) (k - 1) (offer .count)) → lots ≡ bid .lots + offer .lots
+          → next ≡ withCountsIn s (set (s .buycounts) (k - 1) (bid .count)) (set (s .sellcounts) (k - 1) (offer .count)) → lots ≡ bid .lots + offer .lots
           → r ≡ acceptedWith next 0 0 lots → OutcomeIs (stepIn m (Pull account contract operator)) r buys′ sells′ trades
       unfolding kindOf pulled
       pull-accepted b o n l a =

@@ -44,8 +44,8 @@ withContractsIn s contracts =
     record {
       contracts = contracts;
       accounts = s .accounts;
-      buys = s .buys;
-      sells = s .sells;
+      buycounts = s .buycounts;
+      sellcounts = s .sellcounts;
       contractcount = s .contractcount;
       accountcount = s .accountcount;
       tradecount = s .tradecount;
@@ -59,8 +59,8 @@ withAccountsIn s accounts =
     record {
       contracts = s .contracts;
       accounts = accounts;
-      buys = s .buys;
-      sells = s .sells;
+      buycounts = s .buycounts;
+      sellcounts = s .sellcounts;
       contractcount = s .contractcount;
       accountcount = s .accountcount;
       tradecount = s .tradecount;
@@ -75,8 +75,8 @@ withCountsIn s buys sells =
     record {
       contracts = s .contracts;
       accounts = s .accounts;
-      buys = buys;
-      sells = sells;
+      buycounts = buys;
+      sellcounts = sells;
       contractcount = s .contractcount;
       accountcount = s .accountcount;
       tradecount = s .tradecount;

@@ -89,8 +89,8 @@ pub fn withdraw<'a>(
     let left = who.balance - amount as i64;
     let holdings = who.holdings;
     let terms = state.contracts;
-    let bids = state.buys;
-    let offers = state.sells;
+    let bids = state.buycounts;
+    let offers = state.sellcounts;
     let charged = margin::charged(
         holdings,
         terms,

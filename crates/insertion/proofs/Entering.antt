@@ -202,8 +202,8 @@ module _ {s : State} {buys sells trades : List ℕ} (w : WellFormedState s buys 
           contract-is m f c (here .contract),
           ap-pick length (o .sell) (entered .opposite) (entered .own),
           ap-pick length (o .sell) (entered .own) (entered .opposite),
-          put-buys buys sells (s .buys) (s .sells) c (entered .own) (entered .opposite) (o .sell),
-          put-sells buys sells (s .buys) (s .sells) c (entered .own) (entered .opposite) (o .sell),
+          put-buys buys sells (s .buycounts) (s .sellcounts) c (entered .own) (entered .opposite) (o .sell),
+          put-sells buys sells (s .buycounts) (s .sellcounts) c (entered .own) (entered .opposite) (o .sell),
         ))
 
   -- ---- the outcome

@@ -107,8 +107,8 @@ withEntry s a e next =
     record {
       contracts = set (s .contracts) (a .place) (withLast (a .terms) (e .last));
       accounts = e .accounts;
-      buys = set (s .buys) (a .place) (pick (a .order .sell) (e .opposite) (e .own));
-      sells = set (s .sells) (a .place) (pick (a .order .sell) (e .own) (e .opposite));
+      buycounts = set (s .buycounts) (a .place) (pick (a .order .sell) (e .opposite) (e .own));
+      sellcounts = set (s .sellcounts) (a .place) (pick (a .order .sell) (e .own) (e .opposite));
       contractcount = s .contractcount;
       accountcount = s .accountcount;
       tradecount = e .made;

@@ -43,8 +43,8 @@ pub fn arrival_of(state: State, o: NewOrder, number: u32, quote: u32) -> Arrival
 {
     let place = laws::wide(o.contract) - 1;
     let contracts = state.contracts;
-    let bids = state.buys;
-    let offers = state.sells;
+    let bids = state.buycounts;
+    let offers = state.sellcounts;
     let terms = contracts[place];
     Arrival {
         order: o,
@@ -150,8 +150,8 @@ pub fn with_entry(state: State, a: Arrival, e: Entry, next: u32) -> State
     let o = a.order;
     let c = a.place;
     let mut contracts = state.contracts;
-    let mut bids = state.buys;
-    let mut offers = state.sells;
+    let mut bids = state.buycounts;
+    let mut offers = state.sellcounts;
     let accounts = e.accounts;
     let mut terms = a.terms;
     terms.last = e.last;
@@ -161,8 +161,8 @@ pub fn with_entry(state: State, a: Arrival, e: Entry, next: u32) -> State
     State {
         contracts,
         accounts,
-        buys: bids,
-        sells: offers,
+        buycounts: bids,
+        sellcounts: offers,
         contractcount: state.contractcount,
         accountcount: state.accountcount,
         tradecount: e.made,

@@ -24,8 +24,8 @@ use Rattle.invariants.proofs.MemoryRoom.{CountsOk, RoomOk, memory-ok, m
 
 queue-few : (m : Memory) → CountsOk (m .state) → (c : ℕ) (sell : Bool) → c < m .state .contractcount → length (own sell (listingIn m c)) ≤ maxResting
 unfolding listingIn
-queue-few m k c true l = rw (length-queue (m .sells) c (getD (m .state .sells) c 0)) (k .sells c l)
-queue-few m k c false l = rw (length-queue (m .buys) c (getD (m .state .buys) c 0)) (k .buys c l)
+queue-few m k c true l = rw (length-queue (m .sells) c (getD (m .state .sellcounts) c 0)) (k .sells c l)
+queue-few m k c false l = rw (length-queue (m .buys) c (getD (m .state .buycounts) c 0)) (k .buys c l)
 
 pub counted : (m : Memory) → CountsOk (m .state) → Counted (exchangeOf m)
 unfolding exchangeOf listingAt
@@ -54,7 +54,7 @@ pub same-lengths : (m : Memory) → SameLengths m m
 same-lengths m = record { buys = refl; sells = refl; trades = refl }
 
 lengths-trans : {m m′ m″ : Memory} → SameLengths m m′ → SameLengths m′ m″ → SameLengths m m″
-lengths-trans s t = record { buys = t .buys ∙ s .buys; sells = t .sells ∙ s .sells; trades = t .trades ∙ s .trades }
+lengths-trans s t = record { buys = t .buys ∙ s .buycounts; sells = t .sells ∙ s .sellcounts; trades = t .trades ∙ s .trades }
 
 -- a stage is there to be written: it has the state's shape, and its counts are in range
 abbrev pub Writable : Exchange → Exchange → Type 0

@@ -139,10 +139,10 @@ module _ (m : Memory) (counts : CountsOk (m .state)) (room : RoomOk m) (arrays :
       (getD (areaOf sell m) (firstWord c i + word) 0)
   unfolding put listingIn
   orders-told true =
-      side-told (m .sells) (m .state .sells) (λ l. l .sells) refl (λ c. length-queue (m .sells) c (getD (m .state .sells) c 0)) (counts .sells)
+      side-told (m .sells) (m .state .sellcounts) (λ l. l .sells) refl (λ c. length-queue (m .sells) c (getD (m .state .sellcounts) c 0)) (counts .sells)
       (λ c l. few .queues c true (rw contracts l)) (room .sells)
   orders-told false =
-      side-told (m .buys) (m .state .buys) (λ l. l .buys) refl (λ c. length-queue (m .buys) c (getD (m .state .buys) c 0)) (counts .buys)
+      side-told (m .buys) (m .state .buycounts) (λ l. l .buys) refl (λ c. length-queue (m .buys) c (getD (m .state .buycounts) c 0)) (counts .buys)
       (λ c l. few .queues c false (rw contracts l)) (room .buys)
 
   trades-told : (i word : ℕ) → word < tradeStride →
@@ -164,8 +164,8 @@ module _ (m : Memory) (counts : CountsOk (m .state)) (room : RoomOk m) (arrays :
   counts-told : (sell : Bool) (c : ℕ) →
       getD (countsOf sell (put m x)) c 0 ≡ pick (listed c x) (length (own sell (listingAt x c))) (getD (countsOf sell m) c 0)
   unfolding put putState listingAt
-  counts-told true = first-by-place (λ l. length (l .sells)) (x .listings) (m .state .sells)
-  counts-told false = first-by-place (λ l. length (l .buys)) (x .listings) (m .state .buys)
+  counts-told true = first-by-place (λ l. length (l .sells)) (x .listings) (m .state .sellcounts)
+  counts-told false = first-by-place (λ l. length (l .buys)) (x .listings) (m .state .buycounts)
 
   -- the accounts have their places
   accounts-fit : length (x .accounts) ≤ length (m .state .accounts)

@@ -58,13 +58,13 @@ module _ (m n : Memory) (s : AgreeInUse m n) where
   same-listing c h =
       sym (listing-in-use m c h) ∙ ap (λ (x : Exchange). listingAt x c) (s .contents) ∙ listing-in-use n c (subst (λ (k : ℕ). c < k) same-contracts h)
 
-  buys-counted : (m : Memory) (c : ℕ) → length (listingIn m c .buys) ≡ getD (m .state .buys) c 0
+  buys-counted : (m : Memory) (c : ℕ) → length (listingIn m c .buys) ≡ getD (m .state .buycounts) c 0
   unfolding listingIn
-  buys-counted m c = length-queue (m .buys) c (getD (m .state .buys) c 0)
+  buys-counted m c = length-queue (m .buys) c (getD (m .state .buycounts) c 0)
 
-  sells-counted : (m : Memory) (c : ℕ) → length (listingIn m c .sells) ≡ getD (m .state .sells) c 0
+  sells-counted : (m : Memory) (c : ℕ) → length (listingIn m c .sells) ≡ getD (m .state .sellcounts) c 0
   unfolding listingIn
-  sells-counted m c = length-queue (m .sells) c (getD (m .state .sells) c 0)
+  sells-counted m c = length-queue (m .sells) c (getD (m .state .sellcounts) c 0)
 
   -- a side's counts, in range in both or in neither
   few : (own : Listing → List Order) (counts : Memory → List ℕ) → ((m : Memory) (c : ℕ) → length (own (listingIn m c)) ≡ getD (counts m) c 0)
@@ -76,7 +76,7 @@ module _ (m n : Memory) (s : AgreeInUse m n) where
   same-counts : countsInRange (m .state) ≡ countsInRange (n .state)
   unfolding countsInRange
   same-counts =
-      rw (few (λ l. l .buys) (λ m. m .state .buys) buys-counted, few (λ l. l .sells) (λ m. m .state .sells) sells-counted)
+      rw (few (λ l. l .buys) (λ m. m .state .buycounts) buys-counted, few (λ l. l .sells) (λ m. m .state .sellcounts) sells-counted)
       (rw (same-contracts, s .accounts, same-trades) refl)
 
   -- both are well formed, or neither

@@ -91,10 +91,10 @@ module _ {s : State} {buys sells trades : List ℕ} (w : WellFormedState s buys 
   -- ---- its queues as they lie
 
   abbrev bids : List Order
-  bids = queueIn buys c (getD (s .buys) c 0)
+  bids = queueIn buys c (getD (s .buycounts) c 0)
 
   abbrev asks : List Order
-  asks = queueIn sells c (getD (s .sells) c 0)
+  asks = queueIn sells c (getD (s .sellcounts) c 0)
 
   abbrev matched : Matched
   matched = auctionMatch c (terms .last) bids asks
@@ -108,7 +108,7 @@ module _ {s : State} {buys sells trades : List ℕ} (w : WellFormedState s buys 
       ap (λ l. pick (inAuction (l .contract)) (auctionMatch c (l .contract .last) (l .buys) (l .sells)) (unmatched (l .buys) (l .sells))) listing-is
       ∙ pick-true (inAuction terms) matched (unmatched bids asks) (parts .1)
 
-  room : QueuesRoom buys (getD (s .buys) c 0) sells (getD (s .sells) c 0) c
+  room : QueuesRoom buys (getD (s .buycounts) c 0) sells (getD (s .sellcounts) c 0) c
   room =
       record {
         few-buys = f .buys-high c here;
@@ -117,7 +117,7 @@ module _ {s : State} {buys sells trades : List ℕ} (w : WellFormedState s buys 
         sells-room = omega (arith, here, f .sells-high c here, f .sells-room);
       }
 
-  pub queues : {place : ℕ} → place ≡ c → QueuesRoom buys (getD (s .buys) place 0) sells (getD (s .sells) place 0) place
+  pub queues : {place : ℕ} → place ≡ c → QueuesRoom buys (getD (s .buycounts) place 0) sells (getD (s .sellcounts) place 0) place
   queues is = rw is room
 
   -- their orders are of accounts in use, of at most 1,000 lots
@@ -141,18 +141,18 @@ module _ {s : State} {buys sells trades : List ℕ} (w : WellFormedState s buys 
   -- ---- the match at the level that the code has found
 
   module _ {place : ℕ} (is : place ≡ c) {level : Level}
-      (el : level ≡ chosenLevel (getD (s .contracts) place noContract .last) (queueIn buys place (getD (s .buys) place 0)) (queueIn sells place (getD (s .sells) place 0))) where
+      (el : level ≡ chosenLevel (getD (s .contracts) place noContract .last) (queueIn buys place (getD (s .buycounts) place 0)) (queueIn sells place (getD (s .sellcounts) place 0))) where
     level-is : levelMatch c level bids asks ≡ matched
     level-is = level-auction c (terms .last) bids asks (rw is at el)
 
-    module _ {needed : ℕ} (en : needed ≡ length (levelMatch place level (queueIn buys place (getD (s .buys) place 0)) (queueIn sells place (getD (s .sells) place 0)) .trades)) where
+    module _ {needed : ℕ} (en : needed ≡ length (levelMatch place level (queueIn buys place (getD (s .buycounts) place 0)) (queueIn sells place (getD (s .sellcounts) place 0)) .trades)) where
       needed-is : needed ≡ length (matched .trades)
       needed-is = (rw is at en) ∙ ap (λ (r : Matched). length (r .trades)) level-is
 
       -- no more than orders
       pub needed-few : s .tradecount + needed ≤ 1_152
       needed-few =
-          omega (arith, needed-is, auction-count c (terms .last) bids asks, length-queue buys c (getD (s .buys) c 0), length-queue sells c (getD (s .sells) c 0), room .few-buys, room .few-sells, f .trades-high)
+          omega (arith, needed-is, auction-count c (terms .last) bids asks, length-queue buys c (getD (s .buycounts) c 0), length-queue sells c (getD (s .sellcounts) c 0), room .few-buys, room .few-sells, f .trades-high)
 
       -- 12
       pub left-full : {r : Outcome} → maxTrades < s .tradecount + needed → r ≡ refusedWith s 12 → OutcomeIs (stepIn m (Phase contract 1)) r buys sells trades
@@ -162,7 +162,7 @@ module _ {s : State} {buys sells trades : List ℕ} (w : WellFormedState s buys 
         accepted : codeOf x (Phase contract 1) ≡ 0
         accepted = code-is ∙ rw (← needed-is, le-ltb _ _ h)
 
-        ready : MatchReady (levelMatch c level bids asks) c (s .accounts) buys (getD (s .buys) c 0) sells (getD (s .sells) c 0) trades (s .tradecount)
+        ready : MatchReady (levelMatch c level bids asks) c (s .accounts) buys (getD (s .buycounts) c 0) sells (getD (s .sellcounts) c 0) trades (s .tradecount)
         unfolding accountAt holdingAt listingIn
         ready =
             record {
@@ -182,7 +182,7 @@ module _ {s : State} {buys sells trades : List ℕ} (w : WellFormedState s buys 
                   };
             }
 
-        pub left-ready : MatchReady (levelMatch c level (queueIn buys c (getD (s .buys) place 0)) (queueIn sells c (getD (s .sells) place 0))) c (s .accounts) buys (getD (s .buys) place 0) sells (getD (s .sells) place 0) trades (s .tradecount)
+        pub left-ready : MatchReady (levelMatch c level (queueIn buys c (getD (s .buycounts) place 0)) (queueIn sells c (getD (s .sellcounts) place 0))) c (s .accounts) buys (getD (s .buycounts) place 0) sells (getD (s .sellcounts) place 0) trades (s .tradecount)
         left-ready = rw is ready
 
         -- ---- what it leaves
@@ -199,8 +199,8 @@ module _ {s : State} {buys sells trades : List ℕ} (w : WellFormedState s buys 
         counted = phase-counted x contract 1 accepted (f .contents) (sound m (w .formed) .counts)
 
         module _ {r : Match} {buys′ sells′ area′ : List ℕ}
-            (outcome : MatchedIs (levelMatch c level (queueIn buys c (getD (s .buys) place 0)) (queueIn sells c (getD (s .sells) place 0))) c (getD (s .contracts) place noContract .last) (s .accounts) buys (getD (s .buys) place 0) sells (getD (s .sells) place 0) trades (s .tradecount) r buys′ sells′ area′) where
-          made : MatchedIs matched c (terms .last) (s .accounts) buys (getD (s .buys) c 0) sells (getD (s .sells) c 0) trades (s .tradecount) r buys′ sells′ area′
+            (outcome : MatchedIs (levelMatch c level (queueIn buys c (getD (s .buycounts) place 0)) (queueIn sells c (getD (s .sellcounts) place 0))) c (getD (s .contracts) place noContract .last) (s .accounts) buys (getD (s .buycounts) place 0) sells (getD (s .sellcounts) place 0) trades (s .tradecount) r buys′ sells′ area′) where
+          made : MatchedIs matched c (terms .last) (s .accounts) buys (getD (s .buycounts) c 0) sells (getD (s .sellcounts) c 0) trades (s .tradecount) r buys′ sells′ area′
           made = rw (is, level-is) at outcome
 
           lies : written m (kindOf x (Phase contract 1) .effect .stages) ≡ memory (withMatch s place r) buys′ sells′ area′

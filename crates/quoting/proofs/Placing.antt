@@ -82,8 +82,8 @@ entered-lots y number mark o =
 -- what the code takes out of the two queues is the account's old quote; k is the contract's number as the code widens it
 pub gone-written : {s : State} {buys sells trades : List ℕ} (w : WellFormedState s buys sells trades) (account contract : ℕ) → removalCode s account contract false ≡ 0 → {k : ℕ} → k ≡ contract
     → {r : State} {bid offer : Pulled} {buys′ sells′ : List ℕ}
-    → PulledIs (isQuoteOf (placeOf account)) buys (k - 1) (getD (s .buys) (k - 1) 0) bid buys′ → PulledIs (isQuoteOf (placeOf account)) sells (k - 1) (getD (s .sells) (k - 1) 0) offer sells′
-    → r ≡ withCountsIn s (set (s .buys) (k - 1) (bid .count)) (set (s .sells) (k - 1) (offer .count)) → memory r buys′ sells′ trades ≡ goneIn (memory s buys sells trades) account contract
+    → PulledIs (isQuoteOf (placeOf account)) buys (k - 1) (getD (s .buycounts) (k - 1) 0) bid buys′ → PulledIs (isQuoteOf (placeOf account)) sells (k - 1) (getD (s .sellcounts) (k - 1) 0) offer sells′
+    → r ≡ withCountsIn s (set (s .buycounts) (k - 1) (bid .count)) (set (s .sellcounts) (k - 1) (offer .count)) → memory r buys′ sells′ trades ≡ goneIn (memory s buys sells trades) account contract
 gone-written w account contract none is b o e =
     rw e
     (sym (lies w account contract false none is (isQuoteOf (placeOf account)) (record { queue = b .queue; count = b .count; lots = b .lots }) (record { queue = o .queue; count = o .count; lots = o .lots })))
@@ -202,20 +202,20 @@ module _ {s : State} {buys sells trades : List ℕ} (w : WellFormedState s buys 
     gone-few = gone-counted x (f .contents) q holder listed counts
 
     abbrev queue : Bool → List Order
-    queue side = queueIn (pick side sells buys) c (getD (pick side (s .sells) (s .buys)) c 0)
+    queue side = queueIn (pick side sells buys) c (getD (pick side (s .sellcounts) (s .buycounts)) c 0)
 
     abbrev left : Bool → List Order
     left side = without (isQuoteOf a) (queue side)
 
-    side-few : (side : Bool) → getD (pick side (s .sells) (s .buys)) c 0 ≤ maxResting
+    side-few : (side : Bool) → getD (pick side (s .sellcounts) (s .buycounts)) c 0 ≤ maxResting
     side-few true = f .sells-high c here
     side-few false = f .buys-high c here
 
     left-few : (side : Bool) → length (left side) ≤ maxResting
-    left-few side = omega (arith, length-without (isQuoteOf a) (queue side), length-queue (pick side sells buys) c (getD (pick side (s .sells) (s .buys)) c 0), side-few side)
+    left-few side = omega (arith, length-without (isQuoteOf a) (queue side), length-queue (pick side sells buys) c (getD (pick side (s .sellcounts) (s .buycounts)) c 0), side-few side)
 
     gone-lies : put m (withoutQuote x q)
-        ≡ memory (withCountsIn s (set (s .buys) c (length (left false))) (set (s .sells) c (length (left true)))) (putQueue buys c (getD (s .buys) c 0) (left false)) (putQueue sells c (getD (s .sells) c 0) (left true)) trades
+        ≡ memory (withCountsIn s (set (s .buycounts) c (length (left false))) (set (s .sellcounts) c (length (left true)))) (putQueue buys c (getD (s .buycounts) c 0) (left false)) (putQueue sells c (getD (s .sellcounts) c 0) (left true)) trades
     unfolding withoutQuote listingIn
     gone-lies = rw (listing-at m f c here) (put-queues m f c here (left false) (left true) (left-few false) (left-few true))
 

@@ -82,8 +82,8 @@ fn remove_quote(
     ensures { λ r. ⌜ memory r (now (buys .exit)) (now (sells .exit)) (now (trades .entry)) ≡ goneIn (memory state (now (buys .entry)) (now (sells .entry)) (now (trades .entry))) account contract ⌝ }
 {
     let c = laws::wide(contract) - 1;
-    let bids = state.buys;
-    let offers = state.sells;
+    let bids = state.buycounts;
+    let offers = state.sellcounts;
     let bought = bids[c];
     let sold = offers[c];
     let bid = book::removal::pull(buys, c, bought, account - 1, true);

@@ -38,8 +38,8 @@ withLeg s a c sell lots =
     record {
       contracts = s .contracts;
       accounts = bookLeg (s .accounts) a c sell 0 lots;
-      buys = s .buys;
-      sells = s .sells;
+      buycounts = s .buycounts;
+      sellcounts = s .sellcounts;
       contractcount = s .contractcount;
       accountcount = s .accountcount;
       tradecount = s .tradecount;
@@ -86,11 +86,11 @@ module _ {s : State} {buys sells trades : List ℕ} (w : WellFormedState s buys 
   in-place = omega (arith, p .contract, p .account, f .contracts-high, f .accounts-high, f .declared .holdings a (omega (arith, p .account, f .accounts-high)))
 
   with-lots : o .lots ≤ 1_000 → (i : ℕ) → i < s .contractcount
-      → ChargeableIn (getD (s .contracts) i noContract) buys (getD (s .buys) i 0) sells (getD (s .sells) i 0) i a (getD (set holdings c after) i noHolding)
+      → ChargeableIn (getD (s .contracts) i noContract) buys (getD (s .buycounts) i 0) sells (getD (s .sellcounts) i 0) i a (getD (set holdings c after) i noHolding)
   with-lots few i li =
       let leg = open-leg (getD holdings c noHolding) (o .sell) (o .lots) in
       at-set
-      (λ (i : ℕ) (h : Holding). i < s .contractcount → ChargeableIn (getD (s .contracts) i noContract) buys (getD (s .buys) i 0) sells (getD (s .sells) i 0) i a h)
+      (λ (i : ℕ) (h : Holding). i < s .contractcount → ChargeableIn (getD (s .contracts) i noContract) buys (getD (s .buycounts) i 0) sells (getD (s .sellcounts) i 0) i a h)
       holdings c after noHolding in-place
       (λ l. in-contract m f a (p .account) c l after (omega (arith, leg .0)) (omega (arith, leg .1)))
       i (λ n l. in-contract m f a (p .account) i l (getD holdings i noHolding) (omega arith) (omega arith)) li
@@ -112,10 +112,10 @@ module _ {s : State} {buys sells trades : List ℕ} (w : WellFormedState s buys 
     balance-fits = rw (← ew) (balance-within m f a (p .account))
 
     module _ {held : Account} (eh : held ≡ withHolding who (k - 1) (afterLeg (getD (who .holdings) (k - 1) noHolding) (o .sell) 0 (o .lots))) where
-      pub can-charge : Chargeable (held .holdings) (s .contracts) (s .contractcount) buys (s .buys) sells (s .sells) (j - 1)
+      pub can-charge : Chargeable (held .holdings) (s .contracts) (s .contractcount) buys (s .buycounts) sells (s .sellcounts) (j - 1)
       can-charge = rw (eh, ej, is, ← ew) (record { account = omega (arith, p .account, f .accounts-high); few = f .contracts-high; each = with-lots few })
 
-      module _ {total : ℕ} (et : ChargedIs (held .holdings) (s .contracts) (s .contractcount) buys (s .buys) sells (s .sells) (j - 1) total) where
+      module _ {total : ℕ} (et : ChargedIs (held .holdings) (s .contracts) (s .contractcount) buys (s .buycounts) sells (s .sellcounts) (j - 1) total) where
         charged-is : total ≡ chargedWith x a c (o .sell) (o .lots)
         charged-is =
             et .charged (withLeg s a c (o .sell) (o .lots)) trades

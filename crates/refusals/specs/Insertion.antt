@@ -85,7 +85,7 @@ abbrev pub sideArea : Bool → List ℕ → List ℕ → List ℕ
 sideArea sell buys sells = pick sell sells buys
 
 abbrev pub sideCount : Bool → State → ℕ → ℕ
-sideCount sell s c = getD (pick sell (s .sells) (s .buys)) c 0
+sideCount sell s c = getD (pick sell (s .sellcounts) (s .buycounts)) c 0
 
 -- a queue of at most 64 orders, with room in its area
 pub record QueueRoom (area : List ℕ) (c count : ℕ) : Type 0 where

@@ -138,8 +138,8 @@ fn money_refused<'a>(
     let balance = who.balance;
     let holdings = held.holdings;
     let contracts = state.contracts;
-    let bids = state.buys;
-    let offers = state.sells;
+    let bids = state.buycounts;
+    let offers = state.sellcounts;
     let charged = margin::charged(
         holdings,
         contracts,

@@ -87,8 +87,8 @@ pub fn side_count(sell: bool, state: State, c: usize) -> usize
     requires { ⌜ c < 4 ⌝ }
     ensures { λ r. ⌜ r ≡ sideCount sell state c ⌝ }
 {
-    let bids = state.buys;
-    let offers = state.sells;
+    let bids = state.buycounts;
+    let offers = state.sellcounts;
     if sell {
         return offers[c];
     }

@@ -171,9 +171,9 @@ fn order(
     if sell {
         let e = submit(
             sells,
-            s.sells,
+            s.sellcounts,
             buys,
-            s.buys,
+            s.buycounts,
             area,
             s.trades,
             t,
@@ -191,9 +191,9 @@ fn order(
     }
     let e = submit(
         buys,
-        s.buys,
+        s.buycounts,
         sells,
-        s.sells,
+        s.sellcounts,
         area,
         s.trades,
         t,
@@ -270,15 +270,15 @@ fn main() {
         last: 109,
     };
     let mut s = fill(&mut buys, &mut sells, &mut area, empty);
-    print(b"fillable at 111: ", fillable(&sells, s.sells, 111));
-    print(b"\nfillable at 110: ", fillable(&sells, s.sells, 110));
+    print(b"fillable at 111: ", fillable(&sells, s.sellcounts, 111));
+    print(b"\nfillable at 110: ", fillable(&sells, s.sellcounts, 110));
     io::write_all(1, b"\n");
     s = order(&mut buys, &mut sells, &mut area, s, 8, false, 7, 110);
     s = order(&mut buys, &mut sells, &mut area, s, 9, false, 8, 112);
     io::write_all(1, b"buys:");
-    print_queue(&buys, s.buys);
+    print_queue(&buys, s.buycounts);
     io::write_all(1, b"\nsells:");
-    print_queue(&sells, s.sells);
+    print_queue(&sells, s.sellcounts);
     io::write_all(1, b"\ntrades:");
     print_trades(&area, s.trades);
     io::write_all(1, b"\n");
