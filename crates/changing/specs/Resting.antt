@@ -11,7 +11,7 @@ use Rattle.areas.specs.Lists.{insertAt, removeAt}
 use Rattle.rules.specs.Answers.{Refusal, _when_, firstOf, noSuchOrder, numbered}
 use Rattle.rules.specs.Bounds.{allowedToday, continuous, maxLots}
 use Rattle.rules.specs.Change.{unmarked}
-use Rattle.rules.specs.Exchange.{noContract, noOrder, placeOf}
+use Rattle.rules.specs.Exchange.{noContract, noOrder, placeOf, isAbsent}
 use Rattle.rules.specs.Matching.{withLots}
 use Rattle.rules.specs.Memory.{putQueue, queueIn}
 use Rattle.book.specs.Places.{indexOf}
@@ -21,7 +21,7 @@ use Rattle.rules.specs.declared.Order.{Order}
 use Rattle.rules.specs.declared.PriceCondition.the-variants.{Limit}
 use Rattle.rules.specs.declared.State.{State}
 use Rattle.rules.specs.declared.TimeCondition.the-variants.{GoodForDay}
-use Rattle.engine.specs.Outcome.{isAbsent, withCountsIn}
+use Rattle.engine.specs.Outcome.{withCountsIn}
 use Rattle.refusals.specs.Insertion.{sideCount}
 use Rattle.changing.specs.declared.Resting.{Resting}
 

@@ -14,13 +14,13 @@ use Rattle.rules.specs.Answers.{changeListed, firstOf, phaseRefusals}
 use Rattle.rules.specs.Auction.{matchOf, unmatched}
 use Rattle.rules.specs.Bounds.{inAuction, maxTrades}
 use Rattle.rules.specs.Command.{phaseKnown}
-use Rattle.rules.specs.Exchange.{Listing, listingAt, noContract, Exchange}
+use Rattle.rules.specs.Exchange.{Listing, listingAt, noContract, Exchange, isAbsent}
 use Rattle.rules.specs.Kinds.{codeOf, done, kindOf}
 use Rattle.rules.specs.Memory.{Memory, WellFormedState, exchangeOf, listingIn, memory, stepIn, written}
 use Rattle.rules.specs.Step.{phaseChanged, withPhase, answerOf, exchangeMatched, listingMatched, withContract, withListing}
 use Rattle.rules.specs.declared.Command.the-variants.{Phase}
 use Rattle.rules.specs.declared.State.{State}
-use Rattle.engine.specs.Outcome.{isAbsent, OutcomeIs, refusedWith, acceptedWith, withPhaseAt, isMatch}
+use Rattle.engine.specs.Outcome.{OutcomeIs, refusedWith, acceptedWith, withPhaseAt, isMatch}
 use Rattle.rules.specs.Holdings.{bookTrades}
 use Rattle.rules.specs.Matching.{lastPrice}
 use Rattle.rules.proofs.Fillable.{traded-nil}

@@ -12,14 +12,13 @@ use Rattle.laws.specs.Bound.{Within, within-abs, within-le}
 use Rattle.laws.specs.Choice.{all, all-at, both-true}
 use Rattle.laws.specs.Chains.{passed}
 use Rattle.rules.specs.Bounds.{within, maxContracts, maxAccounts, maxResting, maxTrades}
-use Rattle.rules.specs.Exchange.{absent, accountAt, holdingAt, listingAt}
+use Rattle.rules.specs.Exchange.{absent, accountAt, holdingAt, listingAt, isAbsent}
 use Rattle.rules.specs.Memory.{Memory, Declared, exchangeOf, inUse, listingIn, putAccounts, countsInRange, hasRoom, wellFormedMemory, memory, WellFormedState, queueStride, tradeStride}
 use Rattle.rules.specs.WellFormed.{wellFormedContents}
 use Rattle.rules.specs.declared.Account.{Account}
 use Rattle.rules.specs.declared.State.{State}
 use Rattle.rules.proofs.InUse.{accounts-in-use, contracts-in-use, account-in-use, holding-in-use, listing-in-use}
 use Rattle.invariants.proofs.Clauses.{WellFormed, well-formed}
-use Rattle.engine.specs.Outcome.{isAbsent}
 use Rattle.engine.proofs.Accounts.{put-account-set, same-room, same-room-put}
 use Rattle.engine.proofs.Tests.{place-below}
 

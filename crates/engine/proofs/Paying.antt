@@ -14,7 +14,7 @@ use Rattle.laws.specs.Choice.{both-true, pick}
 use Rattle.rules.specs.Kinds.{codeOf, kindOf}
 use Rattle.rules.specs.Answers.{amountRefused, depositRefusals, firstOf, leavesTooLittle, liftsTooHigh, withdrawRefusals}
 use Rattle.rules.specs.Bounds.{within, maxAmount}
-use Rattle.rules.specs.Exchange.{accountAt, noAccount}
+use Rattle.rules.specs.Exchange.{accountAt, noAccount, isAbsent}
 use Rattle.rules.specs.Margin.{charged}
 use Rattle.rules.specs.Memory.{Memory, exchangeOf, inUse, put, stepIn, memory, WellFormedState, written}
 use Rattle.rules.specs.Step.{deposited, paid, withBalance, withdrawn}
@@ -23,7 +23,7 @@ use Rattle.rules.specs.declared.Command.the-variants.{Deposit, Withdraw}
 use Rattle.rules.specs.declared.State.{State}
 use Rattle.margin.specs.Charge.{ChargeableAt, ChargedAt}
 use Rattle.margin.proofs.Charging.{charged-at}
-use Rattle.engine.specs.Outcome.{isAbsent, OutcomeIs, refusedWith, acceptedWith, withBalanceAt}
+use Rattle.engine.specs.Outcome.{OutcomeIs, refusedWith, acceptedWith, withBalanceAt}
 use Rattle.engine.specs.declared.answers.Outcome.{Outcome}
 use Rattle.engine.proofs.Formed.{Formed, formed, no-account, account-at, account-put, balance-within}
 use Rattle.engine.proofs.Margins.{chargeable}

@@ -17,7 +17,7 @@ use Rattle.areas.proofs.Lists.{length-removeAt}
 use Rattle.rules.specs.Kinds.{codeOf, done, kindOf}
 use Rattle.rules.specs.Answers.{_when_, cancelRefusals, firstOf, noSuchOrder, numbered, ofAnother, pullRefusals, removalRefused, restingOrder}
 use Rattle.rules.specs.Bounds.{maxLots, inAuction, maxResting}
-use Rattle.rules.specs.Exchange.{Listing, listingAt, lotsWhere, noContract, noListing, noOrder}
+use Rattle.rules.specs.Exchange.{Listing, listingAt, lotsWhere, noContract, noListing, noOrder, isAbsent}
 use Rattle.rules.specs.Memory.{Memory, exchangeOf, listingIn, orderFrom, put, putQueue, queueIn, stepIn, memory, WellFormedState, firstWord}
 use Rattle.book.specs.Places.{firstWhere, indexOf}
 use Rattle.rules.specs.Step.{Effect, answerOf, cancelled, hasNumber, isOf, listingWithout, pulled, removed, withListing, without}
@@ -34,7 +34,7 @@ use Rattle.book.specs.Removal.{PulledIs}
 use Rattle.book.specs.declared.removal.Pulled.{Pulled}
 use Rattle.invariants.proofs.Accepted.{failed}
 use Rattle.invariants.proofs.Clauses.{ListingOk, OrderOk, order-ok}
-use Rattle.engine.specs.Outcome.{isAbsent, OutcomeIs, refusedWith, acceptedWith, withCountsIn}
+use Rattle.engine.specs.Outcome.{OutcomeIs, refusedWith, acceptedWith, withCountsIn}
 use Rattle.engine.specs.Removal.{removalCode, cancelCode, RemovedIs, CancelledIs}
 use Rattle.engine.specs.declared.answers.Outcome.{Outcome}
 use Rattle.engine.specs.declared.removal.Cancelled.{Cancelled}

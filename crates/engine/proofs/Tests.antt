@@ -6,8 +6,8 @@ use Prim.Native.Nat.{ℕ, _-_, _<_, _≤_}
 use native.Mathlib.Omega.{arith}
 use borrow.Author.Tests.{eqb-false, leb-true, leb-false, le-ltb, lt-ltb, ltb-false}
 use lib.Dec.{eqb, leb, ltb}
+use Rattle.rules.specs.Exchange.{isAbsent}
 use Rattle.laws.specs.Choice.{either-false}
-use Rattle.engine.specs.Outcome.{isAbsent}
 
 -- a test that the code writes the other way round than the rules
 pub ltb-not : (a b : ℕ) → ltb b a ≡ not (leb a b)

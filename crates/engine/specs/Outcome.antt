@@ -20,10 +20,6 @@ pub record OutcomeIs (response : Responded) (r : Outcome) (buys sells trades : L
   pub answer : r .answer ≡ response .answer
   pub memory : memory (r .state) buys sells trades ≡ response .memory
 
--- a number that no place below a count has
-abbrev pub isAbsent : ℕ → ℕ → Bool
-isAbsent number count = eqb number 0 || ltb count number
-
 -- a change of a contract's state that makes a match: from auction to continuous
 unfoldable pub isMatch : State → ℕ → ℕ → Bool
 isMatch s contract phase =

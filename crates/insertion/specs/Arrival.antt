@@ -6,7 +6,7 @@ use mathlib.Core.Path.{_≡_}
 use Prim.Native.Nat.{ℕ, _+_, _*_, _<_, _≤_}
 use lib.ListN.{length, getD, set}
 use Rattle.laws.specs.Choice.{pick}
-use Rattle.rules.specs.Answers.{isGoodForDay, listingOf, tradesRefused}
+use Rattle.rules.specs.Answers.{isGoodForDay, listingOf, tradesRefused, takerFor}
 use Rattle.rules.specs.Bounds.{inAuction, maxLots, maxResting, numbersEnd}
 use Rattle.rules.specs.Exchange.{noContract, own, placeOf}
 use Rattle.rules.specs.Matching.{Entered, enter, restWhole, tradedLots}
@@ -21,7 +21,7 @@ use Rattle.rules.specs.declared.Taker.{Taker}
 use Rattle.matching.specs.Entry.{EntryIs}
 use Rattle.matching.specs.Sweep.{SweepReady}
 use Rattle.matching.specs.declared.entry.Entry.{Entry}
-use Rattle.refusals.specs.Insertion.{Present, QueueRoom, sideArea, sideCount, takerFor}
+use Rattle.refusals.specs.Insertion.{Present, QueueRoom, sideArea, sideCount}
 use Rattle.insertion.specs.declared.Arrival.{Arrival}
 
 -- ---- an order on a whole state

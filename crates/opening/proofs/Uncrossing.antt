@@ -12,7 +12,7 @@ use Rattle.laws.specs.Choice.{allOf, allOf-imp, both-true, pick, pick-true, tru
 use Rattle.rules.specs.Answers.{changeListed}
 use Rattle.rules.specs.Auction.{Matched, auctionMatch, matchOf, unmatched}
 use Rattle.rules.specs.Bounds.{inAuction, maxLots, maxTrades}
-use Rattle.rules.specs.Exchange.{Exchange, Listing, accountAt, holdingAt, listingAt, noContract, own, placeOf}
+use Rattle.rules.specs.Exchange.{Exchange, Listing, accountAt, holdingAt, listingAt, noContract, own, placeOf, isAbsent}
 use Rattle.rules.specs.Kinds.{codeOf, done, kindOf}
 use Rattle.rules.specs.Memory.{Memory, WellFormedState, exchangeOf, listingIn, memory, queueIn, stepIn, written}
 use Rattle.rules.specs.Step.{answerOf, exchangeMatched, listingMatched, phaseChanged, withTrades}
@@ -31,7 +31,7 @@ use Rattle.auction.proofs.Chosen.{level-auction}
 use Rattle.invariants.proofs.Clauses.{Counted, WellFormed, order-ok}
 use Rattle.invariants.proofs.MemoryKeeps.{sound}
 use Rattle.invariants.proofs.Phases.{phase-counted, phase-keeps}
-use Rattle.engine.specs.Outcome.{OutcomeIs, acceptedWith, isAbsent, isMatch, refusedWith}
+use Rattle.engine.specs.Outcome.{OutcomeIs, acceptedWith, isMatch, refusedWith}
 use Rattle.engine.specs.declared.answers.Outcome.{Outcome}
 use Rattle.engine.proofs.Changes.{from-auction, phase-code}
 use Rattle.engine.proofs.Formed.{Formed, accounts-count, contracts-count, formed, listing-at}

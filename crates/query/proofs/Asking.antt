@@ -7,9 +7,9 @@ use Prim.Native.Nat.{ℕ, _-_}
 use borrow.Author.Tests.{ne-eqb}
 use lib.ListN.{getD}
 use Rattle.laws.specs.Choice.{pick}
-use Rattle.rules.specs.Answers.{dayWithoutLimit, fillableLots, firstOf, listingOf, takerOf}
+use Rattle.rules.specs.Answers.{dayWithoutLimit, fillableLots, firstOf, listingOf, takerOf, takerFor, fieldsRefusals}
 use Rattle.rules.specs.Command.{commandOf, isInsert, newOrder}
-use Rattle.rules.specs.Exchange.{Exchange, listingAt, noContract, opposite, placeOf}
+use Rattle.rules.specs.Exchange.{Exchange, listingAt, noContract, opposite, placeOf, isAbsent}
 use Rattle.rules.specs.Matching.{sweep, tradedLots}
 use Rattle.rules.specs.Memory.{Memory, exchangeOf, queueIn, wellFormedMemory, memory, WellFormedState}
 use Rattle.rules.specs.declared.Command.the-variants.{Insert}
@@ -19,9 +19,8 @@ use Rattle.rules.specs.declared.State.{State}
 use Rattle.rules.specs.declared.Taker.{Taker}
 use Rattle.rules.proofs.EachKind.{inserts-its-order}
 use Rattle.rules.proofs.Fillable.{swept-fillable}
-use Rattle.engine.specs.Outcome.{isAbsent}
 use Rattle.engine.proofs.Formed.{Formed, formed, no-account, no-contract}
-use Rattle.refusals.specs.Insertion.{Facing, Present, QueueRoom, fieldsRefusals, sideArea, sideCount, takerFor}
+use Rattle.refusals.specs.Insertion.{Facing, Present, QueueRoom, sideArea, sideCount}
 use Rattle.refusals.proofs.Sides.{contract-is, opposite-facing, opposite-is}
 use Rattle.query.specs.Gettable.{GatheredIs, askRefusals, gettableNow, lotsNow, orderReading, orderRefusals, readNow, readingWith, refusedReading}
 use Rattle.query.specs.declared.Reading.{Reading}

@@ -2,11 +2,11 @@
 // changed.
 ghost use mathlib.Core.Bool.{true};
 ghost use mathlib.Core.Path.{_≡_};
+ghost use Rattle.rules.specs.Answers.{fieldsRefusals};
 ghost use Rattle.rules.specs.Answers as answer;
 ghost use Rattle.rules.specs.Bounds.{termsInRange};
 ghost use Rattle.rules.specs.DayFile.{recordFrom};
 ghost use Rattle.rules.specs.Memory.{exchangeOf, memory, WellFormedState};
-ghost use Rattle.refusals.specs.Insertion.{fieldsRefusals};
 ghost use Rattle.query.specs.Gettable.{gettableNow, orderReading, refusedReading};
 use engine::answers;
 use refusals::codes;

@@ -13,7 +13,7 @@ use Rattle.areas.specs.Lists.{over}
 use Rattle.areas.specs.Records.{store}
 use Rattle.rules.specs.Answers.{Refusal, _when_, firstOf, isGoodForDay, listingOf, orderRefusals, takerOf, tradesNeeded}
 use Rattle.rules.specs.Bounds.{continuous, inAuction, maxLots, maxResting, maxTrades}
-use Rattle.rules.specs.Exchange.{Exchange, Listing, absent, accountAt, listingAt, noAccount, noContract, opposite, own, placeOf}
+use Rattle.rules.specs.Exchange.{Exchange, Listing, absent, accountAt, listingAt, noAccount, noContract, opposite, own, placeOf, isAbsent}
 use Rattle.rules.specs.Kinds.{codeOf, done, kindOf}
 use Rattle.rules.specs.Matching.{enter, restWhole, restedLots, sweep, tradedLots}
 use Rattle.rules.specs.Memory.{Declared, Memory, WellFormedState, exchangeOf, listingIn, memory, put, putQueue, putState, queueIn, queueStride, stepIn, tradeStride, tradeWords, wellFormedMemory, written}
@@ -41,7 +41,7 @@ use Rattle.invariants.proofs.Accepted.{Failed, failed}
 use Rattle.invariants.proofs.Clauses.{Counted, WellFormed}
 use Rattle.invariants.proofs.MemoryKeeps.{sound, stage-keeps, stage-read}
 use Rattle.invariants.proofs.QuoteKeeps.{buy-counted, buy-keeps, buy-passes, buy-sells, gone-accounts, gone-counted, gone-keeps, none-marked, sells-unmarked, still-maker}
-use Rattle.engine.specs.Outcome.{OutcomeIs, acceptedWith, isAbsent, refusedWith, withCountsIn}
+use Rattle.engine.specs.Outcome.{OutcomeIs, acceptedWith, refusedWith, withCountsIn}
 use Rattle.engine.specs.Removal.{removalCode}
 use Rattle.engine.specs.declared.answers.Outcome.{Outcome}
 use Rattle.engine.proofs.Formed.{Formed, account-at, accounts-count, contracts-count, formed, listing-at, no-account, no-contract}

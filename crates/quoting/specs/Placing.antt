@@ -10,7 +10,7 @@ use Rattle.areas.specs.Lists.{over}
 use Rattle.laws.specs.Choice.{pick}
 use Rattle.rules.specs.Answers.{Refusal, _when_, firstOf, listingOf, orderRefusals}
 use Rattle.rules.specs.Bounds.{continuous, maxResting, maxTrades}
-use Rattle.rules.specs.Exchange.{accountAt, listingAt, noAccount, noContract, own, placeOf}
+use Rattle.rules.specs.Exchange.{accountAt, listingAt, noAccount, noContract, own, placeOf, isAbsent}
 use Rattle.rules.specs.Kinds.{refused}
 use Rattle.rules.specs.Memory.{Memory, Responded, exchangeOf, inMemory, memory, put, queueStride, stepIn, tradeStride}
 use Rattle.rules.specs.Step.{listingWithout, withListing}
@@ -20,7 +20,7 @@ use Rattle.rules.specs.declared.NewOrder.{NewOrder}
 use Rattle.rules.specs.declared.PriceCondition.the-variants.{Limit}
 use Rattle.rules.specs.declared.State.{State}
 use Rattle.rules.specs.declared.TimeCondition.the-variants.{GoodForDay}
-use Rattle.engine.specs.Outcome.{OutcomeIs, isAbsent}
+use Rattle.engine.specs.Outcome.{OutcomeIs}
 use Rattle.engine.specs.declared.answers.Outcome.{Outcome}
 use Rattle.refusals.specs.Insertion.{Present}
 use Rattle.insertion.specs.Arrival.{enteredIn}

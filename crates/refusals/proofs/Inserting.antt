@@ -10,9 +10,9 @@ use lib.Dec.{eqb, leb, ltb}
 use lib.ListN.{length, getD}
 use Rattle.laws.specs.Choice.{both-true, pick}
 use Rattle.rules.specs.Kinds.{codeOf, kindOf}
-use Rattle.rules.specs.Answers.{Refusal, conditionsRefused, firstOf, fillableLots, holdingRefused, insertRefusals, listingOf, mark, moneyRefused, orderRefusals, overHolding, overLimit, takerOf, takesOrders, tradesNeeded, tradesRefused}
+use Rattle.rules.specs.Answers.{Refusal, conditionsRefused, firstOf, fillableLots, holdingRefused, insertRefusals, listingOf, mark, moneyRefused, orderRefusals, overHolding, overLimit, takerOf, takesOrders, tradesNeeded, tradesRefused, takerFor, fieldsRefusals, accountRefusals}
 use Rattle.rules.specs.Bounds.{inAuction, maxLots, termsInRange, within, maxResting, maxTrades}
-use Rattle.rules.specs.Exchange.{Exchange, accountAt, holdingAt, noAccount, noContract, noHolding, opposite, own, placeOf, resting}
+use Rattle.rules.specs.Exchange.{Exchange, accountAt, holdingAt, noAccount, noContract, noHolding, opposite, own, placeOf, resting, isAbsent}
 use Rattle.rules.specs.Memory.{Memory, exchangeOf, queueIn, memory, WellFormedState, firstWord}
 use Rattle.rules.specs.declared.Account.{Account}
 use Rattle.rules.specs.declared.Command.the-variants.{Insert}
@@ -23,8 +23,7 @@ use Rattle.rules.specs.declared.Taker.{Taker}
 use Rattle.rules.proofs.Codecs.{length-queue}
 use Rattle.book.proofs.EarlyStop.{trades-counted}
 use Rattle.invariants.proofs.Accepted.{failed}
-use Rattle.refusals.specs.Insertion.{Facing, Present, QueueRoom, accountRefusals, bookRefusals, fieldsRefusals, lotsRefused, sideArea, sideCount, takerFor}
-use Rattle.engine.specs.Outcome.{isAbsent}
+use Rattle.refusals.specs.Insertion.{Facing, Present, QueueRoom, bookTests, lotsRefused, sideArea, sideCount}
 use Rattle.engine.proofs.Formed.{Formed, formed, holding-at, no-account, no-contract}
 use Rattle.engine.proofs.Puts.{trades-count}
 use Rattle.engine.proofs.Refusals.{first-append}
@@ -61,13 +60,13 @@ module _ {s : State} {buys sells trades : List ℕ} (w : WellFormedState s buys 
 
   bookPart : List Refusal
   bookPart =
-      bookRefusals (inAuction (listingOf x o .contract)) (x .next) (x .nextstamp) (length (x .trades)) (length (own (o .sell) (listingOf x o))) (takerOf x (x .next) 0 o) (opposite (o .sell) (listingOf x o)) o
+      bookTests (inAuction (listingOf x o .contract)) (x .next) (x .nextstamp) (length (x .trades)) (length (own (o .sell) (listingOf x o))) (takerOf x (x .next) 0 o) (opposite (o .sell) (listingOf x o)) o
 
   abbrev code : ℕ
   code = firstOf (orderRefusals x o)
 
   in-parts : code ≡ firstOf (fieldsPart ++ (accountRefusals x o ++ bookPart))
-  unfolding orderRefusals firstOf accountRefusals bookRefusals fillableLots tradesRefused tradesNeeded fieldsPart bookPart
+  unfolding orderRefusals firstOf accountRefusals bookTests fillableLots tradesRefused tradesNeeded fieldsPart bookPart
   in-parts = rw trades-counted
 
   fields-first : firstOf (fieldsPart ++ (accountRefusals x o ++ bookPart)) ≡ pick (eqb (firstOf fieldsPart) 0) (firstOf (accountRefusals x o ++ bookPart)) (firstOf fieldsPart)
@@ -207,11 +206,11 @@ module _ {s : State} {buys sells trades : List ℕ} (w : WellFormedState s buys 
             pub recorded-few : s .tradecount ≤ maxTrades
             recorded-few = f .trades-high
 
-            book-is : firstOf (bookRefusals (inAuction (getD (s .contracts) (k - 1) noContract)) (s .next) (s .nextstamp) (s .tradecount) own₁ t (queueIn area (k - 1) count) o) ≡ firstOf bookPart
+            book-is : firstOf (bookTests (inAuction (getD (s .contracts) (k - 1) noContract)) (s .next) (s .nextstamp) (s .tradecount) own₁ t (queueIn area (k - 1) count) o) ≡ firstOf bookPart
             unfolding bookPart listingOf takerOf exchangeOf
             book-is =
                 rw (er, eo, ec, ea, is, trades-count m f, side-is m f c (p .contract) (o .sell), length-queue, opposite-is m f c (p .contract) (o .sell), contract-is m f c (p .contract))
 
-            pub code-book : {book : ℕ} → book ≡ firstOf (bookRefusals (inAuction (getD (s .contracts) (k - 1) noContract)) (s .next) (s .nextstamp) (s .tradecount) own₁ t (queueIn area (k - 1) count) o)
+            pub code-book : {book : ℕ} → book ≡ firstOf (bookTests (inAuction (getD (s .contracts) (k - 1) noContract)) (s .next) (s .nextstamp) (s .tradecount) own₁ t (queueIn area (k - 1) count) o)
                 → book ≡ code
             code-book eb = eb ∙ book-is ∙ sym (on-to-account ∙ rw (account-first, ← ex, clear))

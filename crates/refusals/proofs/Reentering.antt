@@ -9,7 +9,7 @@ use lib.Dec.{eqb}
 use lib.ListN.{getD}
 use Rattle.laws.specs.Choice.{pick}
 use Rattle.rules.specs.Answers as rules
-use Rattle.rules.specs.Answers.{_when_, firstOf, listingOf, stampsUsedUp, takerOf, tradesNeeded}
+use Rattle.rules.specs.Answers.{_when_, firstOf, listingOf, stampsUsedUp, takerOf, tradesNeeded, takerFor, accountRefusals}
 use Rattle.rules.specs.Bounds.{inAuction}
 use Rattle.rules.specs.Exchange.{Exchange, noContract, placeOf}
 use Rattle.rules.specs.Memory.{Memory, exchangeOf, queueIn, memory, WellFormedState}
@@ -17,7 +17,7 @@ use Rattle.rules.specs.declared.NewOrder.{NewOrder}
 use Rattle.rules.specs.declared.State.{State}
 use Rattle.rules.specs.declared.Taker.{Taker}
 use Rattle.book.proofs.EarlyStop.{trades-counted}
-use Rattle.refusals.specs.Insertion.{Present, QueueRoom, accountRefusals, reentryRefusals, sideArea, sideCount, takerFor, tradesRefused}
+use Rattle.refusals.specs.Insertion.{Present, QueueRoom, reentryRefusals, sideArea, sideCount, tradesRefused}
 use Rattle.engine.proofs.Formed.{Formed, formed}
 use Rattle.engine.proofs.Puts.{trades-count}
 use Rattle.engine.proofs.Refusals.{first-append}

@@ -13,7 +13,7 @@ ghost use Rattle.rules.specs.Matching as matching;
 ghost use Rattle.rules.specs.Kinds.{codeOf};
 ghost use Rattle.rules.specs.Memory.{exchangeOf, queueIn, memory, WellFormedState};
 ghost use Rattle.rules.specs.declared.Command.the-variants.{Insert};
-ghost use Rattle.refusals.specs.Insertion.{fieldsRefusals, lotsRefused, killRefused, tradesRefused, fullRefused, accountRefusals, bookRefusals, reentryRefusals, Present, OwnedBy, QueueRoom, Facing};
+ghost use Rattle.refusals.specs.Insertion.{lotsRefused, tradesRefused, bookTests, reentryRefusals, Present, OwnedBy, QueueRoom, Facing};
 use crate::orders;
 use engine::answers;
 use rules::AUCTION;
@@ -85,7 +85,7 @@ fn price_refused(terms: Contract, condition: PriceCondition, price: u32) -> bool
 // for it too.
 pub fn fields_code(terms: Contract, conditions: bool, o: NewOrder) -> u32
     requires { ⌜ termsInRange terms ≡ true ⌝ }
-    ensures { λ r. ⌜ r ≡ answer.firstOf (fieldsRefusals conditions terms o) ⌝ }
+    ensures { λ r. ⌜ r ≡ answer.firstOf (answer.fieldsRefusals conditions terms o) ⌝ }
 {
     let condition = o.condition;
     if !terms::within(1, rules::MAX_LOTS, o.lots) {
@@ -163,7 +163,7 @@ fn account_code<'a>(
     o: NewOrder,
 ) -> u32
     requires { ⌜ WellFormedState state (now buys) (now sells) (now trades) × Present state o × (o .lots ≤ 1000) × (getD (state .accounts) (o .account - 1) noAccount ≡ who) ⌝ }
-    ensures { λ r. ⌜ r ≡ answer.firstOf (accountRefusals (exchangeOf (memory state (now (buys .entry)) (now (sells .entry)) (now (trades .entry)))) o) ⌝ }
+    ensures { λ r. ⌜ r ≡ answer.firstOf (answer.accountRefusals (exchangeOf (memory state (now (buys .entry)) (now (sells .entry)) (now (trades .entry)))) o) ⌝ }
 {
     let c = laws::wide(o.contract) - 1;
     let contracts = state.contracts;
@@ -199,7 +199,7 @@ fn kill_refused(
     time: TimeCondition,
 ) -> bool
     requires { ⌜ Facing t (now area) c count ⌝ }
-    ensures { λ r. ⌜ r ≡ killRefused t (queueIn (now (area .entry)) c count) lots time ⌝ }
+    ensures { λ r. ⌜ r ≡ answer.killRefused (matching.fillable t (queueIn (now (area .entry)) c count)) lots time ⌝ }
 {
     if !orders::is_kill(time) {
         return false;
@@ -243,7 +243,7 @@ fn full_refused(
     time: TimeCondition,
 ) -> bool
     requires { ⌜ Facing t (now area) c count ⌝ }
-    ensures { λ r. ⌜ r ≡ fullRefused auction own t (queueIn (now (area .entry)) c count) lots time ⌝ }
+    ensures { λ r. ⌜ r ≡ answer.fullRefused auction own (matching.fillable t (queueIn (now (area .entry)) c count)) lots time ⌝ }
 {
     if !orders::is_day(time) {
         return false;
@@ -279,7 +279,7 @@ fn book_code(
     o: NewOrder,
 ) -> u32
     requires { ⌜ Facing t (now area) c count × (state .tradecount ≤ maxTrades) ⌝ }
-    ensures { λ r. ⌜ r ≡ answer.firstOf (bookRefusals (inAuction terms) (state .next) (state .nextstamp) (state .tradecount) own t (queueIn (now (area .entry)) c count) o) ⌝ }
+    ensures { λ r. ⌜ r ≡ answer.firstOf (bookTests (inAuction terms) (state .next) (state .nextstamp) (state .tradecount) own t (queueIn (now (area .entry)) c count) o) ⌝ }
 {
     let time = o.time;
     let lots = o.lots;

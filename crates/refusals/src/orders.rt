@@ -8,7 +8,7 @@ ghost use Rattle.rules.specs.Exchange as exchange;
 ghost use Rattle.rules.specs.Matching.{methodOf};
 ghost use Rattle.rules.specs.Memory.{queueIn};
 ghost use Rattle.rules.specs.Step.{limitOf};
-ghost use Rattle.refusals.specs.Insertion.{sideArea, sideCount, QueueRoom, takerFor};
+ghost use Rattle.refusals.specs.Insertion.{sideArea, sideCount, QueueRoom};
 use rules::Contract;
 use rules::NewOrder;
 use rules::PairingMethod;
@@ -132,7 +132,7 @@ pub fn taker_of(
     o: NewOrder,
 ) -> Taker
     requires { ⌜ (1 ≤ o .account) × (1 ≤ o .contract) × QueueRoom (now area) (o .contract - 1) count ⌝ }
-    ensures { λ r. ⌜ r ≡ takerFor number quote stamp terms (queueIn (now (area .entry)) (o .contract - 1) count) o ⌝ }
+    ensures { λ r. ⌜ r ≡ answer.takerFor number quote stamp terms (queueIn (now (area .entry)) (o .contract - 1) count) o ⌝ }
 {
     let c = laws::wide(o.contract) - 1;
     let best = best_price(area, c, count);

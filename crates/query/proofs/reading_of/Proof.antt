@@ -3,7 +3,7 @@ use mathlib.Core.Bool.{false}
 use mathlib.Core.Path.{_≡_, sym, _∙_}
 use native.Mathlib.Omega.{arith}
 use borrow.Author.Needs.{needs}
-use Rattle.engine.specs.Outcome.{isAbsent}
+use Rattle.rules.specs.Exchange.{isAbsent}
 use Rattle.refusals.specs.Insertion.{Present}
 use Rattle.refusals.proofs.Inserting.{present, place-fits, terms-in-range}
 use Rattle.query.proofs.Asking.{answered, facing, no-such-account, no-such-contract, refused-fields, room}

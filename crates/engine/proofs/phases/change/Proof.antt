@@ -3,8 +3,8 @@ use mathlib.Core.Bool.{true, false}
 use mathlib.Core.Path.{_≡_, sym, _∙_}
 use borrow.Author.Needs.{needs}
 use borrow.Author.Tests.{not-true, not-false}
+use Rattle.rules.specs.Exchange.{isAbsent}
 use Rattle.rules.specs.Command.{phaseKnown}
-use Rattle.engine.specs.Outcome.{isAbsent}
 use Rattle.engine.proofs.Changes.{phase-unknown, phase-absent, phase-unlisted, phase-accepted}
 use Rattle.engine.proofs.Formed.{contract-fits}
 use Rattle.engine.proofs.Tests.{place-below}

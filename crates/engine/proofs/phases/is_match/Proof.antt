@@ -4,7 +4,7 @@ use mathlib.Core.Path.{_≡_, sym, _∙_}
 use Prim.Native.Nat.{_<_}
 use native.Mathlib.Omega.{arith}
 use borrow.Author.Needs.{needs}
-use Rattle.engine.specs.Outcome.{isAbsent}
+use Rattle.rules.specs.Exchange.{isAbsent}
 use Rattle.engine.proofs.Changes.{other-phase, no-such-contract, match-by-phase}
 use Rattle.engine.proofs.Tests.{place-below}
 use Rattle.engine.proofs.phases.is_match.Statement.{statement}

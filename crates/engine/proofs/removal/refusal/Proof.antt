@@ -6,8 +6,7 @@ use native.Mathlib.Omega.{arith}
 use borrow.Author.Needs.{needs}
 use lib.ListN.{getD}
 use Rattle.rules.specs.Answers.{firstOf, removalRefused}
-use Rattle.rules.specs.Exchange.{noContract}
-use Rattle.engine.specs.Outcome.{isAbsent}
+use Rattle.rules.specs.Exchange.{noContract, isAbsent}
 use Rattle.engine.specs.Removal.{removalCode}
 use Rattle.engine.proofs.Tests.{place-below}
 use Rattle.engine.proofs.removal.refusal.Statement.{statement}

@@ -4,8 +4,8 @@ use mathlib.Core.Path.{_≡_, sym, _∙_}
 use native.Mathlib.Omega.{arith}
 use borrow.Author.Needs.{needs}
 use borrow.Author.Tests.{not-true, not-false}
+use Rattle.rules.specs.Exchange.{isAbsent}
 use Rattle.refusals.specs.Insertion.{Present}
-use Rattle.engine.specs.Outcome.{isAbsent}
 use Rattle.refusals.proofs.Inserting.{present, place-fits, code-contract, code-phase, code-order}
 use Rattle.refusals.proofs.codes.code_of.Statement.{statement}
 use Rattle.refusals.proofs.codes.code_of.Tie as tie
