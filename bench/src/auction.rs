@@ -1,6 +1,7 @@
 //! The opening auction in plain Rust, after document 02, ticket 4.
 
 use crate::cases::{ORDER, QUEUE, TRADE};
+use crate::design::{Design, Resting};
 use crate::exchange::{orders, Areas, State};
 use crate::plain::close_up;
 use std::cmp::Reverse;
@@ -40,7 +41,7 @@ fn trades_needed(buys: &[u32], sells: &[u32], price: u32) -> usize {
     }
 }
 
-impl State {
+impl<D: Design> State<D> {
     /// "largest volume .., then smallest surplus .., then nearest to the last price, then the higher"; none where there is no volume.
     fn auction_price(&self, areas: &Areas, c: usize) -> Option<u32> {
         let [buys, sells] = [false, true].map(|sell| self.queue(areas, sell, c));
@@ -78,6 +79,8 @@ impl State {
             self.accounts[b[2] as usize].holdings[c].buy(b[4], size);
             self.accounts[s[2] as usize].holdings[c].sell(s[4], size);
             trade.copy_from_slice(&[c as u32, price, size, b[1], s[1], b[2], s[2], b[4], s[4]]);
+            self.design.leave(Resting::of_order(0, c, b), size);
+            self.design.leave(Resting::of_order(1, c, s), size);
             b[3] -= size;
             s[3] -= size;
             bought += (b[3] == 0) as usize;

@@ -1,7 +1,11 @@
 //! What both exchanges are run on: day files without commands, and lists of commands, the same at every run.
 
 use crate::cases::{Random, ORDER, QUEUE, TRADE};
-use crate::exchange::{Areas, State, AUCTION, MAKER, RECORD};
+use crate::design::Plain;
+use crate::exchange::{Areas, AUCTION, MAKER, RECORD};
+
+/// The state by which commands are chosen.
+type State = crate::exchange::State<Plain>;
 
 pub const CONTRACTS: usize = 4;
 pub const REFERENCE: u32 = 1_000;
@@ -24,9 +28,13 @@ impl Memory {
     }
 }
 
-/// Four contracts, the pairing methods among them in turn, and accounts that are rich enough for anything, those with odd numbers
-/// makers.
-pub fn file(accounts: usize) -> Vec<u8> {
+/// Enough for any margin.
+pub const RICH: u64 = 1_000_000_000_000;
+/// Enough for some orders: others are refused for margin.
+pub const POOR: u64 = 60_000;
+
+/// Four contracts, the pairing methods among them in turn, and accounts with an opening balance, those with odd numbers makers.
+pub fn file(accounts: usize, balance: u64) -> Vec<u8> {
     let mut bytes = vec![CONTRACTS as u8, 0, 0, 0];
     for c in 0..CONTRACTS as u16 {
         bytes.extend((10 + c).to_le_bytes());
@@ -40,7 +48,7 @@ pub fn file(accounts: usize) -> Vec<u8> {
     bytes.extend((accounts as u32).to_le_bytes());
     for a in 1..=accounts {
         let mark = if a % 2 == 1 { MAKER } else { 0 };
-        bytes.extend((1_000_000_000_000u64 | mark).to_le_bytes());
+        bytes.extend((balance | mark).to_le_bytes());
     }
     bytes.extend(0u32.to_le_bytes());
     bytes
@@ -189,10 +197,10 @@ fn opening(r: &mut Random) -> impl DoubleEndedIterator<Item = Command> {
     (1..=CONTRACTS).map(move |c| phase(c, if c == auction { AUCTION as u8 } else { 1 }))
 }
 
-/// A mixed list: orders, cancels, changes, quotes, money, state changes, and a settlement after each 500 commands. One contract in four opens
-/// by an auction. The commands are chosen by the state that they meet.
-pub fn mixed(r: &mut Random, accounts: usize, count: usize) -> Vec<Command> {
-    let mut state = State::open(&file(accounts));
+/// A mixed list: orders, cancels, changes, quotes, money, state changes, and two settlements about each 500th command, 13 commands apart, as
+/// far as the list goes. One contract in four opens by an auction. The commands are chosen by the state that they meet.
+pub fn mixed(r: &mut Random, day: &[u8], count: usize) -> Vec<Command> {
+    let mut state = State::open(day);
     let mut memory = Memory::new();
     let mut list: Vec<Command> = Vec::new();
     let all = |p| (1..=CONTRACTS).map(move |c| phase(c, p));
@@ -223,39 +231,56 @@ impl Script {
         self.next - 1
     }
 
-    /// All contracts continuous, so many trades in the first, and 20 orders of two accounts on each side of each.
-    pub fn prepared(trades: usize) -> Script {
+    /// All contracts continuous, and so many trades in each of them in turn, between all accounts.
+    fn traded(accounts: usize, trades: usize) -> Script {
         let mut s = Script { commands: (1..=CONTRACTS).map(|c| phase(c, 1)).collect(), next: 1 };
         for i in 0..trades {
-            // in turn, so that holdings stay within the limit
-            let (buyer, seller) = if i % 2 == 0 { (1, 2) } else { (2, 1) };
-            s.order(seller, 1, SELL, REFERENCE);
-            s.order(buyer, 1, IMMEDIATE, REFERENCE);
+            let (contract, turn) = (1 + (i % CONTRACTS) as u8, i / CONTRACTS);
+            s.order(1 + (turn % accounts) as u8, contract, SELL, REFERENCE);
+            s.order(1 + ((turn + 1) % accounts) as u8, contract, IMMEDIATE, REFERENCE);
         }
-        for i in 0..20 {
+        s
+    }
+
+    /// The same with orders on each side of each contract, of all accounts in turn.
+    fn prepared(p: &Prepared) -> Script {
+        let mut s = Script::traded(p.accounts, p.trades);
+        for i in 0..p.orders {
             for c in 1..=CONTRACTS as u8 {
-                s.order(1 + i % 2, c, 0, REFERENCE - 10);
-                s.order(1 + i % 2, c, SELL, REFERENCE + 10);
+                s.order(p.account(i), c, 0, REFERENCE - 10);
+                s.order(p.account(i), c, SELL, REFERENCE + 10);
             }
         }
         s
     }
 }
 
-/// As many trades and resting orders as a state may hold: each of 32 accounts has bought and sold 8 lots of each contract, and has an open and a
-/// close on each side of it.
-pub fn full_list() -> Vec<Command> {
-    let mut s = Script { commands: (1..=CONTRACTS).map(|c| phase(c, 1)).collect(), next: 1 };
-    for i in 0..1024 {
-        let (contract, turn) = (1 + (i % 4) as u8, i / 4);
-        s.order(1 + (turn % 32) as u8, contract, SELL, REFERENCE);
-        s.order(1 + ((turn + 1) % 32) as u8, contract, IMMEDIATE, REFERENCE);
+/// What the commands of one kind meet: accounts, orders on each side of each contract, recorded trades.
+#[derive(Clone, Copy)]
+pub struct Prepared {
+    pub accounts: usize,
+    pub orders: usize,
+    pub trades: usize,
+}
+
+impl Prepared {
+    /// The accounts in turn.
+    fn account(&self, i: usize) -> u8 {
+        1 + (i % self.accounts) as u8
     }
-    for i in 0..64 {
-        let close = if i < 32 { 0 } else { CLOSE };
+}
+
+/// So many resting orders and trades over all contracts and 32 accounts: up to 512 and 1,024, as many as a state may hold. Where there are
+/// trades each account holds lots on both sides of each contract, and half of the orders are closes.
+pub fn filled_list(orders: usize, trades: usize) -> Vec<Command> {
+    let mut s = Script::traded(32, trades);
+    let count = orders / (2 * CONTRACTS);
+    for i in 0..count {
+        let close = if trades > 0 && i >= count / 2 { CLOSE } else { 0 };
+        let (account, away) = (1 + (i % 32) as u8, 1 + i as u32 % 20);
         for contract in 1..=CONTRACTS as u8 {
-            s.order(1 + (i % 32) as u8, contract, close, REFERENCE - 1 - i % 20);
-            s.order(1 + (i % 32) as u8, contract, SELL + close, REFERENCE + 1 + i % 20);
+            s.order(account, contract, close, REFERENCE - away);
+            s.order(account, contract, SELL + close, REFERENCE + away);
         }
     }
     s.commands
@@ -281,17 +306,13 @@ pub const KINDS: [&str; 11] = [
 ];
 
 /// A list without and with so many commands of one kind at its end.
-pub fn kind_lists(kind: usize, trades: usize) -> [Vec<Command>; 2] {
-    let mut s = Script::prepared(trades);
-    let first = s.next - 160;
-    // the buys of the first contract: account and number
-    let buy = |i: u32| (1 + (i % 2) as u8, first + 8 * i);
-    let change_buy = |i: u32, lots: u32| {
-        let (account, number) = buy(i);
-        change(account, 1, number, lots, REFERENCE - 10)
-    };
+pub fn kind_lists(kind: usize, p: &Prepared) -> [Vec<Command>; 2] {
+    let mut s = Script::prepared(p);
+    let first = s.next - (2 * CONTRACTS * p.orders) as u32;
+    // the i-th buy of the first contract
+    let change_buy = |i: u32, lots: u32| change(p.account(i as usize), 1, first + 8 * i, lots, REFERENCE - 10);
     match kind {
-        // two lots each, in the same order as before
+        // two lots each; they rest behind the others
         5 => s.commands.extend((0..20).map(|i| change_buy(i, 2))),
         7 => s.commands.push(quote(1, 1, REFERENCE - 4, REFERENCE + 4, 1)),
         10 => s.commands.extend((1..=CONTRACTS).map(|c| phase(c, 3))),
@@ -299,16 +320,17 @@ pub fn kind_lists(kind: usize, trades: usize) -> [Vec<Command>; 2] {
     }
     let without = s.commands.clone();
     for i in 0..20u32 {
-        let (account, number) = buy(i);
+        let account = p.account(i as usize);
         match kind {
             0 | 1 => s.commands.push(Command { kind: kind as u8 + 1, account, amount: 1000, ..Command::default() }),
             2 => {
                 s.order(account, 1, 0, REFERENCE - 5 - i);
             }
+            // with an order of the account before
             3 => {
-                s.order(account, 1, IMMEDIATE, REFERENCE + 10);
+                s.order(p.account(i as usize + 1), 1, IMMEDIATE, REFERENCE + 10);
             }
-            4 => s.commands.push(cancel(account, 1, number)),
+            4 => s.commands.push(cancel(account, 1, first + 8 * i)),
             5 => s.commands.push(change_buy(i, 1)),
             6 => s.commands.push(change_buy(i, 2)),
             // in the place of the one before

@@ -1,7 +1,8 @@
-//! The same exchange in plain Rust, after document 01 and tickets 2, 4, 6, 7 and 8 of document 02: the state changed where it
-//! stands, the same areas of words, the same refusals in the same order.
+//! The same exchange in Rust, after document 01 and tickets 2, 4, 6, 7 and 8 of document 02: the state changed where it stands, the same
+//! areas of words, the same refusals in the same order. By a design (`design.rs`): the plain one, or the best.
 
 use crate::cases::{ACCOUNTS, ORDER, QUEUE, TRADE};
+use crate::design::{Design, Resting, Settlement, Traded};
 use crate::plain::{close_up, enter, insert, Account, Entry, Holding, PairingMethod, PriceCondition, Taker};
 
 pub const RECORD: usize = 24;
@@ -25,10 +26,18 @@ pub struct Contract {
     pub last: u32,
 }
 
-/// The state but for the areas; `resting` counts orders by side (0 buy, 1 sell) and contract, `profits` has each account's
-/// closing and holding profit of the last settlement, to be printed.
+/// What a settlement reports of an account: its profits, and its charged margin after it.
+#[derive(Clone, Copy, Default)]
+pub struct Report {
+    pub closing: i64,
+    pub holding: i64,
+    pub charged: u64,
+}
+
+/// The state but for the areas; `resting` counts orders by side (0 buy, 1 sell) and contract, `report` is the last settlement's, to be
+/// printed.
 #[derive(Clone)]
-pub struct State {
+pub struct State<D> {
     pub contracts: [Contract; 4],
     pub accounts: [Account; ACCOUNTS],
     pub resting: [[usize; 4]; 2],
@@ -38,7 +47,8 @@ pub struct State {
     pub next: u32,
     pub nextstamp: u32,
     pub settlements: u32,
-    pub profits: [[i64; 2]; ACCOUNTS],
+    pub report: [Report; ACCOUNTS],
+    pub design: D,
 }
 
 /// The queues by side, and the day's trades.
@@ -92,6 +102,9 @@ fn long(bytes: &[u8], at: usize) -> u64 {
 }
 
 impl Record {
+    // Both are always inlined: each design is counted as a compiler makes it that sees this one alone.
+
+    #[inline(always)]
     fn read(b: &[u8]) -> Record {
         Record {
             kind: b[0],
@@ -106,6 +119,7 @@ impl Record {
     }
 
     /// "kind, flag value or unused field is wrong"
+    #[inline(always)]
     fn malformed(&self) -> bool {
         let order_fields = self.lots != 0 || self.price != 0;
         match self.kind {
@@ -190,36 +204,33 @@ pub fn orders(queue: &[u32]) -> impl Iterator<Item = &[u32]> {
     queue.chunks_exact(ORDER)
 }
 
-impl State {
-    fn absent(number: usize, count: usize) -> bool {
-        number == 0 || number > count
-    }
+fn absent(number: usize, count: usize) -> bool {
+    number == 0 || number > count
+}
 
+impl<D: Design> State<D> {
     pub fn queue<'a>(&self, areas: &'a Areas, sell: bool, c: usize) -> &'a [u32] {
         &areas.queues[sell as usize][QUEUE * c..][..ORDER * self.resting[sell as usize][c]]
     }
 
-    /// An account's resting opens or closes on a side of a contract.
-    fn resting_lots(&self, areas: &Areas, sell: bool, c: usize, account: usize, close: bool) -> u64 {
-        orders(self.queue(areas, sell, c))
-            .filter(|o| o[2] as usize == account && o[4] == close as u32)
-            .map(|o| o[3] as u64)
-            .sum()
+    fn resting_lots(&self, areas: &Areas, of: Resting) -> u64 {
+        D::resting_lots(self, areas, of)
     }
 
     /// "the charge times the larger of (long plus resting buy opens) and (short plus resting sell opens)"
     pub fn charged(&self, areas: &Areas, account: usize, holdings: &[Holding; 4]) -> u64 {
         (0..self.contractcount)
             .map(|c| {
-                let bought = holdings[c].long as u64 + self.resting_lots(areas, false, c, account, false);
-                let sold = holdings[c].short as u64 + self.resting_lots(areas, true, c, account, false);
+                let opens = |side| self.resting_lots(areas, Resting { side, contract: c, account, close: false });
+                let bought = holdings[c].long as u64 + opens(0);
+                let sold = holdings[c].short as u64 + opens(1);
                 self.contracts[c].charge() * bought.max(sold)
             })
             .sum()
     }
 
     fn deposit(&mut self, r: &Record) -> Answer {
-        if State::absent(r.account, self.accountcount) {
+        if absent(r.account, self.accountcount) {
             return refused(2);
         }
         let balance = &mut self.accounts[r.account - 1].balance;
@@ -231,7 +242,7 @@ impl State {
     }
 
     fn withdraw(&mut self, areas: &Areas, r: &Record) -> Answer {
-        if State::absent(r.account, self.accountcount) {
+        if absent(r.account, self.accountcount) {
             return refused(2);
         }
         if r.amount < 1 || r.amount > 1_000_000_000_000_000 {
@@ -278,7 +289,7 @@ impl State {
     fn uncovered(&self, areas: &Areas, o: &NewOrder) -> Option<u32> {
         let (a, c) = (o.account - 1, o.contract - 1);
         let h = &self.accounts[a].holdings[c];
-        let rested = self.resting_lots(areas, o.sell, c, a, o.close);
+        let rested = self.resting_lots(areas, Resting { side: o.sell as usize, contract: c, account: a, close: o.close });
         if o.close {
             let held = if o.sell { h.long } else { h.short };
             return (rested + o.lots as u64 > held as u64).then_some(8);
@@ -315,10 +326,10 @@ impl State {
 
     /// Codes 2 to 13, or the order as it meets the book.
     fn arrive(&self, areas: &Areas, o: &NewOrder) -> Result<Taker, u32> {
-        if State::absent(o.account, self.accountcount) {
+        if absent(o.account, self.accountcount) {
             return Err(2);
         }
-        if State::absent(o.contract, self.contractcount) {
+        if absent(o.contract, self.contractcount) {
             return Err(3);
         }
         let phase = self.contracts[o.contract - 1].phase;
@@ -375,6 +386,7 @@ impl State {
         let (c, side) = (t.contract, t.sell as usize);
         insert(areas.queues[side], c, self.resting[side][c], t.sell, &t.remainder(t.lots));
         self.resting[side][c] += 1;
+        self.design.rest(t.resting(), t.lots);
         self.nextstamp += 1;
         Answer { code: 0, number: t.number, traded: 0, lots: t.lots }
     }
@@ -393,7 +405,12 @@ impl State {
         let [buys, sells] = &mut areas.queues;
         let (own, opposite) = if t.sell { (sells, buys) } else { (buys, sells) };
         let after = enter(own, opposite, areas.trades, &before, t, &mut self.accounts);
-        let traded = areas.trades[TRADE * self.made..TRADE * after.made].chunks_exact(TRADE).map(|trade| trade[2]).sum();
+        let mut traded = 0;
+        for trade in areas.trades[TRADE * self.made..TRADE * after.made].chunks_exact(TRADE) {
+            traded += trade[2];
+            self.design.leave(Resting::of_leg(trade, 1 - side), trade[2]);
+        }
+        self.design.rest(t.resting(), after.rested);
         self.resting[side][c] = after.own;
         self.resting[1 - side][c] = after.opposite;
         self.made = after.made;
@@ -404,10 +421,10 @@ impl State {
 
     /// Codes 2 to 4 of a cancel or a pull.
     fn removal_refused(&self, r: &Record) -> Option<u32> {
-        if State::absent(r.account, self.accountcount) {
+        if absent(r.account, self.accountcount) {
             return Some(2);
         }
-        if State::absent(r.contract, self.contractcount) {
+        if absent(r.contract, self.contractcount) {
             return Some(3);
         }
         match self.contracts[r.contract - 1].phase {
@@ -435,6 +452,7 @@ impl State {
     fn remove(&mut self, areas: &mut Areas, side: usize, c: usize, place: usize) -> u32 {
         let rest = &mut areas.queues[side][QUEUE * c..][ORDER * place..ORDER * self.resting[side][c]];
         let lots = rest[3];
+        self.design.leave(Resting::of_order(side, c, rest), lots);
         close_up(rest, ORDER);
         self.resting[side][c] -= 1;
         lots
@@ -454,10 +472,10 @@ impl State {
     }
 
     fn change(&mut self, areas: &mut Areas, r: &Record) -> Answer {
-        if State::absent(r.account, self.accountcount) {
+        if absent(r.account, self.accountcount) {
             return refused(2);
         }
-        if State::absent(r.contract, self.contractcount) {
+        if absent(r.contract, self.contractcount) {
             return refused(3);
         }
         let c = r.contract - 1;
@@ -483,6 +501,7 @@ impl State {
             if r.lots < old[3] {
                 old[6] = 0;
             }
+            self.design.leave(Resting::of_order(side, c, old), old[3] - r.lots);
             old[3] = r.lots;
             return kept(r.lots);
         }
@@ -494,11 +513,13 @@ impl State {
         let c = r.contract - 1;
         let at = QUEUE * c + ORDER * place;
         let lots = std::mem::take(&mut areas.queues[side][at + 3]);
+        let of = Resting::of_order(side, c, &areas.queues[side][at..]);
+        self.design.leave(of, lots);
         let o = NewOrder {
             account: r.account,
             contract: r.contract,
             sell: side == 1,
-            close: areas.queues[side][at + 4] == 1,
+            close: of.close,
             lots: r.lots,
             price: r.price,
             condition: PriceCondition::Limit(r.price),
@@ -512,6 +533,7 @@ impl State {
             }
             Err(code) => {
                 areas.queues[side][at + 3] = lots;
+                self.design.rest(of, lots);
                 refused(code)
             }
         }
@@ -533,10 +555,10 @@ impl State {
     }
 
     fn quote(&mut self, areas: &mut Areas, r: &Record) -> Answer {
-        if State::absent(r.account, self.accountcount) {
+        if absent(r.account, self.accountcount) {
             return refused(2);
         }
-        if State::absent(r.contract, self.contractcount) {
+        if absent(r.contract, self.contractcount) {
             return refused(3);
         }
         let (a, c) = (r.account - 1, r.contract - 1);
@@ -613,6 +635,7 @@ impl State {
             let rest = &mut areas.queues[side][QUEUE * c..][ORDER * place..ORDER * self.resting[side][c]];
             rest.copy_within(..rest.len() - ORDER, ORDER);
             rest[..ORDER].copy_from_slice(&words);
+            self.design.rest(Resting::of_order(side, c, &words), words[3]);
         }
     }
 
@@ -623,25 +646,27 @@ impl State {
         let c = r.contract - 1;
         let mut lots = 0;
         for side in [0, 1] {
-            let count = self.resting[side][c];
-            let queue = &mut areas.queues[side][QUEUE * c..][..ORDER * count];
-            let mut kept = 0;
-            for i in 0..count {
-                if queue[ORDER * i + 2] as usize == r.account - 1 {
-                    lots += queue[ORDER * i + 3];
-                } else {
-                    queue.copy_within(ORDER * i..ORDER * (i + 1), ORDER * kept);
-                    kept += 1;
-                }
+            let queue = &mut areas.queues[side][QUEUE * c..][..ORDER * self.resting[side][c]];
+            let (mut from, mut kept) = (0, 0);
+            loop {
+                // the orders of others up to the next own one move as one block
+                let others = orders(&queue[from..]).take_while(|o| o[2] as usize != r.account - 1).count() * ORDER;
+                queue.copy_within(from..from + others, kept);
+                from += others;
+                kept += others;
+                let Some(o) = queue.get(from..from + ORDER) else { break };
+                lots += o[3];
+                self.design.leave(Resting::of_order(side, c, o), o[3]);
+                from += ORDER;
             }
-            queue[ORDER * kept..].fill(0);
-            self.resting[side][c] = kept;
+            queue[kept..].fill(0);
+            self.resting[side][c] = kept / ORDER;
         }
         Answer { lots, ..Answer::default() }
     }
 
     fn change_phase(&mut self, areas: &mut Areas, r: &Record) -> Answer {
-        if State::absent(r.contract, self.contractcount) {
+        if absent(r.contract, self.contractcount) {
             return refused(3);
         }
         let c = r.contract - 1;
@@ -657,64 +682,16 @@ impl State {
         Answer { traded, ..Answer::default() }
     }
 
-    fn settlement_price(&self, areas: &Areas, c: usize) -> u32 {
-        let mut value = 0;
-        let mut lots = 0;
-        for t in areas.trades[..TRADE * self.made].chunks_exact(TRADE).filter(|t| t[0] as usize == c) {
-            value += t[1] as u64 * t[2] as u64;
-            lots += t[2] as u64;
-        }
+    /// The average of the day's trades, or the reference, moved between the best prices where there are two.
+    pub fn settlement_price(&self, areas: &Areas, c: usize, traded: &Traded) -> u32 {
         let terms = &self.contracts[c];
-        if lots != 0 {
-            let tick = terms.tick as u64;
-            return (value / lots / tick * tick) as u32;
+        if traded.lots != 0 {
+            return traded.average(terms.tick);
         }
         match (self.queue(areas, false, c).first(), self.queue(areas, true, c).first()) {
             (Some(&bid), Some(&offer)) => terms.reference.clamp(bid.min(offer), bid.max(offer)),
             _ => terms.reference,
         }
-    }
-
-    /// Article 32 for one side of an account's day in a contract: what its closes came to, what the closed lots were opened for,
-    /// the lots open, and what those were opened for. Start-of-day lots go first, then today's in trade order.
-    fn side(&self, areas: &Areas, a: usize, c: usize, short: bool, start: u32) -> [i64; 4] {
-        let trades = || areas.trades[..TRADE * self.made].chunks_exact(TRADE).filter(move |t| t[0] as usize == c);
-        // the leg that opens this side is the buyer's for long lots, the seller's for short ones
-        let leg = |t: &[u32], seller: bool| (t[5 + seller as usize] as usize == a).then(|| t[7 + seller as usize] != 0);
-        let mut closes = 0;
-        let mut closed = 0;
-        for t in trades() {
-            if leg(t, !short) == Some(true) {
-                closes += t[1] as i64 * t[2] as i64;
-                closed += t[2];
-            }
-        }
-        let reference = self.contracts[c].reference as i64;
-        let first = closed.min(start);
-        let mut skip = closed - first;
-        let mut cost = reference * first as i64;
-        let mut lots = start - first;
-        let mut opened = reference * lots as i64;
-        for t in trades() {
-            if leg(t, short) == Some(false) {
-                let taken = skip.min(t[2]);
-                skip -= taken;
-                cost += t[1] as i64 * taken as i64;
-                lots += t[2] - taken;
-                opened += t[1] as i64 * (t[2] - taken) as i64;
-            }
-        }
-        [closes, cost, lots as i64, opened]
-    }
-
-    /// An account's closing and holding profit in a contract.
-    fn profit(&self, areas: &Areas, a: usize, c: usize, price: u32) -> [i64; 2] {
-        let h = &self.accounts[a].holdings[c];
-        let [sold, cost, long, bought] = self.side(areas, a, c, false, h.startlong);
-        let [covered, income, short, shorted] = self.side(areas, a, c, true, h.startshort);
-        let closing = (sold - cost) + (income - covered);
-        let holding = (price as i64 * long - bought) + (shorted - price as i64 * short);
-        [closing, holding].map(|gain| gain * self.contracts[c].multiplier as i64)
     }
 
     fn settle(&mut self, areas: &mut Areas) -> Answer {
@@ -724,19 +701,18 @@ impl State {
         if self.settlements >= 250 {
             return refused(19);
         }
-        let mut prices = [0; 4];
-        for c in 0..self.contractcount {
-            prices[c] = self.settlement_price(areas, c);
+        let Settlement { prices, profits } = D::settlement(self, areas);
+        self.reopen(areas, &prices);
+        for (a, [closing, holding]) in profits.into_iter().enumerate().take(self.accountcount) {
+            self.accounts[a].balance += closing + holding;
+            let charged = self.charged(areas, a, &self.accounts[a].holdings);
+            self.report[a] = Report { closing, holding, charged };
         }
-        self.profits = [[0; 2]; ACCOUNTS];
-        for a in 0..self.accountcount {
-            for c in 0..self.contractcount {
-                let [closing, holding] = self.profit(areas, a, c, prices[c]);
-                self.profits[a][0] += closing;
-                self.profits[a][1] += holding;
-            }
-            self.accounts[a].balance += self.profits[a][0] + self.profits[a][1];
-        }
+        Answer::default()
+    }
+
+    /// The next day: every place in use of the areas is set to zero.
+    fn reopen(&mut self, areas: &mut Areas, prices: &[u32; 4]) {
         for a in &mut self.accounts[..self.accountcount] {
             for h in &mut a.holdings[..self.contractcount] {
                 *h = Holding { startlong: h.long, startshort: h.short, ..*h };
@@ -751,11 +727,11 @@ impl State {
             self.contracts[c].phase = 0;
         }
         areas.trades[..TRADE * self.made].fill(0);
+        self.design = D::default();
         self.made = 0;
         self.next = 1;
         self.nextstamp = 1;
         self.settlements += 1;
-        Answer::default()
     }
 
     /// One command.
@@ -778,7 +754,7 @@ impl State {
     }
 
     /// The state that a day file opens with.
-    pub fn open(day: &[u8]) -> State {
+    pub fn open(day: &[u8]) -> State<D> {
         let contractcount = word(day, 0) as usize;
         let accountcount = word(day, 4 + 20 * contractcount) as usize;
         let mut contracts = [Contract::default(); 4];
@@ -813,13 +789,15 @@ impl State {
             next: 1,
             nextstamp: 1,
             settlements: 0,
-            profits: [[0; 2]; ACCOUNTS],
+            report: [Report::default(); ACCOUNTS],
+            design: D::default(),
         }
     }
 }
 
 /// Runs the commands on the state that the day file opens with.
-pub fn run(day: &[u8], commands: &[u8], areas: &mut Areas) -> State {
+#[inline(always)]
+pub fn run<D: Design>(day: &[u8], commands: &[u8], areas: &mut Areas) -> State<D> {
     let mut state = State::open(day);
     for record in commands.chunks_exact(RECORD) {
         state.step(areas, record);

@@ -1,22 +1,28 @@
-//! Instructions per operation of the order book, per command of the exchange and of the day runner, beside plain Rust versions of
-//! each. `bench/run` builds and starts it.
+//! Instructions per operation of the order book, per command of the exchange and of the day runner, beside Rust versions of each.
+//! `bench/run` builds and starts it.
 
 mod auction;
+mod best;
 mod cases;
+mod count;
 mod days;
+mod design;
 mod exchange;
+mod exchanges;
 mod ours;
 mod plain;
 mod runner;
 
+use best::Best;
 use cases::{any_sweeps, queue_case, whole_sweeps, Random, Sweeps, SweepsCase, Swept};
-use days::{deposit, encode, file, full_list, kind_lists, match_lists, mixed, Memory, KINDS};
-use ours::Probe;
+use count::{counted, counted_of, grouped, head, row};
+use design::Plain;
+use exchange::State;
 use plain::Order;
 use std::hint::black_box;
 use std::io::Write;
 use std::path::Path;
-use std::process::{exit, Command, Stdio};
+use std::process::exit;
 
 // What is counted of the Rust version, under names that valgrind is given.
 
@@ -81,7 +87,8 @@ fn differ(operation: &str) -> ! {
 }
 
 /// Runs the same random operations on each book: the answers and all areas have to be equal, word for word.
-fn compare(rounds: usize) {
+fn compare() {
+    let rounds = 50_000;
     let mut r = Random::new();
     for i in 0..rounds {
         let case = queue_case(&mut r, i % 64, 3);
@@ -107,6 +114,7 @@ fn compare(rounds: usize) {
             differ("sweep");
         }
     }
+    println!("book: same results of {rounds} random inserts, cancels and sweeps each");
 }
 
 /// Runs one book on the inputs of one operation, and gives the number of operations.
@@ -138,214 +146,32 @@ fn exercise(operation: usize, book: &Book) -> usize {
     operations
 }
 
-/// What this program prints and the instructions it takes within one function alone, run again with some words under valgrind.
-fn counted(function: &str, words: &[String]) -> (String, f64) {
-    counted_of(&std::env::current_exe().unwrap(), function, words, Stdio::null(), None)
-}
-
-/// The same from the last call of another function on.
-fn counted_from(function: &str, from: &str, words: &[String]) -> f64 {
-    counted_of(&std::env::current_exe().unwrap(), function, words, Stdio::null(), Some(from)).1
-}
-
-/// The same of any program on some input.
-fn counted_of(program: &Path, function: &str, words: &[String], input: Stdio, from: Option<&str>) -> (String, f64) {
-    let out = std::env::current_exe().unwrap().with_extension("callgrind");
-    let said = Command::new("valgrind")
-        .arg("--tool=callgrind")
-        .arg(format!("--toggle-collect={function}"))
-        .arg(format!("--callgrind-out-file={}", out.display()))
-        .args(from.map(|from| format!("--dump-before={from}")))
-        .arg(program)
-        .args(words)
-        .stdin(input)
-        .output();
-    let (Ok(said), Ok(profile)) = (said, std::fs::read_to_string(&out)) else {
-        eprintln!("bench: valgrind did not run");
-        exit(2)
-    };
-    let total = profile.lines().find_map(|line| line.strip_prefix("totals: ")).and_then(|n| n.trim().parse().ok());
-    let Some(total) = total else {
-        eprintln!("bench: valgrind counted nothing:\n{}", String::from_utf8_lossy(&said.stderr));
-        exit(2)
-    };
-    (String::from_utf8_lossy(&said.stdout).trim().to_string(), total)
-}
-
 fn per_operation(operation: usize, which: usize) -> f64 {
-    let words = [operation, which].map(|n| n.to_string());
+    let words = ["book".to_string(), operation.to_string(), which.to_string()];
     let (operations, total) = counted(BOOKS[which].counted[operation.min(2)], &words);
     total / operations.parse::<f64>().unwrap()
 }
 
-fn head(title: &str) {
-    println!("\n{title:34} {:>8} {:>8} {:>6}", "ours", "Rust", "ratio");
-}
-
-fn row(name: &str, [ours, plain]: [f64; 2]) {
-    println!("{name:34} {ours:8.0} {plain:8.0} {:6.2}", ours / plain);
-}
-
 fn book() {
-    let rounds = 50_000;
-    compare(rounds);
-    println!("book: same results of {rounds} random inserts, cancels and sweeps each");
-    head("instructions per operation");
+    head("Instructions per operation", &["ours", "Rust", "ratio"]);
     for (operation, name) in OPERATIONS.iter().enumerate() {
-        row(name, [0, 1].map(|which| per_operation(operation, which)));
+        row(name, per_operation(operation, 0), &[per_operation(operation, 1)]);
     }
-}
-
-// ---- the exchange
-
-#[no_mangle]
-#[inline(never)]
-fn plain_run(day: &[u8], commands: &[u8], m: &mut Memory) -> exchange::State {
-    exchange::run(day, commands, &mut m.areas())
-}
-
-/// The same of the Rust version's state.
-fn probe(s: &exchange::State, account: usize, contract: usize) -> Probe {
-    let h = s.accounts[account].holdings[contract];
-    let terms = s.contracts[contract];
-    Probe {
-        balance: s.accounts[account].balance,
-        bought: s.resting[0][contract],
-        sold: s.resting[1][contract],
-        made: s.made,
-        long: h.long,
-        short: h.short,
-        startlong: h.startlong,
-        startshort: h.startshort,
-        reference: terms.reference,
-        phase: terms.phase,
-        last: terms.last,
-        next: s.next,
-        settlements: s.settlements,
-    }
-}
-
-/// Runs the same list on each exchange: all areas, balances, holdings, contracts and counts have to be equal.
-fn compare_run(accounts: usize, list: &[days::Command]) {
-    let day = file(accounts);
-    let commands = encode(list);
-    let mut memory = Memory::new();
-    let state = plain_run(&day, &commands, &mut memory);
-    for i in 0..cases::ACCOUNTS * days::CONTRACTS {
-        let (account, contract) = (i / days::CONTRACTS, i % days::CONTRACTS);
-        let mut same = Memory::new();
-        let other = ours::run(&day, &commands, &mut same, account, contract);
-        if other != probe(&state, account, contract) || same != memory {
-            eprintln!("bench: the two exchanges differ after a list of {} commands", list.len());
-            exit(1)
-        }
-    }
-}
-
-fn compare_runs(lists: usize) {
-    let mut r = Random::new();
-    for i in 0..lists {
-        let accounts = 1 + r.below(32) as usize;
-        compare_run(accounts, &mixed(&mut r, accounts, 20 * i));
-    }
-    compare_run(32, &mixed_list());
-    compare_run(32, &match_lists()[1]);
-    for kind in 0..KINDS.len() {
-        for [accounts, trades] in CONFIGURATIONS {
-            compare_run(accounts, &kind_lists(kind, trades)[1]);
-        }
-    }
-}
-
-fn mixed_list() -> Vec<days::Command> {
-    mixed(&mut Random::new(), 32, 2_000)
-}
-
-/// Accounts and recorded trades when the kinds are counted.
-const CONFIGURATIONS: [[usize; 2]; 3] = [[2, 10], [32, 10], [32, 1_000]];
-
-/// The number of the list with the match.
-const MATCH: usize = 6 * KINDS.len() + 3;
-
-/// The lists by number: the empty one, the mixed one, then two for each kind and configuration, then two for the match.
-fn list(number: usize) -> (usize, Vec<days::Command>) {
-    match number {
-        0 => (32, Vec::new()),
-        1 => (32, mixed_list()),
-        _ if number + 1 >= MATCH => {
-            let [without, with] = match_lists();
-            (32, if number == MATCH { with } else { without })
-        }
-        _ => {
-            let [accounts, trades] = CONFIGURATIONS[(number - 2) / 2 % 3];
-            let [without, with] = kind_lists((number - 2) / 6, trades);
-            (accounts, if number % 2 == 0 { without } else { with })
-        }
-    }
-}
-
-fn exercise_list(number: usize, which: usize) {
-    let (accounts, list) = list(number);
-    let (day, commands, mut memory) = (file(accounts), encode(&list), Memory::new());
-    if which == 0 {
-        black_box(ours::run(&day, &commands, &mut memory, 0, 0));
-    } else {
-        black_box(plain_run(&day, &commands, &mut memory));
-    }
-}
-
-/// Instructions per command of those by which a list is longer than the one before it.
-fn per_command(number: usize, which: usize) -> f64 {
-    let function = ["bench_run", "plain_run"][which];
-    let [less, more] = [number - 1, number].map(|n| counted(function, &["list".into(), n.to_string(), which.to_string()]).1);
-    (more - less) / (list(number).1.len() - list(number - 1).1.len()) as f64
-}
-
-fn engine() {
-    let lists = 50;
-    compare_runs(lists);
-    println!("\nexchange: same results of {lists} random lists of commands and of those counted");
-    head("instructions per command");
-    row("2,000 commands of all kinds", [0, 1].map(|which| per_command(1, which)));
-    let number = |kind: usize, configuration: usize| 6 * kind + 2 * configuration + 3;
-    for (kind, name) in KINDS.iter().enumerate() {
-        row(name, [0, 1].map(|which| per_command(number(kind, 1), which)));
-    }
-    row("match of 64 orders on each side", [0, 1].map(|which| per_command(MATCH, which)));
-    println!("\n{:34} {:>8} {:>8} {:>8}", "ours, with accounts", 2, 32, 32);
-    println!("{:34} {:>8} {:>8} {:>8}", "and trades", 10, 10, "1,000");
-    for (kind, name) in KINDS.iter().enumerate() {
-        let [a, b, c] = [0, 1, 2].map(|configuration| per_command(number(kind, configuration), 0));
-        println!("{name:34} {a:8.0} {b:8.0} {c:8.0}");
-    }
-}
-
-/// The list that fills a state, and behind it a test of the whole state, or one command by itself.
-fn exercise_full(alone: bool) {
-    let (day, commands, mut memory) = (file(32), encode(&full_list()), Memory::new());
-    if alone {
-        let left = ours::execute(&day, &commands, deposit(1).bytes(), &mut memory, 0, 0);
-        assert!(left.made == 1024 && left.bought == 64 && left.sold == 64 && left.balance == 1_000_000_001_000);
-    } else {
-        assert!(ours::test(&day, &commands, &mut memory));
-    }
-}
-
-/// What the test of the whole state takes, and one command by itself, which makes it first.
-fn full() {
-    println!("\n{:60} {:>9}", "instructions, 32 accounts, 512 orders, 1,024 trades", "ours");
-    let taken = |function: &str, alone: u8| counted_from(function, "audit::well_formed", &["full".into(), alone.to_string(), "0".into()]);
-    println!("{:60} {:9.0}", "whole-state test", taken("bench_test", 0));
-    println!("{:60} {:9.0}", "one command by execute, deposit", taken("bench_execute", 1));
 }
 
 #[no_mangle]
 #[inline(never)]
 fn plain_day(file: &[u8]) {
-    std::io::stdout().write_all(&runner::lines(file)).unwrap();
+    std::io::stdout().write_all(&runner::lines::<Plain>(file)).unwrap();
 }
 
-/// The days that both runners are given, and what they have to print.
+#[no_mangle]
+#[inline(never)]
+fn best_day(file: &[u8]) {
+    std::io::stdout().write_all(&runner::lines::<Best>(file)).unwrap();
+}
+
+/// The days that the runners are given, and what they have to print.
 const DAYS: [&str; 3] = ["largest-file", "full-day", "every-code"];
 
 fn sample(day: usize, kind: &str) -> Vec<u8> {
@@ -353,21 +179,23 @@ fn sample(day: usize, kind: &str) -> Vec<u8> {
 }
 
 fn runners() {
-    println!("\nday runner: both print the lines of the samples");
-    head("instructions per command");
+    println!("\nday runner: all print the lines of the samples");
+    head("Instructions per command", &exchanges::VERSIONS);
     for (day, name) in DAYS.iter().enumerate() {
         let file = sample(day, "day");
         let input = std::fs::File::open(format!("samples/{name}.day")).unwrap();
         let ours = counted_of(Path::new("target/bin/dayrun"), "main", &[], input.into(), None);
-        let plain = counted("plain_day", &["day".into(), day.to_string(), "1".into()]);
+        let [plain, best] = ["plain_day", "best_day"].map(|function| counted(function, &[function.into(), day.to_string()]));
+        let runs = [ours, plain, best];
         let lines = String::from_utf8(sample(day, "out")).unwrap();
-        if ours.0 != lines.trim() || plain.0 != lines.trim() {
+        if runs.iter().any(|(printed, _)| printed != lines.trim()) {
             eprintln!("bench: a runner does not print the lines of {name}");
             exit(1)
         }
-        let state = exchange::State::open(&file);
+        let state = State::<Plain>::open(&file);
         let commands = (file.len() - 12 - 20 * state.contractcount - 8 * state.accountcount) / exchange::RECORD;
-        row(&format!("{name}, {commands} commands"), [ours.1, plain.1].map(|total| total / commands as f64));
+        let [ours, plain, best] = runs.map(|(_, total)| total / commands as f64);
+        row(&format!("`{name}`, {} commands", grouped(commands as f64)), ours, &[plain, best]);
     }
 }
 
@@ -375,15 +203,21 @@ fn main() {
     let words: Vec<String> = std::env::args().skip(1).collect();
     let numbers: Vec<usize> = words.iter().filter_map(|word| word.parse().ok()).collect();
     match (words.first().map(String::as_str), &numbers[..]) {
-        (Some("list"), &[number, which]) => exercise_list(number, which),
-        (Some("full"), &[]) => full(),
-        (Some("full"), &[alone, _]) => exercise_full(alone == 1),
-        (Some("day"), &[day, _]) => plain_day(&sample(day, "day")),
-        (Some(_), &[operation, which]) => println!("{}", exercise(operation, BOOKS[which])),
+        (Some("book"), &[operation, which]) => println!("{}", exercise(operation, BOOKS[which])),
+        (Some("list"), &[number, with, which]) => exchanges::exercise_list(number, with, which),
+        (Some("test"), &[orders, trades]) => exchanges::exercise_test(orders, trades),
+        (Some("execute"), &[number]) => exchanges::exercise_execute(number),
+        (Some("plain_day"), &[day]) => plain_day(&sample(day, "day")),
+        (Some("best_day"), &[day]) => best_day(&sample(day, "day")),
+        (Some("compare"), _) => {
+            compare();
+            exchanges::compare();
+        }
         _ => {
+            compare();
+            exchanges::compare();
             book();
-            engine();
-            full();
+            exchanges::rows();
             runners();
         }
     }

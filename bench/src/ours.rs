@@ -1,4 +1,4 @@
-//! The calls of `crates/bench_book` and `crates/bench_exchange`, each behind a test of what its contract requires.
+//! The calls of `crates/bench_book`, `crates/bench_exchange` and `crates/bench_execute`, each behind a test of what its contract requires.
 
 use crate::cases::{Sweeps, Swept, ACCOUNTS, ORDER, QUEUE, TRADE};
 use crate::days::Memory;

@@ -1,6 +1,7 @@
 //! The same book in plain Rust: the same areas of words, the same operations, the same results.
 
 use crate::cases::{Sweeps, Swept, ACCOUNTS, ORDER, QUEUE, TRADE};
+use crate::design::Resting;
 
 #[derive(Clone, Copy, Default)]
 pub struct Holding {
@@ -150,6 +151,11 @@ impl Taker {
         }
     }
 
+    /// Where its remainder rests.
+    pub fn resting(&self) -> Resting {
+        Resting { side: self.sell as usize, contract: self.contract, account: self.account as usize, close: self.close != 0 }
+    }
+
     pub fn meets(&self, price: u32) -> bool {
         match self.condition {
             PriceCondition::Limit(limit) if self.sell => limit <= price,
@@ -176,6 +182,11 @@ impl Taker {
 }
 
 impl Holding {
+    /// The long (0) or short (1) lots that the day started with.
+    pub fn start(&self, short: usize) -> u32 {
+        [self.startlong, self.startshort][short]
+    }
+
     pub fn buy(&mut self, close: u32, lots: u32) {
         if close == 0 {
             self.long += lots;

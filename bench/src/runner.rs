@@ -1,15 +1,16 @@
-//! The day runner in plain Rust: a sound day file's lines, after document 01.
+//! The day runner in Rust, by either design: a sound day file's lines, after document 01.
 
 use crate::cases::TRADE;
 use crate::days::Memory;
+use crate::design::Design;
 use crate::exchange::{State, RECORD};
 use std::io::Write;
 
 /// The lines of a sound file.
-pub fn lines(file: &[u8]) -> Vec<u8> {
+pub fn lines<D: Design>(file: &[u8]) -> Vec<u8> {
     let mut memory = Memory::new();
     let mut areas = memory.areas();
-    let mut state = State::open(file);
+    let mut state = State::<D>::open(file);
     let mut out = Vec::new();
     let first = 12 + 20 * state.contractcount + 8 * state.accountcount;
     for (k, record) in file[first..].chunks_exact(RECORD).enumerate() {
@@ -25,9 +26,8 @@ pub fn lines(file: &[u8]) -> Vec<u8> {
                 writeln!(out, "P {} {}", c + 1, state.contracts[c].reference).unwrap();
             }
             for a in 0..state.accountcount {
-                let [closing, holding] = state.profits[a];
-                let charged = state.charged(&areas, a, &state.accounts[a].holdings);
-                writeln!(out, "B {} {} {} {} {}", a + 1, closing, holding, state.accounts[a].balance, charged).unwrap();
+                let r = state.report[a];
+                writeln!(out, "B {} {} {} {} {}", a + 1, r.closing, r.holding, state.accounts[a].balance, r.charged).unwrap();
             }
         }
     }

@@ -1,1 +1,1 @@
-mod Probing
+pub mod Probing

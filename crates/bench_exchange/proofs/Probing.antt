@@ -1,21 +1,18 @@
 -- What is asked of the state that a run leaves is asked of the rules' run. Assumes nothing.
-use mathlib.Core.Bool.{Bool}
 use mathlib.Core.List.{List}
 use mathlib.Core.Path.{_≡_, ap, _∙_}
 use Prim.Native.Nat.{ℕ}
 use Rattle.rules.specs.Condition3.{run}
-use Rattle.rules.specs.Memory.{Memory, memory, respond, wellFormedMemory}
+use Rattle.rules.specs.Memory.{Memory, memory}
 use Rattle.rules.specs.declared.Command.{Command}
 use Rattle.rules.specs.declared.State.{State}
 use Rattle.dayfile.specs.Opening.{openingState}
-use Rattle.exchange.specs.Response.{ExecutedIs}
 use Rattle.exchange.specs.Run.{RanIs}
-use Rattle.exchange.specs.declared.settling.Response.{Response}
 use Rattle.bench_exchange.specs.Probes.{probeOf, ProbedIs}
 use Rattle.bench_exchange.specs.declared.Probe.{Probe}
 
 -- an answer about a memory, and the areas in it
-probed : {m : Memory} {state : State} {buys sells trades : List ℕ} {r : Probe} (a c : ℕ) → memory state buys sells trades ≡ m → r ≡ probeOf state a c → ProbedIs m a c r buys sells trades
+pub probed : {m : Memory} {state : State} {buys sells trades : List ℕ} {r : Probe} (a c : ℕ) → memory state buys sells trades ≡ m → r ≡ probeOf state a c → ProbedIs m a c r buys sells trades
 probed a c e asked =
     record {
       answer = asked ∙ ap (λ (m : Memory). probeOf (m .state) a c) e;
@@ -26,17 +23,8 @@ probed a c e asked =
 
 module _ {opening state : State} {cs : List Command} {buys sells trades buys′ sells′ trades′ : List ℕ} (day : List ℕ)
     (opened : opening ≡ openingState day) (ran : RanIs (memory opening buys sells trades) cs (memory state buys′ sells′ trades′)) where
-  left : memory state buys′ sells′ trades′ ≡ run (memory (openingState day) buys sells trades) cs
+  pub left : memory state buys′ sells′ trades′ ≡ run (memory (openingState day) buys sells trades) cs
   left = ran .memory ∙ ap (λ (s : State). run (memory s buys sells trades) cs) opened
 
   pub ran-probed : {r : Probe} (a c : ℕ) → r ≡ probeOf state a c → ProbedIs (run (memory (openingState day) buys sells trades) cs) a c r buys′ sells′ trades′
   ran-probed a c asked = probed a c left asked
-
-  pub ran-tested : {r : Bool} → r ≡ wellFormedMemory (memory state buys′ sells′ trades′) → r ≡ wellFormedMemory (run (memory (openingState day) buys sells trades) cs)
-  ran-tested asked = asked ∙ ap wellFormedMemory left
-
-  pub executed-probed : {command : Command} {response : Response} {buys″ sells″ trades″ : List ℕ} {r : Probe} (a c : ℕ)
-      → ExecutedIs (memory state buys′ sells′ trades′) command response buys″ sells″ trades″
-      → r ≡ probeOf (response .state) a c
-      → ProbedIs (respond (run (memory (openingState day) buys sells trades) cs) command .memory) a c r buys″ sells″ trades″
-  executed-probed {command} a c done asked = probed a c (done .memory ∙ ap (λ (m : Memory). respond m command .memory) left) asked

@@ -1,10 +1,10 @@
 // The run of a list of commands for the benchmark, which is written in Rust, and what it asks of the state that a run leaves. For the
-// benchmark alone: each call asks for a sound day file and for places that exist.
+// benchmark alone: the call asks for a sound day file and for places that exist. No other call stands here, so that the engine's step has
+// one caller.
 ghost use mathlib.Core.Bool.{true};
 ghost use mathlib.Core.Path.{_≡_};
 ghost use Prim.Native.Nat.{_<_};
-ghost use Rattle.rules.specs.DayFile.{commandFrom, sound};
-ghost use Rattle.rules.specs.Memory.{respond, wellFormedMemory};
+ghost use Rattle.rules.specs.DayFile.{sound};
 ghost use Rattle.bench_exchange.specs.Probes.{probeOf, ranOf, ProbedIs};
 use rules::State;
 
@@ -26,7 +26,7 @@ pub struct Probe {
     pub settlements: u32,
 }
 
-fn probed(state: State, account: usize, contract: usize) -> Probe
+pub fn probed(state: State, account: usize, contract: usize) -> Probe
     requires { ⌜ (account < 32) × (contract < 4) ⌝ }
     ensures { λ r. ⌜ r ≡ probeOf state account contract ⌝ }
 {
@@ -67,50 +67,4 @@ pub extern "C" fn bench_run<'a>(
     let opening = dayfile::opening::opening_state(day);
     let state = exchange::run::run(opening, buys, sells, trades, commands);
     probed(state, account, contract)
-}
-
-// Runs the commands, then tests the whole state that they leave.
-#[no_mangle]
-pub extern "C" fn bench_test<'a>(
-    day: &'a [u8],
-    commands: &'a [u8],
-    buys: &mut [u32],
-    sells: &mut [u32],
-    trades: &mut [u32],
-) -> bool
-    requires { ⌜ sound (now day) ≡ true ⌝ }
-    ensures { λ r. ⌜ r ≡ wellFormedMemory (ranOf (now (day .entry)) (now (commands .entry)) (now (buys .entry)) (now (sells .entry)) (now (trades .entry))) ⌝ }
-{
-    let opening = dayfile::opening::opening_state(day);
-    let state = exchange::run::run(opening, buys, sells, trades, commands);
-    audit::well_formed(state, &buys[..], &sells[..], &trades[..])
-}
-
-// The bytes of one command.
-#[repr(C)]
-pub struct Single {
-    pub bytes: [u8; 24],
-}
-
-// Runs the commands, then one more by itself, which tests the whole state first.
-#[no_mangle]
-pub extern "C" fn bench_execute<'a>(
-    day: &'a [u8],
-    commands: &'a [u8],
-    single: Single,
-    buys: &mut [u32],
-    sells: &mut [u32],
-    trades: &mut [u32],
-    account: usize,
-    contract: usize,
-) -> Probe
-    requires { ⌜ (sound (now day) ≡ true) × (account < 32) × (contract < 4) ⌝ }
-    ensures { λ r. ⌜ ProbedIs (respond (ranOf (now (day .entry)) (now (commands .entry)) (now (buys .entry)) (now (sells .entry)) (now (trades .entry))) (commandFrom (single .bytes) 0) .memory) account contract r (now (buys .exit)) (now (sells .exit)) (now (trades .exit)) ⌝ }
-{
-    let opening = dayfile::opening::opening_state(day);
-    let state = exchange::run::run(opening, buys, sells, trades, commands);
-    let bytes = single.bytes;
-    let response = exchange::execute::execute(state, buys, sells, trades, bytes);
-    let left = response.state;
-    probed(left, account, contract)
 }

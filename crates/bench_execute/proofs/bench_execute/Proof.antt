@@ -1,9 +1,9 @@
--- `bench_exchange::bench_execute` meets its contract: the promises of its calls, put together. Assumes nothing.
+-- `bench_execute::bench_execute` meets its contract: the promises of its calls, put together. Assumes nothing.
 use native.Mathlib.Omega.{arith}
 use borrow.Author.Needs.{needs}
-use Rattle.bench_exchange.proofs.Probing.{executed-probed}
-use Rattle.bench_exchange.proofs.bench_execute.Statement.{statement}
-use Rattle.bench_exchange.proofs.bench_execute.Tie as tie
+use Rattle.bench_execute.proofs.Executing.{executed-probed}
+use Rattle.bench_execute.proofs.bench_execute.Statement.{statement}
+use Rattle.bench_execute.proofs.bench_execute.Tie as tie
 
 opening-state-requires : tie.Need-opening-state-requires
 opening-state-requires c κs = search needs

@@ -1,8 +1,8 @@
--- `bench_exchange::bench_test` meets its contract: the promises of its calls, put together. Assumes nothing.
+-- `bench_execute::bench_test` meets its contract: the promises of its calls, put together. Assumes nothing.
 use borrow.Author.Needs.{needs}
-use Rattle.bench_exchange.proofs.Probing.{ran-tested}
-use Rattle.bench_exchange.proofs.bench_test.Statement.{statement}
-use Rattle.bench_exchange.proofs.bench_test.Tie as tie
+use Rattle.bench_execute.proofs.Executing.{ran-tested}
+use Rattle.bench_execute.proofs.bench_test.Statement.{statement}
+use Rattle.bench_execute.proofs.bench_test.Tie as tie
 
 opening-state-requires : tie.Need-opening-state-requires
 opening-state-requires c κs = search needs
