@@ -19,7 +19,7 @@ use Rattle.rules.specs.Change.{Asked, arriving, asked, changeRefusals, changed,
 use Rattle.rules.specs.Exchange.{Exchange, absent, listingAt, noAccount, noContract, noOrder, own, placeOf, isAbsent}
 use Rattle.rules.specs.Kinds.{codeOf, decide, done, kindOf, lastOf, step}
 use Rattle.rules.specs.Matching.{Entered, tradedLots}
-use Rattle.rules.specs.Memory.{Declared, Memory, Responded, WellFormedState, exchangeOf, firstWord, listingIn, memory, orderStride, put, putQueue, queueIn, stepIn, written}
+use Rattle.rules.specs.Memory.{Declared, Memory, AfterCommand, WellFormedState, exchangeOf, firstWord, listingIn, memory, orderStride, put, putQueue, queueIn, stepIn, written}
 use Rattle.book.specs.Places.{indexOf}
 use Rattle.rules.specs.Step.{Effect, answerOf, cancelled, enteredOf, exchangeAfter, hasNumber, listingAfter, removed, withListing, without}
 use Rattle.rules.specs.WellFormed.{numbers, usedOnce}
@@ -374,7 +374,7 @@ module _ {s : State} {buys sells trades : List ℕ} (w : WellFormedState s buys 
 
     pub zero-changed : lots ≡ 0 → {o : Outcome} {buys′ sells′ : List ℕ} → OutcomeIs (stepIn m (Cancel account contract false number)) o buys′ sells′ trades
         → OutcomeIs (stepIn m command) o buys′ sells′ trades
-    zero-changed e {o} {buys′} {sells′} h = subst (λ (q : Responded). OutcomeIs q o buys′ sells′ trades) (zero-same e) h
+    zero-changed e {o} {buys′} {sells′} h = subst (λ (q : AfterCommand). OutcomeIs q o buys′ sells′ trades) (zero-same e) h
 
     module _ (some : lots ≡ 0 → ⊥) where
       none-zero : eqb lots 0 ≡ false
@@ -667,4 +667,4 @@ module _ {s : State} {buys sells trades : List ℕ} (w : WellFormedState s buys 
                   ∙ sym response
 
               pub lost-changed : {q : Outcome} {b d e : List ℕ} → OutcomeIs (enteredIn m′ o number 0 (t .state .next)) q b d e → OutcomeIs (stepIn m command) q b d e
-              lost-changed {q} {b} {d} {e} h = subst (λ (v : Responded). OutcomeIs v q b d e) same-response h
+              lost-changed {q} {b} {d} {e} h = subst (λ (v : AfterCommand). OutcomeIs v q b d e) same-response h

@@ -9,14 +9,14 @@ use lib.ListN.{getD, set}
 use Rattle.rules.specs.Bounds.{continuous, inAuction}
 use Rattle.rules.specs.Exchange.{noAccount, noContract, placeOf}
 use Rattle.rules.specs.Step.{answerOf, withBalance, withPhase}
-use Rattle.rules.specs.Memory.{Responded, memory}
+use Rattle.rules.specs.Memory.{AfterCommand, memory}
 use Rattle.rules.specs.declared.Account.{Account}
 use Rattle.rules.specs.declared.Contract.{Contract}
 use Rattle.rules.specs.declared.State.{State}
 use Rattle.engine.specs.declared.answers.Outcome.{Outcome}
 
 -- the answer, the state, and the full content of the three areas
-pub record OutcomeIs (response : Responded) (r : Outcome) (buys sells trades : List ℕ) : Type 0 where
+pub record OutcomeIs (response : AfterCommand) (r : Outcome) (buys sells trades : List ℕ) : Type 0 where
   pub answer : r .answer ≡ response .answer
   pub memory : memory (r .state) buys sells trades ≡ response .memory
 

@@ -10,7 +10,7 @@ use Rattle.rules.specs.Answers.{isGoodForDay, listingOf, tradesRefused, takerFo
 use Rattle.rules.specs.Bounds.{inAuction, maxLots, maxResting, numbersEnd}
 use Rattle.rules.specs.Exchange.{noContract, own, placeOf}
 use Rattle.rules.specs.Matching.{Entered, enter, restWhole, tradedLots}
-use Rattle.rules.specs.Memory.{Memory, Responded, exchangeOf, firstWord, memory, put, queueIn}
+use Rattle.rules.specs.Memory.{Memory, AfterCommand, exchangeOf, firstWord, memory, put, queueIn}
 use Rattle.rules.specs.Step.{answerOf, enteredOf, exchangeAfter, limitOf, listingAfter, withLast}
 use Rattle.rules.specs.WellFormed.{wellFormedContents}
 use Rattle.rules.specs.declared.Account.{Account}
@@ -37,7 +37,7 @@ pub record Enterable (s : State) (buys sells trades : List ℕ) (o : NewOrder) (
   pub leaves : wellFormedContents (exchangeAfter (exchangeOf (memory s buys sells trades)) o (enteredOf (exchangeOf (memory s buys sells trades)) number quote o) next) ≡ true
 
 -- the answer to it, and what it leaves
-abbrev pub enteredIn : Memory → NewOrder → ℕ → ℕ → ℕ → Responded
+abbrev pub enteredIn : Memory → NewOrder → ℕ → ℕ → ℕ → AfterCommand
 enteredIn m o number quote next =
     record {
       answer = answerOf 0 number (tradedLots (enteredOf (exchangeOf m) number quote o .trades)) (enteredOf (exchangeOf m) number quote o .rested);

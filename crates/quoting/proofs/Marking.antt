@@ -11,7 +11,7 @@ use Rattle.laws.specs.Choice.{pick}
 use Rattle.rules.specs.Answers.{firstOf, orderRefusals}
 use Rattle.rules.specs.Exchange.{Exchange, placeOf}
 use Rattle.rules.specs.Kinds.{refused}
-use Rattle.rules.specs.Memory.{Memory, Responded, WellFormedState, exchangeOf, inMemory, memory}
+use Rattle.rules.specs.Memory.{Memory, AfterCommand, WellFormedState, exchangeOf, inMemory, memory}
 use Rattle.rules.specs.declared.NewOrder.{NewOrder}
 use Rattle.rules.specs.declared.State.{State}
 use Rattle.invariants.proofs.Accepted.{Failed, failed}
@@ -25,7 +25,7 @@ use Rattle.insertion.proofs.Entering.{may-enter}
 use Rattle.quoting.specs.Placing.{Markable, markedIn}
 
 -- a code that is told, whichever way it went
-told-either : (code : ℕ) (entered : Responded) (m : Memory) → entered .answer .code ≡ 0 → pick (eqb code 0) entered (inMemory m (refused code)) .answer .code ≡ code
+told-either : (code : ℕ) (entered : AfterCommand) (m : Memory) → entered .answer .code ≡ 0 → pick (eqb code 0) entered (inMemory m (refused code)) .answer .code ≡ code
 told-either code entered m z = by-code (eqb code 0) refl
   where
     by-code : (b : Bool) → eqb code 0 ≡ b → pick b entered (inMemory m (refused code)) .answer .code ≡ code

@@ -12,7 +12,7 @@ use Rattle.rules.specs.Answers.{Refusal, _when_, firstOf, listingOf, orderRefus
 use Rattle.rules.specs.Bounds.{continuous, maxResting, maxTrades}
 use Rattle.rules.specs.Exchange.{accountAt, listingAt, noAccount, noContract, own, placeOf, isAbsent}
 use Rattle.rules.specs.Kinds.{refused}
-use Rattle.rules.specs.Memory.{Memory, Responded, exchangeOf, inMemory, memory, put, queueStride, stepIn, tradeStride}
+use Rattle.rules.specs.Memory.{Memory, AfterCommand, exchangeOf, inMemory, memory, put, queueStride, stepIn, tradeStride}
 use Rattle.rules.specs.Step.{listingWithout, withListing}
 use Rattle.rules.specs.WellFormed.{isQuoteOf, quotes}
 use Rattle.rules.specs.declared.Command.the-variants.{Quote}
@@ -55,7 +55,7 @@ pub record Markable (s : State) (buys sells trades : List ℕ) (o : NewOrder) : 
   pub single : quotes (placeOf (o .account)) (own (o .sell) (listingOf (exchangeOf (memory s buys sells trades)) o)) ≡ 0
 
 -- refused with its code from 5 on, or entered with the next number, marked
-abbrev pub markedIn : Memory → NewOrder → Responded
+abbrev pub markedIn : Memory → NewOrder → AfterCommand
 markedIn m o =
     pick (eqb (firstOf (orderRefusals (exchangeOf m) o)) 0)
     (enteredIn m o (m .state .next) 1 (m .state .next + 1))

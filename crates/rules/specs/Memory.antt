@@ -211,7 +211,8 @@ pub record WellFormedState (state : State) (buys sells trades : List ℕ) : Type
 
 -- ---- the whole step: code 21 before all others, then the rules
 
-pub record Responded : Type 0 where
+-- after a command: its answer, and the memory that it leaves
+pub record AfterCommand : Type 0 where
   pub answer : Answer
   pub memory : Memory
 
@@ -220,13 +221,13 @@ abbrev pub written : Memory → List Exchange → Memory
 written m [] = m
 written m (x ∷ xs) = written (put m x) xs
 
-abbrev pub inMemory : Memory → Decision → Responded
+abbrev pub inMemory : Memory → Decision → AfterCommand
 inMemory m d = record { answer = d .answer; memory = written m (d .stages) }
 
 -- a well-formed state: what the rules decide, written into the memory
-unfoldable pub stepIn : Memory → Command → Responded
+unfoldable pub stepIn : Memory → Command → AfterCommand
 stepIn m command = inMemory m (decide (exchangeOf m) command)
 
 -- THE WHOLE STEP, on any state and any command
-unfoldable pub respond : Memory → Command → Responded
+unfoldable pub respond : Memory → Command → AfterCommand
 respond m command = pick (wellFormedMemory m) (stepIn m command) (inMemory m (refused 21))
