@@ -54,7 +54,7 @@ pub same-lengths : (m : Memory) → SameLengths m m
 same-lengths m = record { buys = refl; sells = refl; trades = refl }
 
 lengths-trans : {m m′ m″ : Memory} → SameLengths m m′ → SameLengths m′ m″ → SameLengths m m″
-lengths-trans s t = record { buys = t .buys ∙ s .buycounts; sells = t .sells ∙ s .sellcounts; trades = t .trades ∙ s .trades }
+lengths-trans s t = record { buys = t .buys ∙ s .buys; sells = t .sells ∙ s .sells; trades = t .trades ∙ s .trades }
 
 -- a stage is there to be written: it has the state's shape, and its counts are in range
 abbrev pub Writable : Exchange → Exchange → Type 0
