@@ -1,13 +1,13 @@
 -- What a kind gives and leaves, against the rules' response. Assumes nothing.
-use mathlib.Core.Bool.{Bool, not, _&&_, _||_}
+use mathlib.Core.Bool.{Bool, not, _&&_}
 use mathlib.Core.List.{List}
 use mathlib.Core.Path.{_≡_}
 use Prim.Native.Nat.{ℕ}
-use lib.Dec.{eqb, ltb}
+use lib.Dec.{eqb}
 use lib.IntN.{ℤ}
 use lib.ListN.{getD, set}
 use Rattle.rules.specs.Bounds.{continuous, inAuction}
-use Rattle.rules.specs.Exchange.{noAccount, noContract, placeOf}
+use Rattle.rules.specs.Exchange.{isAbsent, noAccount, noContract, placeOf}
 use Rattle.rules.specs.Step.{answerOf, withBalance, withPhase}
 use Rattle.rules.specs.Memory.{AfterCommand, memory}
 use Rattle.rules.specs.declared.Account.{Account}

@@ -66,7 +66,7 @@ module _ {s : State} {buys sells trades : List ℕ} (w : WellFormedState s buys 
   code = firstOf (orderRefusals x o)
 
   in-parts : code ≡ firstOf (fieldsPart ++ (accountRefusals x o ++ bookPart))
-  unfolding orderRefusals firstOf accountRefusals bookTests fillableLots tradesRefused tradesNeeded fieldsPart bookPart
+  unfolding orderRefusals firstOf bookTests fillableLots tradesRefused tradesNeeded fieldsPart bookPart
   in-parts = rw trades-counted
 
   fields-first : firstOf (fieldsPart ++ (accountRefusals x o ++ bookPart)) ≡ pick (eqb (firstOf fieldsPart) 0) (firstOf (accountRefusals x o ++ bookPart)) (firstOf fieldsPart)
@@ -74,7 +74,6 @@ module _ {s : State} {buys sells trades : List ℕ} (w : WellFormedState s buys 
   fields-first = first-append fieldsPart (accountRefusals x o ++ bookPart) (omega arith)
 
   account-first : firstOf (accountRefusals x o ++ bookPart) ≡ pick (eqb (firstOf (accountRefusals x o)) 0) (firstOf bookPart) (firstOf (accountRefusals x o))
-  unfolding accountRefusals
   account-first = first-append (accountRefusals x o) bookPart (omega arith)
 
   -- ---- 2, 3 and 4
@@ -138,17 +137,17 @@ module _ {s : State} {buys sells trades : List ℕ} (w : WellFormedState s buys 
               (sym (lots-by-mark (o .close) _ _ _ (o .lots) (o .account - 1) _))
 
           pub account-lots : r ≡ true → 8 ≡ firstOf (accountRefusals x o)
-          unfolding firstOf accountRefusals
+          unfolding firstOf
           account-lots t = rw (← holding-is, t)
 
           -- 9
           module _ (t : r ≡ false) {q : Bool} (eq : q ≡ moneyRefused x o) where
             pub account-money : q ≡ true → 9 ≡ firstOf (accountRefusals x o)
-            unfolding firstOf accountRefusals
+            unfolding firstOf
             account-money u = rw (← holding-is, t, ← eq, u)
 
             pub account-clear : q ≡ false → 0 ≡ firstOf (accountRefusals x o)
-            unfolding firstOf accountRefusals
+            unfolding firstOf
             account-clear u = rw (← holding-is, t, ← eq, u)
 
     -- ---- 4 of an insert, and on to its order

@@ -40,7 +40,7 @@ module _ {s : State} {buys sells trades : List ℕ} (w : WellFormedState s buys 
   code = firstOf (reentryRefusals x number o)
 
   in-parts : code ≡ pick (eqb (firstOf (accountRefusals x o)) 0) (firstOf ((10 when stampsUsedUp x) ∷ (12 when rules.tradesRefused x number o) ∷ [])) (firstOf (accountRefusals x o))
-  unfolding reentryRefusals accountRefusals
+  unfolding reentryRefusals
   in-parts = first-append (accountRefusals x o) ((10 when stampsUsedUp x) ∷ (12 when rules.tradesRefused x number o) ∷ []) (omega arith)
 
   -- 8 and 9

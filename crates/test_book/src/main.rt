@@ -140,8 +140,8 @@ fn print(word: &[u8], n: u64) {
 }
 
 fn print_lots(lots: u32, price: u32) {
-    print(b" ", laws::wide64(lots));
-    print(b" at ", laws::wide64(price));
+    print(b" ", laws::wide32(lots));
+    print(b" at ", laws::wide32(price));
 }
 
 fn print_entry(e: Entry, sell: bool, lots: u32, price: u32) {
@@ -151,9 +151,9 @@ fn print_entry(e: Entry, sell: bool, lots: u32, price: u32) {
         io::write_all(1, b"buy");
     }
     print_lots(lots, price);
-    print(b": traded ", laws::wide64(e.traded));
-    print(b", rested ", laws::wide64(e.rested));
-    print(b", last price ", laws::wide64(e.last));
+    print(b": traded ", laws::wide32(e.traded));
+    print(b", rested ", laws::wide32(e.rested));
+    print(b", last price ", laws::wide32(e.last));
     io::write_all(1, b"\n");
 }
 
@@ -171,9 +171,9 @@ fn order(
     if sell {
         let e = submit(
             sells,
-            s.sellcounts,
+            s.sells,
             buys,
-            s.buycounts,
+            s.buys,
             area,
             s.trades,
             t,
@@ -191,9 +191,9 @@ fn order(
     }
     let e = submit(
         buys,
-        s.buycounts,
+        s.buys,
         sells,
-        s.sellcounts,
+        s.sells,
         area,
         s.trades,
         t,
@@ -270,15 +270,15 @@ fn main() {
         last: 109,
     };
     let mut s = fill(&mut buys, &mut sells, &mut area, empty);
-    print(b"fillable at 111: ", fillable(&sells, s.sellcounts, 111));
-    print(b"\nfillable at 110: ", fillable(&sells, s.sellcounts, 110));
+    print(b"fillable at 111: ", fillable(&sells, s.sells, 111));
+    print(b"\nfillable at 110: ", fillable(&sells, s.sells, 110));
     io::write_all(1, b"\n");
     s = order(&mut buys, &mut sells, &mut area, s, 8, false, 7, 110);
     s = order(&mut buys, &mut sells, &mut area, s, 9, false, 8, 112);
     io::write_all(1, b"buys:");
-    print_queue(&buys, s.buycounts);
+    print_queue(&buys, s.buys);
     io::write_all(1, b"\nsells:");
-    print_queue(&sells, s.sellcounts);
+    print_queue(&sells, s.sells);
     io::write_all(1, b"\ntrades:");
     print_trades(&area, s.trades);
     io::write_all(1, b"\n");

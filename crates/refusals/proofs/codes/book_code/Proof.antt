@@ -22,7 +22,7 @@ returns-2 : tie.Need-returns-2
 unfolding firstOf bookTests
 returns-2 c =
     let o : NewOrder = c .before .before .before .before .before .before .args .o in
-    let e : c .before .kill-refused .result ≡ killRefused _ _ (o .lots) (o .time) = c .before .kill-refused .ensures in
+    let e : c .before .kill-refused .result ≡ killRefused _ (o .lots) (o .time) = c .before .kill-refused .ensures in
     rw (← c .before .before .before .used-up .ensures, c .before .before .if1 .left, ← e, c .if2 .taken)
 
 trades-refused-requires : tie.Need-trades-refused-requires
@@ -40,7 +40,7 @@ unfolding firstOf bookTests
 returns-4 c =
     let start = c .before .before .before .before .before .before .before .before .before .before in
     let o : NewOrder = start .args .o in
-    let e : c .before .full-refused .result ≡ fullRefused (inAuction (start .args .terms)) (start .args .own) _ _ (o .lots) (o .time) = c .before .full-refused .ensures in
+    let e : c .before .full-refused .result ≡ fullRefused (inAuction (start .args .terms)) (start .args .own) _ (o .lots) (o .time) = c .before .full-refused .ensures in
     rw (← c .before .before .before .before .before .before .before .used-up .ensures, c .before .before .before .before .before .before .if1 .left, ← c .before .before .before .before .before .kill-refused .ensures, c .before .before .before .before .if2 .left, ← c .before .before .before .trades-refused .ensures, c .before .before .if3 .left, ← e, c .if4 .taken)
 
 returns-5 : tie.Need-returns-5
