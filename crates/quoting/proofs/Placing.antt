@@ -387,7 +387,7 @@ module _ {s : State} {buys sells trades : List ℕ} (w : WellFormedState s buys 
             wrote : m₂ ≡ put m₁ after₁
             wrote = buy-left ∙ ap (put m₁) (sym after-is)
 
-            written₁ : (buys₂ ≡ putQueue buys₁ c (getD (gone .buys) c 0) (listing₁ .buys)) × (sells₂ ≡ putQueue sells₁ c (getD (gone .sells) c 0) (listing₁ .sells)) × (trades₂ ≡ store tradeWords trades (tradeStride * gone .tradecount) made)
+            written₁ : (buys₂ ≡ putQueue buys₁ c (getD (gone .buycounts) c 0) (listing₁ .buys)) × (sells₂ ≡ putQueue sells₁ c (getD (gone .sellcounts) c 0) (listing₁ .sells)) × (trades₂ ≡ store tradeWords trades (tradeStride * gone .tradecount) made)
             written₁ =
                 let e = wrote ∙ put-traded m₁ f₁ c listing₁ made (exchangeOf m₁ .next + 1) (exchangeOf m₁ .nextstamp + 1) here₁ kept₁ counted₁ in
                 (ap (λ (n : Memory). n .buys) e, ap (λ (n : Memory). n .sells) e, ap (λ (n : Memory). n .trades) e)
