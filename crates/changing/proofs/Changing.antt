@@ -32,26 +32,26 @@ use Rattle.rules.specs.declared.State.{State}
 use Rattle.rules.proofs.Codecs.{length-putQueue, length-queue, put-queue}
 use Rattle.rules.proofs.Lessened.{less-length}
 use Rattle.rules.proofs.Queue.{length-without}
-use Rattle.book.proofs.Places.{numbered-append-found, numbered-append-none, numbered-found, without-none, without-number}
+use Rattle.book.proofs.Places.{lots-number, numbered-append-found, numbered-append-none, numbered-found, without-none, without-number}
 use Rattle.rules.proofs.Stages.{Each}
 use Rattle.invariants.proofs.Accepted.{Failed, failed}
 use Rattle.invariants.proofs.ChangeKeeps.{change-counted, change-keeps}
 use Rattle.invariants.proofs.Clauses.{Counted, WellFormed, well-formed-test}
 use Rattle.invariants.proofs.MemoryKeeps.{sound, step-in-keeps, step-in-read}
 use Rattle.engine.specs.Outcome.{OutcomeIs, acceptedWith, isAbsent, refusedWith, withCountsIn}
-use Rattle.engine.specs.Removal.{removalCode}
+use Rattle.engine.specs.Removal.{RemovedIs, removalCode}
 use Rattle.engine.specs.declared.answers.Outcome.{Outcome}
 use Rattle.engine.proofs.Formed.{Formed, formed, listing-at, no-account, no-contract}
 use Rattle.engine.proofs.Outcomes.{acceptance, refusal}
 use Rattle.engine.proofs.Puts.{put-queues}
 use Rattle.engine.proofs.Refusals.{first-append}
-use Rattle.engine.proofs.Removals.{apart, in-continuous, side-few, side-once, side-room}
+use Rattle.engine.proofs.Removals.{apart, in-continuous, removal-accepted, removed-none, side-few, side-once, side-room}
 use Rattle.engine.proofs.Tests.{place-below}
 use Rattle.engine.proofs.Traded.{few-after}
 use Rattle.refusals.specs.Insertion.{Present, reentryRefusals, sideArea, sideCount}
 use Rattle.refusals.proofs.Sides.{contract-terms}
 use Rattle.insertion.specs.Arrival.{Enterable, enteredIn}
-use Rattle.changing.specs.Resting.{Changeable, RestingIs, arrivingFor, lessenedIn, loses, orderRefusals, putBackIn, stateRefusals}
+use Rattle.changing.specs.Resting.{Changeable, RestingIs, arrivingFor, lessenedIn, loses, orderRefusals, putBackIn, removedIn, stateRefusals, takenOut}
 use Rattle.changing.specs.declared.Resting.{Resting}
 use Rattle.changing.proofs.Finding.{lessened-none, lessened-one, missing-of, restored}
 
@@ -322,6 +322,51 @@ module _ {s : State} {buys sells trades : List ℕ} (w : WellFormedState s buys 
     unfolding step decide kindOf cancelled removed gone
     gone-step = rw cancel-code
 
+    -- ---- the order taken out of its queue, the other as it was
+
+    out-of : (side : Bool) → r .sell ≡ side → without (hasNumber number) (queue side) ≡ removeAt (r .place) (queue side)
+    out-of side e = without-number number (queue side) (once side) (mine-in side e) ∙ rw (mine side e .0)
+
+    out-length : (side : Bool) → r .sell ≡ side → length (without (hasNumber number) (queue side)) ≡ count side - 1
+    out-length side e =
+        rw (out-of side e, length-removeAt (r .place) (queue side) (omega (arith, mine side e .1, length-queue (area side) c (count side))), length-queue (area side) c (count side))
+
+    own-removed : (side : Bool) → r .sell ≡ side
+        → RemovedIs (hasNumber number) (area side) c (count side) (count side - 1) (r .order .lots) (removedIn (area side) c (count side) (r .place))
+    own-removed side e =
+        record {
+          queue = rw (out-of side e);
+          count = sym (out-length side e);
+          lots = rw (lots-number number (queue side) (once side) (mine-in side e), ← mine side e .0, order-there side e);
+        }
+
+    other-removed : (side : Bool) → r .sell ≡ side → RemovedIs (hasNumber number) (area (not side)) c (count (not side)) (count (not side)) 0 (area (not side))
+    other-removed side e = removed-none (hasNumber number) (area (not side)) c (count (not side)) (room (not side)) (other side e)
+
+    abbrev Cancelled : State → List ℕ → List ℕ → Type 0
+    Cancelled t buys′ sells′ = OutcomeIs (stepIn m (Cancel account contract false number)) (acceptedWith t number 0 (r .order .lots)) buys′ sells′ trades
+
+    as-cancelled : (side : Bool) → r .sell ≡ side
+        → Cancelled (withCountsIn s (set (s .buys) c (pick side (count false) (count false - 1))) (set (s .sells) c (pick side (count true - 1) (count true))))
+        (pick side buys (removedIn buys c (count false) (r .place))) (pick side (removedIn sells c (count true) (r .place)) sells)
+    unfolding kindOf cancelled
+    as-cancelled true e =
+        removal-accepted w account contract false (none st′) refl (hasNumber number) (other-removed true e) (own-removed true e)
+        (Cancel account contract false number) cancel-code refl refl (omega arith) refl
+    as-cancelled false e =
+        removal-accepted w account contract false (none st′) refl (hasNumber number) (own-removed false e) (other-removed false e)
+        (Cancel account contract false number) cancel-code refl refl (omega arith) refl
+
+    -- n is the contract's number as the code widens it
+    pub can-take-out : {n : ℕ} → n ≡ contract
+        → (n - 1 < 4) × (r .place < sideCount (r .sell) s (n - 1)) × (firstWord (n - 1) (sideCount (r .sell) s (n - 1)) ≤ length (sideArea (r .sell) buys sells))
+    can-take-out is = rw is (contract-fits st′ refl, place-in, room (r .sell))
+
+    pub taken-out : {n : ℕ} → n ≡ contract → {t : State} → t ≡ takenOut s (n - 1) r → {buys′ sells′ : List ℕ}
+        → buys′ ≡ pick (r .sell) buys (removedIn buys (n - 1) (sideCount false s (n - 1)) (r .place))
+        → sells′ ≡ pick (r .sell) (removedIn sells (n - 1) (sideCount true s (n - 1)) (r .place)) sells → Cancelled t buys′ sells′
+    taken-out is et eb es = rw (et, eb, es, is) (as-cancelled (r .sell) refl)
+
     -- "Zero lots removes the order"
     zero-same : lots ≡ 0 → stepIn m (Cancel account contract false number) ≡ stepIn m command
     unfolding stepIn decide kindOf changed
@@ -483,13 +528,6 @@ module _ {s : State} {buys sells trades : List ℕ} (w : WellFormedState s buys 
             -- ---- refused: the order is put back, n being the contract's number as the code widens it
 
             module _ (refused : code ≡ 0 → ⊥) {n : ℕ} (is : n ≡ contract) {count₁ : ℕ} (en : count₁ ≡ sideCount (r .sell) (t .state) (n - 1)) where
-              out-of : (side : Bool) → r .sell ≡ side → left side ≡ removeAt (r .place) (queue side)
-              out-of side e = without-number number (queue side) (once side) (mine-in side e) ∙ rw (mine side e .0)
-
-              out-length : (side : Bool) → r .sell ≡ side → length (left side) ≡ count side - 1
-              out-length side e =
-                  rw (out-of side e, length-removeAt (r .place) (queue side) (omega (arith, mine side e .1, length-queue (area side) c (count side))), length-queue (area side) c (count side))
-
               kept-other : (side : Bool) → r .sell ≡ side → putQueue (area (not side)) c (count (not side)) (left (not side)) ≡ area (not side)
               kept-other side e = rw (without-none (hasNumber number) (queue (not side)) (other side e)) (put-queue (area (not side)) c (count (not side)) (room (not side)))
 

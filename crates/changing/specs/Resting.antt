@@ -1,13 +1,13 @@
 -- A resting order as the code finds it, a change's refusals in the parts in which the code tries them, and what is written of one
 -- queue. Together the parts are the rules' list (proofs/Changing.antt). Assumes nothing.
-use mathlib.Core.Bool.{Bool, true, not, _&&_, _||_}
+use mathlib.Core.Bool.{Bool, true, false, not, _&&_, _||_}
 use mathlib.Core.List.{List, [], _∷_, _++_}
 use mathlib.Core.Path.{_≡_}
-use Prim.Native.Nat.{ℕ, _<_}
+use Prim.Native.Nat.{ℕ, _-_, _<_}
 use lib.Dec.{eqb, ltb}
 use lib.ListN.{length, getD, set}
 use Rattle.laws.specs.Choice.{pick}
-use Rattle.areas.specs.Lists.{insertAt}
+use Rattle.areas.specs.Lists.{insertAt, removeAt}
 use Rattle.rules.specs.Answers.{Refusal, _when_, firstOf, noSuchOrder, numbered}
 use Rattle.rules.specs.Bounds.{allowedToday, continuous, maxLots}
 use Rattle.rules.specs.Change.{unmarked}
@@ -21,7 +21,8 @@ use Rattle.rules.specs.declared.Order.{Order}
 use Rattle.rules.specs.declared.PriceCondition.the-variants.{Limit}
 use Rattle.rules.specs.declared.State.{State}
 use Rattle.rules.specs.declared.TimeCondition.the-variants.{GoodForDay}
-use Rattle.engine.specs.Outcome.{isAbsent}
+use Rattle.engine.specs.Outcome.{isAbsent, withCountsIn}
+use Rattle.refusals.specs.Insertion.{sideCount}
 use Rattle.changing.specs.declared.Resting.{Resting}
 
 -- the order with a number among a contract's, its side, and its place there
@@ -73,11 +74,21 @@ arrivingFor account contract r lots price =
       time = GoodForDay;
     }
 
--- ---- one queue written: other lots and no mark at a place, and an order put back at one
+-- ---- one queue written: other lots and no mark at a place, an order taken out of one, and put back
 
 abbrev pub lessenedIn : List ℕ → ℕ → ℕ → ℕ → ℕ → List ℕ
 lessenedIn area c count place lots =
     putQueue area c count (set (queueIn area c count) place (unmarked (withLots (getD (queueIn area c count) place noOrder) lots)))
 
+abbrev pub removedIn : List ℕ → ℕ → ℕ → ℕ → List ℕ
+removedIn area c count place = putQueue area c count (removeAt place (queueIn area c count))
+
 abbrev pub putBackIn : List ℕ → ℕ → ℕ → ℕ → Order → List ℕ
 putBackIn area c count place o = putQueue area c count (insertAt place o (queueIn area c count))
+
+-- ---- the state with one order less on the side of the order found
+
+abbrev pub takenOut : State → ℕ → Resting → State
+takenOut s c r =
+    withCountsIn s (set (s .buys) c (pick (r .sell) (sideCount false s c) (sideCount false s c - 1)))
+    (set (s .sells) c (pick (r .sell) (sideCount true s c - 1) (sideCount true s c)))

@@ -10,8 +10,8 @@ ghost use Rattle.rules.specs.Bounds.{termsInRange};
 ghost use Rattle.rules.specs.Memory.{memory, queueIn, stepIn, firstWord, orderStride, WellFormedState};
 ghost use Rattle.rules.specs.declared.Command.the-variants.{Change};
 ghost use Rattle.engine.specs.Outcome.{OutcomeIs};
-ghost use Rattle.refusals.specs.Insertion.{sideArea};
-ghost use Rattle.changing.specs.Resting.{RestingIs, Changeable, stateRefusals, orderRefusals, loses, arrivingFor, lessenedIn, putBackIn};
+ghost use Rattle.refusals.specs.Insertion.{sideArea, sideCount};
+ghost use Rattle.changing.specs.Resting.{RestingIs, Changeable, stateRefusals, orderRefusals, loses, arrivingFor, lessenedIn, putBackIn, removedIn, takenOut};
 use book::queue;
 use engine::answers;
 use engine::answers::Outcome;
@@ -182,6 +182,24 @@ fn put_back(buys: &mut [u32], sells: &mut [u32], c: usize, count: usize, r: Rest
     queue::insert_at(buys, c, count, place, order);
 }
 
+// The order is taken out of its queue. The state after it.
+fn take_out(state: State, buys: &mut [u32], sells: &mut [u32], c: usize, r: Resting) -> State
+    requires { ⌜ (c < 4) × (r .place < sideCount (r .sell) state c) × (firstWord c (sideCount (r .sell) state c) ≤ length (sideArea (r .sell) (now buys) (now sells))) ⌝ }
+    ensures { λ t. ⌜ t ≡ takenOut state c r ⌝ }
+    ensures { λ _. ⌜ now (buys .exit) ≡ pick (r .sell) (now (buys .entry)) (removedIn (now (buys .entry)) c (sideCount false state c) (r .place)) ⌝ }
+    ensures { λ _. ⌜ now (sells .exit) ≡ pick (r .sell) (removedIn (now (sells .entry)) c (sideCount true state c) (r .place)) (now (sells .entry)) ⌝ }
+{
+    let bids = orders::side_count(false, state, c);
+    let offers = orders::side_count(true, state, c);
+    let place = r.place;
+    if r.sell {
+        queue::remove(sells, c, offers, place);
+        return removal::with_counts(state, c, bids, offers - 1);
+    }
+    queue::remove(buys, c, bids, place);
+    removal::with_counts(state, c, bids - 1, offers)
+}
+
 // The place lost: "tested as though the old order were gone, then matched at once". A refusal puts it back.
 fn lose_place(
     state: State,
@@ -202,24 +220,18 @@ fn lose_place(
     let a = laws::wide(account) - 1;
     let who = state.accounts[a];
     let o = arriving(account, contract, r, lots, price);
-    let taken = removal::cancel(
-        state,
-        buys,
-        sells,
-        &trades[..],
-        account,
-        contract,
-        false,
-        number,
-    );
-    let gone = taken.state;
+    let gone = take_out(state, buys, sells, c, r);
     let code = codes::reentry_code(gone, who, &buys[..], &sells[..], &trades[..], o, number);
     if code != 0 {
         let count = orders::side_count(r.sell, gone, c);
         put_back(buys, sells, c, count, r);
         return answers::refused(state, code);
     }
-    insertion::enter_order(gone, buys, sells, trades, o, number, 0, gone.next)
+    let arriving = insertion::arrival_of(gone, o, number, 0);
+    let accounts = gone.accounts;
+    let e = insertion::enter(accounts, arriving, buys, sells, trades);
+    let after = insertion::with_entry(gone, arriving, e, gone.next);
+    answers::accepted(after, number, e.traded, e.rested)
 }
 
 pub fn change(
@@ -250,19 +262,10 @@ pub fn change(
     if code != 0 {
         return answers::refused(state, code);
     }
-    if lots == 0 {
-        return removal::cancel(
-            state,
-            buys,
-            sells,
-            &trades[..],
-            account,
-            contract,
-            false,
-            number,
-        );
-    }
     let order = r.order;
+    if lots == 0 {
+        return answers::accepted(take_out(state, buys, sells, c, r), number, 0, order.lots);
+    }
     if loses_place(order, lots, price) {
         return lose_place(
             state,

@@ -1,99 +1,109 @@
 -- An order about to be entered: in auction it rests whole, elsewhere it sweeps the opposite queue and its remainder rests. Assumes
 -- nothing.
-use mathlib.Core.Bool.{Bool, true, false}
+use mathlib.Core.Bool.{Bool, true, false, not}
 use mathlib.Core.List.{List, []}
 use mathlib.Core.Path.{_≡_, refl, sym, ap, _∙_}
 use Prim.Native.Nat.{ℕ, _+_, _-_, _*_, _≤_, _<_}
 use native.Mathlib.Omega.{arith}
 use borrow.Author.Tests.{eq-eqb, ne-eqb}
-use lib.ListN.{length, getD}
+use lib.ListN.{length}
 use Rattle.laws.specs.Choice.{pick-true, pick-false}
 use Rattle.rules.specs.Answers.{isGoodForDay}
 use Rattle.rules.specs.Bounds.{inAuction}
-use Rattle.rules.specs.Exchange.{noContract, placeOf}
 use Rattle.rules.specs.Matching.{Entered, enter, restLots, restWhole}
 use Rattle.rules.specs.Memory.{putQueue, queueIn, firstWord}
 use Rattle.rules.specs.Step.{limitOf}
-use Rattle.rules.specs.declared.NewOrder.{NewOrder}
+use Rattle.rules.specs.declared.Account.{Account}
 use Rattle.rules.specs.declared.Order.{Order}
-use Rattle.rules.specs.declared.State.{State}
 use Rattle.rules.specs.declared.Taker.{Taker}
 use Rattle.rules.proofs.Codecs.{length-queue, put-queue}
 use Rattle.book.proofs.Trading.{all-booked}
 use Rattle.matching.specs.Entry.{EntryIs, EntryReady}
 use Rattle.matching.specs.declared.entry.Entry.{Entry}
-use Rattle.refusals.specs.Insertion.{takerFor}
-use Rattle.insertion.specs.Arrival.{Arrived, Arriving, enteredFor, lastIn, termsIn}
+use Rattle.refusals.specs.Insertion.{sideArea, takerFor}
+use Rattle.insertion.specs.Arrival.{Arrived, Arriving, EnteredIs, Ready, countOf, enteredFor, takerIn}
+use Rattle.insertion.specs.declared.Arrival.{Arrival}
 
--- k is the contract's number as the code widens it
-module _ {s : State} {number quote : ℕ} {owns : List ℕ} {own : ℕ} {opposites : List ℕ} {opposite : ℕ} {area : List ℕ} {o : NewOrder} (a : Arriving s number quote owns own opposites opposite area o)
-    {k : ℕ} (is : k ≡ o .contract) {t : Taker} (et : t ≡ takerFor number quote (s .nextstamp) (getD (s .contracts) (k - 1) noContract) (queueIn opposites (o .contract - 1) opposite) o)
-    {price : ℕ} (ep : price ≡ limitOf (o .condition)) where
-  abbrev c : ℕ
-  c = placeOf (o .contract)
+-- ---- an order that arrives; t and the price are as the code makes them
+
+module _ {accounts : List Account} {a : Arrival} {owns : List ℕ} {own : ℕ} {opposites : List ℕ} {opposite : ℕ} {area : List ℕ}
+    (ready : Arriving accounts a owns own opposites opposite area)
+    {t : Taker} (et : t ≡ takerFor (a .number) (a .quote) (a .stamp) (a .terms) (queueIn opposites (a .order .contract - 1) opposite) (a .order))
+    {price : ℕ} (ep : price ≡ limitOf (a .order .condition)) where
+  abbrev lots : ℕ
+  lots = a .order .lots
 
   abbrev mine : List Order
-  mine = queueIn owns c own
+  mine = queueIn owns (a .place) own
 
   abbrev others : List Order
-  others = queueIn opposites c opposite
+  others = queueIn opposites (a .place) opposite
 
-  taker-is : t ≡ takerFor number quote (s .nextstamp) (termsIn s o) others o
-  taker-is = rw is at et
+  taker-is : t ≡ takerIn a others
+  taker-is = rw (ready .place) et
 
   -- ---- in auction
 
-  module _ (e : getD (s .contracts) (k - 1) noContract .phase ≡ 4) where
-    whole : enteredFor s number quote mine others o ≡ restWhole (takerFor number quote (s .nextstamp) (termsIn s o) others o) (o .lots) (limitOf (o .condition)) mine others
-    whole = pick-true (inAuction (termsIn s o)) _ _ (eq-eqb (termsIn s o .phase) 4 (rw is at e))
+  module _ (e : a .terms .phase ≡ 4) where
+    whole : enteredFor a mine others ≡ restWhole (takerIn a others) lots (limitOf (a .order .condition)) mine others
+    whole = pick-true (inAuction (a .terms)) _ _ (eq-eqb (a .terms .phase) 4 e)
 
-    own-is : enteredFor s number quote mine others o .own ≡ restLots t price (o .lots) mine
+    own-is : enteredFor a mine others .own ≡ restLots t price lots mine
     unfolding restWhole
     own-is = ap (λ (x : Entered). x .own) whole ∙ sym (rw (taker-is, ep))
 
-    pub rests-whole : firstWord (k - 1) (length (restLots t price (o .lots) (queueIn owns (k - 1) own))) ≤ length owns
-    rests-whole = rw is (omega (arith, a .rests, ap length own-is))
+    pub rests-whole : firstWord (a .place) (length (restLots t price lots mine)) ≤ length owns
+    rests-whole = omega (arith, ready .rests, ap length own-is)
 
-    pub rested-whole : {owns′ : List ℕ} {resting : ℕ} → resting ≡ length (restLots t price (o .lots) (queueIn owns (k - 1) own))
-        → owns′ ≡ putQueue owns (k - 1) own (restLots t price (o .lots) (queueIn owns (k - 1) own))
-        → Arrived s number quote owns own opposites opposite area o
-        (record { accounts = s .accounts; traded = 0; rested = o .lots; own = resting; opposite = opposite; made = s .tradecount; last = getD (s .contracts) (k - 1) noContract .last }) owns′ opposites area
+    pub rested-whole : {owns′ : List ℕ} {resting : ℕ} → resting ≡ length (restLots t price lots mine)
+        → owns′ ≡ putQueue owns (a .place) own (restLots t price lots mine)
+        → Arrived accounts a owns own opposites opposite area
+        (record { accounts = accounts; traded = 0; rested = lots; own = resting; opposite = opposite; made = a .recorded; last = a .terms .last }) owns′ opposites area
     unfolding restWhole
     rested-whole el eq =
-        let none = all-booked [] {before = s .tradecount} {last₀ = lastIn s o} {held₀ = s .accounts} {area₀ = area} {done = 0} refl in
+        let none = all-booked [] {before = a .recorded} {last₀ = a .terms .last} {held₀ = accounts} {area₀ = area} {done = 0} refl in
         record {
           entry =
-              rw (whole, is)
+              rw whole
               (record {
                 traded = none .traded;
                 rested = refl;
-                own-count = (rw is at el) ∙ rw (taker-is, ep);
-                opposite-count = sym (length-queue opposites c opposite);
+                own-count = el ∙ rw (taker-is, ep);
+                opposite-count = sym (length-queue opposites (a .place) opposite);
                 made = none .made;
                 last = none .last;
                 accounts = none .accounts;
-                own-queue = (rw is at eq) ∙ rw (taker-is, ep);
-                opposite-queue = sym (put-queue opposites c opposite (a .queue .room));
+                own-queue = eq ∙ rw (taker-is, ep);
+                opposite-queue = sym (put-queue opposites (a .place) opposite (ready .queue .room));
                 trades = none .trades;
               });
         }
 
   -- ---- elsewhere
 
-  module _ (e : getD (s .contracts) (k - 1) noContract .phase ≡ 4 → ⊥) {day : Bool} (ed : day ≡ isGoodForDay (o .time)) where
-    elsewhere : inAuction (termsIn s o) ≡ false
-    elsewhere = ne-eqb (termsIn s o .phase) 4 (rw is at e)
+  module _ (e : a .terms .phase ≡ 4 → ⊥) {day : Bool} (ed : day ≡ isGoodForDay (a .order .time)) where
+    elsewhere : inAuction (a .terms) ≡ false
+    elsewhere = ne-eqb (a .terms .phase) 4 e
 
-    swept : enteredFor s number quote mine others o
-        ≡ enter (takerFor number quote (s .nextstamp) (termsIn s o) others o) (o .lots) (limitOf (o .condition)) (isGoodForDay (o .time)) (lastIn s o) mine others
-    swept = pick-false (inAuction (termsIn s o)) _ _ elsewhere
+    swept : enteredFor a mine others ≡ enter (takerIn a others) lots (limitOf (a .order .condition)) (isGoodForDay (a .order .time)) (a .terms .last) mine others
+    swept = pick-false (inAuction (a .terms)) _ _ elsewhere
 
-    pub enters : EntryReady t (o .lots) price day (getD (s .contracts) (k - 1) noContract .last) (s .accounts) owns own opposites opposite area (s .tradecount)
-    enters =
-        rw (taker-is, ep, ed, is)
-        (record { sweeps = a .sweeps elsewhere; rests = rw (← swept) (a .rests) })
+    pub enters : EntryReady t lots price day (a .terms .last) accounts owns own opposites opposite area (a .recorded)
+    enters = rw (taker-is, ep, ed) (record { sweeps = ready .sweeps elsewhere; rests = rw (ready .place) (rw (swept, ready .place) at (ready .rests)) })
 
     pub entered-swept : {r : Entry} {owns′ opposites′ area′ : List ℕ}
-        → EntryIs (enter t (o .lots) price day (getD (s .contracts) (k - 1) noContract .last) (queueIn owns (t .contract) own) (queueIn opposites (t .contract) opposite)) (t .contract) owns own opposites opposite area (s .tradecount) (getD (s .contracts) (k - 1) noContract .last) (s .accounts) r owns′ opposites′ area′
-        → Arrived s number quote owns own opposites opposite area o r owns′ opposites′ area′
-    entered-swept is-entry = record { entry = rw swept (rw (taker-is, ep, ed, is) at is-entry) }
+        → EntryIs (enter t lots price day (a .terms .last) (queueIn owns (t .contract) own) (queueIn opposites (t .contract) opposite)) (t .contract) owns own opposites opposite area (a .recorded) (a .terms .last) accounts r owns′ opposites′ area′
+        → Arrived accounts a owns own opposites opposite area r owns′ opposites′ area′
+    entered-swept is-entry = record { entry = rw (swept, ready .place) (rw (taker-is, ep, ed, ready .place) at is-entry) }
+
+-- ---- the same of the areas as they are lent, for a side as the code tells it
+
+module _ {accounts : List Account} {a : Arrival} (buys sells : List ℕ) {area : List ℕ} (side : Bool) (es : a .order .sell ≡ side) where
+  pub on-side : Ready accounts a buys sells area
+      → Arriving accounts a (sideArea side buys sells) (countOf side a) (sideArea (not side) buys sells) (countOf (not side) a) area
+  on-side = rw es (λ ready. ready)
+
+  pub side-entered : {r : Entry} (buys′ sells′ : List ℕ) {area′ : List ℕ}
+      → Arrived accounts a (sideArea side buys sells) (countOf side a) (sideArea (not side) buys sells) (countOf (not side) a) area r (sideArea side buys′ sells′) (sideArea (not side) buys′ sells′) area′
+      → EnteredIs accounts a buys sells area r buys′ sells′ area′
+  side-entered buys′ sells′ = rw es (λ arrived. arrived)

@@ -34,7 +34,8 @@ use Rattle.invariants.proofs.Marks.{Marks, no-mark}
 use Rattle.invariants.proofs.MemoryKeeps.{sound}
 use Rattle.invariants.proofs.Traded.{traded-counted}
 use Rattle.refusals.specs.Insertion.{Present, sideArea, sideCount, takerFor}
-use Rattle.insertion.specs.Arrival.{Arrived, Arriving, Enterable, enteredFor, enteredIn, lastIn, termsIn, withEntry}
+use Rattle.insertion.specs.Arrival.{Enterable, EnteredIs, Ready, arrivalOf, countOf, enteredFor, enteredIn, withEntry}
+use Rattle.insertion.specs.declared.Arrival.{Arrival}
 use Rattle.engine.specs.Outcome.{OutcomeIs, acceptedWith}
 use Rattle.engine.specs.declared.answers.Outcome.{Outcome}
 use Rattle.engine.proofs.Formed.{Formed, contracts-count, formed, no-account, no-contract}
@@ -87,18 +88,28 @@ module _ {s : State} {buys sells trades : List ℕ} (w : WellFormedState s buys 
   abbrev others : List Order
   others = queueIn (sideArea (not (o .sell)) buys sells) c (sideCount (not (o .sell)) s c)
 
-  abbrev entered : Entered
-  entered = enteredFor s number quote mine others o
+  abbrev arriving-order : Arrival
+  arriving-order = arrivalOf s o number quote
 
-  taker-is : takerOf x number quote o ≡ takerFor number quote (s .nextstamp) (termsIn s o) others o
+  abbrev termsIn : Contract
+  termsIn = arriving-order .terms
+
+  count-is : (side : Bool) → countOf side arriving-order ≡ sideCount side s c
+  count-is true = refl
+  count-is false = refl
+
+  abbrev entered : Entered
+  entered = enteredFor arriving-order mine others
+
+  taker-is : takerOf x number quote o ≡ takerFor number quote (s .nextstamp) (termsIn) others o
   unfolding takerOf listingOf exchangeOf
   taker-is = rw (opposite-is m f c (here .contract) (o .sell), contract-is m f c (here .contract))
 
-  last-is : listingOf x o .contract .last ≡ lastIn s o
+  last-is : listingOf x o .contract .last ≡ termsIn .last
   unfolding listingOf
   last-is = ap (λ (k : Contract). k .last) (contract-is m f c (here .contract))
 
-  terms-are : listingOf x o .contract ≡ termsIn s o
+  terms-are : listingOf x o .contract ≡ termsIn
   unfolding listingOf
   terms-are = contract-is m f c (here .contract)
 
@@ -106,9 +117,9 @@ module _ {s : State} {buys sells trades : List ℕ} (w : WellFormedState s buys 
   unfolding enteredOf listingOf
   entered-is = rw (taker-is, last-is, terms-are, side-is m f c (here .contract) (o .sell), opposite-is m f c (here .contract) (o .sell))
 
-  trades-needed : inAuction (termsIn s o) ≡ false → tradesNeeded x number o ≡ length (sweep (takerFor number quote (s .nextstamp) (termsIn s o) others o) (o .lots) (lastIn s o) others .trades)
+  trades-needed : inAuction (termsIn) ≡ false → tradesNeeded x number o ≡ length (sweep (takerFor number quote (s .nextstamp) (termsIn) others o) (o .lots) (termsIn .last) others .trades)
   unfolding enter
-  trades-needed e = trades-entered x number quote o ∙ ap (λ (r : Entered). length (r .trades)) (entered-is ∙ pick-false (inAuction (termsIn s o)) _ _ e)
+  trades-needed e = trades-entered x number quote o ∙ ap (λ (r : Entered). length (r .trades)) (entered-is ∙ pick-false (inAuction (termsIn)) _ _ e)
 
   -- ---- the state after it
 
@@ -139,14 +150,14 @@ module _ {s : State} {buys sells trades : List ℕ} (w : WellFormedState s buys 
   unfolding listingAfter
   own-few = rw own-with at (few (o .sell))
 
-  -- ---- ready for the book; k is the contract's number as the code widens it
+  -- ---- ready for the book
 
-  sweeps : inAuction (termsIn s o) ≡ false
-      → SweepReady (takerFor number quote (s .nextstamp) (termsIn s o) others o) (o .lots) (lastIn s o) (s .accounts) (sideArea (not (o .sell)) buys sells) (sideCount (not (o .sell)) s c) trades (s .tradecount)
+  sweeps : inAuction (termsIn) ≡ false
+      → SweepReady (takerFor number quote (s .nextstamp) (termsIn) others o) (o .lots) (termsIn .last) (s .accounts) (sideArea (not (o .sell)) buys sells) (sideCount (not (o .sell)) s c) trades (s .tradecount)
   sweeps e =
       record {
         contract = omega (arith, here .contract, f .contracts-high);
-        method = method-has-tick (termsIn s o) (terms (termsIn s o) (contract-terms m f c (here .contract)) .tick-low);
+        method = method-has-tick (termsIn) (terms (termsIn) (contract-terms m f c (here .contract)) .tick-low);
         size = g .lots;
         queue = side-room m f c (here .contract) (not (o .sell)) .room;
         room = omega (arith, trades-fit, trades-count m f, trades-needed e, f .trades-room);
@@ -160,24 +171,29 @@ module _ {s : State} {buys sells trades : List ℕ} (w : WellFormedState s buys 
             };
       }
 
-  pub arriving : (side : Bool) → o .sell ≡ side → {k : ℕ} → k ≡ o .contract
-      → Arriving s number quote (sideArea side buys sells) (sideCount side s (k - 1)) (sideArea (not side) buys sells) (sideCount (not side) s (k - 1)) trades o
-  arriving side es is =
-      rw (← es, is)
+  pub arrives : (1 ≤ o .contract) × (placeOf (o .contract) < 4)
+  arrives = (here .contract-low, omega (arith, here .contract, f .contracts-high))
+
+  pub ready : {a : Arrival} → a ≡ arrivalOf s o number quote → Ready (s .accounts) a buys sells trades
+  ready is =
+      rw (is, count-is (o .sell), count-is (not (o .sell)))
       (record {
         account-low = here .account-low;
         contract-low = here .contract-low;
-        contract-high = omega (arith, here .contract, f .contracts-high);
+        place = refl;
         queue = side-room m f c (here .contract) (not (o .sell));
         rests = omega (arith, own-few, side-long m f c (here .contract) (o .sell));
         sweeps = sweeps;
       })
 
+  pub leaves-room : {a : Arrival} → a ≡ arrivalOf s o number quote → (a .place < 4) × (s .nextstamp < 1_000_000)
+  leaves-room is = (rw is (arrives .1), g .stamp)
+
   -- ---- written into the memory
 
   module _ {r : Entry} {owns′ opposites′ area′ : List ℕ}
-      (is : EntryIs entered c (sideArea (o .sell) buys sells) (sideCount (o .sell) s c) (sideArea (not (o .sell)) buys sells) (sideCount (not (o .sell)) s c) trades (s .tradecount) (lastIn s o) (s .accounts) r owns′ opposites′ area′) where
-    lies : put m after ≡ memory (withEntry s c (pick (o .sell) (r .opposite) (r .own)) (pick (o .sell) (r .own) (r .opposite)) next r) (pick (o .sell) opposites′ owns′) (pick (o .sell) owns′ opposites′) area′
+      (is : EntryIs entered c (sideArea (o .sell) buys sells) (sideCount (o .sell) s c) (sideArea (not (o .sell)) buys sells) (sideCount (not (o .sell)) s c) trades (s .tradecount) (termsIn .last) (s .accounts) r owns′ opposites′ area′) where
+    lies : put m after ≡ memory (withEntry s arriving-order r next) (pick (o .sell) opposites′ owns′) (pick (o .sell) owns′ opposites′) area′
     unfolding listingAfter listingOf exchangeOf
     lies =
         rw (is .last, is .made, is .accounts, is .own-count, is .opposite-count, is .own-queue, is .opposite-queue, is .trades)
@@ -190,23 +206,31 @@ module _ {s : State} {buys sells trades : List ℕ} (w : WellFormedState s buys 
           put-sells buys sells (s .buys) (s .sells) c (entered .own) (entered .opposite) (o .sell),
         ))
 
-  -- ---- the outcome, for a side as the code calls it
+  -- ---- the outcome
 
-  module _ (side : Bool) (es : o .sell ≡ side) {k : ℕ} (is : k ≡ o .contract) {r : Entry} {owns′ opposites′ area′ : List ℕ}
-      (arrived : Arrived s number quote (sideArea side buys sells) (sideCount side s (k - 1)) (sideArea (not side) buys sells) (sideCount (not side) s (k - 1)) trades o r owns′ opposites′ area′) where
-    entry : EntryIs entered c (sideArea (o .sell) buys sells) (sideCount (o .sell) s c) (sideArea (not (o .sell)) buys sells) (sideCount (not (o .sell)) s c) trades (s .tradecount) (lastIn s o) (s .accounts) r owns′ opposites′ area′
-    entry = rw (← es, is) at (arrived .entry)
+  lent-buys : (buys′ sells′ : List ℕ) (side : Bool) → pick side (sideArea (not side) buys′ sells′) (sideArea side buys′ sells′) ≡ buys′
+  lent-buys buys′ sells′ true = refl
+  lent-buys buys′ sells′ false = refl
 
-    pub order-entered : {left : State} {result : Outcome} → left ≡ withEntry s (k - 1) (pick side (r .opposite) (r .own)) (pick side (r .own) (r .opposite)) next r
-        → result ≡ acceptedWith left number (r .traded) (r .rested)
-        → OutcomeIs (enteredIn m o number quote next) result (pick side opposites′ owns′) (pick side owns′ opposites′) area′
+  lent-sells : (buys′ sells′ : List ℕ) (side : Bool) → pick side (sideArea side buys′ sells′) (sideArea (not side) buys′ sells′) ≡ sells′
+  lent-sells buys′ sells′ true = refl
+  lent-sells buys′ sells′ false = refl
+
+  module _ {a : Arrival} (is : a ≡ arrivalOf s o number quote) {r : Entry} (buys′ sells′ : List ℕ) {trades′ : List ℕ}
+      (arrived : EnteredIs (s .accounts) a buys sells trades r buys′ sells′ trades′) where
+    entry : EntryIs entered c (sideArea (o .sell) buys sells) (sideCount (o .sell) s c) (sideArea (not (o .sell)) buys sells) (sideCount (not (o .sell)) s c) trades (s .tradecount) (termsIn .last) (s .accounts) r
+        (sideArea (o .sell) buys′ sells′) (sideArea (not (o .sell)) buys′ sells′) trades′
+    entry = (rw (is, count-is (o .sell), count-is (not (o .sell))) at arrived) .entry
+
+    pub order-entered : {left : State} {result : Outcome} → left ≡ withEntry s a r next → result ≡ acceptedWith left number (r .traded) (r .rested)
+        → OutcomeIs (enteredIn m o number quote next) result buys′ sells′ trades′
     unfolding exchangeAfter
     order-entered el e =
         record {
           answer = ap (λ (q : Outcome). q .answer) e ∙ rw (entered-is, entry .traded, entry .rested);
           memory =
-              ap (λ (q : Outcome). memory (q .state) (pick side opposites′ owns′) (pick side owns′ opposites′) area′) e
-              ∙ sym (rw (el, ← es, is, entered-is) (lies entry));
+              ap (λ (q : Outcome). memory (q .state) buys′ sells′ trades′) e
+              ∙ sym (rw (el, is, entered-is) (rw (lent-buys buys′ sells′ (o .sell), lent-sells buys′ sells′ (o .sell)) at (lies entry)));
         }
 
 -- ---- an order that passes its tests may be entered

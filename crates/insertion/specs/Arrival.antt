@@ -1,6 +1,6 @@
 -- An order that is entered with a number and a quote mark: what it has to be for that, the order as it is entered on its side, and what it leaves.
 -- Assumes nothing.
-use mathlib.Core.Bool.{Bool, true, false}
+use mathlib.Core.Bool.{Bool, true, false, not}
 use mathlib.Core.List.{List}
 use mathlib.Core.Path.{_≡_}
 use Prim.Native.Nat.{ℕ, _+_, _*_, _<_, _≤_}
@@ -13,14 +13,16 @@ use Rattle.rules.specs.Matching.{Entered, enter, restWhole, tradedLots}
 use Rattle.rules.specs.Memory.{Memory, Responded, exchangeOf, firstWord, memory, put, queueIn}
 use Rattle.rules.specs.Step.{answerOf, enteredOf, exchangeAfter, limitOf, listingAfter, withLast}
 use Rattle.rules.specs.WellFormed.{wellFormedContents}
-use Rattle.rules.specs.declared.Contract.{Contract}
+use Rattle.rules.specs.declared.Account.{Account}
 use Rattle.rules.specs.declared.NewOrder.{NewOrder}
 use Rattle.rules.specs.declared.Order.{Order}
 use Rattle.rules.specs.declared.State.{State}
+use Rattle.rules.specs.declared.Taker.{Taker}
 use Rattle.matching.specs.Entry.{EntryIs}
 use Rattle.matching.specs.Sweep.{SweepReady}
 use Rattle.matching.specs.declared.entry.Entry.{Entry}
-use Rattle.refusals.specs.Insertion.{Present, QueueRoom, takerFor}
+use Rattle.refusals.specs.Insertion.{Present, QueueRoom, sideArea, sideCount, takerFor}
+use Rattle.insertion.specs.declared.Arrival.{Arrival}
 
 -- ---- an order on a whole state
 
@@ -44,44 +46,69 @@ enteredIn m o number quote next =
 
 -- ---- the order entered
 
--- its contract's terms, and the last price
-abbrev pub termsIn : State → NewOrder → Contract
-termsIn s o = getD (s .contracts) (placeOf (o .contract)) noContract
+-- it arrives, with the number and the quote mark that it gets
+abbrev pub arrivalOf : State → NewOrder → ℕ → ℕ → Arrival
+arrivalOf s o number quote =
+    record {
+      order = o;
+      terms = getD (s .contracts) (placeOf (o .contract)) noContract;
+      place = placeOf (o .contract);
+      bought = sideCount false s (placeOf (o .contract));
+      sold = sideCount true s (placeOf (o .contract));
+      recorded = s .tradecount;
+      number = number;
+      stamp = s .nextstamp;
+      quote = quote;
+    }
 
-abbrev pub lastIn : State → NewOrder → ℕ
-lastIn s o = termsIn s o .last
+-- the orders on a side of its contract
+abbrev pub countOf : Bool → Arrival → ℕ
+countOf sell a = pick sell (a .sold) (a .bought)
+
+-- as it meets the opposite queue
+abbrev pub takerIn : Arrival → List Order → Taker
+takerIn a opposite = takerFor (a .number) (a .quote) (a .stamp) (a .terms) opposite (a .order)
 
 -- what it trades and leaves: in auction it rests whole
-abbrev pub enteredFor : State → ℕ → ℕ → List Order → List Order → NewOrder → Entered
-enteredFor s number quote own opposite o =
-    pick (inAuction (termsIn s o))
-    (restWhole (takerFor number quote (s .nextstamp) (termsIn s o) opposite o) (o .lots) (limitOf (o .condition)) own opposite)
-    (enter (takerFor number quote (s .nextstamp) (termsIn s o) opposite o) (o .lots) (limitOf (o .condition)) (isGoodForDay (o .time)) (lastIn s o) own opposite)
+abbrev pub enteredFor : Arrival → List Order → List Order → Entered
+enteredFor a own opposite =
+    pick (inAuction (a .terms))
+    (restWhole (takerIn a opposite) (a .order .lots) (limitOf (a .order .condition)) own opposite)
+    (enter (takerIn a opposite) (a .order .lots) (limitOf (a .order .condition)) (isGoodForDay (a .order .time)) (a .terms .last) own opposite)
 
 -- ready to be entered on a side that lies in `owns`, against one that lies in `opposites`: room for what rests, and outside auction all
 -- that a sweep asks for
-pub record Arriving (s : State) (number quote : ℕ) (owns : List ℕ) (own : ℕ) (opposites : List ℕ) (opposite : ℕ) (area : List ℕ) (o : NewOrder) : Type 0 where
-  pub account-low : 1 ≤ o .account
-  pub contract-low : 1 ≤ o .contract
-  pub contract-high : placeOf (o .contract) < 4
-  pub queue : QueueRoom opposites (placeOf (o .contract)) opposite
-  pub rests : firstWord (placeOf (o .contract)) (length (enteredFor s number quote (queueIn owns (placeOf (o .contract)) own) (queueIn opposites (placeOf (o .contract)) opposite) o .own)) ≤ length owns
-  pub sweeps : inAuction (termsIn s o) ≡ false
-      → SweepReady (takerFor number quote (s .nextstamp) (termsIn s o) (queueIn opposites (placeOf (o .contract)) opposite) o) (o .lots) (lastIn s o) (s .accounts) opposites opposite area (s .tradecount)
+pub record Arriving (accounts : List Account) (a : Arrival) (owns : List ℕ) (own : ℕ) (opposites : List ℕ) (opposite : ℕ) (area : List ℕ) : Type 0 where
+  pub account-low : 1 ≤ a .order .account
+  pub contract-low : 1 ≤ a .order .contract
+  pub place : a .place ≡ placeOf (a .order .contract)
+  pub queue : QueueRoom opposites (a .place) opposite
+  pub rests : firstWord (a .place) (length (enteredFor a (queueIn owns (a .place) own) (queueIn opposites (a .place) opposite) .own)) ≤ length owns
+  pub sweeps : inAuction (a .terms) ≡ false → SweepReady (takerIn a (queueIn opposites (a .place) opposite)) (a .order .lots) (a .terms .last) accounts opposites opposite area (a .recorded)
 
-pub record Arrived (s : State) (number quote : ℕ) (owns : List ℕ) (own : ℕ) (opposites : List ℕ) (opposite : ℕ) (area : List ℕ) (o : NewOrder) (r : Entry) (owns′ opposites′ area′ : List ℕ) : Type 0 where
-  pub entry : EntryIs (enteredFor s number quote (queueIn owns (placeOf (o .contract)) own) (queueIn opposites (placeOf (o .contract)) opposite) o) (placeOf (o .contract)) owns own opposites opposite area (s .tradecount) (lastIn s o) (s .accounts) r owns′ opposites′ area′
+pub record Arrived (accounts : List Account) (a : Arrival) (owns : List ℕ) (own : ℕ) (opposites : List ℕ) (opposite : ℕ) (area : List ℕ) (r : Entry) (owns′ opposites′ area′ : List ℕ) : Type 0 where
+  pub entry : EntryIs (enteredFor a (queueIn owns (a .place) own) (queueIn opposites (a .place) opposite)) (a .place) owns own opposites opposite area (a .recorded) (a .terms .last) accounts r owns′ opposites′ area′
+
+-- the same of the two areas as they are lent, by the order's side
+abbrev pub Ready : List Account → Arrival → List ℕ → List ℕ → List ℕ → Type 0
+Ready accounts a buys sells area =
+    Arriving accounts a (sideArea (a .order .sell) buys sells) (countOf (a .order .sell) a) (sideArea (not (a .order .sell)) buys sells) (countOf (not (a .order .sell)) a) area
+
+abbrev pub EnteredIs : List Account → Arrival → List ℕ → List ℕ → List ℕ → Entry → List ℕ → List ℕ → List ℕ → Type 0
+EnteredIs accounts a buys sells area r buys′ sells′ area′ =
+    Arrived accounts a (sideArea (a .order .sell) buys sells) (countOf (a .order .sell) a) (sideArea (not (a .order .sell)) buys sells) (countOf (not (a .order .sell)) a) area r
+    (sideArea (a .order .sell) buys′ sells′) (sideArea (not (a .order .sell)) buys′ sells′) area′
 
 -- ---- the state after it
 
 -- the contract's last price and its counts of orders, the accounts, the trades, the next number, and one time stamp more
-abbrev pub withEntry : State → ℕ → ℕ → ℕ → ℕ → Entry → State
-withEntry s c bought sold next e =
+abbrev pub withEntry : State → Arrival → Entry → ℕ → State
+withEntry s a e next =
     record {
-      contracts = set (s .contracts) c (withLast (getD (s .contracts) c noContract) (e .last));
+      contracts = set (s .contracts) (a .place) (withLast (a .terms) (e .last));
       accounts = e .accounts;
-      buys = set (s .buys) c bought;
-      sells = set (s .sells) c sold;
+      buys = set (s .buys) (a .place) (pick (a .order .sell) (e .opposite) (e .own));
+      sells = set (s .sells) (a .place) (pick (a .order .sell) (e .own) (e .opposite));
       contractcount = s .contractcount;
       accountcount = s .accountcount;
       tradecount = e .made;

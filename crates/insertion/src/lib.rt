@@ -1,9 +1,14 @@
-// An order entered with a number and a quote mark, and insert. For our own crates: each asks for a well-formed state.
-ghost use Prim.Native.Nat.{_<_};
+// An order entered with a number and a quote mark, and insert. For our own crates: each asks for what it reads to be in range.
+//
+// `arrival_of`, `enter` and `with_entry` are three calls, so that none of those that stay calls takes or gives the whole state: each such
+// call would copy it twice.
+ghost use Prim.Native.Nat.{_<_, _≤_};
 ghost use mathlib.Core.Path.{_≡_};
+ghost use Rattle.laws.specs.Choice.{pick};
+ghost use Rattle.rules.specs.Exchange.{placeOf};
 ghost use Rattle.rules.specs.Memory.{stepIn, memory, WellFormedState};
 ghost use Rattle.rules.specs.declared.Command.the-variants.{Insert};
-ghost use Rattle.insertion.specs.Arrival.{Arriving, Arrived, Enterable, enteredIn, withEntry};
+ghost use Rattle.insertion.specs.Arrival.{Arriving, Arrived, EnteredIs, Ready, arrivalOf, withEntry};
 ghost use Rattle.engine.specs.Outcome.{OutcomeIs};
 use engine::answers;
 use engine::answers::Outcome;
@@ -12,31 +17,67 @@ use matching::entry::Entry;
 use refusals::codes;
 use refusals::orders;
 use rules::AUCTION;
+use rules::Account;
+use rules::Contract;
 use rules::NewOrder;
 use rules::State;
 
+// An order about to enter: what it reads of the state beside the accounts. Its contract's place and terms, the orders on either side of
+// it, the trades of the day; the number, the time stamp and the quote mark that it gets.
+pub struct Arrival {
+    pub order: NewOrder,
+    pub terms: Contract,
+    pub place: usize,
+    pub bought: usize,
+    pub sold: usize,
+    pub recorded: usize,
+    pub number: u32,
+    pub stamp: u32,
+    pub quote: u32,
+}
+
+// Requires a contract's number whose place exists.
+pub fn arrival_of(state: State, o: NewOrder, number: u32, quote: u32) -> Arrival
+    requires { ⌜ (1 ≤ o .contract) × (placeOf (o .contract) < 4) ⌝ }
+    ensures { λ r. ⌜ r ≡ arrivalOf state o number quote ⌝ }
+{
+    let place = laws::wide(o.contract) - 1;
+    let contracts = state.contracts;
+    let bids = state.buys;
+    let offers = state.sells;
+    let terms = contracts[place];
+    Arrival {
+        order: o,
+        terms,
+        place,
+        bought: bids[place],
+        sold: offers[place],
+        recorded: state.tradecount,
+        number,
+        stamp: state.nextstamp,
+        quote,
+    }
+}
+
 // The order enters on its own side, against the opposite one. In auction it rests whole, whatever it crosses.
-fn enter(
-    state: State,
+fn enter_on(
+    accounts: [Account; rules::MAX_ACCOUNTS],
+    a: Arrival,
     own: &mut [u32],
     owncount: usize,
     opposite: &mut [u32],
     oppositecount: usize,
     trades: &mut [u32],
-    o: NewOrder,
-    number: u32,
-    quote: u32,
 ) -> Entry
-    requires { ⌜ Arriving state number quote (now own) owncount (now opposite) oppositecount (now trades) o ⌝ }
-    ensures { λ r. ⌜ Arrived state number quote (now (own .entry)) owncount (now (opposite .entry)) oppositecount (now (trades .entry)) o r (now (own .exit)) (now (opposite .exit)) (now (trades .exit)) ⌝ }
+    requires { ⌜ Arriving accounts a (now own) owncount (now opposite) oppositecount (now trades) ⌝ }
+    ensures { λ r. ⌜ Arrived accounts a (now (own .entry)) owncount (now (opposite .entry)) oppositecount (now (trades .entry)) r (now (own .exit)) (now (opposite .exit)) (now (trades .exit)) ⌝ }
 {
-    let c = laws::wide(o.contract) - 1;
-    let contracts = state.contracts;
-    let terms = contracts[c];
+    let o = a.order;
+    let terms = a.terms;
     let t = orders::taker_of(
-        number,
-        quote,
-        state.nextstamp,
+        a.number,
+        a.quote,
+        a.stamp,
         terms,
         &opposite[..],
         oppositecount,
@@ -44,16 +85,17 @@ fn enter(
     );
     let condition = o.condition;
     let price = orders::limit_of(condition);
-    let accounts = state.accounts;
     if terms.phase == AUCTION {
-        let resting = entry::rest(own, c, owncount, t, price, o.lots);
+        // before the area is written: else the compiler keeps a copy of all accounts
+        let held = accounts;
+        let resting = entry::rest(own, a.place, owncount, t, price, o.lots);
         return Entry {
-            accounts,
+            accounts: held,
             traded: 0,
             rested: o.lots,
             own: resting,
             opposite: oppositecount,
-            made: state.tradecount,
+            made: a.recorded,
             last: terms.last,
         };
     }
@@ -65,7 +107,7 @@ fn enter(
         opposite,
         oppositecount,
         trades,
-        state.tradecount,
+        a.recorded,
         t,
         o.lots,
         price,
@@ -75,20 +117,47 @@ fn enter(
     )
 }
 
-// The state after it: one time stamp more is used, and `next` is the next number.
-fn with_entry(state: State, c: usize, bought: usize, sold: usize, next: u32, e: Entry) -> State
-    requires { ⌜ (c < 4) × (state .nextstamp < 1000000) ⌝ }
-    ensures { λ r. ⌜ r ≡ withEntry state c bought sold next e ⌝ }
+// The order enters on its side of the lent areas.
+pub fn enter(
+    accounts: [Account; rules::MAX_ACCOUNTS],
+    a: Arrival,
+    buys: &mut [u32],
+    sells: &mut [u32],
+    trades: &mut [u32],
+) -> Entry
+    requires { ⌜ Ready accounts a (now buys) (now sells) (now trades) ⌝ }
+    ensures { λ r. ⌜ EnteredIs accounts a (now (buys .entry)) (now (sells .entry)) (now (trades .entry)) r (now (buys .exit)) (now (sells .exit)) (now (trades .exit)) ⌝ }
 {
+    let o = a.order;
+    if o.sell {
+        return enter_on(accounts, a, sells, a.sold, buys, a.bought, trades);
+    }
+    enter_on(accounts, a, buys, a.bought, sells, a.sold, trades)
+}
+
+// One of two counts, by the order's side.
+fn by_side(sell: bool, selling: usize, buying: usize) -> usize
+    ensures { λ r. ⌜ r ≡ pick sell selling buying ⌝ }
+{
+    if sell { selling } else { buying }
+}
+
+// The state after it: one time stamp more is used, and `next` is the next number. Requires a place that exists and a time stamp.
+pub fn with_entry(state: State, a: Arrival, e: Entry, next: u32) -> State
+    requires { ⌜ (a .place < 4) × (state .nextstamp < 1000000) ⌝ }
+    ensures { λ r. ⌜ r ≡ withEntry state a e next ⌝ }
+{
+    let o = a.order;
+    let c = a.place;
     let mut contracts = state.contracts;
     let mut bids = state.buys;
     let mut offers = state.sells;
     let accounts = e.accounts;
-    let mut terms = contracts[c];
+    let mut terms = a.terms;
     terms.last = e.last;
     contracts[c] = terms;
-    bids[c] = bought;
-    offers[c] = sold;
+    bids[c] = by_side(o.sell, e.opposite, e.own);
+    offers[c] = by_side(o.sell, e.own, e.opposite);
     State {
         contracts,
         accounts,
@@ -101,36 +170,6 @@ fn with_entry(state: State, c: usize, bought: usize, sold: usize, next: u32, e: 
         nextstamp: state.nextstamp + 1,
         settlements: state.settlements,
     }
-}
-
-// An order that is refused for nothing enters with its number, marked where `quote` is 1; `next` is the next number after it.
-pub fn enter_order(
-    state: State,
-    buys: &mut [u32],
-    sells: &mut [u32],
-    trades: &mut [u32],
-    o: NewOrder,
-    number: u32,
-    quote: u32,
-    next: u32,
-) -> Outcome
-    requires { ⌜ WellFormedState state (now buys) (now sells) (now trades) × Enterable state (now buys) (now sells) (now trades) o number quote next ⌝ }
-    ensures { λ r. ⌜ OutcomeIs (enteredIn (memory state (now (buys .entry)) (now (sells .entry)) (now (trades .entry))) o number quote next) r (now (buys .exit)) (now (sells .exit)) (now (trades .exit)) ⌝ }
-{
-    // read before the first call: for what is read of the state after one, the compiler keeps a copy of the state
-    let bids = state.buys;
-    let offers = state.sells;
-    let c = laws::wide(o.contract) - 1;
-    let bought = bids[c];
-    let sold = offers[c];
-    if o.sell {
-        let e = enter(state, sells, sold, buys, bought, trades, o, number, quote);
-        let after = with_entry(state, c, e.opposite, e.own, next, e);
-        return answers::accepted(after, number, e.traded, e.rested);
-    }
-    let e = enter(state, buys, bought, sells, sold, trades, o, number, quote);
-    let after = with_entry(state, c, e.own, e.opposite, next, e);
-    answers::accepted(after, number, e.traded, e.rested)
 }
 
 // "given to accepted orders in turn over all contracts": an accepted insert enters with the next number.
@@ -153,5 +192,10 @@ pub fn insert(
     if refusal != 0 {
         return answers::refused(state, refusal);
     }
-    enter_order(state, buys, sells, trades, o, state.next, 0, state.next + 1)
+    let number = state.next;
+    let arriving = arrival_of(state, o, number, 0);
+    let accounts = state.accounts;
+    let e = enter(accounts, arriving, buys, sells, trades);
+    let after = with_entry(state, arriving, e, number + 1);
+    answers::accepted(after, number, e.traded, e.rested)
 }

@@ -108,7 +108,12 @@ fn enter_marked(
     if code != 0 {
         return answers::refused(state, code);
     }
-    insertion::enter_order(state, buys, sells, trades, o, state.next, 1, state.next + 1)
+    let number = state.next;
+    let arriving = insertion::arrival_of(state, o, number, 1);
+    let accounts = state.accounts;
+    let e = insertion::enter(accounts, arriving, buys, sells, trades);
+    let after = insertion::with_entry(state, arriving, e, number + 1);
+    answers::accepted(after, number, e.traded, e.rested)
 }
 
 // "removed first; then the buy is inserted, then the sell, on the state each step leaves". Where one of them is refused the areas are

@@ -320,7 +320,7 @@ pub fn order_code<'a>(
     if fields != 0 {
         return fields;
     }
-    // read before margin is charged, as in `enter_order`
+    // read before margin is charged: for what is read of the state after a call, the compiler keeps a copy of the state
     let own = orders::side_count(o.sell, state, c);
     let count = orders::side_count(!o.sell, state, c);
     let account = account_code(state, who, buys, sells, trades, o);

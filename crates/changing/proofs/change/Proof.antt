@@ -1,7 +1,7 @@
 -- `changing::change` meets its contract: each return by its law in Changing.antt. Assumes nothing.
 use mathlib.Core.Path.{sym, _∙_}
 use native.Mathlib.Omega.{arith}
-use Rattle.changing.proofs.Changing.{account-low, can-lessen, changeable, contract-fits, contract-low, equal-changed, few-contracts, fewer-changed, order-refused, refused-early, rooms, terms-ok, zero-changed}
+use Rattle.changing.proofs.Changing.{account-low, can-lessen, can-take-out, changeable, contract-fits, contract-low, equal-changed, few-contracts, fewer-changed, order-refused, refused-early, rooms, taken-out, terms-ok, zero-changed}
 use borrow.Author.Needs.{needs}
 use Rattle.changing.proofs.change.Statement.{statement}
 use Rattle.changing.proofs.change.Tie as tie
@@ -74,8 +74,13 @@ returns-2 c =
     let start = c .before .before .before .before .before .before .before .before .before .before .before .before .before .before .before .before in
     order-refused (start .pre) (start .args .account) (start .args .contract) (start .args .number) (start .args .lots) (start .args .price) (sym (c .before .before .before .before .before .before .before .before .before .before .before .before .state-code .ensures) ∙ c .before .before .before .before .before .before .before .before .before .before .before .if1 .left) (c .before .before .before .before .before .before .before .before .before .before .wide .ensures) (c .before .before .before .before .before .before .before .side-count .ensures) (c .before .before .before .before .before .before .side-count2 .ensures) (c .before .before .before .resting-order .ensures) (c .before .before .order-code .ensures) (c .before .if2 .taken) (c .refused2 .ensures)
 
-cancel-requires : tie.Need-cancel-requires
-cancel-requires c κs = search needs
+take-out-requires : tie.Need-take-out-requires
+take-out-requires c κs =
+    let start = c .before .before .before .before .before .before .before .before .before .before .before .before .before .before .before .before .before .before .before in
+    can-take-out (start .pre) (start .args .account) (start .args .contract) (start .args .number) (start .args .lots) (start .args .price) (changeable (start .pre) (start .args .account) (start .args .contract) (start .args .number) (start .args .lots) (start .args .price) (sym (c .before .before .before .before .before .before .before .before .before .before .before .before .before .before .before .state-code .ensures) ∙ c .before .before .before .before .before .before .before .before .before .before .before .before .before .before .if1 .left) (c .before .before .before .before .before .before .before .before .before .before .before .before .before .wide .ensures) (c .before .before .before .before .before .before .before .before .before .before .side-count .ensures) (c .before .before .before .before .before .before .before .before .before .side-count2 .ensures) (c .before .before .before .before .before .before .resting-order .ensures) (c .before .before .before .before .before .order-code .ensures) (c .before .before .before .before .if2 .left)) (c .before .before .before .before .before .before .before .before .before .before .before .before .before .wide .ensures)
+
+accepted-requires : tie.Need-accepted-requires
+accepted-requires c κs = search needs
 
 same-length-3 : tie.Need-same-length-3
 same-length-3 c = search needs
@@ -83,13 +88,10 @@ same-length-3 c = search needs
 same-length-4 : tie.Need-same-length-4
 same-length-4 c = search needs
 
-same-length-5 : tie.Need-same-length-5
-same-length-5 c = search needs
-
 returns-3 : tie.Need-returns-3
 returns-3 c =
-    let start = c .before .before .before .before .before .before .before .before .before .before .before .before .before .before .before .before .before .before .before .before .before .before .before .before in
-    zero-changed (start .pre) (start .args .account) (start .args .contract) (start .args .number) (start .args .lots) (start .args .price) (changeable (start .pre) (start .args .account) (start .args .contract) (start .args .number) (start .args .lots) (start .args .price) (sym (c .before .before .before .before .before .before .before .before .before .before .before .before .before .before .before .before .before .before .before .before .state-code .ensures) ∙ c .before .before .before .before .before .before .before .before .before .before .before .before .before .before .before .before .before .before .before .if1 .left) (c .before .before .before .before .before .before .before .before .before .before .before .before .before .before .before .before .before .before .wide .ensures) (c .before .before .before .before .before .before .before .before .before .before .before .before .before .before .before .side-count .ensures) (c .before .before .before .before .before .before .before .before .before .before .before .before .before .before .side-count2 .ensures) (c .before .before .before .before .before .before .before .before .before .before .before .resting-order .ensures) (c .before .before .before .before .before .before .before .before .before .before .order-code .ensures) (c .before .before .before .before .before .before .before .before .before .if2 .left)) (c .before .before .before .before .before .before .before .before .if3 .taken) (c .before .before .before .before .cancel .ensures)
+    let start = c .before .before .before .before .before .before .before .before .before .before .before .before .before .before .before .before .before .before .before .before .before .before .before .before .before in
+    rw (c .accepted .ensures) (zero-changed (start .pre) (start .args .account) (start .args .contract) (start .args .number) (start .args .lots) (start .args .price) (changeable (start .pre) (start .args .account) (start .args .contract) (start .args .number) (start .args .lots) (start .args .price) (sym (c .before .before .before .before .before .before .before .before .before .before .before .before .before .before .before .before .before .before .before .before .before .state-code .ensures) ∙ c .before .before .before .before .before .before .before .before .before .before .before .before .before .before .before .before .before .before .before .before .if1 .left) (c .before .before .before .before .before .before .before .before .before .before .before .before .before .before .before .before .before .before .before .wide .ensures) (c .before .before .before .before .before .before .before .before .before .before .before .before .before .before .before .before .side-count .ensures) (c .before .before .before .before .before .before .before .before .before .before .before .before .before .before .before .side-count2 .ensures) (c .before .before .before .before .before .before .before .before .before .before .before .before .resting-order .ensures) (c .before .before .before .before .before .before .before .before .before .before .before .order-code .ensures) (c .before .before .before .before .before .before .before .before .before .before .if2 .left)) (c .before .before .before .before .before .before .before .before .if3 .taken) (taken-out (start .pre) (start .args .account) (start .args .contract) (start .args .number) (start .args .lots) (start .args .price) (changeable (start .pre) (start .args .account) (start .args .contract) (start .args .number) (start .args .lots) (start .args .price) (sym (c .before .before .before .before .before .before .before .before .before .before .before .before .before .before .before .before .before .before .before .before .before .state-code .ensures) ∙ c .before .before .before .before .before .before .before .before .before .before .before .before .before .before .before .before .before .before .before .before .if1 .left) (c .before .before .before .before .before .before .before .before .before .before .before .before .before .before .before .before .before .before .before .wide .ensures) (c .before .before .before .before .before .before .before .before .before .before .before .before .before .before .before .before .side-count .ensures) (c .before .before .before .before .before .before .before .before .before .before .before .before .before .before .before .side-count2 .ensures) (c .before .before .before .before .before .before .before .before .before .before .before .before .resting-order .ensures) (c .before .before .before .before .before .before .before .before .before .before .before .order-code .ensures) (c .before .before .before .before .before .before .before .before .before .before .if2 .left)) (c .before .before .before .before .before .before .before .before .before .before .before .before .before .before .before .before .before .before .before .wide .ensures) (c .before .before .before .before .before .take-out .ensures .0) (c .before .before .before .before .before .take-out .ensures .1 .0) (c .before .before .before .before .before .take-out .ensures .1 .1)))
 
 loses-place-requires : tie.Need-loses-place-requires
 loses-place-requires c κs = search needs
@@ -97,7 +99,10 @@ loses-place-requires c κs = search needs
 lose-place-requires : tie.Need-lose-place-requires
 lose-place-requires c κs =
     let start = c .before .before .before .before .before .before .before .before .before .before .before .before .before .before .before .before .before .before .before .before .before .before in
-    (start .pre, (changeable (start .pre) (start .args .account) (start .args .contract) (start .args .number) (start .args .lots) (start .args .price) (sym (c .before .before .before .before .before .before .before .before .before .before .before .before .before .before .before .before .before .before .state-code .ensures) ∙ c .before .before .before .before .before .before .before .before .before .before .before .before .before .before .before .before .before .if1 .left) (c .before .before .before .before .before .before .before .before .before .before .before .before .before .before .before .before .wide .ensures) (c .before .before .before .before .before .before .before .before .before .before .before .before .before .side-count .ensures) (c .before .before .before .before .before .before .before .before .before .before .before .before .side-count2 .ensures) (c .before .before .before .before .before .before .before .before .before .resting-order .ensures) (c .before .before .before .before .before .before .before .before .order-code .ensures) (c .before .before .before .before .before .before .before .if2 .left)), c .before .before .before .before .before .before .if3 .left, sym (c .before .before .before .before .loses-place .ensures) ∙ c .before .before .before .if4 .taken)
+    (start .pre, (changeable (start .pre) (start .args .account) (start .args .contract) (start .args .number) (start .args .lots) (start .args .price) (sym (c .before .before .before .before .before .before .before .before .before .before .before .before .before .before .before .before .before .before .state-code .ensures) ∙ c .before .before .before .before .before .before .before .before .before .before .before .before .before .before .before .before .before .if1 .left) (c .before .before .before .before .before .before .before .before .before .before .before .before .before .before .before .before .wide .ensures) (c .before .before .before .before .before .before .before .before .before .before .before .before .before .side-count .ensures) (c .before .before .before .before .before .before .before .before .before .before .before .before .side-count2 .ensures) (c .before .before .before .before .before .before .before .before .before .resting-order .ensures) (c .before .before .before .before .before .before .before .before .order-code .ensures) (c .before .before .before .before .before .before .before .if2 .left)), c .before .before .before .before .before .if3 .left, sym (c .before .before .before .before .loses-place .ensures) ∙ c .before .before .before .if4 .taken)
+
+same-length-5 : tie.Need-same-length-5
+same-length-5 c = search needs
 
 same-length-6 : tie.Need-same-length-6
 same-length-6 c = search needs
@@ -105,25 +110,22 @@ same-length-6 c = search needs
 same-length-7 : tie.Need-same-length-7
 same-length-7 c = search needs
 
-same-length-8 : tie.Need-same-length-8
-same-length-8 c = search needs
-
 returns-4 : tie.Need-returns-4
 returns-4 c = search needs
 
-accepted-requires : tie.Need-accepted-requires
-accepted-requires c κs = search needs
+accepted-requires-2 : tie.Need-accepted-requires-2
+accepted-requires-2 c κs = search needs
+
+same-length-8 : tie.Need-same-length-8
+same-length-8 c = search needs
 
 same-length-9 : tie.Need-same-length-9
 same-length-9 c = search needs
 
-same-length-10 : tie.Need-same-length-10
-same-length-10 c = search needs
-
 returns-5 : tie.Need-returns-5
 returns-5 c =
     let start = c .before .before .before .before .before .before .before .before .before .before .before .before .before .before .before .before .before .before .before .before .before .before in
-    equal-changed (start .pre) (start .args .account) (start .args .contract) (start .args .number) (start .args .lots) (start .args .price) (changeable (start .pre) (start .args .account) (start .args .contract) (start .args .number) (start .args .lots) (start .args .price) (sym (c .before .before .before .before .before .before .before .before .before .before .before .before .before .before .before .before .before .before .state-code .ensures) ∙ c .before .before .before .before .before .before .before .before .before .before .before .before .before .before .before .before .before .if1 .left) (c .before .before .before .before .before .before .before .before .before .before .before .before .before .before .before .before .wide .ensures) (c .before .before .before .before .before .before .before .before .before .before .before .before .before .side-count .ensures) (c .before .before .before .before .before .before .before .before .before .before .before .before .side-count2 .ensures) (c .before .before .before .before .before .before .before .before .before .resting-order .ensures) (c .before .before .before .before .before .before .before .before .order-code .ensures) (c .before .before .before .before .before .before .before .if2 .left)) (c .before .before .before .before .before .before .if3 .left) (sym (c .before .before .before .before .loses-place .ensures) ∙ c .before .before .before .if4 .left) (c .before .if5 .taken) (c .accepted .ensures)
+    equal-changed (start .pre) (start .args .account) (start .args .contract) (start .args .number) (start .args .lots) (start .args .price) (changeable (start .pre) (start .args .account) (start .args .contract) (start .args .number) (start .args .lots) (start .args .price) (sym (c .before .before .before .before .before .before .before .before .before .before .before .before .before .before .before .before .before .before .state-code .ensures) ∙ c .before .before .before .before .before .before .before .before .before .before .before .before .before .before .before .before .before .if1 .left) (c .before .before .before .before .before .before .before .before .before .before .before .before .before .before .before .before .wide .ensures) (c .before .before .before .before .before .before .before .before .before .before .before .before .before .side-count .ensures) (c .before .before .before .before .before .before .before .before .before .before .before .before .side-count2 .ensures) (c .before .before .before .before .before .before .before .before .before .resting-order .ensures) (c .before .before .before .before .before .before .before .before .order-code .ensures) (c .before .before .before .before .before .before .before .if2 .left)) (c .before .before .before .before .before .if3 .left) (sym (c .before .before .before .before .loses-place .ensures) ∙ c .before .before .before .if4 .left) (c .before .if5 .taken) (c .accepted2 .ensures)
 
 side-count-requires-3 : tie.Need-side-count-requires-3
 side-count-requires-3 c κs =
@@ -133,21 +135,21 @@ side-count-requires-3 c κs =
 lessen-requires : tie.Need-lessen-requires
 lessen-requires c κs =
     let start = c .before .before .before .before .before .before .before .before .before .before .before .before .before .before .before .before .before .before .before .before .before .before .before .before in
-    can-lessen (start .pre) (start .args .account) (start .args .contract) (start .args .number) (start .args .lots) (start .args .price) (changeable (start .pre) (start .args .account) (start .args .contract) (start .args .number) (start .args .lots) (start .args .price) (sym (c .before .before .before .before .before .before .before .before .before .before .before .before .before .before .before .before .before .before .before .before .state-code .ensures) ∙ c .before .before .before .before .before .before .before .before .before .before .before .before .before .before .before .before .before .before .before .if1 .left) (c .before .before .before .before .before .before .before .before .before .before .before .before .before .before .before .before .before .before .wide .ensures) (c .before .before .before .before .before .before .before .before .before .before .before .before .before .before .before .side-count .ensures) (c .before .before .before .before .before .before .before .before .before .before .before .before .before .before .side-count2 .ensures) (c .before .before .before .before .before .before .before .before .before .before .before .resting-order .ensures) (c .before .before .before .before .before .before .before .before .before .before .order-code .ensures) (c .before .before .before .before .before .before .before .before .before .if2 .left)) (c .before .before .before .before .before .before .before .before .if3 .left) (sym (c .before .before .before .before .before .before .loses-place .ensures) ∙ c .before .before .before .before .before .if4 .left) (c .before .before .before .before .before .before .before .before .before .before .before .before .before .before .before .before .before .before .wide .ensures) (c .before .before .side-count3 .ensures)
+    can-lessen (start .pre) (start .args .account) (start .args .contract) (start .args .number) (start .args .lots) (start .args .price) (changeable (start .pre) (start .args .account) (start .args .contract) (start .args .number) (start .args .lots) (start .args .price) (sym (c .before .before .before .before .before .before .before .before .before .before .before .before .before .before .before .before .before .before .before .before .state-code .ensures) ∙ c .before .before .before .before .before .before .before .before .before .before .before .before .before .before .before .before .before .before .before .if1 .left) (c .before .before .before .before .before .before .before .before .before .before .before .before .before .before .before .before .before .before .wide .ensures) (c .before .before .before .before .before .before .before .before .before .before .before .before .before .before .before .side-count .ensures) (c .before .before .before .before .before .before .before .before .before .before .before .before .before .before .side-count2 .ensures) (c .before .before .before .before .before .before .before .before .before .before .before .resting-order .ensures) (c .before .before .before .before .before .before .before .before .before .before .order-code .ensures) (c .before .before .before .before .before .before .before .before .before .if2 .left)) (c .before .before .before .before .before .before .before .if3 .left) (sym (c .before .before .before .before .before .before .loses-place .ensures) ∙ c .before .before .before .before .before .if4 .left) (c .before .before .before .before .before .before .before .before .before .before .before .before .before .before .before .before .before .before .wide .ensures) (c .before .before .side-count3 .ensures)
 
-accepted-requires-2 : tie.Need-accepted-requires-2
-accepted-requires-2 c κs = search needs
+accepted-requires-3 : tie.Need-accepted-requires-3
+accepted-requires-3 c κs = search needs
+
+same-length-10 : tie.Need-same-length-10
+same-length-10 c = search needs
 
 same-length-11 : tie.Need-same-length-11
 same-length-11 c = search needs
 
-same-length-12 : tie.Need-same-length-12
-same-length-12 c = search needs
-
 returns-6 : tie.Need-returns-6
 returns-6 c =
     let start = c .before .before .before .before .before .before .before .before .before .before .before .before .before .before .before .before .before .before .before .before .before .before .before .before .before .before .before .before .before .before in
-    fewer-changed (start .pre) (start .args .account) (start .args .contract) (start .args .number) (start .args .lots) (start .args .price) (changeable (start .pre) (start .args .account) (start .args .contract) (start .args .number) (start .args .lots) (start .args .price) (sym (c .before .before .before .before .before .before .before .before .before .before .before .before .before .before .before .before .before .before .before .before .before .before .before .before .before .before .state-code .ensures) ∙ c .before .before .before .before .before .before .before .before .before .before .before .before .before .before .before .before .before .before .before .before .before .before .before .before .before .if1 .left) (c .before .before .before .before .before .before .before .before .before .before .before .before .before .before .before .before .before .before .before .before .before .before .before .before .wide .ensures) (c .before .before .before .before .before .before .before .before .before .before .before .before .before .before .before .before .before .before .before .before .before .side-count .ensures) (c .before .before .before .before .before .before .before .before .before .before .before .before .before .before .before .before .before .before .before .before .side-count2 .ensures) (c .before .before .before .before .before .before .before .before .before .before .before .before .before .before .before .before .before .resting-order .ensures) (c .before .before .before .before .before .before .before .before .before .before .before .before .before .before .before .before .order-code .ensures) (c .before .before .before .before .before .before .before .before .before .before .before .before .before .before .before .if2 .left)) (c .before .before .before .before .before .before .before .before .before .before .before .before .before .before .if3 .left) (sym (c .before .before .before .before .before .before .before .before .before .before .before .before .loses-place .ensures) ∙ c .before .before .before .before .before .before .before .before .before .before .before .if4 .left) (c .before .before .before .before .before .before .before .before .before .if5 .left) (c .before .before .before .before .before .before .before .before .before .before .before .before .before .before .before .before .before .before .before .before .before .before .before .before .wide .ensures) (c .before .before .before .before .before .before .before .before .side-count3 .ensures) (c .before .before .before .before .before .lessen .ensures .0) (c .before .before .before .before .before .lessen .ensures .1) (c .accepted2 .ensures)
+    fewer-changed (start .pre) (start .args .account) (start .args .contract) (start .args .number) (start .args .lots) (start .args .price) (changeable (start .pre) (start .args .account) (start .args .contract) (start .args .number) (start .args .lots) (start .args .price) (sym (c .before .before .before .before .before .before .before .before .before .before .before .before .before .before .before .before .before .before .before .before .before .before .before .before .before .before .state-code .ensures) ∙ c .before .before .before .before .before .before .before .before .before .before .before .before .before .before .before .before .before .before .before .before .before .before .before .before .before .if1 .left) (c .before .before .before .before .before .before .before .before .before .before .before .before .before .before .before .before .before .before .before .before .before .before .before .before .wide .ensures) (c .before .before .before .before .before .before .before .before .before .before .before .before .before .before .before .before .before .before .before .before .before .side-count .ensures) (c .before .before .before .before .before .before .before .before .before .before .before .before .before .before .before .before .before .before .before .before .side-count2 .ensures) (c .before .before .before .before .before .before .before .before .before .before .before .before .before .before .before .before .before .resting-order .ensures) (c .before .before .before .before .before .before .before .before .before .before .before .before .before .before .before .before .order-code .ensures) (c .before .before .before .before .before .before .before .before .before .before .before .before .before .before .before .if2 .left)) (c .before .before .before .before .before .before .before .before .before .before .before .before .before .if3 .left) (sym (c .before .before .before .before .before .before .before .before .before .before .before .before .loses-place .ensures) ∙ c .before .before .before .before .before .before .before .before .before .before .before .if4 .left) (c .before .before .before .before .before .before .before .before .before .if5 .left) (c .before .before .before .before .before .before .before .before .before .before .before .before .before .before .before .before .before .before .before .before .before .before .before .before .wide .ensures) (c .before .before .before .before .before .before .before .before .side-count3 .ensures) (c .before .before .before .before .before .lessen .ensures .0) (c .before .before .before .before .before .lessen .ensures .1) (c .accepted3 .ensures)
 
 pub change-spec : {M : Type 1} → statement M
 change-spec =
@@ -169,24 +171,24 @@ change-spec =
     same-length
     same-length-2
     returns-2
-    cancel-requires
+    take-out-requires
+    accepted-requires
     same-length-3
     same-length-4
-    same-length-5
     returns-3
     loses-place-requires
     lose-place-requires
+    same-length-5
     same-length-6
     same-length-7
-    same-length-8
     returns-4
-    accepted-requires
+    accepted-requires-2
+    same-length-8
     same-length-9
-    same-length-10
     returns-5
     side-count-requires-3
     lessen-requires
-    accepted-requires-2
+    accepted-requires-3
+    same-length-10
     same-length-11
-    same-length-12
     returns-6)

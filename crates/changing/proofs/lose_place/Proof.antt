@@ -1,8 +1,9 @@
 -- `changing::lose_place` meets its contract: refused, the order is where it was; accepted, it is entered. Assumes nothing.
-use mathlib.Core.Path.{refl, ap}
+use mathlib.Core.Path.{refl, ap, _∙_}
 use lib.ListN.{length}
 use native.Mathlib.Omega.{arith}
-use Rattle.changing.proofs.Changing.{account-fits, account-low, buys-back, can-put-back, contract-fits, contract-low, gone-formed, gone-lots, gone-owner, gone-present, lost-changed, lost-enterable, lost-refused, sells-back}
+use Rattle.insertion.proofs.Entering.{arrives, leaves-room, order-entered, ready}
+use Rattle.changing.proofs.Changing.{account-fits, account-low, buys-back, can-put-back, can-take-out, contract-fits, contract-low, gone-formed, gone-lots, gone-owner, gone-present, lost-changed, lost-enterable, lost-refused, sells-back, taken-out}
 use borrow.Author.Needs.{needs}
 use Rattle.changing.proofs.lose_place.Statement.{statement}
 use Rattle.changing.proofs.lose_place.Tie as tie
@@ -34,63 +35,88 @@ element-copy-out-who c =
 arriving-requires : tie.Need-arriving-requires
 arriving-requires c κs = search needs
 
-cancel-requires : tie.Need-cancel-requires
-cancel-requires c κs = search needs
+take-out-requires : tie.Need-take-out-requires
+take-out-requires c κs =
+    let start = c .before .before .before .before .before .before .before .before .before in
+    can-take-out (start .pre .0) (start .args .account) (start .args .contract) (start .args .number) (start .args .lots) (start .args .price) (start .pre .1) (c .before .before .before .before .before .wide .ensures)
 
 reentry-code-requires : tie.Need-reentry-code-requires
 reentry-code-requires c κs =
-    let start = c .before .before .before .before .before .before .before .before .before .before .before .before .before .before .before .before .before .before .before in
-    (gone-formed (start .pre .0) (start .args .account) (start .args .contract) (start .args .number) (start .args .lots) (start .args .price) (start .pre .1) (start .pre .2) (start .pre .3) (c .before .before .before .before .before .before .before .before .cancel .ensures), gone-present (start .pre .0) (start .args .account) (start .args .contract) (start .args .number) (start .args .lots) (start .args .price) (start .pre .1) (start .pre .2) (start .pre .3) (c .before .before .before .before .before .before .before .before .cancel .ensures) (c .before .before .before .before .before .before .before .before .before .before .before .before .arriving .ensures), gone-lots (start .pre .0) (start .args .account) (start .args .contract) (start .args .number) (start .args .lots) (start .args .price) (start .pre .1) (start .pre .2) (start .pre .3) (c .before .before .before .before .before .before .before .before .cancel .ensures) (c .before .before .before .before .before .before .before .before .before .before .before .before .arriving .ensures), gone-owner (start .pre .0) (start .args .account) (start .args .contract) (start .args .number) (start .args .lots) (start .args .price) (start .pre .1) (start .pre .2) (start .pre .3) (c .before .before .before .before .before .before .before .before .cancel .ensures) (c .before .before .before .before .before .before .before .before .before .before .before .before .arriving .ensures) (c .before .before .before .before .before .before .before .before .before .before .before .before .before .before .wide2 .ensures) refl)
+    let start = c .before .before .before .before .before .before .before .before .before .before .before .before .before .before .before .before .before in
+    let taken = taken-out (start .pre .0) (start .args .account) (start .args .contract) (start .args .number) (start .args .lots) (start .args .price) (start .pre .1) (c .before .before .before .before .before .before .before .before .before .before .before .before .before .wide .ensures) (c .before .before .before .before .before .before .before .take-out .ensures .0) (c .before .before .before .before .before .before .before .take-out .ensures .1 .0) (c .before .before .before .before .before .before .before .take-out .ensures .1 .1) in
+    (gone-formed (start .pre .0) (start .args .account) (start .args .contract) (start .args .number) (start .args .lots) (start .args .price) (start .pre .1) (start .pre .2) (start .pre .3) taken, gone-present (start .pre .0) (start .args .account) (start .args .contract) (start .args .number) (start .args .lots) (start .args .price) (start .pre .1) (start .pre .2) (start .pre .3) taken (c .before .before .before .before .before .before .before .before .before .before .arriving .ensures), gone-lots (start .pre .0) (start .args .account) (start .args .contract) (start .args .number) (start .args .lots) (start .args .price) (start .pre .1) (start .pre .2) (start .pre .3) taken (c .before .before .before .before .before .before .before .before .before .before .arriving .ensures), gone-owner (start .pre .0) (start .args .account) (start .args .contract) (start .args .number) (start .args .lots) (start .args .price) (start .pre .1) (start .pre .2) (start .pre .3) taken (c .before .before .before .before .before .before .before .before .before .before .arriving .ensures) (c .before .before .before .before .before .before .before .before .before .before .before .before .wide2 .ensures) refl)
 
 side-count-requires : tie.Need-side-count-requires
 side-count-requires c κs =
-    let start = c .before .before .before .before .before .before .before .before .before .before .before .before .before .before .before .before .before .before .before .before .before in
-    contract-fits (start .pre .0) (start .args .account) (start .args .contract) (start .args .number) (start .args .lots) (start .args .price) (start .pre .1 .state) (c .before .before .before .before .before .before .before .before .before .before .before .before .before .before .before .before .before .wide .ensures)
+    let start = c .before .before .before .before .before .before .before .before .before .before .before .before .before .before .before .before .before .before .before in
+    contract-fits (start .pre .0) (start .args .account) (start .args .contract) (start .args .number) (start .args .lots) (start .args .price) (start .pre .1 .state) (c .before .before .before .before .before .before .before .before .before .before .before .before .before .before .before .wide .ensures)
 
 put-back-requires : tie.Need-put-back-requires
 put-back-requires c κs =
-    let start = c .before .before .before .before .before .before .before .before .before .before .before .before .before .before .before .before .before .before .before .before .before .before .before .before in
-    can-put-back (start .pre .0) (start .args .account) (start .args .contract) (start .args .number) (start .args .lots) (start .args .price) (start .pre .1) (start .pre .2) (start .pre .3) (c .before .before .before .before .before .before .before .before .before .before .before .before .before .cancel .ensures) (c .before .before .before .before .before .before .before .before .before .before .before .before .before .before .before .before .before .arriving .ensures) (c .before .before .before .before .reentry-code .ensures) (c .before .before .before .if1 .taken) (c .before .before .before .before .before .before .before .before .before .before .before .before .before .before .before .before .before .before .before .before .wide .ensures) (c .before .before .side-count .ensures)
+    let start = c .before .before .before .before .before .before .before .before .before .before .before .before .before .before .before .before .before .before .before .before .before .before in
+    let taken = taken-out (start .pre .0) (start .args .account) (start .args .contract) (start .args .number) (start .args .lots) (start .args .price) (start .pre .1) (c .before .before .before .before .before .before .before .before .before .before .before .before .before .before .before .before .before .before .wide .ensures) (c .before .before .before .before .before .before .before .before .before .before .before .before .take-out .ensures .0) (c .before .before .before .before .before .before .before .before .before .before .before .before .take-out .ensures .1 .0) (c .before .before .before .before .before .before .before .before .before .before .before .before .take-out .ensures .1 .1) in
+    can-put-back (start .pre .0) (start .args .account) (start .args .contract) (start .args .number) (start .args .lots) (start .args .price) (start .pre .1) (start .pre .2) (start .pre .3) taken (c .before .before .before .before .before .before .before .before .before .before .before .before .before .before .before .arriving .ensures) (c .before .before .before .before .reentry-code .ensures) (c .before .before .before .if1 .taken) (c .before .before .before .before .before .before .before .before .before .before .before .before .before .before .before .before .before .before .wide .ensures) (c .before .before .side-count .ensures)
 
 refused-requires : tie.Need-refused-requires
 refused-requires c κs = search needs
 
 same-length : tie.Need-same-length
 same-length c =
-    let start = c .before .before .before .before .before .before .before .before .before .before .before .before .before .before .before .before .before .before .before .before .before .before .before .before .before .before .before .before .before .before in
-    ap length (buys-back (start .pre .0) (start .args .account) (start .args .contract) (start .args .number) (start .args .lots) (start .args .price) (start .pre .1) (start .pre .2) (start .pre .3) (c .before .before .before .before .before .before .before .before .before .before .before .before .before .before .before .before .before .before .before .cancel .ensures) (c .before .before .before .before .before .before .before .before .before .before .before .before .before .before .before .before .before .before .before .before .before .before .before .arriving .ensures) (c .before .before .before .before .before .before .before .before .before .before .reentry-code .ensures) (c .before .before .before .before .before .before .before .before .before .if1 .taken) (c .before .before .before .before .before .before .before .before .before .before .before .before .before .before .before .before .before .before .before .before .before .before .before .before .before .before .wide .ensures) (c .before .before .before .before .before .before .before .before .side-count .ensures) (c .before .before .before .before .before .put-back .ensures .0))
+    let start = c .before .before .before .before .before .before .before .before .before .before .before .before .before .before .before .before .before .before .before .before .before .before .before .before .before .before .before .before in
+    let taken = taken-out (start .pre .0) (start .args .account) (start .args .contract) (start .args .number) (start .args .lots) (start .args .price) (start .pre .1) (c .before .before .before .before .before .before .before .before .before .before .before .before .before .before .before .before .before .before .before .before .before .before .before .before .wide .ensures) (c .before .before .before .before .before .before .before .before .before .before .before .before .before .before .before .before .before .before .take-out .ensures .0) (c .before .before .before .before .before .before .before .before .before .before .before .before .before .before .before .before .before .before .take-out .ensures .1 .0) (c .before .before .before .before .before .before .before .before .before .before .before .before .before .before .before .before .before .before .take-out .ensures .1 .1) in
+    ap length (buys-back (start .pre .0) (start .args .account) (start .args .contract) (start .args .number) (start .args .lots) (start .args .price) (start .pre .1) (start .pre .2) (start .pre .3) taken (c .before .before .before .before .before .before .before .before .before .before .before .before .before .before .before .before .before .before .before .before .before .arriving .ensures) (c .before .before .before .before .before .before .before .before .before .before .reentry-code .ensures) (c .before .before .before .before .before .before .before .before .before .if1 .taken) (c .before .before .before .before .before .before .before .before .before .before .before .before .before .before .before .before .before .before .before .before .before .before .before .before .wide .ensures) (c .before .before .before .before .before .before .before .before .side-count .ensures) (c .before .before .before .before .before .put-back .ensures .0))
 
 same-length-2 : tie.Need-same-length-2
 same-length-2 c =
-    let start = c .before .before .before .before .before .before .before .before .before .before .before .before .before .before .before .before .before .before .before .before .before .before .before .before .before .before .before .before .before .before in
-    ap length (sells-back (start .pre .0) (start .args .account) (start .args .contract) (start .args .number) (start .args .lots) (start .args .price) (start .pre .1) (start .pre .2) (start .pre .3) (c .before .before .before .before .before .before .before .before .before .before .before .before .before .before .before .before .before .before .before .cancel .ensures) (c .before .before .before .before .before .before .before .before .before .before .before .before .before .before .before .before .before .before .before .before .before .before .before .arriving .ensures) (c .before .before .before .before .before .before .before .before .before .before .reentry-code .ensures) (c .before .before .before .before .before .before .before .before .before .if1 .taken) (c .before .before .before .before .before .before .before .before .before .before .before .before .before .before .before .before .before .before .before .before .before .before .before .before .before .before .wide .ensures) (c .before .before .before .before .before .before .before .before .side-count .ensures) (c .before .before .before .before .before .put-back .ensures .1))
+    let start = c .before .before .before .before .before .before .before .before .before .before .before .before .before .before .before .before .before .before .before .before .before .before .before .before .before .before .before .before in
+    let taken = taken-out (start .pre .0) (start .args .account) (start .args .contract) (start .args .number) (start .args .lots) (start .args .price) (start .pre .1) (c .before .before .before .before .before .before .before .before .before .before .before .before .before .before .before .before .before .before .before .before .before .before .before .before .wide .ensures) (c .before .before .before .before .before .before .before .before .before .before .before .before .before .before .before .before .before .before .take-out .ensures .0) (c .before .before .before .before .before .before .before .before .before .before .before .before .before .before .before .before .before .before .take-out .ensures .1 .0) (c .before .before .before .before .before .before .before .before .before .before .before .before .before .before .before .before .before .before .take-out .ensures .1 .1) in
+    ap length (sells-back (start .pre .0) (start .args .account) (start .args .contract) (start .args .number) (start .args .lots) (start .args .price) (start .pre .1) (start .pre .2) (start .pre .3) taken (c .before .before .before .before .before .before .before .before .before .before .before .before .before .before .before .before .before .before .before .before .before .arriving .ensures) (c .before .before .before .before .before .before .before .before .before .before .reentry-code .ensures) (c .before .before .before .before .before .before .before .before .before .if1 .taken) (c .before .before .before .before .before .before .before .before .before .before .before .before .before .before .before .before .before .before .before .before .before .before .before .before .wide .ensures) (c .before .before .before .before .before .before .before .before .side-count .ensures) (c .before .before .before .before .before .put-back .ensures .1))
 
 same-length-3 : tie.Need-same-length-3
 same-length-3 c = search needs
 
 returns : tie.Need-returns
 returns c =
-    let start = c .before .before .before .before .before .before .before .before .before .before .before .before .before .before .before .before .before .before .before .before .before .before .before .before .before .before .before .before .before .before in
-    lost-refused (start .pre .0) (start .args .account) (start .args .contract) (start .args .number) (start .args .lots) (start .args .price) (start .pre .1) (start .pre .2) (start .pre .3) (c .before .before .before .before .before .before .before .before .before .before .before .before .before .before .before .before .before .before .before .cancel .ensures) (c .before .before .before .before .before .before .before .before .before .before .before .before .before .before .before .before .before .before .before .before .before .before .before .arriving .ensures) (c .before .before .before .before .before .before .before .before .before .before .reentry-code .ensures) (c .before .before .before .before .before .before .before .before .before .if1 .taken) (c .before .before .before .before .before .before .before .before .before .before .before .before .before .before .before .before .before .before .before .before .before .before .before .before .before .before .wide .ensures) (c .before .before .before .before .before .before .before .before .side-count .ensures) (buys-back (start .pre .0) (start .args .account) (start .args .contract) (start .args .number) (start .args .lots) (start .args .price) (start .pre .1) (start .pre .2) (start .pre .3) (c .before .before .before .before .before .before .before .before .before .before .before .before .before .before .before .before .before .before .before .cancel .ensures) (c .before .before .before .before .before .before .before .before .before .before .before .before .before .before .before .before .before .before .before .before .before .before .before .arriving .ensures) (c .before .before .before .before .before .before .before .before .before .before .reentry-code .ensures) (c .before .before .before .before .before .before .before .before .before .if1 .taken) (c .before .before .before .before .before .before .before .before .before .before .before .before .before .before .before .before .before .before .before .before .before .before .before .before .before .before .wide .ensures) (c .before .before .before .before .before .before .before .before .side-count .ensures) (c .before .before .before .before .before .put-back .ensures .0)) (sells-back (start .pre .0) (start .args .account) (start .args .contract) (start .args .number) (start .args .lots) (start .args .price) (start .pre .1) (start .pre .2) (start .pre .3) (c .before .before .before .before .before .before .before .before .before .before .before .before .before .before .before .before .before .before .before .cancel .ensures) (c .before .before .before .before .before .before .before .before .before .before .before .before .before .before .before .before .before .before .before .before .before .before .before .arriving .ensures) (c .before .before .before .before .before .before .before .before .before .before .reentry-code .ensures) (c .before .before .before .before .before .before .before .before .before .if1 .taken) (c .before .before .before .before .before .before .before .before .before .before .before .before .before .before .before .before .before .before .before .before .before .before .before .before .before .before .wide .ensures) (c .before .before .before .before .before .before .before .before .side-count .ensures) (c .before .before .before .before .before .put-back .ensures .1)) (c .refused .ensures)
+    let start = c .before .before .before .before .before .before .before .before .before .before .before .before .before .before .before .before .before .before .before .before .before .before .before .before .before .before .before .before in
+    let taken = taken-out (start .pre .0) (start .args .account) (start .args .contract) (start .args .number) (start .args .lots) (start .args .price) (start .pre .1) (c .before .before .before .before .before .before .before .before .before .before .before .before .before .before .before .before .before .before .before .before .before .before .before .before .wide .ensures) (c .before .before .before .before .before .before .before .before .before .before .before .before .before .before .before .before .before .before .take-out .ensures .0) (c .before .before .before .before .before .before .before .before .before .before .before .before .before .before .before .before .before .before .take-out .ensures .1 .0) (c .before .before .before .before .before .before .before .before .before .before .before .before .before .before .before .before .before .before .take-out .ensures .1 .1) in
+    lost-refused (start .pre .0) (start .args .account) (start .args .contract) (start .args .number) (start .args .lots) (start .args .price) (start .pre .1) (start .pre .2) (start .pre .3) taken (c .before .before .before .before .before .before .before .before .before .before .before .before .before .before .before .before .before .before .before .before .before .arriving .ensures) (c .before .before .before .before .before .before .before .before .before .before .reentry-code .ensures) (c .before .before .before .before .before .before .before .before .before .if1 .taken) (c .before .before .before .before .before .before .before .before .before .before .before .before .before .before .before .before .before .before .before .before .before .before .before .before .wide .ensures) (c .before .before .before .before .before .before .before .before .side-count .ensures) (buys-back (start .pre .0) (start .args .account) (start .args .contract) (start .args .number) (start .args .lots) (start .args .price) (start .pre .1) (start .pre .2) (start .pre .3) taken (c .before .before .before .before .before .before .before .before .before .before .before .before .before .before .before .before .before .before .before .before .before .arriving .ensures) (c .before .before .before .before .before .before .before .before .before .before .reentry-code .ensures) (c .before .before .before .before .before .before .before .before .before .if1 .taken) (c .before .before .before .before .before .before .before .before .before .before .before .before .before .before .before .before .before .before .before .before .before .before .before .before .wide .ensures) (c .before .before .before .before .before .before .before .before .side-count .ensures) (c .before .before .before .before .before .put-back .ensures .0)) (sells-back (start .pre .0) (start .args .account) (start .args .contract) (start .args .number) (start .args .lots) (start .args .price) (start .pre .1) (start .pre .2) (start .pre .3) taken (c .before .before .before .before .before .before .before .before .before .before .before .before .before .before .before .before .before .before .before .before .before .arriving .ensures) (c .before .before .before .before .before .before .before .before .before .before .reentry-code .ensures) (c .before .before .before .before .before .before .before .before .before .if1 .taken) (c .before .before .before .before .before .before .before .before .before .before .before .before .before .before .before .before .before .before .before .before .before .before .before .before .wide .ensures) (c .before .before .before .before .before .before .before .before .side-count .ensures) (c .before .before .before .before .before .put-back .ensures .1)) (c .refused .ensures)
 
-enter-order-requires : tie.Need-enter-order-requires
-enter-order-requires c κs =
+arrival-of-requires : tie.Need-arrival-of-requires
+arrival-of-requires c κs =
+    let start = c .before .before .before .before .before .before .before .before .before .before .before .before .before .before .before .before .before .before .before in
+    let taken = taken-out (start .pre .0) (start .args .account) (start .args .contract) (start .args .number) (start .args .lots) (start .args .price) (start .pre .1) (c .before .before .before .before .before .before .before .before .before .before .before .before .before .before .before .wide .ensures) (c .before .before .before .before .before .before .before .before .before .take-out .ensures .0) (c .before .before .before .before .before .before .before .before .before .take-out .ensures .1 .0) (c .before .before .before .before .before .before .before .before .before .take-out .ensures .1 .1) in
+    arrives (gone-formed (start .pre .0) (start .args .account) (start .args .contract) (start .args .number) (start .args .lots) (start .args .price) (start .pre .1) (start .pre .2) (start .pre .3) taken) _ _ _ _ (lost-enterable (start .pre .0) (start .args .account) (start .args .contract) (start .args .number) (start .args .lots) (start .args .price) (start .pre .1) (start .pre .2) (start .pre .3) taken (c .before .before .before .before .before .before .before .before .before .before .before .before .arriving .ensures) (c .before .reentry-code .ensures) (c .if1 .left))
+
+enter-requires : tie.Need-enter-requires
+enter-requires c κs =
     let start = c .before .before .before .before .before .before .before .before .before .before .before .before .before .before .before .before .before .before .before .before .before .before .before .before in
-    (gone-formed (start .pre .0) (start .args .account) (start .args .contract) (start .args .number) (start .args .lots) (start .args .price) (start .pre .1) (start .pre .2) (start .pre .3) (c .before .before .before .before .before .before .before .before .before .before .before .before .before .cancel .ensures), lost-enterable (start .pre .0) (start .args .account) (start .args .contract) (start .args .number) (start .args .lots) (start .args .price) (start .pre .1) (start .pre .2) (start .pre .3) (c .before .before .before .before .before .before .before .before .before .before .before .before .before .cancel .ensures) (c .before .before .before .before .before .before .before .before .before .before .before .before .before .before .before .before .before .arriving .ensures) (c .before .before .before .before .reentry-code .ensures) (c .before .before .before .if1 .left))
+    let taken = taken-out (start .pre .0) (start .args .account) (start .args .contract) (start .args .number) (start .args .lots) (start .args .price) (start .pre .1) (c .before .before .before .before .before .before .before .before .before .before .before .before .before .before .before .before .before .before .before .before .wide .ensures) (c .before .before .before .before .before .before .before .before .before .before .before .before .before .before .take-out .ensures .0) (c .before .before .before .before .before .before .before .before .before .before .before .before .before .before .take-out .ensures .1 .0) (c .before .before .before .before .before .before .before .before .before .before .before .before .before .before .take-out .ensures .1 .1) in
+    ready (gone-formed (start .pre .0) (start .args .account) (start .args .contract) (start .args .number) (start .args .lots) (start .args .price) (start .pre .1) (start .pre .2) (start .pre .3) taken) _ _ _ _ (lost-enterable (start .pre .0) (start .args .account) (start .args .contract) (start .args .number) (start .args .lots) (start .args .price) (start .pre .1) (start .pre .2) (start .pre .3) taken (c .before .before .before .before .before .before .before .before .before .before .before .before .before .before .before .before .before .arriving .ensures) (c .before .before .before .before .before .before .reentry-code .ensures) (c .before .before .before .before .before .if1 .left)) (c .before .before .before .before .arrival-of .ensures)
+
+with-entry-requires : tie.Need-with-entry-requires
+with-entry-requires c κs =
+    let start = c .before .before .before .before .before .before .before .before .before .before .before .before .before .before .before .before .before .before .before .before .before .before .before .before .before .before .before .before .before .before .before in
+    let taken = taken-out (start .pre .0) (start .args .account) (start .args .contract) (start .args .number) (start .args .lots) (start .args .price) (start .pre .1) (c .before .before .before .before .before .before .before .before .before .before .before .before .before .before .before .before .before .before .before .before .before .before .before .before .before .before .before .wide .ensures) (c .before .before .before .before .before .before .before .before .before .before .before .before .before .before .before .before .before .before .before .before .before .take-out .ensures .0) (c .before .before .before .before .before .before .before .before .before .before .before .before .before .before .before .before .before .before .before .before .before .take-out .ensures .1 .0) (c .before .before .before .before .before .before .before .before .before .before .before .before .before .before .before .before .before .before .before .before .before .take-out .ensures .1 .1) in
+    leaves-room (gone-formed (start .pre .0) (start .args .account) (start .args .contract) (start .args .number) (start .args .lots) (start .args .price) (start .pre .1) (start .pre .2) (start .pre .3) taken) _ _ _ _ (lost-enterable (start .pre .0) (start .args .account) (start .args .contract) (start .args .number) (start .args .lots) (start .args .price) (start .pre .1) (start .pre .2) (start .pre .3) taken (c .before .before .before .before .before .before .before .before .before .before .before .before .before .before .before .before .before .before .before .before .before .before .before .before .arriving .ensures) (c .before .before .before .before .before .before .before .before .before .before .before .before .before .reentry-code .ensures) (c .before .before .before .before .before .before .before .before .before .before .before .before .if1 .left)) (c .before .before .before .before .before .before .before .before .before .before .before .arrival-of .ensures)
+
+accepted-requires : tie.Need-accepted-requires
+accepted-requires c κs = search needs
 
 same-length-4 : tie.Need-same-length-4
-same-length-4 c = search needs
+same-length-4 c = c .before .before .before .before .before .before .before .before .enter .kept .1 .1 .0 ∙ c .before .before .before .before .before .before .before .before .before .before .before .before .before .before .before .before .before .before .before .before .before .before .before .take-out .kept .1 .0
 
 same-length-5 : tie.Need-same-length-5
-same-length-5 c = search needs
+same-length-5 c = c .before .before .before .before .before .before .before .before .enter .kept .1 .1 .1 .0 ∙ c .before .before .before .before .before .before .before .before .before .before .before .before .before .before .before .before .before .before .before .before .before .before .before .take-out .kept .1 .1 .0
 
 same-length-6 : tie.Need-same-length-6
 same-length-6 c = search needs
 
 returns-2 : tie.Need-returns-2
 returns-2 c =
-    let start = c .before .before .before .before .before .before .before .before .before .before .before .before .before .before .before .before .before .before .before .before .before .before .before .before .before .before .before .before .before .before .before in
-    lost-changed (start .pre .0) (start .args .account) (start .args .contract) (start .args .number) (start .args .lots) (start .args .price) (start .pre .1) (start .pre .2) (start .pre .3) (c .before .before .before .before .before .before .before .before .before .before .before .before .before .before .before .before .before .before .before .before .cancel .ensures) (c .before .before .before .before .before .before .before .before .before .before .before .before .before .before .before .before .before .before .before .before .before .before .before .before .arriving .ensures) (c .before .before .before .before .before .before .before .before .before .before .before .reentry-code .ensures) (c .before .before .before .before .before .before .before .before .before .before .if1 .left) (c .before .before .before .before .before .before .enter-order .ensures)
+    let start = c .before .before .before .before .before .before .before .before .before .before .before .before .before .before .before .before .before .before .before .before .before .before .before .before .before .before .before .before .before .before .before .before .before in
+    let taken = taken-out (start .pre .0) (start .args .account) (start .args .contract) (start .args .number) (start .args .lots) (start .args .price) (start .pre .1) (c .before .before .before .before .before .before .before .before .before .before .before .before .before .before .before .before .before .before .before .before .before .before .before .before .before .before .before .before .before .wide .ensures) (c .before .before .before .before .before .before .before .before .before .before .before .before .before .before .before .before .before .before .before .before .before .before .before .take-out .ensures .0) (c .before .before .before .before .before .before .before .before .before .before .before .before .before .before .before .before .before .before .before .before .before .before .before .take-out .ensures .1 .0) (c .before .before .before .before .before .before .before .before .before .before .before .before .before .before .before .before .before .before .before .before .before .before .before .take-out .ensures .1 .1) in
+    lost-changed (start .pre .0) (start .args .account) (start .args .contract) (start .args .number) (start .args .lots) (start .args .price) (start .pre .1) (start .pre .2) (start .pre .3) taken (c .before .before .before .before .before .before .before .before .before .before .before .before .before .before .before .before .before .before .before .before .before .before .before .before .before .before .arriving .ensures) (c .before .before .before .before .before .before .before .before .before .before .before .before .before .before .before .reentry-code .ensures) (c .before .before .before .before .before .before .before .before .before .before .before .before .before .before .if1 .left)
+    (order-entered (gone-formed (start .pre .0) (start .args .account) (start .args .contract) (start .args .number) (start .args .lots) (start .args .price) (start .pre .1) (start .pre .2) (start .pre .3) taken) _ _ _ _ (lost-enterable (start .pre .0) (start .args .account) (start .args .contract) (start .args .number) (start .args .lots) (start .args .price) (start .pre .1) (start .pre .2) (start .pre .3) taken (c .before .before .before .before .before .before .before .before .before .before .before .before .before .before .before .before .before .before .before .before .before .before .before .before .before .before .arriving .ensures) (c .before .before .before .before .before .before .before .before .before .before .before .before .before .before .before .reentry-code .ensures) (c .before .before .before .before .before .before .before .before .before .before .before .before .before .before .if1 .left)) (c .before .before .before .before .before .before .before .before .before .before .before .before .before .arrival-of .ensures) _ _ (c .before .before .before .before .before .before .before .before .enter .ensures) (c .before .with-entry .ensures) (c .accepted .ensures))
 
 pub lose-place-spec : {M : Type 1} → statement M
 lose-place-spec =
@@ -103,7 +129,7 @@ lose-place-spec =
     mul-who
     element-copy-out-who
     arriving-requires
-    cancel-requires
+    take-out-requires
     reentry-code-requires
     side-count-requires
     put-back-requires
@@ -112,7 +138,10 @@ lose-place-spec =
     same-length-2
     same-length-3
     returns
-    enter-order-requires
+    arrival-of-requires
+    enter-requires
+    with-entry-requires
+    accepted-requires
     same-length-4
     same-length-5
     same-length-6

@@ -1,29 +1,12 @@
--- `insertion::enter` meets its contract: the order is the one that the rules enter. Assumes nothing.
+-- `insertion::enter` meets its contract: each side is the order's own in its turn. Assumes nothing.
+use mathlib.Core.Bool.{true, false}
+use Rattle.insertion.proofs.Arriving.{on-side, side-entered}
 use borrow.Author.Needs.{needs}
-use Rattle.insertion.proofs.Arriving.{rests-whole, rested-whole, enters, entered-swept}
 use Rattle.insertion.proofs.enter.Statement.{statement}
 use Rattle.insertion.proofs.enter.Tie as tie
 
-wide-requires : tie.Need-wide-requires
-wide-requires c κs = search needs
-
-sub-c : tie.Need-sub-c
-sub-c c = search needs
-
-mul-terms : tie.Need-mul-terms
-mul-terms c = search needs
-
-array-copy-out-terms : tie.Need-array-copy-out-terms
-array-copy-out-terms c = search needs
-
-taker-of-requires : tie.Need-taker-of-requires
-taker-of-requires c κs = search needs
-
-limit-of-requires : tie.Need-limit-of-requires
-limit-of-requires c κs = search needs
-
-rest-requires : tie.Need-rest-requires
-rest-requires c κs = rests-whole (c .before .before .before .before .before .before .before .before .before .before .before .before .before .pre) (c .before .before .before .before .before .before .before .before .before .wide .ensures) (c .before .before .before .before .before .taker-of .ensures) (c .before .before .before .before .limit-of .ensures) (c .before .if1 .taken)
+enter-on-requires : tie.Need-enter-on-requires
+enter-on-requires c κs = on-side _ _ true (c .before .before .before .if1 .taken) (c .before .before .before .before .before .before .before .before .pre)
 
 same-length : tie.Need-same-length
 same-length c = search needs
@@ -31,17 +14,14 @@ same-length c = search needs
 same-length-2 : tie.Need-same-length-2
 same-length-2 c = search needs
 
-returns : tie.Need-returns
-returns c = rested-whole (c .before .before .before .before .before .before .before .before .before .before .before .before .before .before .before .before .pre) (c .before .before .before .before .before .before .before .before .before .before .before .before .wide .ensures) (c .before .before .before .before .before .before .before .before .taker-of .ensures) (c .before .before .before .before .before .before .before .limit-of .ensures) (c .before .before .before .before .if1 .taken) (c .before .before .rest .ensures .0) (c .before .before .rest .ensures .1)
-
-is-day-requires : tie.Need-is-day-requires
-is-day-requires c κs = search needs
-
-enter-requires : tie.Need-enter-requires
-enter-requires c κs = enters (c .before .before .before .before .before .before .before .before .before .before .before .before .before .before .before .before .pre) (c .before .before .before .before .before .before .before .before .before .before .before .before .wide .ensures) (c .before .before .before .before .before .before .before .before .taker-of .ensures) (c .before .before .before .before .before .before .before .limit-of .ensures) (c .before .before .before .before .if1 .left) (c .before .before .before .is-day .ensures)
-
 same-length-3 : tie.Need-same-length-3
 same-length-3 c = search needs
+
+returns : tie.Need-returns
+returns c = side-entered _ _ true (c .before .before .before .before .before .before .before .before .before .before .if1 .taken) _ _ (c .before .before .before .before .before .before .enter-on .ensures)
+
+enter-on-requires-2 : tie.Need-enter-on-requires-2
+enter-on-requires-2 c κs = on-side _ _ false (c .before .before .before .if1 .left) (c .before .before .before .before .before .before .before .before .pre)
 
 same-length-4 : tie.Need-same-length-4
 same-length-4 c = search needs
@@ -49,26 +29,23 @@ same-length-4 c = search needs
 same-length-5 : tie.Need-same-length-5
 same-length-5 c = search needs
 
+same-length-6 : tie.Need-same-length-6
+same-length-6 c = search needs
+
 returns-2 : tie.Need-returns-2
-returns-2 c = entered-swept (c .before .before .before .before .before .before .before .before .before .before .before .before .before .before .before .before .before .before .before .before .before .before .before .pre) (c .before .before .before .before .before .before .before .before .before .before .before .before .before .before .before .before .before .before .before .wide .ensures) (c .before .before .before .before .before .before .before .before .before .before .before .before .before .before .before .taker-of .ensures) (c .before .before .before .before .before .before .before .before .before .before .before .before .before .before .limit-of .ensures) (c .before .before .before .before .before .before .before .before .before .before .before .if1 .left) (c .before .before .before .before .before .before .before .before .before .before .is-day .ensures) (c .before .before .before .before .before .before .enter .ensures)
+returns-2 c = side-entered _ _ false (c .before .before .before .before .before .before .before .before .before .before .if1 .left) _ _ (c .before .before .before .before .before .before .enter-on2 .ensures)
 
 pub enter-spec : {M : Type 1} → statement M
 enter-spec =
     tie.close
     (tie.spec
-    wide-requires
-    sub-c
-    mul-terms
-    array-copy-out-terms
-    taker-of-requires
-    limit-of-requires
-    rest-requires
+    enter-on-requires
     same-length
     same-length-2
-    returns
-    is-day-requires
-    enter-requires
     same-length-3
+    returns
+    enter-on-requires-2
     same-length-4
     same-length-5
+    same-length-6
     returns-2)

@@ -3,7 +3,7 @@
 use mathlib.Core.Path.{sym, _∙_}
 use native.Mathlib.Omega.{arith}
 use Rattle.engine.proofs.Outcomes.{refusal}
-use Rattle.insertion.proofs.Entering.{enterable, insert-entered, next-low}
+use Rattle.insertion.proofs.Entering.{arrives, enterable, insert-entered, leaves-room, next-low, order-entered, ready}
 use Rattle.refusals.proofs.Inserting.{code-account, holder-fits, holder-low}
 use borrow.Author.Needs.{needs}
 use Rattle.insertion.proofs.insert.Statement.{statement}
@@ -57,15 +57,28 @@ returns-2 : tie.Need-returns-2
 returns-2 c =
     refusal _ _ _ _ _ _ (omega (arith, c .before .if2 .taken)) (sym (c .before .before .code-of .ensures)) (c .refused2 .ensures)
 
-add-enter-order : tie.Need-add-enter-order
-add-enter-order c =
-    let start = c .before .before .before .before .before .before .before .before .before .before .before .before .before .before .before in
-    omega (arith, next-low (start .pre) (start .args .o) (sym (c .before .before .before .before .code-of .ensures) ∙ c .before .before .before .if2 .left))
+arrival-of-requires : tie.Need-arrival-of-requires
+arrival-of-requires c κs =
+    let start = c .before .before .before .before .before .before .before .before .before .before .before .before in
+    arrives (start .pre) (start .args .o) _ _ _ (enterable (start .pre) (start .args .o) (sym (c .before .code-of .ensures) ∙ c .if2 .left))
 
-enter-order-requires : tie.Need-enter-order-requires
-enter-order-requires c κs =
-    let start = c .before .before .before .before .before .before .before .before .before .before .before .before .before .before .before in
-    (start .pre, enterable (start .pre) (start .args .o) (sym (c .before .before .before .before .code-of .ensures) ∙ c .before .before .before .if2 .left))
+enter-requires : tie.Need-enter-requires
+enter-requires c κs =
+    let start = c .before .before .before .before .before .before .before .before .before .before .before .before .before .before .before .before .before in
+    ready (start .pre) (start .args .o) _ _ _ (enterable (start .pre) (start .args .o) (sym (c .before .before .before .before .before .before .code-of .ensures) ∙ c .before .before .before .before .before .if2 .left)) (c .before .before .before .before .arrival-of .ensures)
+
+add-with-entry : tie.Need-add-with-entry
+add-with-entry c =
+    let start = c .before .before .before .before .before .before .before .before .before .before .before .before .before .before .before .before .before .before .before .before .before .before .before .before in
+    omega (arith, next-low (start .pre) (start .args .o) (sym (c .before .before .before .before .before .before .before .before .before .before .before .before .before .code-of .ensures) ∙ c .before .before .before .before .before .before .before .before .before .before .before .before .if2 .left))
+
+with-entry-requires : tie.Need-with-entry-requires
+with-entry-requires c κs =
+    let start = c .before .before .before .before .before .before .before .before .before .before .before .before .before .before .before .before .before .before .before .before .before .before .before .before in
+    leaves-room (start .pre) (start .args .o) _ _ _ (enterable (start .pre) (start .args .o) (sym (c .before .before .before .before .before .before .before .before .before .before .before .before .before .code-of .ensures) ∙ c .before .before .before .before .before .before .before .before .before .before .before .before .if2 .left)) (c .before .before .before .before .before .before .before .before .before .before .before .arrival-of .ensures)
+
+accepted-requires : tie.Need-accepted-requires
+accepted-requires c κs = search needs
 
 same-length-4 : tie.Need-same-length-4
 same-length-4 c = search needs
@@ -78,8 +91,9 @@ same-length-6 c = search needs
 
 returns-3 : tie.Need-returns-3
 returns-3 c =
-    let start = c .before .before .before .before .before .before .before .before .before .before .before .before .before .before .before .before .before .before .before .before .before .before in
-    insert-entered (start .pre) (start .args .o) (sym (c .before .before .before .before .before .before .before .before .before .before .before .code-of .ensures) ∙ c .before .before .before .before .before .before .before .before .before .before .if2 .left) (c .before .before .before .before .before .before .enter-order .ensures)
+    let start = c .before .before .before .before .before .before .before .before .before .before .before .before .before .before .before .before .before .before .before .before .before .before .before .before .before .before in
+    insert-entered (start .pre) (start .args .o) (sym (c .before .before .before .before .before .before .before .before .before .before .before .before .before .before .before .code-of .ensures) ∙ c .before .before .before .before .before .before .before .before .before .before .before .before .before .before .if2 .left)
+    (order-entered (start .pre) (start .args .o) _ _ _ (enterable (start .pre) (start .args .o) (sym (c .before .before .before .before .before .before .before .before .before .before .before .before .before .before .before .code-of .ensures) ∙ c .before .before .before .before .before .before .before .before .before .before .before .before .before .before .if2 .left)) (c .before .before .before .before .before .before .before .before .before .before .before .before .before .arrival-of .ensures) _ _ (c .before .before .before .before .before .before .before .before .enter .ensures) (c .before .with-entry .ensures) (c .accepted .ensures))
 
 pub insert-spec : {M : Type 1} → statement M
 insert-spec =
@@ -98,8 +112,11 @@ insert-spec =
     same-length-2
     same-length-3
     returns-2
-    add-enter-order
-    enter-order-requires
+    arrival-of-requires
+    enter-requires
+    add-with-entry
+    with-entry-requires
+    accepted-requires
     same-length-4
     same-length-5
     same-length-6

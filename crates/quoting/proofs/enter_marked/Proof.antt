@@ -1,5 +1,6 @@
 -- `quoting::enter_marked` meets its contract: refused with its code, or entered marked. Assumes nothing.
 use native.Mathlib.Omega.{arith}
+use Rattle.insertion.proofs.Entering.{arrives, leaves-room, order-entered, ready}
 use Rattle.quoting.proofs.Marking.{marked-enterable, marked-entered, marked-fits, marked-low, marked-refused, numbers-low}
 use borrow.Author.Needs.{needs}
 use Rattle.quoting.proofs.enter_marked.Statement.{statement}
@@ -43,15 +44,28 @@ returns c =
     let start = c .before .before .before .before .before .before .before .before .before .before .before in
     marked-refused (start .pre .0) (start .args .o) (start .pre .1) (c .before .before .order-code .ensures) (c .before .if1 .taken) (c .refused .ensures)
 
-add-enter-order : tie.Need-add-enter-order
-add-enter-order c =
-    let start = c .before .before .before .before .before .before .before .before .before .before .before .before .before in
-    omega (arith, numbers-low (start .pre .0) (start .args .o) (start .pre .1) (c .before .before .before .before .order-code .ensures) (c .before .before .before .if1 .left))
+arrival-of-requires : tie.Need-arrival-of-requires
+arrival-of-requires c κs =
+    let start = c .before .before .before .before .before .before .before .before .before .before in
+    arrives (start .pre .0) (start .args .o) _ _ _ (marked-enterable (start .pre .0) (start .args .o) (start .pre .1) (c .before .order-code .ensures) (c .if1 .left))
 
-enter-order-requires : tie.Need-enter-order-requires
-enter-order-requires c κs =
-    let start = c .before .before .before .before .before .before .before .before .before .before .before .before .before in
-    (start .pre .0, marked-enterable (start .pre .0) (start .args .o) (start .pre .1) (c .before .before .before .before .order-code .ensures) (c .before .before .before .if1 .left))
+enter-requires : tie.Need-enter-requires
+enter-requires c κs =
+    let start = c .before .before .before .before .before .before .before .before .before .before .before .before .before .before .before in
+    ready (start .pre .0) (start .args .o) _ _ _ (marked-enterable (start .pre .0) (start .args .o) (start .pre .1) (c .before .before .before .before .before .before .order-code .ensures) (c .before .before .before .before .before .if1 .left)) (c .before .before .before .before .arrival-of .ensures)
+
+add-with-entry : tie.Need-add-with-entry
+add-with-entry c =
+    let start = c .before .before .before .before .before .before .before .before .before .before .before .before .before .before .before .before .before .before .before .before .before .before in
+    omega (arith, numbers-low (start .pre .0) (start .args .o) (start .pre .1) (c .before .before .before .before .before .before .before .before .before .before .before .before .before .order-code .ensures) (c .before .before .before .before .before .before .before .before .before .before .before .before .if1 .left))
+
+with-entry-requires : tie.Need-with-entry-requires
+with-entry-requires c κs =
+    let start = c .before .before .before .before .before .before .before .before .before .before .before .before .before .before .before .before .before .before .before .before .before .before in
+    leaves-room (start .pre .0) (start .args .o) _ _ _ (marked-enterable (start .pre .0) (start .args .o) (start .pre .1) (c .before .before .before .before .before .before .before .before .before .before .before .before .before .order-code .ensures) (c .before .before .before .before .before .before .before .before .before .before .before .before .if1 .left)) (c .before .before .before .before .before .before .before .before .before .before .before .arrival-of .ensures)
+
+accepted-requires : tie.Need-accepted-requires
+accepted-requires c κs = search needs
 
 same-length-4 : tie.Need-same-length-4
 same-length-4 c = search needs
@@ -64,8 +78,9 @@ same-length-6 c = search needs
 
 returns-2 : tie.Need-returns-2
 returns-2 c =
-    let start = c .before .before .before .before .before .before .before .before .before .before .before .before .before .before .before .before .before .before .before .before in
-    marked-entered (start .pre .0) (start .args .o) (start .pre .1) (c .before .before .before .before .before .before .before .before .before .before .before .order-code .ensures) (c .before .before .before .before .before .before .before .before .before .before .if1 .left) (c .before .before .before .before .before .before .enter-order .ensures)
+    let start = c .before .before .before .before .before .before .before .before .before .before .before .before .before .before .before .before .before .before .before .before .before .before .before .before in
+    marked-entered (start .pre .0) (start .args .o) (start .pre .1) (c .before .before .before .before .before .before .before .before .before .before .before .before .before .before .before .order-code .ensures) (c .before .before .before .before .before .before .before .before .before .before .before .before .before .before .if1 .left)
+    (order-entered (start .pre .0) (start .args .o) _ _ _ (marked-enterable (start .pre .0) (start .args .o) (start .pre .1) (c .before .before .before .before .before .before .before .before .before .before .before .before .before .before .before .order-code .ensures) (c .before .before .before .before .before .before .before .before .before .before .before .before .before .before .if1 .left)) (c .before .before .before .before .before .before .before .before .before .before .before .before .before .arrival-of .ensures) _ _ (c .before .before .before .before .before .before .before .before .enter .ensures) (c .before .with-entry .ensures) (c .accepted .ensures))
 
 pub enter-marked-spec : {M : Type 1} → statement M
 enter-marked-spec =
@@ -81,8 +96,11 @@ enter-marked-spec =
     same-length-2
     same-length-3
     returns
-    add-enter-order
-    enter-order-requires
+    arrival-of-requires
+    enter-requires
+    add-with-entry
+    with-entry-requires
+    accepted-requires
     same-length-4
     same-length-5
     same-length-6
