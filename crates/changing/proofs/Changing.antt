@@ -155,14 +155,13 @@ module _ {s : State} {buys sells trades : List ℕ} (w : WellFormedState s buys 
     account-here : placeOf account < s .accountcount
     account-here = place-below account (s .accountcount) (tests .0) .1
 
-    -- j and n are the account's and the contract's number as the code widens them
-    pub account-fits : {j : ℕ} → j ≡ account → j - 1 < 32
+    pub account-fits : {place : ℕ} → place ≡ placeOf account → place < 32
     account-fits e = omega (arith, account-here, f .accounts-high)
 
-    pub contract-fits : {n : ℕ} → n ≡ contract → n - 1 < 4
+    pub contract-fits : {place : ℕ} → place ≡ c → place < 4
     contract-fits e = omega (arith, here, f .contracts-high)
 
-    pub terms-ok : {n : ℕ} → n ≡ contract → termsInRange (getD (s .contracts) (n - 1) noContract) ≡ true
+    pub terms-ok : {place : ℕ} → place ≡ c → termsInRange (getD (s .contracts) place noContract) ≡ true
     terms-ok e = rw e (contract-terms m f c here)
 
     phase-is : getD (s .contracts) c noContract .phase ≡ 1
@@ -173,8 +172,8 @@ module _ {s : State} {buys sells trades : List ℕ} (w : WellFormedState s buys 
     unfolding removalCode firstOf
     none = rw (tests .0, tests .1 .0, ← in-continuous (getD (s .contracts) c noContract) false phase-is)
 
-    pub rooms : {n : ℕ} → n ≡ contract → {bids offers : ℕ} → bids ≡ getD (s .buycounts) (n - 1) 0 → offers ≡ getD (s .sellcounts) (n - 1) 0
-        → (firstWord (n - 1) bids ≤ length buys) × (firstWord (n - 1) offers ≤ length sells)
+    pub rooms : {place : ℕ} → place ≡ c → {bids offers : ℕ} → bids ≡ getD (s .buycounts) place 0 → offers ≡ getD (s .sellcounts) place 0
+        → (firstWord place bids ≤ length buys) × (firstWord place offers ≤ length sells)
     rooms e eb es = rw (eb, es) (side-room w account contract false none e false, side-room w account contract false none e true)
 
     listing-is : listingFor x k ≡ listingIn m c
@@ -199,10 +198,9 @@ module _ {s : State} {buys sells trades : List ℕ} (w : WellFormedState s buys 
               let one : resting ≡ r .order ∷ [] = resting-is ∙ rs .order e in
               rw (one, e, listing-is)
 
-    -- n is the contract's number as the code widens it
-    module _ {n : ℕ} (is : n ≡ contract) {bids offers : ℕ} (eb : bids ≡ getD (s .buycounts) (n - 1) 0) (es : offers ≡ getD (s .sellcounts) (n - 1) 0) {r : Resting}
-        (rs : RestingIs number (queueIn buys (n - 1) bids) (queueIn sells (n - 1) offers) r) {code : ℕ}
-        (ec : code ≡ firstOf (orderRefusals (getD (s .contracts) (n - 1) noContract) (account - 1) r lots price)) where
+    module _ {place : ℕ} (is : place ≡ c) {bids offers : ℕ} (eb : bids ≡ getD (s .buycounts) place 0) (es : offers ≡ getD (s .sellcounts) place 0) {r : Resting}
+        (rs : RestingIs number (queueIn buys place bids) (queueIn sells place offers) r) {code : ℕ}
+        (ec : code ≡ firstOf (orderRefusals (getD (s .contracts) place noContract) (account - 1) r lots price)) where
       found-here : RestingIs number bought sold r
       found-here = rw (eb, es, is) at rs
 
@@ -357,14 +355,13 @@ module _ {s : State} {buys sells trades : List ℕ} (w : WellFormedState s buys 
         removal-accepted w account contract false (none st′) refl (hasNumber number) (own-removed false e) (other-removed false e)
         (Cancel account contract false number) cancel-code refl refl (omega arith) refl
 
-    -- n is the contract's number as the code widens it
-    pub can-take-out : {n : ℕ} → n ≡ contract
-        → (n - 1 < 4) × (r .place < sideCount (r .sell) s (n - 1)) × (firstWord (n - 1) (sideCount (r .sell) s (n - 1)) ≤ length (sideArea (r .sell) buys sells))
+    pub can-take-out : {place : ℕ} → place ≡ c
+        → (place < 4) × (r .place < sideCount (r .sell) s place) × (firstWord place (sideCount (r .sell) s place) ≤ length (sideArea (r .sell) buys sells))
     can-take-out is = rw is (contract-fits st′ refl, place-in, room (r .sell))
 
-    pub taken-out : {n : ℕ} → n ≡ contract → {t : State} → t ≡ takenOut s (n - 1) r → {buys′ sells′ : List ℕ}
-        → buys′ ≡ pick (r .sell) buys (removedIn buys (n - 1) (sideCount false s (n - 1)) (r .place))
-        → sells′ ≡ pick (r .sell) (removedIn sells (n - 1) (sideCount true s (n - 1)) (r .place)) sells → Cancelled t buys′ sells′
+    pub taken-out : {place : ℕ} → place ≡ c → {t : State} → t ≡ takenOut s place r → {buys′ sells′ : List ℕ}
+        → buys′ ≡ pick (r .sell) buys (removedIn buys place (sideCount false s place) (r .place))
+        → sells′ ≡ pick (r .sell) (removedIn sells place (sideCount true s place) (r .place)) sells → Cancelled t buys′ sells′
     taken-out is et eb es = rw (et, eb, es, is) (as-cancelled (r .sell) refl)
 
     -- "Zero lots removes the order"
@@ -439,13 +436,12 @@ module _ {s : State} {buys sells trades : List ℕ} (w : WellFormedState s buys 
               less-sells (r .sell) refl,
             ))
 
-        -- n is the contract's number as the code widens it
-        pub can-lessen : {n : ℕ} → n ≡ contract → {count₁ : ℕ} → count₁ ≡ sideCount (r .sell) s (n - 1)
-            → (r .place < count₁) × (firstWord (n - 1) count₁ ≤ length (sideArea (r .sell) buys sells))
+        pub can-lessen : {place : ℕ} → place ≡ c → {count₁ : ℕ} → count₁ ≡ sideCount (r .sell) s place
+            → (r .place < count₁) × (firstWord place count₁ ≤ length (sideArea (r .sell) buys sells))
         can-lessen is ec = rw (ec, is) (place-in, room (r .sell))
 
-        pub fewer-changed : (lots ≡ r .order .lots → ⊥) → {n : ℕ} → n ≡ contract → {count₁ : ℕ} → count₁ ≡ sideCount (r .sell) s (n - 1) → {buys′ sells′ : List ℕ}
-            → buys′ ≡ pick (r .sell) buys (lessenedIn buys (n - 1) count₁ (r .place) lots) → sells′ ≡ pick (r .sell) (lessenedIn sells (n - 1) count₁ (r .place) lots) sells
+        pub fewer-changed : (lots ≡ r .order .lots → ⊥) → {place : ℕ} → place ≡ c → {count₁ : ℕ} → count₁ ≡ sideCount (r .sell) s place → {buys′ sells′ : List ℕ}
+            → buys′ ≡ pick (r .sell) buys (lessenedIn buys place count₁ (r .place) lots) → sells′ ≡ pick (r .sell) (lessenedIn sells place count₁ (r .place) lots) sells
             → {o : Outcome} → o ≡ acceptedWith s number 0 lots → OutcomeIs (stepIn m command) o buys′ sells′ trades
         unfolding kindOf placeKept
         fewer-changed h is ec eb es a =
@@ -517,17 +513,16 @@ module _ {s : State} {buys sells trades : List ℕ} (w : WellFormedState s buys 
           pub gone-lots : o .lots ≤ 1_000
           gone-lots = rw eo few-lots
 
-          -- j is the account's number as the code widens it
-          pub gone-owner : {j : ℕ} → j ≡ account → {who : Account} → who ≡ getD (s .accounts) (j - 1) noAccount → getD (t .state .accounts) (o .account - 1) noAccount ≡ who
+          pub gone-owner : {place : ℕ} → place ≡ placeOf account → {who : Account} → who ≡ getD (s .accounts) place noAccount → getD (t .state .accounts) (o .account - 1) noAccount ≡ who
           gone-owner e ew = rw (ew, e, eo, gone-state)
 
           module _ {code : ℕ} (ec : code ≡ firstOf (reentryRefusals (exchangeOf m′) number o)) where
             changed-code : codeOf x command ≡ code
             changed-code = lost-code loss ∙ sym (ec ∙ rw (its-order, read))
 
-            -- ---- refused: the order is put back, n being the contract's number as the code widens it
+            -- ---- refused: the order is put back
 
-            module _ (refused : code ≡ 0 → ⊥) {n : ℕ} (is : n ≡ contract) {count₁ : ℕ} (en : count₁ ≡ sideCount (r .sell) (t .state) (n - 1)) where
+            module _ (refused : code ≡ 0 → ⊥) {place : ℕ} (is : place ≡ c) {count₁ : ℕ} (en : count₁ ≡ sideCount (r .sell) (t .state) place) where
               kept-other : (side : Bool) → r .sell ≡ side → putQueue (area (not side)) c (count (not side)) (left (not side)) ≡ area (not side)
               kept-other side e = rw (without-none (hasNumber number) (queue (not side)) (other side e)) (put-queue (area (not side)) c (count (not side)) (room (not side)))
 
@@ -548,7 +543,7 @@ module _ {s : State} {buys sells trades : List ℕ} (w : WellFormedState s buys 
               wide true = ap length gone-sells ∙ length-putQueue sells c (count true) (left true) (few true) (left-few true) (omega (arith, f .sells-room, here st′))
               wide false = ap length gone-buys ∙ length-putQueue buys c (count false) (left false) (few false) (left-few false) (omega (arith, f .buys-room, here st′))
 
-              pub can-put-back : (r .place ≤ count₁) × (firstWord (n - 1) count₁ + orderStride ≤ length (sideArea (r .sell) buys′ sells′))
+              pub can-put-back : (r .place ≤ count₁) × (firstWord place count₁ + orderStride ≤ length (sideArea (r .sell) buys′ sells′))
               can-put-back = rw is (omega (arith, less-one, place-in), omega (arith, less-one, place-in, wide (r .sell), room (r .sell)))
 
               back-buys : (side : Bool) → r .sell ≡ side → {b : List ℕ} → b ≡ pick side buys′ (putBackIn buys′ c count₁ (r .place) (r .order)) → b ≡ buys
@@ -563,10 +558,10 @@ module _ {s : State} {buys sells trades : List ℕ} (w : WellFormedState s buys 
                   (gone-sells ∙ rw (out-of true e)) (less-one ∙ rw e) q
               back-sells false e q = q ∙ gone-sells ∙ kept-other false e
 
-              pub buys-back : {b : List ℕ} → b ≡ pick (r .sell) buys′ (putBackIn buys′ (n - 1) count₁ (r .place) (r .order)) → b ≡ buys
+              pub buys-back : {b : List ℕ} → b ≡ pick (r .sell) buys′ (putBackIn buys′ place count₁ (r .place) (r .order)) → b ≡ buys
               buys-back eb = back-buys (r .sell) refl (rw is at eb)
 
-              pub sells-back : {b : List ℕ} → b ≡ pick (r .sell) (putBackIn sells′ (n - 1) count₁ (r .place) (r .order)) sells′ → b ≡ sells
+              pub sells-back : {b : List ℕ} → b ≡ pick (r .sell) (putBackIn sells′ place count₁ (r .place) (r .order)) sells′ → b ≡ sells
               sells-back eb = back-sells (r .sell) refl (rw is at eb)
 
               pub lost-refused : {b d : List ℕ} → b ≡ buys → d ≡ sells → {q : Outcome} → q ≡ refusedWith s code → OutcomeIs (stepIn m command) q b d trades

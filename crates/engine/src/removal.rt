@@ -42,7 +42,7 @@ fn refusal(state: State, account: u32, contract: u32, operator: bool) -> u32
     if answers::is_absent(contract, state.contractcount) {
         return 3;
     }
-    let place = laws::wide(contract) - 1;
+    let place = laws::place_of(contract);
     let contracts = state.contracts;
     let terms = contracts[place];
     if is_refused(terms, operator) {
@@ -119,7 +119,7 @@ pub fn cancel(
     if code != 0 {
         return answers::refused(state, code);
     }
-    let c = laws::wide(contract) - 1;
+    let c = laws::place_of(contract);
     let bids = state.buycounts;
     let offers = state.sellcounts;
     let bought = bids[c];
@@ -159,7 +159,7 @@ pub fn pull(
     if code != 0 {
         return answers::refused(state, code);
     }
-    let c = laws::wide(contract) - 1;
+    let c = laws::place_of(contract);
     let bids = state.buycounts;
     let offers = state.sellcounts;
     let bought = bids[c];

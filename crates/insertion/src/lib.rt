@@ -41,7 +41,7 @@ pub fn arrival_of(state: State, o: NewOrder, number: u32, quote: u32) -> Arrival
     requires { ⌜ (1 ≤ o .contract) × (placeOf (o .contract) < 4) ⌝ }
     ensures { λ r. ⌜ r ≡ arrivalOf state o number quote ⌝ }
 {
-    let place = laws::wide(o.contract) - 1;
+    let place = laws::place_of(o.contract);
     let contracts = state.contracts;
     let bids = state.buycounts;
     let offers = state.sellcounts;
@@ -186,7 +186,7 @@ pub fn insert(
     if answers::is_absent(o.account, state.accountcount) {
         return answers::refused(state, 2);
     }
-    let a = laws::wide(o.account) - 1;
+    let a = laws::place_of(o.account);
     let who = state.accounts[a];
     let refusal = codes::code_of(state, who, &buys[..], &sells[..], &trades[..], o);
     if refusal != 0 {

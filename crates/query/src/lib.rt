@@ -66,7 +66,7 @@ fn reading_of<'a>(
     if answers::is_absent(o.contract, state.contractcount) {
         return refused(3);
     }
-    let c = laws::wide(o.contract) - 1;
+    let c = laws::place_of(o.contract);
     let contracts = state.contracts;
     let terms = contracts[c];
     let fields = fields_code(terms, o);

@@ -55,11 +55,10 @@ module _ {s : State} {buys sells trades : List ℕ} (w : WellFormedState s buys 
   f : Formed m
   f = formed w
 
-  -- j is the account's number as the code widens it
-  pub marked-low : {j : ℕ} → j ≡ o .account → 1 ≤ j
-  marked-low e = omega (arith, g .present .account-low)
+  pub marked-low : 1 ≤ o .account
+  marked-low = g .present .account-low
 
-  pub marked-fits : {j : ℕ} → j ≡ o .account → j - 1 < 32
+  pub marked-fits : {place : ℕ} → place ≡ o .account - 1 → place < 32
   marked-fits e = omega (arith, g .present .account, f .accounts-high)
 
   module _ {code : ℕ} (ec : code ≡ firstOf (orderRefusals x o)) where

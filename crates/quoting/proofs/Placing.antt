@@ -3,7 +3,7 @@
 use mathlib.Core.Bool.{Bool, true, false, not}
 use mathlib.Core.List.{List, [], _∷_, _++_}
 use mathlib.Core.Path.{_≡_, refl, sym, ap, _∙_, subst}
-use Prim.Native.Nat.{ℕ, _+_, _-_, _*_, _<_, _≤_}
+use Prim.Native.Nat.{ℕ, _+_, _*_, _<_, _≤_}
 use native.Mathlib.Omega.{arith}
 use borrow.Author.Tests.{eqb-true, ne-eqb, not-false}
 use lib.Dec.{eqb, ltb}
@@ -79,11 +79,11 @@ entered-lots y number mark o =
     entered-either y number mark o (λ e. (tradedLots (e .trades) ≤ o .lots) × (e .rested ≤ o .lots)) (λ h. (omega (arith, traded-nil), omega arith))
     (λ h. (swept-at-most (takerOf y number mark o) (o .lots) (listingOf y o .contract .last) (opposite (o .sell) (listingOf y o)), rested-lots (isGoodForDay (o .time)) (o .lots) _))
 
--- what the code takes out of the two queues is the account's old quote; k is the contract's number as the code widens it
-pub gone-written : {s : State} {buys sells trades : List ℕ} (w : WellFormedState s buys sells trades) (account contract : ℕ) → removalCode s account contract false ≡ 0 → {k : ℕ} → k ≡ contract
+-- what the code takes out of the two queues is the account's old quote
+pub gone-written : {s : State} {buys sells trades : List ℕ} (w : WellFormedState s buys sells trades) (account contract : ℕ) → removalCode s account contract false ≡ 0 → {place : ℕ} → place ≡ placeOf contract
     → {r : State} {bid offer : Pulled} {buys′ sells′ : List ℕ}
-    → PulledIs (isQuoteOf (placeOf account)) buys (k - 1) (getD (s .buycounts) (k - 1) 0) bid buys′ → PulledIs (isQuoteOf (placeOf account)) sells (k - 1) (getD (s .sellcounts) (k - 1) 0) offer sells′
-    → r ≡ withCountsIn s (set (s .buycounts) (k - 1) (bid .count)) (set (s .sellcounts) (k - 1) (offer .count)) → memory r buys′ sells′ trades ≡ goneIn (memory s buys sells trades) account contract
+    → PulledIs (isQuoteOf (placeOf account)) buys place (getD (s .buycounts) place 0) bid buys′ → PulledIs (isQuoteOf (placeOf account)) sells place (getD (s .sellcounts) place 0) offer sells′
+    → r ≡ withCountsIn s (set (s .buycounts) place (bid .count)) (set (s .sellcounts) place (offer .count)) → memory r buys′ sells′ trades ≡ goneIn (memory s buys sells trades) account contract
 gone-written w account contract none is b o e =
     rw e
     (sym (lies w account contract false none is (isQuoteOf (placeOf account)) (record { queue = b .queue; count = b .count; lots = b .lots }) (record { queue = o .queue; count = o .count; lots = o .lots })))
@@ -165,8 +165,8 @@ module _ {s : State} {buys sells trades : List ℕ} (w : WellFormedState s buys 
     pub here : c < s .contractcount
     here = place-below contract (s .contractcount) (tests .1 .0) .1
 
-    pub place-low : {k : ℕ} → k ≡ contract → 1 ≤ k
-    place-low e = omega (arith, place-below contract (s .contractcount) (tests .1 .0) .0)
+    pub contract-low : 1 ≤ contract
+    contract-low = place-below contract (s .contractcount) (tests .1 .0) .0
 
     pub removable : removalCode s account contract false ≡ 0
     unfolding removalCode firstOf
@@ -532,26 +532,26 @@ module _ {s : State} {buys sells trades : List ℕ} (w : WellFormedState s buys 
                         trades-back = λ z. absurd (z zero-told);
                       }
 
-    -- ---- what is kept and put back; k is the contract's number as the code widens it, n the room of the copy
+    -- ---- what is kept and put back; n is the room of the copy
 
     pub traded-few : s .tradecount ≤ maxTrades
     traded-few = f .trades-high
 
-    pub buys-room : {k n : ℕ} → k ≡ contract → n ≡ queueStride → queueStride * (k - 1) + n ≤ length buys
-    buys-room ek en = rw (ek, en) room-buys
+    pub buys-room : {place n : ℕ} → place ≡ placeOf contract → n ≡ queueStride → queueStride * place + n ≤ length buys
+    buys-room is en = rw (is, en) room-buys
 
-    pub sells-room : {k n : ℕ} → k ≡ contract → n ≡ queueStride → queueStride * (k - 1) + n ≤ length sells
-    sells-room ek en = rw (ek, en) room-sells
+    pub sells-room : {place n : ℕ} → place ≡ placeOf contract → n ≡ queueStride → queueStride * place + n ≤ length sells
+    sells-room is en = rw (is, en) room-sells
 
     pub kept-room : {at n : ℕ} → at ≡ madeFrom (s .tradecount) → n ≡ tradeStride * maxResting → at + n ≤ length trades
     kept-room ea en = rw (ea, en) trades-room
 
     module _ {r : Outcome} {buys′ sells′ trades′ : List ℕ} (p : PlacedIs s buys sells trades account contract lots buy sell r buys′ sells′ trades′) (some : r .answer .code ≡ 0 → ⊥) where
-      pub buys-again : {k n : ℕ} → k ≡ contract → n ≡ queueStride → {kept buys″ : List ℕ} → kept ≡ take n (drop (queueStride * (k - 1)) buys) → buys″ ≡ over buys′ (queueStride * (k - 1)) kept → buys″ ≡ buys
-      buys-again ek en e h = h ∙ rw (e, ek, en) (p .buys-back some .back)
+      pub buys-again : {place n : ℕ} → place ≡ placeOf contract → n ≡ queueStride → {kept buys″ : List ℕ} → kept ≡ take n (drop (queueStride * place) buys) → buys″ ≡ over buys′ (queueStride * place) kept → buys″ ≡ buys
+      buys-again is en e h = h ∙ rw (e, is, en) (p .buys-back some .back)
 
-      pub sells-again : {k n : ℕ} → k ≡ contract → n ≡ queueStride → {kept sells″ : List ℕ} → kept ≡ take n (drop (queueStride * (k - 1)) sells) → sells″ ≡ over sells′ (queueStride * (k - 1)) kept → sells″ ≡ sells
-      sells-again ek en e h = h ∙ rw (e, ek, en) (p .sells-back some .back)
+      pub sells-again : {place n : ℕ} → place ≡ placeOf contract → n ≡ queueStride → {kept sells″ : List ℕ} → kept ≡ take n (drop (queueStride * place) sells) → sells″ ≡ over sells′ (queueStride * place) kept → sells″ ≡ sells
+      sells-again is en e h = h ∙ rw (e, is, en) (p .sells-back some .back)
 
       pub trades-again : {at n : ℕ} → at ≡ madeFrom (s .tradecount) → n ≡ tradeStride * maxResting → {kept trades″ : List ℕ} → kept ≡ take n (drop at trades) → trades″ ≡ over trades′ at kept → trades″ ≡ trades
       trades-again ea en e h = h ∙ rw (e, ea, en) (p .trades-back some .back)

@@ -88,12 +88,12 @@ module _ {s : State} {buys sells trades : List ℕ} (w : WellFormedState s buys 
   pub code-contract : isAbsent (o .account) (s .accountcount) ≡ false → isAbsent (o .contract) (s .contractcount) ≡ true → 3 ≡ codeOf x (Insert o)
   code-contract e g = sym (rw (insert-parts, e, g))
 
-  -- the account's place; j is its number as the code widens it
-  pub holder-low : isAbsent (o .account) (s .accountcount) ≡ false → {j : ℕ} → j ≡ o .account → 1 ≤ j
-  holder-low e ej = omega (arith, place-below (o .account) (s .accountcount) e .0)
+  -- the account's place
+  pub holder-low : isAbsent (o .account) (s .accountcount) ≡ false → 1 ≤ o .account
+  holder-low e = place-below (o .account) (s .accountcount) e .0
 
-  pub holder-fits : isAbsent (o .account) (s .accountcount) ≡ false → {j : ℕ} → j ≡ o .account → j - 1 < 32
-  holder-fits e ej = omega (arith, place-below (o .account) (s .accountcount) e .1, f .accounts-high)
+  pub holder-fits : isAbsent (o .account) (s .accountcount) ≡ false → {place : ℕ} → place ≡ o .account - 1 → place < 32
+  holder-fits e is = omega (arith, place-below (o .account) (s .accountcount) e .1, f .accounts-high)
 
   pub present : isAbsent (o .account) (s .accountcount) ≡ false → isAbsent (o .contract) (s .contractcount) ≡ false → Present s o
   present e g =
@@ -104,23 +104,23 @@ module _ {s : State} {buys sells trades : List ℕ} (w : WellFormedState s buys 
   pub recorded-high : s .tradecount ≤ maxTrades
   recorded-high = f .trades-high
 
-  -- ---- an order whose account and contract are in use; k is its contract's number as the code widens it
+  -- ---- an order whose account and contract are in use
 
-  module _ (p : Present s o) {k : ℕ} (is : k ≡ o .contract) where
-    pub place-fits : k - 1 < 4
+  module _ (p : Present s o) {place : ℕ} (is : place ≡ o .contract - 1) where
+    pub place-fits : place < 4
     place-fits = omega (arith, p .contract, f .contracts-high)
 
-    pub terms-in-range : termsInRange (getD (s .contracts) (k - 1) noContract) ≡ true
+    pub terms-in-range : termsInRange (getD (s .contracts) place noContract) ≡ true
     terms-in-range = rw is (contract-terms m f c (p .contract))
 
     -- 8
-    module _ {own₁ : List ℕ} {count : ℕ} (ea : own₁ ≡ sideArea (o .sell) buys sells) (ec : count ≡ sideCount (o .sell) s (k - 1)) where
-      pub own-room : (count ≤ maxResting) × (firstWord (k - 1) count ≤ length own₁)
+    module _ {own₁ : List ℕ} {count : ℕ} (ea : own₁ ≡ sideArea (o .sell) buys sells) (ec : count ≡ sideCount (o .sell) s place) where
+      pub own-room : (count ≤ maxResting) × (firstWord place count ≤ length own₁)
       own-room =
           let r = side-room m f c (p .contract) (o .sell) in
           rw (ec, ea, is) (r .few, r .room)
 
-      module _ {mark₁ rested : ℕ} (em : mark₁ ≡ mark (o .close)) (er : rested ≡ resting mark₁ (o .account - 1) (queueIn own₁ (k - 1) count)) where
+      module _ {mark₁ rested : ℕ} (em : mark₁ ≡ mark (o .close)) (er : rested ≡ resting mark₁ (o .account - 1) (queueIn own₁ place count)) where
         rested-is : rested ≡ resting (mark (o .close)) (o .account - 1) (queueIn (sideArea (o .sell) buys sells) c (sideCount (o .sell) s c))
         rested-is = er ∙ rw (em, ec, ea, is)
 
@@ -128,7 +128,7 @@ module _ {s : State} {buys sells trades : List ℕ} (w : WellFormedState s buys 
         rested-low = rw rested-is (resting-low m f c (p .contract) (o .account - 1) (p .account) (o .sell) (o .close))
 
         module _ {who : Account} (ew : getD (s .accounts) (o .account - 1) noAccount ≡ who) {r : Bool}
-            (el : r ≡ lotsRefused (getD (s .contracts) (k - 1) noContract) (getD (who .holdings) (k - 1) noHolding) rested o) where
+            (el : r ≡ lotsRefused (getD (s .contracts) place noContract) (getD (who .holdings) place noHolding) rested o) where
           holding-is : r ≡ holdingRefused x o
           unfolding holdingRefused overHolding overLimit lotsRefused listingOf holdingAt accountAt
           holding-is =
@@ -152,7 +152,7 @@ module _ {s : State} {buys sells trades : List ℕ} (w : WellFormedState s buys 
 
     -- ---- 4 of an insert, and on to its order
 
-    module _ (e : isAbsent (o .account) (s .accountcount) ≡ false) (g : isAbsent (o .contract) (s .contractcount) ≡ false) {t : Bool} (et : t ≡ takesOrders (getD (s .contracts) (k - 1) noContract)) where
+    module _ (e : isAbsent (o .account) (s .accountcount) ≡ false) (g : isAbsent (o .contract) (s .contractcount) ≡ false) {t : Bool} (et : t ≡ takesOrders (getD (s .contracts) place noContract)) where
       takes-is : takesOrders (listingOf x o .contract) ≡ t
       unfolding listingOf
       takes-is = rw (contract-is m f c (p .contract)) (sym (rw is at et))
@@ -165,13 +165,13 @@ module _ {s : State} {buys sells trades : List ℕ} (w : WellFormedState s buys 
 
     -- ---- the parts one after the other
 
-    fields-is : firstOf (fieldsRefusals (conditionsRefused (getD (s .contracts) (k - 1) noContract) o) (getD (s .contracts) (k - 1) noContract) o) ≡ firstOf fieldsPart
+    fields-is : firstOf (fieldsRefusals (conditionsRefused (getD (s .contracts) place noContract) o) (getD (s .contracts) place noContract) o) ≡ firstOf fieldsPart
     unfolding fieldsPart listingOf
     fields-is = rw (is, contract-is m f c (p .contract))
 
     -- 5 to 7
-    module _ {conditions : Bool} (en : conditions ≡ conditionsRefused (getD (s .contracts) (k - 1) noContract) o)
-        {fields : ℕ} (et : fields ≡ firstOf (fieldsRefusals conditions (getD (s .contracts) (k - 1) noContract) o)) where
+    module _ {conditions : Bool} (en : conditions ≡ conditionsRefused (getD (s .contracts) place noContract) o)
+        {fields : ℕ} (et : fields ≡ firstOf (fieldsRefusals conditions (getD (s .contracts) place noContract) o)) where
       fields-are : fields ≡ firstOf fieldsPart
       fields-are = et ∙ rw en fields-is
 
@@ -181,7 +181,7 @@ module _ {s : State} {buys sells trades : List ℕ} (w : WellFormedState s buys 
       -- 5
       pub lots-few : fields ≡ 0 → o .lots ≤ 1_000
       lots-few passed =
-          let tests = failed (fieldsRefusals conditions (getD (s .contracts) (k - 1) noContract) o) (omega arith) (sym et ∙ passed) in
+          let tests = failed (fieldsRefusals conditions (getD (s .contracts) place noContract) o) (omega arith) (sym et ∙ passed) in
           leb-true (o .lots) maxLots (both-true (leb 1 (o .lots)) (leb (o .lots) maxLots) (not-false (within 1 maxLots (o .lots)) (tests .0)) .1)
 
       -- 8 and 9
@@ -193,23 +193,23 @@ module _ {s : State} {buys sells trades : List ℕ} (w : WellFormedState s buys 
         code-lots-or-money some = sym (on-to-account ∙ rw (account-first, ← ex, ne-eqb account 0 some))
 
         -- 10 to 13
-        module _ (clear : account ≡ 0) {own₁ count : ℕ} {area : List ℕ} (eo : own₁ ≡ sideCount (o .sell) s (k - 1)) (ea : area ≡ sideArea (not (o .sell)) buys sells)
-            (ec : count ≡ sideCount (not (o .sell)) s (k - 1)) where
+        module _ (clear : account ≡ 0) {own₁ count : ℕ} {area : List ℕ} (eo : own₁ ≡ sideCount (o .sell) s place) (ea : area ≡ sideArea (not (o .sell)) buys sells)
+            (ec : count ≡ sideCount (not (o .sell)) s place) where
           pub opposite-room : QueueRoom area (o .contract - 1) count
           opposite-room = rw (ec, ea, is) (side-room m f c (p .contract) (not (o .sell)))
 
-          module _ {t : Taker} (er : t ≡ takerFor (s .next) 0 (s .nextstamp) (getD (s .contracts) (k - 1) noContract) (queueIn area (o .contract - 1) count) o) where
-            pub facing : Facing t area (k - 1) count
+          module _ {t : Taker} (er : t ≡ takerFor (s .next) 0 (s .nextstamp) (getD (s .contracts) place noContract) (queueIn area (o .contract - 1) count) o) where
+            pub facing : Facing t area place count
             facing = rw (er, ec, ea, is) (opposite-facing m f c (p .contract) (s .next) 0 (s .nextstamp) _ o)
 
             pub recorded-few : s .tradecount ≤ maxTrades
             recorded-few = f .trades-high
 
-            book-is : firstOf (bookTests (inAuction (getD (s .contracts) (k - 1) noContract)) (s .next) (s .nextstamp) (s .tradecount) own₁ t (queueIn area (k - 1) count) o) ≡ firstOf bookPart
+            book-is : firstOf (bookTests (inAuction (getD (s .contracts) place noContract)) (s .next) (s .nextstamp) (s .tradecount) own₁ t (queueIn area place count) o) ≡ firstOf bookPart
             unfolding bookPart listingOf takerOf exchangeOf
             book-is =
                 rw (er, eo, ec, ea, is, trades-count m f, side-is m f c (p .contract) (o .sell), length-queue, opposite-is m f c (p .contract) (o .sell), contract-is m f c (p .contract))
 
-            pub code-book : {book : ℕ} → book ≡ firstOf (bookTests (inAuction (getD (s .contracts) (k - 1) noContract)) (s .next) (s .nextstamp) (s .tradecount) own₁ t (queueIn area (k - 1) count) o)
+            pub code-book : {book : ℕ} → book ≡ firstOf (bookTests (inAuction (getD (s .contracts) place noContract)) (s .next) (s .nextstamp) (s .tradecount) own₁ t (queueIn area place count) o)
                 → book ≡ code
             code-book eb = eb ∙ book-is ∙ sym (on-to-account ∙ rw (account-first, ← ex, clear))

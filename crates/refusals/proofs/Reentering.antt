@@ -58,14 +58,14 @@ module _ {s : State} {buys sells trades : List ℕ} (w : WellFormedState s buys 
       unfolding exchangeOf
       reentry-stamps h = sym (on ∙ rw (le-leb _ _ h))
 
-      -- 12; k is the contract's number as the code widens it
-      module _ (left : s .nextstamp < 1_000_000) {k : ℕ} (is : k ≡ o .contract) {area : List ℕ} {count : ℕ}
-          (ea : area ≡ sideArea (not (o .sell)) buys sells) (ec : count ≡ sideCount (not (o .sell)) s (k - 1)) where
+      -- 12
+      module _ (left : s .nextstamp < 1_000_000) {place : ℕ} (is : place ≡ o .contract - 1) {area : List ℕ} {count : ℕ}
+          (ea : area ≡ sideArea (not (o .sell)) buys sells) (ec : count ≡ sideCount (not (o .sell)) s place) where
         pub reentry-room : QueueRoom area (o .contract - 1) count
         reentry-room = rw (ec, ea, is) (side-room m f c (p .contract) (not (o .sell)))
 
-        module _ {t : Taker} (et : t ≡ takerFor number 0 (s .nextstamp) (getD (s .contracts) (k - 1) noContract) (queueIn area (o .contract - 1) count) o) {r : Bool}
-            (er : r ≡ tradesRefused (inAuction (getD (s .contracts) (k - 1) noContract)) (s .tradecount) t (queueIn area (k - 1) count) (o .lots)) where
+        module _ {t : Taker} (et : t ≡ takerFor number 0 (s .nextstamp) (getD (s .contracts) place noContract) (queueIn area (o .contract - 1) count) o) {r : Bool}
+            (er : r ≡ tradesRefused (inAuction (getD (s .contracts) place noContract)) (s .tradecount) t (queueIn area place count) (o .lots)) where
           trades-is : r ≡ rules.tradesRefused x number o
           unfolding rules.tradesRefused tradesNeeded listingOf takerOf exchangeOf
           trades-is =

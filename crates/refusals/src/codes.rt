@@ -132,8 +132,8 @@ fn money_refused<'a>(
     if o.close {
         return false;
     }
-    let c = laws::wide(o.contract) - 1;
-    let a = laws::wide(o.account) - 1;
+    let c = laws::place_of(o.contract);
+    let a = laws::place_of(o.account);
     let held = holdings::book_leg(who, c, o.sell, 0, o.lots);
     let balance = who.balance;
     let holdings = held.holdings;
@@ -165,7 +165,7 @@ fn account_code<'a>(
     requires { ⌜ WellFormedState state (now buys) (now sells) (now trades) × Present state o × (o .lots ≤ 1000) × (getD (state .accounts) (o .account - 1) noAccount ≡ who) ⌝ }
     ensures { λ r. ⌜ r ≡ answer.firstOf (answer.accountRefusals (exchangeOf (memory state (now (buys .entry)) (now (sells .entry)) (now (trades .entry)))) o) ⌝ }
 {
-    let c = laws::wide(o.contract) - 1;
+    let c = laws::place_of(o.contract);
     let contracts = state.contracts;
     let terms = contracts[c];
     let h = who.holdings[c];
@@ -312,7 +312,7 @@ pub fn order_code<'a>(
     requires { ⌜ WellFormedState state (now buys) (now sells) (now trades) × Present state o × (getD (state .accounts) (o .account - 1) noAccount ≡ who) ⌝ }
     ensures { λ r. ⌜ r ≡ answer.firstOf (answer.orderRefusals (exchangeOf (memory state (now (buys .entry)) (now (sells .entry)) (now (trades .entry)))) o) ⌝ }
 {
-    let c = laws::wide(o.contract) - 1;
+    let c = laws::place_of(o.contract);
     let contracts = state.contracts;
     let terms = contracts[c];
     let conditions = conditions_refused(terms, o);
@@ -347,7 +347,7 @@ pub fn code_of<'a>(
     if answers::is_absent(o.contract, state.contractcount) {
         return 3;
     }
-    let c = laws::wide(o.contract) - 1;
+    let c = laws::place_of(o.contract);
     let contracts = state.contracts;
     let terms = contracts[c];
     if !takes_orders(terms) {
@@ -377,7 +377,7 @@ pub fn reentry_code<'a>(
     if rules::NUMBERS_END <= state.nextstamp {
         return 10;
     }
-    let c = laws::wide(o.contract) - 1;
+    let c = laws::place_of(o.contract);
     let contracts = state.contracts;
     let terms = contracts[c];
     let area = orders::side_area(!o.sell, buys, sells);

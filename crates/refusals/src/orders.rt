@@ -134,7 +134,7 @@ pub fn taker_of(
     requires { ⌜ (1 ≤ o .account) × (1 ≤ o .contract) × QueueRoom (now area) (o .contract - 1) count ⌝ }
     ensures { λ r. ⌜ r ≡ answer.takerFor number quote stamp terms (queueIn (now (area .entry)) (o .contract - 1) count) o ⌝ }
 {
-    let c = laws::wide(o.contract) - 1;
+    let c = laws::place_of(o.contract);
     let best = best_price(area, c, count);
     let condition = o.condition;
     let method = method_of(terms);
