@@ -2,6 +2,6 @@ pub mod Opened
 pub mod Playing
 pub mod ReadEnough
 pub mod Recorded
-pub mod AfterCommand
+pub mod Responded
 pub mod Tables
 pub mod WholeDay

@@ -144,8 +144,8 @@ pub fn loaded_state(file: &[u8], contracts: usize, accounts: usize, state: State
     State {
         contracts: terms,
         accounts: holders,
-        buycounts,
-        sellcounts,
+        buycounts: buys,
+        sellcounts: sells,
         contractcount: contracts,
         accountcount: accounts,
         tradecount: 0,

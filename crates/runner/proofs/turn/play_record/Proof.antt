@@ -1,6 +1,6 @@
 -- `turn::play_record` meets its contract: the step, then its lines. Assumes nothing.
 use borrow.Author.Needs.{needs}
-use Rattle.runner.proofs.AfterCommand.{counts-in-range, turn-is}
+use Rattle.runner.proofs.Responded.{counts-in-range, turn-is}
 use Rattle.runner.proofs.turn.play_record.Statement.{statement}
 use Rattle.runner.proofs.turn.play_record.Tie as tie
 
