@@ -1,4 +1,4 @@
--- Files that are sound and near misses that are not, worked out by hand. One table, one statement, as in Examples.antt. Assumes nothing.
+-- Files that are sound and near misses that are not, worked out by hand. Two tables, a statement each. Assumes nothing.
 use mathlib.Core.Bool.{true}
 use mathlib.Core.List.{List, [], _∷_, _++_}
 use mathlib.Core.Path.{_≡_, refl}
@@ -25,15 +25,22 @@ file accounts last behind =
 
 pub table : List Row
 table =
-    -- 32 accounts and no more, 10^18 and no more, no bytes after the last command
-    (mark (sound (file 32 (balance 0) [])) gives 1)
-    ∷ (mark (sound (file 33 (balance 0) [])) gives 0)
-    ∷ (mark (sound (file 2 (balance 1) [])) gives 0)
-    ∷ (mark (sound (file 2 (balance 0) (0 ∷ []))) gives 0)
+    -- 10^18 and no more, no bytes after the last command
+    (mark (sound (file 1 (balance 0) [])) gives 1)
+    ∷ (mark (sound (file 1 (balance 1) [])) gives 0)
+    ∷ (mark (sound (file 1 (balance 0) (0 ∷ []))) gives 0)
     -- the last price starts as the reference
-    ∷ (contractFrom (file 2 (balance 0) []) 4 .last gives 100)
+    ∷ (contractFrom (file 1 (balance 0) []) 4 .last gives 100)
     ∷ []
 
 pub day-file-examples : allRight table ≡ true
 unfolding allRight table contract balance file accountPlace accountSound accountsIn all balanceFrom commandPlace commandsIn contractFrom contractPlace contractSound contractsIn onTick sound termsInRange tickMultiple u16At u32At u64At u8At
 day-file-examples = refl
+
+-- 32 accounts and no more
+pub counts : List Row
+counts = (mark (sound (file 32 (balance 0) [])) gives 1) ∷ (mark (sound (file 33 (balance 0) [])) gives 0) ∷ []
+
+pub count-examples : allRight counts ≡ true
+unfolding allRight counts contract balance file accountPlace accountSound accountsIn all balanceFrom commandPlace commandsIn contractFrom contractPlace contractSound contractsIn onTick sound termsInRange tickMultiple u16At u32At u64At u8At
+count-examples = refl
