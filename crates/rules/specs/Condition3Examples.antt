@@ -88,6 +88,7 @@ table =
     ∷ (inTo 0 (kindOf (exchangeOf (start 0)) (Deposit 1 5) .moves) gives 5)
     ∷ (outOf 1 (kindOf (exchangeOf (start 0)) (Withdraw 2 5) .moves) gives 5)
     ∷ (paidIn 0 (start 0) (Deposit 1 5 ∷ []) gives 0)
+    ∷ (respond (start 0) (Deposit 1 5) .answer .code gives 21)
     ∷ []
 
 pub condition-3-examples : allRight table ≡ true
