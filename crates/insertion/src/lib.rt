@@ -1,7 +1,8 @@
-// An order entered with a number and a quote mark, and insert. For our own crates: each asks for what it reads to be in range.
+// An order entered with a number and a quote mark, and insert. For our own crates: `insert` asks for a well-formed state, the others
+// for what they read to be in range.
 //
-// `arrival_of`, `enter` and `with_entry` are three calls, so that none of those that stay calls takes or gives the whole state: each such
-// call would copy it twice.
+// An order enters by three calls, `arrival_of`, `enter` and `with_entry`, so that the one that stays a call, `enter_on`, takes the
+// accounts and not the whole state: a call that takes the state and gives it back copies it twice.
 ghost use Prim.Native.Nat.{_<_, _≤_};
 ghost use mathlib.Core.Path.{_≡_};
 ghost use Rattle.laws.specs.Choice.{pick};
