@@ -150,17 +150,18 @@ numbersUsedUp x = leb numbersEnd (x .next)
 abbrev pub stampsUsedUp : Exchange → Bool
 stampsUsedUp x = leb numbersEnd (x .nextstamp)
 
+-- 11: "fill or kill: fillable lots below lots"; so many can be filled
+abbrev pub killRefused : ℕ → ℕ → TimeCondition → Bool
+killRefused filled lots time = isFillOrKill time && ltb filled lots
+
 -- 12: "it would make more trades than the day has room for"
 unfoldable pub tradesRefused : Exchange → ℕ → NewOrder → Bool
 tradesRefused x number o = ltb maxTrades (length (x .trades) + tradesNeeded x number o)
 
--- 11: "fill or kill: fillable lots below lots"
-abbrev pub killRefused : ℕ → ℕ → TimeCondition → Bool
-killRefused fillable lots time = isFillOrKill time && ltb fillable lots
-
--- 13: "good for day, own side has 64, fillable lots below lots"; in auction "13 whenever the own side has 64" (02, ticket 4)
+-- 13: "good for day, own side has 64, fillable lots below lots"; in auction "13 whenever the own side has 64" (02, ticket 4): whether it
+-- is in auction, how many orders rest on its own side, how many lots can be filled
 abbrev pub fullRefused : Bool → ℕ → ℕ → ℕ → TimeCondition → Bool
-fullRefused auction own fillable lots time = isGoodForDay time && leb maxResting own && (auction || ltb fillable lots)
+fullRefused auctioned rest filled lots time = isGoodForDay time && leb maxResting rest && (auctioned || ltb filled lots)
 
 -- ---- the refusals of each kind, "Order: 21, 1, then .."
 

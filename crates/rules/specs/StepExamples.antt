@@ -22,7 +22,7 @@ use Rattle.rules.specs.declared.Order.{Order}
 use Rattle.rules.specs.declared.Trade.{Trade}
 
 -- account 1 has sold 3 at 102 to account 2, both to open, the reference 100; it bids for 2 at 99 and offers 1 at 104, account 2 bids
--- for 4 at 98
+-- for 4 at 98; account 3 has nothing. The contract is closed, as a settlement needs it: of a pull the rows ask for the effect alone
 
 order : ℕ → ℕ → ℕ → ℕ → Order
 order number price account lots = record { price = price; number = number; account = account; lots = lots; close = 0; stamp = number; quote = 0 }
@@ -41,7 +41,7 @@ state =
         buys = order 3 99 0 2 ∷ order 4 98 1 4 ∷ [];
         sells = order 5 104 0 1 ∷ [];
       } ∷ [];
-      accounts = account 0 3 ∷ account 3 0 ∷ [];
+      accounts = account 0 3 ∷ account 3 0 ∷ account 0 0 ∷ [];
       trades = trade ∷ [];
       next = 6;
       nextstamp = 6;
@@ -91,7 +91,7 @@ table =
     ∷ (holding (settled state) 0 .startshort gives 3)
     ∷ (holding (settled state) 1 .startlong gives 3)
     ∷ (holding (settled state) 1 .long gives 3)
-    -- with the buyer's leg first nothing is left; with the seller's it would be 3 long
+    -- the buyer's leg is booked first, so that the close finds the lots just bought, and nothing is left
     ∷ (holdingAt itself 0 0 .long gives 0)
     ∷ []
 
