@@ -243,8 +243,8 @@ ZELVORM_ASSERT(offsetof(zelvorm_account, maker) == 72);
 typedef struct zelvorm_state {
     zelvorm_contract contracts[4];
     zelvorm_account accounts[32];
-    size_t buys[4];
-    size_t sells[4];
+    size_t buycounts[4];
+    size_t sellcounts[4];
     size_t contractcount;
     size_t accountcount;
     size_t tradecount;
@@ -256,8 +256,8 @@ typedef struct zelvorm_state {
 ZELVORM_ASSERT(sizeof(zelvorm_state) == 2792);
 ZELVORM_ASSERT(offsetof(zelvorm_state, contracts) == 0);
 ZELVORM_ASSERT(offsetof(zelvorm_state, accounts) == 128);
-ZELVORM_ASSERT(offsetof(zelvorm_state, buys) == 2688);
-ZELVORM_ASSERT(offsetof(zelvorm_state, sells) == 2720);
+ZELVORM_ASSERT(offsetof(zelvorm_state, buycounts) == 2688);
+ZELVORM_ASSERT(offsetof(zelvorm_state, sellcounts) == 2720);
 ZELVORM_ASSERT(offsetof(zelvorm_state, contractcount) == 2752);
 ZELVORM_ASSERT(offsetof(zelvorm_state, accountcount) == 2760);
 ZELVORM_ASSERT(offsetof(zelvorm_state, tradecount) == 2768);

@@ -226,8 +226,8 @@ class State(ctypes.Structure):
     _fields_ = [
         ("contracts", Contract * 4),
         ("accounts", Account * 32),
-        ("buys", ctypes.c_size_t * 4),
-        ("sells", ctypes.c_size_t * 4),
+        ("buycounts", ctypes.c_size_t * 4),
+        ("sellcounts", ctypes.c_size_t * 4),
         ("contractcount", ctypes.c_size_t),
         ("accountcount", ctypes.c_size_t),
         ("tradecount", ctypes.c_size_t),

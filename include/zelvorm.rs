@@ -225,8 +225,8 @@ const _: () = assert!(size_of::<Account>() == 80);
 pub struct State {
     pub contracts: [Contract; 4],
     pub accounts: [Account; 32],
-    pub buys: [usize; 4],
-    pub sells: [usize; 4],
+    pub buycounts: [usize; 4],
+    pub sellcounts: [usize; 4],
     pub contractcount: usize,
     pub accountcount: usize,
     pub tradecount: usize,

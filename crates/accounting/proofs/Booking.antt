@@ -57,14 +57,14 @@ leg-cases : (P : Holding → Type 0) (h : Holding) (sell : Bool) (close lots : �
     P (withShort h (h .short + lots)) → P (withLong h (h .long - lots)) → P (withLong h (h .long + lots)) → P (withShort h (h .short - lots)) →
     P (afterLeg h sell close lots)
 unfolding afterLeg
-leg-cases P h sell close lots p q r s = by sell (eqb close 0)
+leg-cases P h sell close lots p q r s = by-leg sell (eqb close 0)
   where
-    by : (sell opens : Bool) →
+    by-leg : (sell opens : Bool) →
         P (pick sell (pick opens (withShort h (h .short + lots)) (withLong h (h .long - lots))) (pick opens (withLong h (h .long + lots)) (withShort h (h .short - lots))))
-    by true true = p
-    by true false = q
-    by false true = r
-    by false false = s
+    by-leg true true = p
+    by-leg true false = q
+    by-leg false true = r
+    by-leg false false = s
 
 module _ (accounts : List Account) (sell : Bool) (close lots : ℕ) where
   pub booked-here : (a c : ℕ) → Placed accounts a c →

@@ -41,8 +41,8 @@ counts m w =
     let c = passed (countsInRange s) (hasRoom m ∷ wellFormedContents (exchangeOf m) ∷ []) w in
     let p = passed (within 1 maxContracts (s .contractcount))
     (within 1 maxAccounts (s .accountcount) ∷ leb (s .tradecount) maxTrades
-    ∷ all (λ i. leb (getD (s .buys) i 0) maxResting) (s .contractcount)
-    ∷ all (λ i. leb (getD (s .sells) i 0) maxResting) (s .contractcount) ∷ []) (c .0) in
+    ∷ all (λ i. leb (getD (s .buycounts) i 0) maxResting) (s .contractcount)
+    ∷ all (λ i. leb (getD (s .sellcounts) i 0) maxResting) (s .contractcount) ∷ []) (c .0) in
     record { contracts = in-range (s .contractcount) maxContracts (p .0); accounts = in-range (s .accountcount) maxAccounts (p .1 .0) }
 
 -- ---- each account in use has a holding in each contract in use
@@ -105,8 +105,8 @@ module _ (m : Memory) (d : Declared (m .state)) (x : Exchange) (f : Fits x) wher
   put-declared = record {
     contracts = array-kept (λ l. l .contract) (m .state .contracts) (d .contracts);
     accounts = length-putAccounts (x .accounts) (m .state .accounts) (omega (arith, f .accounts, d .accounts)) ∙ d .accounts;
-    buys = array-kept (λ l. length (l .buys)) (m .state .buys) (d .buys);
-    sells = array-kept (λ l. length (l .sells)) (m .state .sells) (d .sells);
+    buys = array-kept (λ l. length (l .buys)) (m .state .buycounts) (d .buys);
+    sells = array-kept (λ l. length (l .sells)) (m .state .sellcounts) (d .sells);
     holdings = λ a l.
         wide-putAccounts maxContracts (x .accounts) (m .state .accounts) (f .holdings)
         (λ b k. d .holdings b (rw (d .accounts) at k)) a (rw (d .accounts) l);
@@ -140,15 +140,15 @@ stage-declared m d w y s = put-declared m d y (shaped-fits m d (counts m w) y s)
 -- no command changes the lengths of the arrays
 pub declared-kept : (m : Memory) (command : Command) → Declared (m .state) → Declared (respond m command .memory .state)
 unfolding respond stepIn
-declared-kept m command d = by (wellFormedMemory m) refl
+declared-kept m command d = by-wellformed (wellFormedMemory m) refl
   where
     stages : List Exchange
     stages = kindOf (exchangeOf m) command .effect .stages
 
-    by : (w : Bool) → wellFormedMemory m ≡ w → Declared (respond m command .memory .state)
-    by true w =
+    by-wellformed : (w : Bool) → wellFormedMemory m ≡ w → Declared (respond m command .memory .state)
+    by-wellformed true w =
         rw w
         (decided (λ e. Declared (written m (e .stages) .state)) (exchangeOf m) command
         (λ e. written-declared m d stages (each-fits m d (counts m w) stages (kind-shape (exchangeOf m) command)))
         (λ e. d))
-    by false w = rw w d
+    by-wellformed false w = rw w d

@@ -59,9 +59,9 @@ module _ (x : Exchange) where
   pub step-moves : replays x ≡ true → Shaped x → (command : Command) →
       Makes x (pick (eqb (codeOf x command) 0) (kindOf x command .moves) nothing) (step x command)
   unfolding step decide
-  step-moves r h command = by (eqb (codeOf x command) 0) refl
+  step-moves r h command = by-acceptance (eqb (codeOf x command) 0) refl
     where
-      by : (accepted : Bool) → eqb (codeOf x command) 0 ≡ accepted →
+      by-acceptance : (accepted : Bool) → eqb (codeOf x command) 0 ≡ accepted →
           Makes x (pick (eqb (codeOf x command) 0) (kindOf x command .moves) nothing) (lastOf x (decide x command .stages))
-      by true e = rw e (kind-moves r h command)
-      by false e = rw e (nothing-moves x)
+      by-acceptance true e = rw e (kind-moves r h command)
+      by-acceptance false e = rw e (nothing-moves x)

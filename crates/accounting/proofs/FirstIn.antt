@@ -260,7 +260,7 @@ module _ (side : Side) (p : ℕ) where
   gains-close n (b ∷ bs) os cs h =
       ap (λ (l : List ℕ). gains side l (replicate n p ++ cs)) (append-assoc (replicate (b .lots) (b .price)) (singly bs) os)
       ∙ gains-batch (b .lots) n (b .price) (singly bs ++ os) cs
-      ∙ by (leb n (b .lots)) refl (gains-close (n - b .lots) bs os cs (omega arith))
+      ∙ by-first-batch (leb n (b .lots)) refl (gains-close (n - b .lots) bs os cs (omega arith))
     where
       g : ℤ
       g = gained side (b .price) p *ℤ pos (min n (b .lots))
@@ -268,15 +268,15 @@ module _ (side : Side) (p : ℕ) where
       left : List Batch
       left = otherLots (n - b .lots) bs
 
-      by : (t : Bool) → leb n (b .lots) ≡ t →
+      by-first-batch : (t : Bool) → leb n (b .lots) ≡ t →
           gains side (singly bs ++ os) (replicate (n - b .lots) p ++ cs)
           ≡ closeGain side p (firstLots (n - b .lots) bs) +ℤ gains side (singly left ++ os) cs →
           g +ℤ gains side (replicate (b .lots - n) (b .price) ++ (singly bs ++ os)) (replicate (n - b .lots) p ++ cs)
           ≡ g +ℤ closeGain side p (firstLots (n - b .lots) bs) +ℤ gains side (replicate (b .lots - n) (b .price) ++ singly left ++ os) cs
-      by true t ih =
+      by-first-batch true t ih =
           let e : n - b .lots ≡ 0 = omega (arith, leb-true n (b .lots) t) in
           rw (e, none-first bs, none-other bs, append-assoc (replicate (b .lots - n) (b .price)) (singly bs) os, +ℤ-idr g)
-      by false t ih =
+      by-first-batch false t ih =
           let e : b .lots - n ≡ 0 = omega (arith, leb-false n (b .lots) t) in
           rw (e, ih) (sym (+ℤ-assoc g (closeGain side p (firstLots (n - b .lots) bs)) (gains side (singly left ++ os) cs)))
 

@@ -27,7 +27,7 @@ module _ (n : ℕ) (of : ℕ → ℕ) (f : ℕ → ℤ) where
   one-more : (k : ℕ) → of k < n → ((i : ℕ) → i < k → of i ≡ of k → ⊥) → sumTo n (others k) ≡ sumTo n (others (suc k)) +ℤ f (of k)
   unfolding others unpaired all
   one-more k l apart =
-      sumTo-ext n (others k) (λ j. others (suc k) j +ℤ pick (eqb (of k) j) (f (of k)) (pos 0)) (λ j b. by j (eqb (of k) j) refl)
+      sumTo-ext n (others k) (λ j. others (suc k) j +ℤ pick (eqb (of k) j) (f (of k)) (pos 0)) (λ j b. by-pair j (eqb (of k) j) refl)
       ∙ sumTo-add n (others (suc k)) (λ j. pick (eqb (of k) j) (f (of k)) (pos 0))
       ∙ ap (λ (z : ℤ). sumTo n (others (suc k)) +ℤ z) (sumTo-at n (of k) (f (of k)) l)
     where
@@ -38,9 +38,9 @@ module _ (n : ℕ) (of : ℕ → ℕ) (f : ℕ → ℤ) where
       kept true z = sym (+ℤ-idr z)
       kept false z = refl
 
-      by : (j : ℕ) (t : Bool) → eqb (of k) j ≡ t → others k j ≡ others (suc k) j +ℤ pick (eqb (of k) j) (f (of k)) (pos 0)
-      by j true e = rw (e, free j (eqb-true (of k) j e), eqb-true (of k) j e) (sym (+ℤ-idl (f j)))
-      by j false e = rw e (kept (all (λ i. not (eqb (of i) j)) k) (f j))
+      by-pair : (j : ℕ) (t : Bool) → eqb (of k) j ≡ t → others k j ≡ others (suc k) j +ℤ pick (eqb (of k) j) (f (of k)) (pos 0)
+      by-pair j true e = rw (e, free j (eqb-true (of k) j e), eqb-true (of k) j e) (sym (+ℤ-idl (f j)))
+      by-pair j false e = rw e (kept (all (λ i. not (eqb (of i) j)) k) (f j))
 
   pub met-and-others : (k : ℕ) → ((i : ℕ) → i < k → of i < n) → ((i j : ℕ) → i < k → j < k → of i ≡ of j → i ≡ j) →
       sumTo k (λ i. f (of i)) +ℤ sumTo n (λ j. pick (unpaired of k j) (f j) (pos 0)) ≡ sumTo n f

@@ -33,11 +33,11 @@ trades-to x (t ∷ ts) h =
 one-contract : (M c : ℕ) (ts : List Trade) → TradesTo M ts → TradesTo M (tradesIn c ts)
 unfolding TradesTo tradesIn
 one-contract M c [] q = tt
-one-contract M c (t ∷ ts) q = by (eqb (t .contract) c) (one-contract M c ts (q .1))
+one-contract M c (t ∷ ts) q = by-contract (eqb (t .contract) c) (one-contract M c ts (q .1))
   where
-    by : (here : Bool) → TradesTo M (tradesIn c ts) → TradesTo M (pick here (t ∷ tradesIn c ts) (tradesIn c ts))
-    by true r = (q .0, r)
-    by false r = r
+    by-contract : (here : Bool) → TradesTo M (tradesIn c ts) → TradesTo M (pick here (t ∷ tradesIn c ts) (tradesIn c ts))
+    by-contract true r = (q .0, r)
+    by-contract false r = r
 
 value-to : (M : ℕ) (ts : List Trade) → TradesTo M ts → tradedValue ts ≤ tradedLots ts * M
 unfolding TradesTo tradedValue tradedLots sumOf

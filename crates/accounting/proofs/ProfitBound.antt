@@ -125,11 +125,11 @@ total-none (suc n) k v h = rw (ne-eqb k n (λ e. apart e)) (omega (arith, total-
 total-at : (n k v : ℕ) → total n (λ i. pick (eqb k i) v 0) ≤ v
 unfolding total
 total-at zero k v = omega arith
-total-at (suc n) k v = by (eqb k n) refl (total-at n k v)
+total-at (suc n) k v = by-place (eqb k n) refl (total-at n k v)
   where
-    by : (here : Bool) → eqb k n ≡ here → total n (λ i. pick (eqb k i) v 0) ≤ v → total n (λ i. pick (eqb k i) v 0) + pick here v 0 ≤ v
-    by true e h = omega (arith, total-none n k v (omega (arith, eqb-true k n e)))
-    by false e h = omega arith
+    by-place : (here : Bool) → eqb k n ≡ here → total n (λ i. pick (eqb k i) v 0) ≤ v → total n (λ i. pick (eqb k i) v 0) + pick here v 0 ≤ v
+    by-place true e h = omega (arith, total-none n k v (omega (arith, eqb-true k n e)))
+    by-place false e h = omega arith
 
 -- an account opens at most twice the lots traded, whatever contracts they are in
 opened-lots : (n a : ℕ) (ts : List Trade) → total n (λ c. openedLots (legs a c ts)) ≤ 2 * tradedLots ts

@@ -62,16 +62,16 @@ module _ (R : ℕ → ℕ → Type 0) (k : Kept R) where
     one-leg : (accounts : List Account) (d : Day) (u e : ℕ) (sell : Bool) (close p n : ℕ) → Seen accounts → Lots R (holdingAt accounts a c) d →
         Lots R (holdingAt (bookLeg accounts u e sell close n) a c) (afterLegs d (only (eqb e c && eqb u a) (leg sell (not (eqb close 0)) p n)))
     unfolding only afterLegs
-    one-leg accounts d u e sell close p n s l = by (eqb e c) (eqb u a) refl refl
+    one-leg accounts d u e sell close p n s l = by-contract-and-account (eqb e c) (eqb u a) refl refl
       where
-        by : (here whose : Bool) → eqb e c ≡ here → eqb u a ≡ whose →
+        by-contract-and-account : (here whose : Bool) → eqb e c ≡ here → eqb u a ≡ whose →
             Lots R (holdingAt (bookLeg accounts u e sell close n) a c) (afterLegs d (only (here && whose) (leg sell (not (eqb close 0)) p n)))
-        by true true i j =
+        by-contract-and-account true true i j =
             rw (eqb-true e c i, eqb-true u a j)
             (booked accounts sell close n _ s (after-leg (holdingAt accounts a c) d sell (eqb close 0) close p n refl l))
-        by true false i j = rw (booked-elsewhere accounts sell close n u e a c (λ q r. eqb-false u a j q)) l
-        by false true i j = rw (booked-elsewhere accounts sell close n u e a c (λ q r. eqb-false e c i r)) l
-        by false false i j = rw (booked-elsewhere accounts sell close n u e a c (λ q r. eqb-false e c i r)) l
+        by-contract-and-account true false i j = rw (booked-elsewhere accounts sell close n u e a c (λ q r. eqb-false u a j q)) l
+        by-contract-and-account false true i j = rw (booked-elsewhere accounts sell close n u e a c (λ q r. eqb-false e c i r)) l
+        by-contract-and-account false false i j = rw (booked-elsewhere accounts sell close n u e a c (λ q r. eqb-false e c i r)) l
 
     -- the day after a trade's two legs
     afterTrade : Day → Trade → Day
@@ -129,15 +129,15 @@ module _ (a c : ℕ) where
   covered-leg : (accounts : List Account) (d : Day) (u e : ℕ) (sell : Bool) (close p n : ℕ) → NoMore (holdingAt accounts a c) d →
       legCovered accounts u e sell close n ≡ true → AllCovered d (only (eqb e c && eqb u a) (leg sell (not (eqb close 0)) p n))
   unfolding only AllCovered legCovered
-  covered-leg accounts d u e sell close p n l t = by (eqb e c) (eqb u a) refl refl
+  covered-leg accounts d u e sell close p n l t = by-contract-and-account (eqb e c) (eqb u a) refl refl
     where
-      by : (here whose : Bool) → eqb e c ≡ here → eqb u a ≡ whose →
+      by-contract-and-account : (here whose : Bool) → eqb e c ≡ here → eqb u a ≡ whose →
           AllCovered d (only (here && whose) (leg sell (not (eqb close 0)) p n))
-      by true true i j =
+      by-contract-and-account true true i j =
           (covers (holdingAt accounts a c) d sell (eqb close 0) p n l (rw (eqb-true e c i, eqb-true u a j) at t), tt)
-      by true false i j = tt
-      by false true i j = tt
-      by false false i j = tt
+      by-contract-and-account true false i j = tt
+      by-contract-and-account false true i j = tt
+      by-contract-and-account false false i j = tt
 
   covered-trades : (accounts : List Account) (d : Day) (ts : List Trade) → NoMore (holdingAt accounts a c) d →
       neverBelowZero accounts ts ≡ true → AllCovered d (legs a c ts)

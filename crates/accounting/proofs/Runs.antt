@@ -63,16 +63,16 @@ less-none x y u v = simp ring (d-eq _ _ _ _ (omega arith))
 
 paid-move : (a : ℕ) (v : Move) → paidBy a v ≡ pos (inTo a v) -ℤ pos (outOf a v)
 unfolding paidBy inTo outOf
-paid-move a (paysIn account amount) = by (eqb account a)
+paid-move a (paysIn account amount) = by-account (eqb account a)
   where
-    by : (whose : Bool) → pick whose (pos amount) (pos 0) ≡ pos (pick whose amount 0) -ℤ pos 0
-    by true = sym (+ℤ-idr (pos amount))
-    by false = refl
-paid-move a (paysOut account amount) = by (eqb account a)
+    by-account : (whose : Bool) → pick whose (pos amount) (pos 0) ≡ pos (pick whose amount 0) -ℤ pos 0
+    by-account true = sym (+ℤ-idr (pos amount))
+    by-account false = refl
+paid-move a (paysOut account amount) = by-account (eqb account a)
   where
-    by : (whose : Bool) → pick whose (negℤ (pos amount)) (pos 0) ≡ pos 0 -ℤ pos (pick whose amount 0)
-    by true = sym (+ℤ-idl (negℤ (pos amount)))
-    by false = refl
+    by-account : (whose : Bool) → pick whose (negℤ (pos amount)) (pos 0) ≡ pos 0 -ℤ pos (pick whose amount 0)
+    by-account true = sym (+ℤ-idl (negℤ (pos amount)))
+    by-account false = refl
 paid-move a (makes ts) = refl
 paid-move a (settles price) = refl
 
@@ -163,29 +163,29 @@ module _
     (read-back : (m : Memory) (c : Command) → wellFormedMemory m ≡ true → exchangeOf (respond m c .memory) ≡ step (exchangeOf m) c) where
   module _ (m : Memory) (c : Command) (d : Declared (m .state)) where
     one-shape : SameShape (exchangeOf m) (next m c)
-    one-shape = by (wellFormedMemory m) refl
+    one-shape = by-wellformed (wellFormedMemory m) refl
       where
-        by : (w : Bool) → wellFormedMemory m ≡ w → SameShape (exchangeOf m) (next m c)
-        by true w = rw (read-back m c w) (step-shape (exchangeOf m) c)
-        by false w = rw (stays-so m c w) (same-shape (exchangeOf m))
+        by-wellformed : (w : Bool) → wellFormedMemory m ≡ w → SameShape (exchangeOf m) (next m c)
+        by-wellformed true w = rw (read-back m c w) (step-shape (exchangeOf m) c)
+        by-wellformed false w = rw (stays-so m c w) (same-shape (exchangeOf m))
 
     next-sound : Sound (exchangeOf m) → Sound (next m c)
-    next-sound s = by (wellFormedMemory m) refl
+    next-sound s = by-wellformed (wellFormedMemory m) refl
       where
-        by : (w : Bool) → wellFormedMemory m ≡ w → Sound (next m c)
-        by true w = formed-sound (respond m c .memory) (declared-kept m c d) (kept m c w)
-        by false w = rw (stays-so m c w) s
+        by-wellformed : (w : Bool) → wellFormedMemory m ≡ w → Sound (next m c)
+        by-wellformed true w = formed-sound (respond m c .memory) (declared-kept m c d) (kept m c w)
+        by-wellformed false w = rw (stays-so m c w) s
 
     pub one-move : Makes (exchangeOf m) (moveOf m c) (next m c)
     unfolding moveOf
-    one-move = by (wellFormedMemory m) refl
+    one-move = by-wellformed (wellFormedMemory m) refl
       where
-        by : (w : Bool) → wellFormedMemory m ≡ w →
+        by-wellformed : (w : Bool) → wellFormedMemory m ≡ w →
             Makes (exchangeOf m) (pick (isAccepted m c) (kindOf (exchangeOf m) c .moves) nothing) (next m c)
-        by true w =
+        by-wellformed true w =
             rw (read-back m c w, accepted-is m c w)
             (step-moves (exchangeOf m) (facts (exchangeOf m) (in-wellformed m w) .replay) (declared-shaped m d w) c)
-        by false w = rw (stays-so m c w, never-accepted m c w) (nothing-moves (exchangeOf m))
+        by-wellformed false w = rw (stays-so m c w, never-accepted m c w) (nothing-moves (exchangeOf m))
 
   pub end-declared : (m : Memory) (cs : List Command) → Declared (m .state) → Declared (run m cs .state)
   unfolding run

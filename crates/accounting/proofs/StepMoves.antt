@@ -68,16 +68,16 @@ paid-balance : (accounts : List Account) (u a : ℕ) (z : ℤ) → a < length ac
     accountAt accounts a .balance +ℤ pick (eqb u a) z (pos 0)
     ≡ accountAt (set accounts u (withBalance (accountAt accounts u) (accountAt accounts u .balance +ℤ z))) a .balance
 unfolding accountAt
-paid-balance accounts u a z l = by (eqb u a) refl
+paid-balance accounts u a z l = by-account (eqb u a) refl
   where
     after-payment : List Account
     after-payment = set accounts u (withBalance (getD accounts u noAccount) (getD accounts u noAccount .balance +ℤ z))
 
-    by : (whose : Bool) → eqb u a ≡ whose → getD accounts a noAccount .balance +ℤ pick whose z (pos 0) ≡ getD after-payment a noAccount .balance
-    by true e =
+    by-account : (whose : Bool) → eqb u a ≡ whose → getD accounts a noAccount .balance +ℤ pick whose z (pos 0) ≡ getD after-payment a noAccount .balance
+    by-account true e =
         subst (λ (k : ℕ). getD accounts k noAccount .balance +ℤ z ≡ getD after-payment k noAccount .balance) (eqb-true u a e)
         (sym (ap (λ (x : Account). x .balance) (getD-set-same accounts u _ noAccount (rw (eqb-true u a e) l))))
-    by false e =
+    by-account false e =
         +ℤ-idr (getD accounts a noAccount .balance)
         ∙ sym (ap (λ (x : Account). x .balance) (getD-set-other accounts u a _ noAccount (λ q. eqb-false u a e (sym q))))
 

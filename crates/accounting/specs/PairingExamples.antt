@@ -41,7 +41,7 @@ tested open′ closed of t =
     record {
       among = λ i h. ltb-true _ _ (parts i h .0 .0);
       earlier = λ i h. ltb-true _ _ (parts i h .0 .1);
-      once = λ i j h k e. omega (arith, by i j (leb i j) (leb j i) refl refl h k e);
+      once = λ i j h k e. omega (arith, by-comparison i j (leb i j) (leb j i) refl refl h k e);
     }
   where
     parts : (i : ℕ) → i < length closed →
@@ -55,10 +55,10 @@ tested open′ closed of t =
     apart i j l h e =
         false≢true (sym (rw (eq-eqb (of i) (of j) e)) ∙ all-at (λ k. not (eqb (of k) (of j))) i j (parts j h .1) l)
 
-    by : (i j : ℕ) (s t : Bool) → leb i j ≡ s → leb j i ≡ t → i < length closed → j < length closed → of i ≡ of j → i ≡ j
-    by i j true true u v h k e = let p = leb-true i j u in let q = leb-true j i v in omega arith
-    by i j true false u v h k e = absurd (apart i j (leb-false j i v) k e)
-    by i j false t u v h k e = absurd (apart j i (leb-false i j u) h (sym e))
+    by-comparison : (i j : ℕ) (s t : Bool) → leb i j ≡ s → leb j i ≡ t → i < length closed → j < length closed → of i ≡ of j → i ≡ j
+    by-comparison i j true true u v h k e = let p = leb-true i j u in let q = leb-true j i v in omega arith
+    by-comparison i j true false u v h k e = absurd (apart i j (leb-false j i v) k e)
+    by-comparison i j false t u v h k e = absurd (apart j i (leb-false i j u) h (sym e))
 
 -- ---- the day: account 1 holds 2 long and 1 short, account 2 holds 1 short, reference 100, multiplier 10
 

@@ -35,7 +35,7 @@ fn lots_of(sell: bool, price: u32, o: Order) -> u64
     if !reaches(sell, price, o) {
         return 0;
     }
-    laws::wide32(o.lots)
+    laws::wide64(o.lots)
 }
 
 // The lots of a side's orders that reach a price.

@@ -28,8 +28,8 @@ few counts contracts = all (λ c. leb (getD counts c 0) maxResting) contracts
 
 pub counts-chain : (s : State)
     → Chain (countsInRange s)
-    (within 1 4 (s .contractcount) ∷ within 1 32 (s .accountcount) ∷ leb (s .tradecount) maxTrades ∷ few (s .buys) (s .contractcount) ∷ [])
-    (few (s .sells) (s .contractcount))
+    (within 1 4 (s .contractcount) ∷ within 1 32 (s .accountcount) ∷ leb (s .tradecount) maxTrades ∷ few (s .buycounts) (s .contractcount) ∷ [])
+    (few (s .sellcounts) (s .contractcount))
 unfolding countsInRange
 counts-chain s = record { is = refl }
 

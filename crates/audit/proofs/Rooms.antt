@@ -13,14 +13,14 @@ module _ {s : State} {buys sells : List ℕ} (r : Ready s buys sells) {c : ℕ} 
   pub contract-in : c < 4
   contract-in = omega (arith, counts-ok s (r .counts) .contracts-high)
 
-  pub few-buys : getD (s .buys) c 0 ≤ maxResting
+  pub few-buys : getD (s .buycounts) c 0 ≤ maxResting
   few-buys = counts-ok s (r .counts) .buys c h
 
-  pub few-sells : getD (s .sells) c 0 ≤ maxResting
+  pub few-sells : getD (s .sellcounts) c 0 ≤ maxResting
   few-sells = counts-ok s (r .counts) .sells c h
 
-  pub buys-room : firstWord c (getD (s .buys) c 0) ≤ length buys
+  pub buys-room : firstWord c (getD (s .buycounts) c 0) ≤ length buys
   buys-room = omega (arith, few-buys, r .buy-room)
 
-  pub sells-room : firstWord c (getD (s .sells) c 0) ≤ length sells
+  pub sells-room : firstWord c (getD (s .sellcounts) c 0) ≤ length sells
   sells-room = omega (arith, few-sells, r .sell-room)

@@ -47,11 +47,11 @@ module _ (sell : Bool) (area : List ℕ) (c n i : ℕ) {b : Bool} (so-far : b �
     sorted-out k = stop (sorted sell) (queueIn area c n) i so-far two (unsorted-two sell o p _ k)
 
   pub sorted-end : n ≤ i + 1 → true ≡ b
-  sorted-end h = go (leb n i) refl
+  sorted-end h = by-end (leb n i) refl
     where
-      go : (t : Bool) → leb n i ≡ t → true ≡ b
-      go true e = end (sorted sell) (queueIn area c n) i so-far (no-more area c n i (leb-true n i e)) (sorted-none sell)
-      go false e =
+      by-end : (t : Bool) → leb n i ≡ t → true ≡ b
+      by-end true e = end (sorted sell) (queueIn area c n) i so-far (no-more area c n i (leb-true n i e)) (sorted-none sell)
+      by-end false e =
           let o = orderFrom (drop (firstWord c i) area) in
           let one : drop i (queueIn area c n) ≡ o ∷ [] = next-order area c n i o (leb-false n i e) refl ∙ ap (λ (os : List Order). o ∷ os) (no-more area c n (i + 1) h) in
           sym (so-far ∙ ap (sorted sell) one ∙ sorted-one sell o)

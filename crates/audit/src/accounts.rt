@@ -81,8 +81,8 @@ fn held_in_range(state: State, c: usize, buys: &[u32], sells: &[u32]) -> bool
 {
     let contract = state.contracts[c];
     let limit = contract.limit;
-    let bids = state.buys[c];
-    let asks = state.sells[c];
+    let bids = state.buycounts[c];
+    let asks = state.sellcounts[c];
     let accounts = state.accountcount;
     let bought = resting_lots(buys, c, bids);
     let sold = resting_lots(sells, c, asks);
@@ -143,7 +143,7 @@ fn balance_in_range(settlements: u32, a: Account) -> bool
     requires { ⌜ settlements ≤ 250 ⌝ }
     ensures { λ r. ⌜ r ≡ balanceInRange settlements a ⌝ }
 {
-    let most = rules::MAX_BALANCE + laws::wide32(settlements) * rules::MAX_DAY_PROFIT;
+    let most = rules::MAX_BALANCE + laws::wide64(settlements) * rules::MAX_DAY_PROFIT;
     let limit = most as i64;
     let balance = a.balance;
     if limit < balance {

@@ -44,11 +44,11 @@ pub fn counts_in_range(s: State) -> bool
     if rules::MAX_TRADES < s.tradecount {
         return false;
     }
-    let buys = s.buys;
+    let buys = s.buycounts;
     if !few_orders(buys, contracts) {
         return false;
     }
-    let sells = s.sells;
+    let sells = s.sellcounts;
     few_orders(sells, contracts)
 }
 

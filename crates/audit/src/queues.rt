@@ -154,8 +154,8 @@ fn listing_in_range(state: State, c: usize, buys: &[u32], sells: &[u32]) -> bool
     ensures { λ r. ⌜ r ≡ listingInRange (state .accountcount) (state .next) (state .nextstamp) (listing state (now (buys .entry)) (now (sells .entry)) c) ⌝ }
 {
     let contract = state.contracts[c];
-    let bids = state.buys[c];
-    let asks = state.sells[c];
+    let bids = state.buycounts[c];
+    let asks = state.sellcounts[c];
     let accounts = state.accountcount;
     let next = state.next;
     let nextstamp = state.nextstamp;

@@ -47,8 +47,8 @@ fn listing_quoted(state: State, c: usize, buys: &[u32], sells: &[u32]) -> bool
     requires { ⌜ Ready state (now buys) (now sells) × (c < state .contractcount) × (listingInRange (state .accountcount) (state .next) (state .nextstamp) (listing state (now buys) (now sells) c) ≡ true) ⌝ }
     ensures { λ r. ⌜ r ≡ listingQuoted (take (state .accountcount) (state .accounts)) (listing state (now (buys .entry)) (now (sells .entry)) c) ⌝ }
 {
-    let bids = state.buys[c];
-    let asks = state.sells[c];
+    let bids = state.buycounts[c];
+    let asks = state.sellcounts[c];
     if !queue_quoted(state, buys, c, bids) {
         return false;
     }

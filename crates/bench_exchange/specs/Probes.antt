@@ -15,8 +15,8 @@ abbrev pub probeOf : State → ℕ → ℕ → Probe
 probeOf s a c =
     record {
       balance = getD (s .accounts) a noAccount .balance;
-      bought = getD (s .buys) c 0;
-      sold = getD (s .sells) c 0;
+      bought = getD (s .buycounts) c 0;
+      sold = getD (s .sellcounts) c 0;
       made = s .tradecount;
       long = getD (getD (s .accounts) a noAccount .holdings) c noHolding .long;
       short = getD (getD (s .accounts) a noAccount .holdings) c noHolding .short;

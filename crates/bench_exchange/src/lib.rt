@@ -35,8 +35,8 @@ pub fn probed(state: State, account: usize, contract: usize) -> Probe
     let terms = state.contracts[contract];
     Probe {
         balance: who.balance,
-        bought: state.buys[contract],
-        sold: state.sells[contract],
+        bought: state.buycounts[contract],
+        sold: state.sellcounts[contract],
         made: state.tradecount,
         long: h.long,
         short: h.short,

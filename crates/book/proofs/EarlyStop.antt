@@ -74,11 +74,11 @@ front-fillable-from : (t : Taker) (os : List Order) → sorted (not (t .sell)) o
     → fillableFront t os ≡ fillable t os
 unfolding fillable
 front-fillable-from t [] s b = rw (front-end, lots-nil)
-front-fillable-from t (o ∷ os) s (b, r) = go (counterpart t o) refl (front-fillable-from t os (sorted-tail (not (t .sell)) o os s) r)
+front-fillable-from t (o ∷ os) s (b, r) = by-counterpart (counterpart t o) refl (front-fillable-from t os (sorted-tail (not (t .sell)) o os s) r)
   where
-    go : (met : Bool) → counterpart t o ≡ met → fillableFront t os ≡ fillable t os → fillableFront t (o ∷ os) ≡ lotsWhere (counterpart t) (o ∷ os)
-    go true e ih = omega (arith, front-met t o os e, lots-met (counterpart t) o os e)
-    go false e ih = omega (arith, front-unmet t o os e, lots-unmet (counterpart t) o os e, none-met t (o .price) os b (sorted-behind (not (t .sell)) o os s) e)
+    by-counterpart : (met : Bool) → counterpart t o ≡ met → fillableFront t os ≡ fillable t os → fillableFront t (o ∷ os) ≡ lotsWhere (counterpart t) (o ∷ os)
+    by-counterpart true e ih = omega (arith, front-met t o os e, lots-met (counterpart t) o os e)
+    by-counterpart false e ih = omega (arith, front-unmet t o os e, lots-unmet (counterpart t) o os e, none-met t (o .price) os b (sorted-behind (not (t .sell)) o os s) e)
 
 -- "Fillable lots are the counterparts' lots added up", read as far as the first order that is no counterpart
 pub front-fillable : (t : Taker) (os : List Order) → sorted (not (t .sell)) os ≡ true → t .best ≡ bestPrice os → fillableFront t os ≡ fillable t os

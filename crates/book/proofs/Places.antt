@@ -41,11 +41,11 @@ module _ (test : Order → Bool) where
       (on : (o : Order) (os : List Order) (i : ℕ) → test o ≡ false → P os i → P (o ∷ os) (suc i)) where
     pub first-ind : (os : List Order) → P os (firstWhere test os)
     first-ind [] = rw first-nil none
-    first-ind (o ∷ os) = go (test o) refl (first-ind os)
+    first-ind (o ∷ os) = by-test (test o) refl (first-ind os)
       where
-        go : (b : Bool) → test o ≡ b → P os (firstWhere test os) → P (o ∷ os) (firstWhere test (o ∷ os))
-        go true e ih = rw (first-here o os e) (here o os e)
-        go false e ih = rw (first-on o os e) (on o os (firstWhere test os) e ih)
+        by-test : (b : Bool) → test o ≡ b → P os (firstWhere test os) → P (o ∷ os) (firstWhere test (o ∷ os))
+        by-test true e ih = rw (first-here o os e) (here o os e)
+        by-test false e ih = rw (first-on o os e) (on o os (firstWhere test os) e ih)
 
   pub first-within : (os : List Order) → firstWhere test os ≤ length os
   first-within = first-ind (λ os i. i ≤ length os) (omega arith) (λ o os e. omega arith) (λ o os i e ih. omega arith)

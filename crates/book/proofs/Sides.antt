@@ -75,7 +75,7 @@ side-length buys sells sell contract contracts count h =
     rw h (length-take-le (orderStride * count) (drop (queueStride * (contract - 1)) (pick sell sells buys)) (rw length-drop (omega arith)))
 
 -- in a memory, it is the queue of the contract's listing
-pub side-of-listing : (m : Memory) (sell : Bool) (contract count : ℕ) → count ≡ pick sell (getD (m .state .sells) (contract - 1) 0) (getD (m .state .buys) (contract - 1) 0)
+pub side-of-listing : (m : Memory) (sell : Bool) (contract count : ℕ) → count ≡ pick sell (getD (m .state .sellcounts) (contract - 1) 0) (getD (m .state .buycounts) (contract - 1) 0)
     → noQueue (pick sell (m .sells) (m .buys)) contract (m .state .contractcount) count ≡ false
     → queueIn (sideWords (m .buys) (m .sells) sell contract (m .state .contractcount) count) 0 count ≡ own sell (listingIn m (contract - 1))
 unfolding listingIn

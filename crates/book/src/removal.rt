@@ -57,7 +57,7 @@ pub fn pull(area: &mut [u32], c: usize, count: usize, account: u32, quote: bool)
         let o = queue::order_at(&area[..], c, i);
         i += 1;
         if is_pulled(o, account, quote) {
-            lots += laws::wide32(o.lots);
+            lots += laws::wide64(o.lots);
         } else {
             let at = rules::QUEUE_STRIDE * c + rules::ORDER_STRIDE * kept;
             queue::put(&mut area[at..], o);

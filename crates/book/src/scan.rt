@@ -25,7 +25,7 @@ pub fn fillable(area: &[u32], c: usize, count: usize, t: Taker) -> u64
         if !prices::meets(condition, t.sell, t.best, o.price) {
             return lots;
         }
-        lots += laws::wide32(o.lots);
+        lots += laws::wide64(o.lots);
         i += 1;
     }
     lots
@@ -64,7 +64,7 @@ pub fn lots_of(o: Order, account: u32, close: u32) -> u64
     if o.close != close {
         return 0;
     }
-    laws::wide32(o.lots)
+    laws::wide64(o.lots)
 }
 
 // An account's resting opens (close 0) or resting closes (close 1) in a queue.

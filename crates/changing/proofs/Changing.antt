@@ -16,10 +16,10 @@ use Rattle.rules.specs.Answers as rules
 use Rattle.rules.specs.Answers.{Refusal, _when_, cancelRefusals, firstOf, listingOf, noSuchOrder, numbered, ofAnother, removalRefused, restingOrder, stampsUsedUp}
 use Rattle.rules.specs.Bounds.{allowedToday, continuous, maxLots, maxResting, numbersEnd, termsInRange}
 use Rattle.rules.specs.Change.{Asked, arriving, asked, changeRefusals, changed, gone, isSell, lessened, listingFor, listingLessened, losesPlace, oldOrder, placeKept, placeLost, reentered, unchanged}
-use Rattle.rules.specs.Exchange.{Exchange, absent, listingAt, noAccount, noContract, noOrder, own, placeOf}
+use Rattle.rules.specs.Exchange.{Exchange, absent, listingAt, noAccount, noContract, noOrder, own, placeOf, isAbsent}
 use Rattle.rules.specs.Kinds.{codeOf, decide, done, kindOf, lastOf, step}
 use Rattle.rules.specs.Matching.{Entered, tradedLots}
-use Rattle.rules.specs.Memory.{Declared, Memory, Responded, WellFormedState, exchangeOf, firstWord, listingIn, memory, orderStride, put, putQueue, queueIn, stepIn, written}
+use Rattle.rules.specs.Memory.{Declared, Memory, AfterCommand, WellFormedState, exchangeOf, firstWord, listingIn, memory, orderStride, put, putQueue, queueIn, stepIn, written}
 use Rattle.book.specs.Places.{indexOf}
 use Rattle.rules.specs.Step.{Effect, answerOf, cancelled, enteredOf, exchangeAfter, hasNumber, listingAfter, removed, withListing, without}
 use Rattle.rules.specs.WellFormed.{numbers, usedOnce}
@@ -38,7 +38,7 @@ use Rattle.invariants.proofs.Accepted.{Failed, failed}
 use Rattle.invariants.proofs.ChangeKeeps.{change-counted, change-keeps}
 use Rattle.invariants.proofs.Clauses.{Counted, WellFormed, well-formed-test}
 use Rattle.invariants.proofs.MemoryKeeps.{sound, step-in-keeps, step-in-read}
-use Rattle.engine.specs.Outcome.{OutcomeIs, acceptedWith, isAbsent, refusedWith, withCountsIn}
+use Rattle.engine.specs.Outcome.{OutcomeIs, acceptedWith, refusedWith, withCountsIn}
 use Rattle.engine.specs.Removal.{RemovedIs, removalCode}
 use Rattle.engine.specs.declared.answers.Outcome.{Outcome}
 use Rattle.engine.proofs.Formed.{Formed, formed, listing-at, no-account, no-contract}
@@ -79,10 +79,10 @@ module _ {s : State} {buys sells trades : List ℕ} (w : WellFormedState s buys 
   command = Change account contract number lots price
 
   abbrev bought : List Order
-  bought = queueIn buys c (getD (s .buys) c 0)
+  bought = queueIn buys c (getD (s .buycounts) c 0)
 
   abbrev sold : List Order
-  sold = queueIn sells c (getD (s .sells) c 0)
+  sold = queueIn sells c (getD (s .sellcounts) c 0)
 
   pub few-contracts : s .contractcount ≤ 4
   few-contracts = f .contracts-high
@@ -125,13 +125,13 @@ module _ {s : State} {buys sells trades : List ℕ} (w : WellFormedState s buys 
   -- 2, 3 and 4
   state-is : firstOf statePart ≡ firstOf (stateRefusals s account contract)
   unfolding firstOf listingIn
-  state-is = rw (no-account m f account, no-contract m f contract) (go (isAbsent contract (s .contractcount)) refl)
+  state-is = rw (no-account m f account, no-contract m f contract) (by-absent-contract (isAbsent contract (s .contractcount)) refl)
     where
-      go : (b : Bool) → isAbsent contract (s .contractcount) ≡ b
+      by-absent-contract : (b : Bool) → isAbsent contract (s .contractcount) ≡ b
           → codes (isAbsent account (s .accountcount)) b (not (eqb (listingFor x k .contract .phase) continuous))
           ≡ codes (isAbsent account (s .accountcount)) b (not (eqb (getD (s .contracts) c noContract .phase) continuous))
-      go true e = refl
-      go false e = rw (listing-at m f c (place-below contract (s .contractcount) e .1))
+      by-absent-contract true e = refl
+      by-absent-contract false e = rw (listing-at m f c (place-below contract (s .contractcount) e .1))
 
   pub refused-early : {code : ℕ} {o : Outcome} → code ≡ firstOf (stateRefusals s account contract) → (code ≡ 0 → ⊥) → o ≡ refusedWith s code
       → OutcomeIs (stepIn m command) o buys sells trades
@@ -155,14 +155,13 @@ module _ {s : State} {buys sells trades : List ℕ} (w : WellFormedState s buys 
     account-here : placeOf account < s .accountcount
     account-here = place-below account (s .accountcount) (tests .0) .1
 
-    -- j and n are the account's and the contract's number as the code widens them
-    pub account-fits : {j : ℕ} → j ≡ account → j - 1 < 32
+    pub account-fits : {place : ℕ} → place ≡ placeOf account → place < 32
     account-fits e = omega (arith, account-here, f .accounts-high)
 
-    pub contract-fits : {n : ℕ} → n ≡ contract → n - 1 < 4
+    pub contract-fits : {place : ℕ} → place ≡ c → place < 4
     contract-fits e = omega (arith, here, f .contracts-high)
 
-    pub terms-ok : {n : ℕ} → n ≡ contract → termsInRange (getD (s .contracts) (n - 1) noContract) ≡ true
+    pub terms-ok : {place : ℕ} → place ≡ c → termsInRange (getD (s .contracts) place noContract) ≡ true
     terms-ok e = rw e (contract-terms m f c here)
 
     phase-is : getD (s .contracts) c noContract .phase ≡ 1
@@ -173,8 +172,8 @@ module _ {s : State} {buys sells trades : List ℕ} (w : WellFormedState s buys 
     unfolding removalCode firstOf
     none = rw (tests .0, tests .1 .0, ← in-continuous (getD (s .contracts) c noContract) false phase-is)
 
-    pub rooms : {n : ℕ} → n ≡ contract → {bids offers : ℕ} → bids ≡ getD (s .buys) (n - 1) 0 → offers ≡ getD (s .sells) (n - 1) 0
-        → (firstWord (n - 1) bids ≤ length buys) × (firstWord (n - 1) offers ≤ length sells)
+    pub rooms : {place : ℕ} → place ≡ c → {bids offers : ℕ} → bids ≡ getD (s .buycounts) place 0 → offers ≡ getD (s .sellcounts) place 0
+        → (firstWord place bids ≤ length buys) × (firstWord place offers ≤ length sells)
     rooms e eb es = rw (eb, es) (side-room w account contract false none e false, side-room w account contract false none e true)
 
     listing-is : listingFor x k ≡ listingIn m c
@@ -189,20 +188,19 @@ module _ {s : State} {buys sells trades : List ℕ} (w : WellFormedState s buys 
     module _ {r : Resting} (rs : RestingIs number bought sold r) where
       order-is : firstOf orderPart ≡ firstOf (orderRefusals (getD (s .contracts) c noContract) (placeOf account) r lots price)
       unfolding firstOf ofAnother noSuchOrder listingIn
-      order-is = go (r .found) refl
+      order-is = by-found (r .found) refl
         where
-          go : (b : Bool) → r .found ≡ b → firstOf orderPart ≡ firstOf (orderRefusals (getD (s .contracts) c noContract) (placeOf account) r lots price)
-          go false e =
+          by-found : (b : Bool) → r .found ≡ b → firstOf orderPart ≡ firstOf (orderRefusals (getD (s .contracts) c noContract) (placeOf account) r lots price)
+          by-found false e =
               let no : noSuchOrder resting ≡ true = ap noSuchOrder resting-is ∙ sym (rs .found) ∙ ap not e in
               rw (no, e)
-          go true e =
+          by-found true e =
               let one : resting ≡ r .order ∷ [] = resting-is ∙ rs .order e in
               rw (one, e, listing-is)
 
-    -- n is the contract's number as the code widens it
-    module _ {n : ℕ} (is : n ≡ contract) {bids offers : ℕ} (eb : bids ≡ getD (s .buys) (n - 1) 0) (es : offers ≡ getD (s .sells) (n - 1) 0) {r : Resting}
-        (rs : RestingIs number (queueIn buys (n - 1) bids) (queueIn sells (n - 1) offers) r) {code : ℕ}
-        (ec : code ≡ firstOf (orderRefusals (getD (s .contracts) (n - 1) noContract) (account - 1) r lots price)) where
+    module _ {place : ℕ} (is : place ≡ c) {bids offers : ℕ} (eb : bids ≡ getD (s .buycounts) place 0) (es : offers ≡ getD (s .sellcounts) place 0) {r : Resting}
+        (rs : RestingIs number (queueIn buys place bids) (queueIn sells place offers) r) {code : ℕ}
+        (ec : code ≡ firstOf (orderRefusals (getD (s .contracts) place noContract) (account - 1) r lots price)) where
       found-here : RestingIs number bought sold r
       found-here = rw (eb, es, is) at rs
 
@@ -347,7 +345,7 @@ module _ {s : State} {buys sells trades : List ℕ} (w : WellFormedState s buys 
     Cancelled t buys′ sells′ = OutcomeIs (stepIn m (Cancel account contract false number)) (acceptedWith t number 0 (r .order .lots)) buys′ sells′ trades
 
     as-cancelled : (side : Bool) → r .sell ≡ side
-        → Cancelled (withCountsIn s (set (s .buys) c (pick side (count false) (count false - 1))) (set (s .sells) c (pick side (count true - 1) (count true))))
+        → Cancelled (withCountsIn s (set (s .buycounts) c (pick side (count false) (count false - 1))) (set (s .sellcounts) c (pick side (count true - 1) (count true))))
         (pick side buys (removedIn buys c (count false) (r .place))) (pick side (removedIn sells c (count true) (r .place)) sells)
     unfolding kindOf cancelled
     as-cancelled true e =
@@ -357,14 +355,13 @@ module _ {s : State} {buys sells trades : List ℕ} (w : WellFormedState s buys 
         removal-accepted w account contract false (none st′) refl (hasNumber number) (own-removed false e) (other-removed false e)
         (Cancel account contract false number) cancel-code refl refl (omega arith) refl
 
-    -- n is the contract's number as the code widens it
-    pub can-take-out : {n : ℕ} → n ≡ contract
-        → (n - 1 < 4) × (r .place < sideCount (r .sell) s (n - 1)) × (firstWord (n - 1) (sideCount (r .sell) s (n - 1)) ≤ length (sideArea (r .sell) buys sells))
+    pub can-take-out : {place : ℕ} → place ≡ c
+        → (place < 4) × (r .place < sideCount (r .sell) s place) × (firstWord place (sideCount (r .sell) s place) ≤ length (sideArea (r .sell) buys sells))
     can-take-out is = rw is (contract-fits st′ refl, place-in, room (r .sell))
 
-    pub taken-out : {n : ℕ} → n ≡ contract → {t : State} → t ≡ takenOut s (n - 1) r → {buys′ sells′ : List ℕ}
-        → buys′ ≡ pick (r .sell) buys (removedIn buys (n - 1) (sideCount false s (n - 1)) (r .place))
-        → sells′ ≡ pick (r .sell) (removedIn sells (n - 1) (sideCount true s (n - 1)) (r .place)) sells → Cancelled t buys′ sells′
+    pub taken-out : {place : ℕ} → place ≡ c → {t : State} → t ≡ takenOut s place r → {buys′ sells′ : List ℕ}
+        → buys′ ≡ pick (r .sell) buys (removedIn buys place (sideCount false s place) (r .place))
+        → sells′ ≡ pick (r .sell) (removedIn sells place (sideCount true s place) (r .place)) sells → Cancelled t buys′ sells′
     taken-out is et eb es = rw (et, eb, es, is) (as-cancelled (r .sell) refl)
 
     -- "Zero lots removes the order"
@@ -374,7 +371,7 @@ module _ {s : State} {buys sells trades : List ℕ} (w : WellFormedState s buys 
 
     pub zero-changed : lots ≡ 0 → {o : Outcome} {buys′ sells′ : List ℕ} → OutcomeIs (stepIn m (Cancel account contract false number)) o buys′ sells′ trades
         → OutcomeIs (stepIn m command) o buys′ sells′ trades
-    zero-changed e {o} {buys′} {sells′} h = subst (λ (q : Responded). OutcomeIs q o buys′ sells′ trades) (zero-same e) h
+    zero-changed e {o} {buys′} {sells′} h = subst (λ (q : AfterCommand). OutcomeIs q o buys′ sells′ trades) (zero-same e) h
 
     module _ (some : lots ≡ 0 → ⊥) where
       none-zero : eqb lots 0 ≡ false
@@ -433,19 +430,18 @@ module _ {s : State} {buys sells trades : List ℕ} (w : WellFormedState s buys 
               less-length number lots sold,
               length-queue buys c (count false),
               length-queue sells c (count true),
-              set-getD (s .buys) c 0,
-              set-getD (s .sells) c 0,
+              set-getD (s .buycounts) c 0,
+              set-getD (s .sellcounts) c 0,
               less-buys (r .sell) refl,
               less-sells (r .sell) refl,
             ))
 
-        -- n is the contract's number as the code widens it
-        pub can-lessen : {n : ℕ} → n ≡ contract → {count₁ : ℕ} → count₁ ≡ sideCount (r .sell) s (n - 1)
-            → (r .place < count₁) × (firstWord (n - 1) count₁ ≤ length (sideArea (r .sell) buys sells))
+        pub can-lessen : {place : ℕ} → place ≡ c → {count₁ : ℕ} → count₁ ≡ sideCount (r .sell) s place
+            → (r .place < count₁) × (firstWord place count₁ ≤ length (sideArea (r .sell) buys sells))
         can-lessen is ec = rw (ec, is) (place-in, room (r .sell))
 
-        pub fewer-changed : (lots ≡ r .order .lots → ⊥) → {n : ℕ} → n ≡ contract → {count₁ : ℕ} → count₁ ≡ sideCount (r .sell) s (n - 1) → {buys′ sells′ : List ℕ}
-            → buys′ ≡ pick (r .sell) buys (lessenedIn buys (n - 1) count₁ (r .place) lots) → sells′ ≡ pick (r .sell) (lessenedIn sells (n - 1) count₁ (r .place) lots) sells
+        pub fewer-changed : (lots ≡ r .order .lots → ⊥) → {place : ℕ} → place ≡ c → {count₁ : ℕ} → count₁ ≡ sideCount (r .sell) s place → {buys′ sells′ : List ℕ}
+            → buys′ ≡ pick (r .sell) buys (lessenedIn buys place count₁ (r .place) lots) → sells′ ≡ pick (r .sell) (lessenedIn sells place count₁ (r .place) lots) sells
             → {o : Outcome} → o ≡ acceptedWith s number 0 lots → OutcomeIs (stepIn m command) o buys′ sells′ trades
         unfolding kindOf placeKept
         fewer-changed h is ec eb es a =
@@ -476,11 +472,11 @@ module _ {s : State} {buys sells trades : List ℕ} (w : WellFormedState s buys 
         left-few side = omega (arith, length-without (hasNumber number) (queue side), length-queue (area side) c (count side), few side)
 
         gone-lies : put m (gone x k)
-            ≡ memory (withCountsIn s (set (s .buys) c (length (left false))) (set (s .sells) c (length (left true)))) (putQueue buys c (count false) (left false)) (putQueue sells c (count true) (left true)) trades
+            ≡ memory (withCountsIn s (set (s .buycounts) c (length (left false))) (set (s .sellcounts) c (length (left true)))) (putQueue buys c (count false) (left false)) (putQueue sells c (count true) (left true)) trades
         unfolding gone listingIn
         gone-lies = rw (listing-is st′) (put-queues m f c (here st′) (left false) (left true) (left-few false) (left-few true))
 
-        gone-state : t .state ≡ withCountsIn s (set (s .buys) c (length (left false))) (set (s .sells) c (length (left true)))
+        gone-state : t .state ≡ withCountsIn s (set (s .buycounts) c (length (left false))) (set (s .sellcounts) c (length (left true)))
         gone-state = ap (λ (n : Memory). n .state) (lies ∙ gone-lies)
 
         gone-buys : buys′ ≡ putQueue buys c (count false) (left false)
@@ -496,8 +492,8 @@ module _ {s : State} {buys sells trades : List ℕ} (w : WellFormedState s buys 
             (record {
               contracts = d .contracts;
               accounts = d .accounts;
-              buys = length-set (s .buys) c (length (left false)) ∙ d .buys;
-              sells = length-set (s .sells) c (length (left true)) ∙ d .sells;
+              buys = length-set (s .buycounts) c (length (left false)) ∙ d .buys;
+              sells = length-set (s .sellcounts) c (length (left true)) ∙ d .sells;
               holdings = d .holdings;
             })
 
@@ -517,29 +513,28 @@ module _ {s : State} {buys sells trades : List ℕ} (w : WellFormedState s buys 
           pub gone-lots : o .lots ≤ 1_000
           gone-lots = rw eo few-lots
 
-          -- j is the account's number as the code widens it
-          pub gone-owner : {j : ℕ} → j ≡ account → {who : Account} → who ≡ getD (s .accounts) (j - 1) noAccount → getD (t .state .accounts) (o .account - 1) noAccount ≡ who
+          pub gone-owner : {place : ℕ} → place ≡ placeOf account → {who : Account} → who ≡ getD (s .accounts) place noAccount → getD (t .state .accounts) (o .account - 1) noAccount ≡ who
           gone-owner e ew = rw (ew, e, eo, gone-state)
 
           module _ {code : ℕ} (ec : code ≡ firstOf (reentryRefusals (exchangeOf m′) number o)) where
             changed-code : codeOf x command ≡ code
             changed-code = lost-code loss ∙ sym (ec ∙ rw (its-order, read))
 
-            -- ---- refused: the order is put back, n being the contract's number as the code widens it
+            -- ---- refused: the order is put back
 
-            module _ (refused : code ≡ 0 → ⊥) {n : ℕ} (is : n ≡ contract) {count₁ : ℕ} (en : count₁ ≡ sideCount (r .sell) (t .state) (n - 1)) where
+            module _ (refused : code ≡ 0 → ⊥) {place : ℕ} (is : place ≡ c) {count₁ : ℕ} (en : count₁ ≡ sideCount (r .sell) (t .state) place) where
               kept-other : (side : Bool) → r .sell ≡ side → putQueue (area (not side)) c (count (not side)) (left (not side)) ≡ area (not side)
               kept-other side e = rw (without-none (hasNumber number) (queue (not side)) (other side e)) (put-queue (area (not side)) c (count (not side)) (room (not side)))
 
-              counts-in : c < length (s .buys)
+              counts-in : c < length (s .buycounts)
               counts-in = omega (arith, w .declared .buys, here st′, f .contracts-high)
 
-              counts-in-sells : c < length (s .sells)
+              counts-in-sells : c < length (s .sellcounts)
               counts-in-sells = omega (arith, w .declared .sells, here st′, f .contracts-high)
 
               count-is : (side : Bool) → r .sell ≡ side → sideCount side (t .state) c ≡ count side - 1
-              count-is true e = rw gone-state (getD-set-same (s .sells) c (length (left true)) 0 counts-in-sells ∙ out-length true e)
-              count-is false e = rw gone-state (getD-set-same (s .buys) c (length (left false)) 0 counts-in ∙ out-length false e)
+              count-is true e = rw gone-state (getD-set-same (s .sellcounts) c (length (left true)) 0 counts-in-sells ∙ out-length true e)
+              count-is false e = rw gone-state (getD-set-same (s .buycounts) c (length (left false)) 0 counts-in ∙ out-length false e)
 
               less-one : count₁ ≡ count (r .sell) - 1
               less-one = en ∙ rw is (count-is (r .sell) refl)
@@ -548,7 +543,7 @@ module _ {s : State} {buys sells trades : List ℕ} (w : WellFormedState s buys 
               wide true = ap length gone-sells ∙ length-putQueue sells c (count true) (left true) (few true) (left-few true) (omega (arith, f .sells-room, here st′))
               wide false = ap length gone-buys ∙ length-putQueue buys c (count false) (left false) (few false) (left-few false) (omega (arith, f .buys-room, here st′))
 
-              pub can-put-back : (r .place ≤ count₁) × (firstWord (n - 1) count₁ + orderStride ≤ length (sideArea (r .sell) buys′ sells′))
+              pub can-put-back : (r .place ≤ count₁) × (firstWord place count₁ + orderStride ≤ length (sideArea (r .sell) buys′ sells′))
               can-put-back = rw is (omega (arith, less-one, place-in), omega (arith, less-one, place-in, wide (r .sell), room (r .sell)))
 
               back-buys : (side : Bool) → r .sell ≡ side → {b : List ℕ} → b ≡ pick side buys′ (putBackIn buys′ c count₁ (r .place) (r .order)) → b ≡ buys
@@ -563,10 +558,10 @@ module _ {s : State} {buys sells trades : List ℕ} (w : WellFormedState s buys 
                   (gone-sells ∙ rw (out-of true e)) (less-one ∙ rw e) q
               back-sells false e q = q ∙ gone-sells ∙ kept-other false e
 
-              pub buys-back : {b : List ℕ} → b ≡ pick (r .sell) buys′ (putBackIn buys′ (n - 1) count₁ (r .place) (r .order)) → b ≡ buys
+              pub buys-back : {b : List ℕ} → b ≡ pick (r .sell) buys′ (putBackIn buys′ place count₁ (r .place) (r .order)) → b ≡ buys
               buys-back eb = back-buys (r .sell) refl (rw is at eb)
 
-              pub sells-back : {b : List ℕ} → b ≡ pick (r .sell) (putBackIn sells′ (n - 1) count₁ (r .place) (r .order)) sells′ → b ≡ sells
+              pub sells-back : {b : List ℕ} → b ≡ pick (r .sell) (putBackIn sells′ place count₁ (r .place) (r .order)) sells′ → b ≡ sells
               sells-back eb = back-sells (r .sell) refl (rw is at eb)
 
               pub lost-refused : {b d : List ℕ} → b ≡ buys → d ≡ sells → {q : Outcome} → q ≡ refusedWith s code → OutcomeIs (stepIn m command) q b d trades
@@ -667,4 +662,4 @@ module _ {s : State} {buys sells trades : List ℕ} (w : WellFormedState s buys 
                   ∙ sym response
 
               pub lost-changed : {q : Outcome} {b d e : List ℕ} → OutcomeIs (enteredIn m′ o number 0 (t .state .next)) q b d e → OutcomeIs (stepIn m command) q b d e
-              lost-changed {q} {b} {d} {e} h = subst (λ (v : Responded). OutcomeIs v q b d e) same-response h
+              lost-changed {q} {b} {d} {e} h = subst (λ (v : AfterCommand). OutcomeIs v q b d e) same-response h

@@ -11,7 +11,7 @@ use Rattle.areas.specs.Lists.{insertAt, removeAt}
 use Rattle.rules.specs.Answers.{Refusal, _when_, firstOf, noSuchOrder, numbered}
 use Rattle.rules.specs.Bounds.{allowedToday, continuous, maxLots}
 use Rattle.rules.specs.Change.{unmarked}
-use Rattle.rules.specs.Exchange.{noContract, noOrder, placeOf}
+use Rattle.rules.specs.Exchange.{noContract, noOrder, placeOf, isAbsent}
 use Rattle.rules.specs.Matching.{withLots}
 use Rattle.rules.specs.Memory.{putQueue, queueIn}
 use Rattle.book.specs.Places.{indexOf}
@@ -21,7 +21,7 @@ use Rattle.rules.specs.declared.Order.{Order}
 use Rattle.rules.specs.declared.PriceCondition.the-variants.{Limit}
 use Rattle.rules.specs.declared.State.{State}
 use Rattle.rules.specs.declared.TimeCondition.the-variants.{GoodForDay}
-use Rattle.engine.specs.Outcome.{isAbsent, withCountsIn}
+use Rattle.engine.specs.Outcome.{withCountsIn}
 use Rattle.refusals.specs.Insertion.{sideCount}
 use Rattle.changing.specs.declared.Resting.{Resting}
 
@@ -53,7 +53,7 @@ orderRefusals c account r lots price =
 -- the order found, and none of these refusals holds
 pub record Changeable (s : State) (buys sells : List ℕ) (account contract number lots price : ℕ) (r : Resting) : Type 0 where
   pub state : firstOf (stateRefusals s account contract) ≡ 0
-  pub resting : RestingIs number (queueIn buys (placeOf contract) (getD (s .buys) (placeOf contract) 0)) (queueIn sells (placeOf contract) (getD (s .sells) (placeOf contract) 0)) r
+  pub resting : RestingIs number (queueIn buys (placeOf contract) (getD (s .buycounts) (placeOf contract) 0)) (queueIn sells (placeOf contract) (getD (s .sellcounts) (placeOf contract) 0)) r
   pub order : firstOf (orderRefusals (getD (s .contracts) (placeOf contract) noContract) (placeOf account) r lots price) ≡ 0
 
 -- "more lots or another price lose it"
@@ -90,5 +90,5 @@ putBackIn area c count place o = putQueue area c count (insertAt place o (queueI
 
 abbrev pub takenOut : State → ℕ → Resting → State
 takenOut s c r =
-    withCountsIn s (set (s .buys) c (pick (r .sell) (sideCount false s c) (sideCount false s c - 1)))
-    (set (s .sells) c (pick (r .sell) (sideCount true s c - 1) (sideCount true s c)))
+    withCountsIn s (set (s .buycounts) c (pick (r .sell) (sideCount false s c) (sideCount false s c - 1)))
+    (set (s .sellcounts) c (pick (r .sell) (sideCount true s c - 1) (sideCount true s c)))

@@ -93,7 +93,7 @@ fn state_code(state: State, account: u32, contract: u32) -> u32
     if answers::is_absent(contract, state.contractcount) {
         return 3;
     }
-    let place = laws::wide(contract) - 1;
+    let place = laws::place_of(contract);
     let contracts = state.contracts;
     let terms = contracts[place];
     if terms.phase != CONTINUOUS {
@@ -216,8 +216,8 @@ fn lose_place(
     requires { ⌜ WellFormedState state (now buys) (now sells) (now trades) × Changeable state (now buys) (now sells) account contract number lots price r × (lots ≡ 0 → ⊥) × (loses (r .order) lots price ≡ true) ⌝ }
     ensures { λ o. ⌜ OutcomeIs (stepIn (memory state (now (buys .entry)) (now (sells .entry)) (now (trades .entry))) (Change account contract number lots price)) o (now (buys .exit)) (now (sells .exit)) (now (trades .exit)) ⌝ }
 {
-    let c = laws::wide(contract) - 1;
-    let a = laws::wide(account) - 1;
+    let c = laws::place_of(contract);
+    let a = laws::place_of(account);
     let who = state.accounts[a];
     let o = arriving(account, contract, r, lots, price);
     let gone = take_out(state, buys, sells, c, r);
@@ -252,7 +252,7 @@ pub fn change(
     if early != 0 {
         return answers::refused(state, early);
     }
-    let c = laws::wide(contract) - 1;
+    let c = laws::place_of(contract);
     let contracts = state.contracts;
     let terms = contracts[c];
     let bids = orders::side_count(false, state, c);

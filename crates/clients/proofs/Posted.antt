@@ -57,13 +57,13 @@ module _ (b : Clients) where
     client-trades-in : (c : ℕ) (ts : List Trade) → tradesIn c (map (clientTrade a (b .count) (b .postings)) ts) ≡ map (clientTrade a (b .count) (b .postings)) (tradesIn c ts)
     unfolding tradesIn clientTrade
     client-trades-in c [] = refl
-    client-trades-in c (t ∷ ts) = rw (client-trades-in c ts) (by (eqb (t .contract) c))
+    client-trades-in c (t ∷ ts) = rw (client-trades-in c ts) (by-contract (eqb (t .contract) c))
       where
-        by : (here : Bool)
+        by-contract : (here : Bool)
             → pick here (clientTrade a (b .count) (b .postings) t ∷ map (clientTrade a (b .count) (b .postings)) (tradesIn c ts)) (map (clientTrade a (b .count) (b .postings)) (tradesIn c ts))
             ≡ map (clientTrade a (b .count) (b .postings)) (pick here (t ∷ tradesIn c ts) (tradesIn c ts))
-        by true = refl
-        by false = refl
+        by-contract true = refl
+        by-contract false = refl
 
     same-value : (ts : List Trade) → tradedValue (map (clientTrade a (b .count) (b .postings)) ts) ≡ tradedValue ts
     unfolding tradedValue sumOf clientTrade

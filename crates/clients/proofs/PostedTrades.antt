@@ -31,13 +31,13 @@ module _ (a clients : ℕ) (postings : List ℕ) (few : clients ≤ 16) where
       → (not whose || isClient (pick whose (clientPlace clients postings number) 16)) ≡ (not whose || isPosted clients postings number)
   unfolding clientPlace
   leg-posted false number = refl
-  leg-posted true number = by (isPosted clients postings number) refl
+  leg-posted true number = by-posted (isPosted clients postings number) refl
     where
-      by : (p : Bool) → isPosted clients postings number ≡ p → ltb (clientPlace clients postings number) 16 ≡ isPosted clients postings number
-      by true e =
+      by-posted : (p : Bool) → isPosted clients postings number ≡ p → ltb (clientPlace clients postings number) 16 ≡ isPosted clients postings number
+      by-posted true e =
           let l : clientPlace clients postings number < 16 = omega (arith, posted-place clients postings number e) in
           lt-ltb (clientPlace clients postings number) 16 l ∙ sym e
-      by false e = rw e
+      by-posted false e = rw e
 
   pub trade-posted : (t u : Trade) → u ≡ clientTrade a clients postings t
       → ((not (eqb (t .buyer) a) || isClient (u .buyer)) && (not (eqb (t .seller) a) || isClient (u .seller))) ≡ tradePosted a clients postings t

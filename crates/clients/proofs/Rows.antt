@@ -36,10 +36,10 @@ module _ (f : ℕ → List ℕ) where
   unfolding inRow total
   length-row-total g w zero h = omega arith
   length-row-total g w (suc n) h =
-      length-append (inRow n f) (f n) ∙ ap₂ (λ (x y : ℕ). x + y) (length-row-total g w n h) (h n) ∙ by w (total n g) (g n)
+      length-append (inRow n f) (f n) ∙ ap₂ (λ (x y : ℕ). x + y) (length-row-total g w n h) (h n) ∙ factored w (total n g) (g n)
     where
-      by : (w x y : ℕ) → w * x + w * y ≡ w * (x + y)
-      by w x y = omega arith
+      factored : (w x y : ℕ) → w * x + w * y ≡ w * (x + y)
+      factored w x y = omega arith
 
 module _ (f : ℕ → ℕ) where
   pub total-none : total 0 f ≡ 0

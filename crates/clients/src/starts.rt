@@ -29,7 +29,7 @@ fn sum(starts: &[u32], first: usize, clients: usize) -> u64
     let mut k: usize = 0;
     while k < clients {
         let word = word_at(starts, 8 * k + first);
-        lots += laws::wide32(word);
+        lots += laws::wide64(word);
         k += 1;
     }
     lots
@@ -48,8 +48,8 @@ pub fn add_up(
     let mut c: usize = 0;
     while c < contracts {
         let h = holdings[c];
-        let long = laws::wide32(h.startlong);
-        let short = laws::wide32(h.startshort);
+        let long = laws::wide64(h.startlong);
+        let short = laws::wide64(h.startshort);
         if sum(starts, 2 * c, clients) != long {
             return false;
         }

@@ -13,11 +13,11 @@ use Rattle.laws.specs.Tabulate.{tabulate, length-tabulate}
 module _ {A : Type 0} where
   pub tabulate-more : (k : ℕ) (f : ℕ → A) → tabulate (k + 1) f ≡ tabulate k f ++ (f k ∷ [])
   unfolding tabulate
-  tabulate-more k f = rw add-one (go k f)
+  tabulate-more k f = rw add-one (tabulate-suc k f)
     where
-      go : (k : ℕ) (f : ℕ → A) → tabulate (suc k) f ≡ tabulate k f ++ (f k ∷ [])
-      go zero f = refl
-      go (suc k) f = ap (λ (l : List A). f 0 ∷ l) (go k (λ i. f (suc i)))
+      tabulate-suc : (k : ℕ) (f : ℕ → A) → tabulate (suc k) f ≡ tabulate k f ++ (f k ∷ [])
+      tabulate-suc zero f = refl
+      tabulate-suc (suc k) f = ap (λ (l : List A). f 0 ∷ l) (tabulate-suc k (λ i. f (suc i)))
 
   module _ (n : ℕ) (z : A) (f : ℕ → A) where
     abbrev pub filled : ℕ → List A

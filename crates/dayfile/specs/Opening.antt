@@ -35,8 +35,8 @@ openingState file =
     record {
       contracts = openingContracts file;
       accounts = openingAccounts file;
-      buys = replicate maxContracts 0;
-      sells = replicate maxContracts 0;
+      buycounts = replicate maxContracts 0;
+      sellcounts = replicate maxContracts 0;
       contractcount = contractsIn file;
       accountcount = accountsIn file;
       tradecount = 0;

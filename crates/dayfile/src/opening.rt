@@ -85,8 +85,8 @@ pub fn opening_state(file: &[u8]) -> State
     State {
         contracts: terms,
         accounts: holders,
-        buys: [0; rules::MAX_CONTRACTS],
-        sells: [0; rules::MAX_CONTRACTS],
+        buycounts: [0; rules::MAX_CONTRACTS],
+        sellcounts: [0; rules::MAX_CONTRACTS],
         contractcount: contracts,
         accountcount: accounts,
         tradecount: 0,

@@ -155,13 +155,13 @@ module _ {close : Bool} {Told : ℕ → Bool → List Leg → ℕ → ℕ → Ty
           rw (getD-set-same us at _ 0 l, getD-set-same vs at _ 0 l′, e) (pass .grows _ sell _ _ _ (t .price) (t .lots) (slot-told sell))
 
       own : (s : Bool) → Slot Told L party (t .contract) its us′ vs′ party (t .contract) s (L party (t .contract) ++ (its ∷ []))
-      own s = by (eqb (slotOf party (t .contract) s) at) refl
+      own s = by-slot (eqb (slotOf party (t .contract) s) at) refl
         where
-          by : (b : Bool) → eqb (slotOf party (t .contract) s) at ≡ b → Slot Told L party (t .contract) its us′ vs′ party (t .contract) s (L party (t .contract) ++ (its ∷ []))
-          by true q =
+          by-slot : (b : Bool) → eqb (slotOf party (t .contract) s) at ≡ b → Slot Told L party (t .contract) its us′ vs′ party (t .contract) s (L party (t .contract) ++ (its ∷ []))
+          by-slot true q =
               subst (λ (x : Bool). Slot Told L party (t .contract) its us′ vs′ party (t .contract) x (L party (t .contract) ++ (its ∷ [])))
               (one-side party (t .contract) party (t .contract) s sell (h .contract) (h .contract) (eqb-true _ _ q)) own-slot
-          by false q =
+          by-slot false q =
               elsewhere party (t .contract) s _ (eqb-false _ _ q)
               (pass .passes _ s _ _ _ sell (closeOf sell t) _ _ (ap (λ (k : Bool). isKind s close sell k) e ∙ other-side s sell close (λ p. eqb-false _ _ q (ap (slotOf party (t .contract)) (sym p)))) (slot-told s))
 
@@ -173,18 +173,18 @@ module _ {close : Bool} {Told : ℕ → Bool → List Leg → ℕ → ℕ → Ty
     -- one leg more
     pub leg-more : (xs ys : List ℕ) → xs ≡ changed (same close (closeOf sell t)) us at (F (getD us at 0) (getD vs at 0) (t .price) (t .lots))
         → ys ≡ changed (same close (closeOf sell t)) vs at (G (getD us at 0) (getD vs at 0) (t .price) (t .lots)) → Kept Told (λ a c. L a c ++ legOf sell t a c) xs ys
-    leg-more xs ys p q = by (same close (closeOf sell t)) refl p q
+    leg-more xs ys p q = by-close (same close (closeOf sell t)) refl p q
       where
-        by : (b : Bool) → same close (closeOf sell t) ≡ b → xs ≡ changed b us at (F (getD us at 0) (getD vs at 0) (t .price) (t .lots))
+        by-close : (b : Bool) → same close (closeOf sell t) ≡ b → xs ≡ changed b us at (F (getD us at 0) (getD vs at 0) (t .price) (t .lots))
             → ys ≡ changed b vs at (G (getD us at 0) (getD vs at 0) (t .price) (t .lots)) → Kept Told (λ a c. L a c ++ legOf sell t a c) xs ys
-        by true k e f =
+        by-close true k e f =
             rw (e, f)
             (record {
               room = length-set us at _ ∙ w .room;
               room-too = length-set vs at _ ∙ w .room-too;
               tells = leg-told (same-one close (closeOf sell t) k);
             })
-        by false k e f = rw (e, f) (record { room = w .room; room-too = w .room-too; tells = leg-passed k })
+        by-close false k e f = rw (e, f) (record { room = w .room; room-too = w .room-too; tells = leg-passed k })
 
 -- ---- the loop: the legs of the first i trades
 

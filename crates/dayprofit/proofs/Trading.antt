@@ -61,30 +61,30 @@ module _ (area : List ℕ) (count : ℕ) (s : SizedTrades area count) where
 trades-in-append : (c : ℕ) (ts us : List Trade) → tradesIn c (ts ++ us) ≡ tradesIn c ts ++ tradesIn c us
 unfolding tradesIn
 trades-in-append c [] us = refl
-trades-in-append c (t ∷ ts) us = by (eqb (t .contract) c) (trades-in-append c ts us)
+trades-in-append c (t ∷ ts) us = by-contract (eqb (t .contract) c) (trades-in-append c ts us)
   where
-    by : (here : Bool) → tradesIn c (ts ++ us) ≡ tradesIn c ts ++ tradesIn c us
+    by-contract : (here : Bool) → tradesIn c (ts ++ us) ≡ tradesIn c ts ++ tradesIn c us
         → pick here (t ∷ tradesIn c (ts ++ us)) (tradesIn c (ts ++ us)) ≡ pick here (t ∷ tradesIn c ts) (tradesIn c ts) ++ tradesIn c us
-    by true e = rw e
-    by false e = e
+    by-contract true e = rw e
+    by-contract false e = e
 
 trades-in-sized : (c : ℕ) (ts : List Trade) → AllSized ts → AllSized (tradesIn c ts)
 unfolding tradesIn AllSized
 trades-in-sized c [] s = tt
-trades-in-sized c (t ∷ ts) s = by (eqb (t .contract) c) (trades-in-sized c ts (s .1))
+trades-in-sized c (t ∷ ts) s = by-contract (eqb (t .contract) c) (trades-in-sized c ts (s .1))
   where
-    by : (here : Bool) → AllSized (tradesIn c ts) → AllSized (pick here (t ∷ tradesIn c ts) (tradesIn c ts))
-    by true r = (s .0, r)
-    by false r = r
+    by-contract : (here : Bool) → AllSized (tradesIn c ts) → AllSized (pick here (t ∷ tradesIn c ts) (tradesIn c ts))
+    by-contract true r = (s .0, r)
+    by-contract false r = r
 
 trades-in-few : (c : ℕ) (ts : List Trade) → length (tradesIn c ts) ≤ length ts
 unfolding tradesIn
 trades-in-few c [] = omega arith
-trades-in-few c (t ∷ ts) = by (eqb (t .contract) c) (trades-in-few c ts)
+trades-in-few c (t ∷ ts) = by-contract (eqb (t .contract) c) (trades-in-few c ts)
   where
-    by : (here : Bool) → length (tradesIn c ts) ≤ length ts → length (pick here (t ∷ tradesIn c ts) (tradesIn c ts)) ≤ suc (length ts)
-    by true h = omega arith
-    by false h = omega arith
+    by-contract : (here : Bool) → length (tradesIn c ts) ≤ length ts → length (pick here (t ∷ tradesIn c ts) (tradesIn c ts)) ≤ suc (length ts)
+    by-contract true h = omega arith
+    by-contract false h = omega arith
 
 -- "Prices: 1 to 1,000,000", "Lots per order: 1 to 1,000"
 pub value-small : (ts : List Trade) → AllSized ts → tradedValue ts ≤ 1_000_000 * tradedLots ts

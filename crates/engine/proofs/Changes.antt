@@ -14,13 +14,13 @@ use Rattle.rules.specs.Answers.{changeListed, firstOf, phaseRefusals}
 use Rattle.rules.specs.Auction.{matchOf, unmatched}
 use Rattle.rules.specs.Bounds.{inAuction, maxTrades}
 use Rattle.rules.specs.Command.{phaseKnown}
-use Rattle.rules.specs.Exchange.{Listing, listingAt, noContract, Exchange}
+use Rattle.rules.specs.Exchange.{Listing, listingAt, noContract, Exchange, isAbsent}
 use Rattle.rules.specs.Kinds.{codeOf, done, kindOf}
 use Rattle.rules.specs.Memory.{Memory, WellFormedState, exchangeOf, listingIn, memory, stepIn, written}
 use Rattle.rules.specs.Step.{phaseChanged, withPhase, answerOf, exchangeMatched, listingMatched, withContract, withListing}
 use Rattle.rules.specs.declared.Command.the-variants.{Phase}
 use Rattle.rules.specs.declared.State.{State}
-use Rattle.engine.specs.Outcome.{isAbsent, OutcomeIs, refusedWith, acceptedWith, withPhaseAt, isMatch}
+use Rattle.engine.specs.Outcome.{OutcomeIs, refusedWith, acceptedWith, withPhaseAt, isMatch}
 use Rattle.rules.specs.Holdings.{bookTrades}
 use Rattle.rules.specs.Matching.{lastPrice}
 use Rattle.rules.proofs.Fillable.{traded-nil}
@@ -35,33 +35,33 @@ use Rattle.engine.proofs.Tests.{place-below}
 module _ (to : ℕ) where
   pub from-pre-open : changeListed 0 to ≡ (eqb to 4 || (eqb to 1 || eqb to 3))
   unfolding changeListed
-  from-pre-open = go (eqb to 1) (eqb to 3) (eqb to 4)
+  from-pre-open = by-phase (eqb to 1) (eqb to 3) (eqb to 4)
     where
-      go : (a b c : Bool) → (a || b || false || false || false || false || c || false) ≡ (c || (a || b))
-      go true b true = refl
-      go true b false = refl
-      go false true true = refl
-      go false true false = refl
-      go false false true = refl
-      go false false false = refl
+      by-phase : (a b c : Bool) → (a || b || false || false || false || false || c || false) ≡ (c || (a || b))
+      by-phase true b true = refl
+      by-phase true b false = refl
+      by-phase false true true = refl
+      by-phase false true false = refl
+      by-phase false false true = refl
+      by-phase false false false = refl
 
   pub from-continuous : changeListed 1 to ≡ (eqb to 2 || eqb to 3)
   unfolding changeListed
-  from-continuous = go (eqb to 2) (eqb to 3)
+  from-continuous = by-phase (eqb to 2) (eqb to 3)
     where
-      go : (a b : Bool) → (false || false || a || false || b || false || false || false) ≡ (a || b)
-      go true b = refl
-      go false true = refl
-      go false false = refl
+      by-phase : (a b : Bool) → (false || false || a || false || b || false || false || false) ≡ (a || b)
+      by-phase true b = refl
+      by-phase false true = refl
+      by-phase false false = refl
 
   pub from-no-trading : changeListed 2 to ≡ (eqb to 1 || eqb to 3)
   unfolding changeListed
-  from-no-trading = go (eqb to 1) (eqb to 3)
+  from-no-trading = by-phase (eqb to 1) (eqb to 3)
     where
-      go : (a b : Bool) → (false || false || false || a || false || b || false || false) ≡ (a || b)
-      go true b = refl
-      go false true = refl
-      go false false = refl
+      by-phase : (a b : Bool) → (false || false || false || a || false || b || false || false) ≡ (a || b)
+      by-phase true b = refl
+      by-phase false true = refl
+      by-phase false false = refl
 
   pub from-auction : changeListed 4 to ≡ eqb to 1
   unfolding changeListed
@@ -83,8 +83,7 @@ module _ (s : State) (contract phase : ℕ) where
     unfolding isMatch
     no-such-contract h = sym (rw (e, h))
 
-    -- k is the contract's number as the code widens it
-    pub match-by-phase : isAbsent contract (s .contractcount) ≡ false → {k : ℕ} → k ≡ contract → eqb (getD (s .contracts) (k - 1) noContract .phase) 4 ≡ isMatch s contract phase
+    pub match-by-phase : isAbsent contract (s .contractcount) ≡ false → {place : ℕ} → place ≡ contract - 1 → eqb (getD (s .contracts) place noContract .phase) 4 ≡ isMatch s contract phase
     unfolding isMatch
     match-by-phase h is = sym (rw (e, h, is))
 
@@ -134,19 +133,18 @@ module _ {s : State} {buys sells trades : List ℕ} (w : WellFormedState s buys 
   pub phase-absent : {r : Outcome} → phaseKnown phase ≡ true → isAbsent contract (s .contractcount) ≡ true → r ≡ refusedWith s 3 → ChangeIs r
   phase-absent known e = phase-refused 3 (omega arith) (rw (phase-code, known, e))
 
-  -- k is the contract's number as the code widens it
-  module _ (known : phaseKnown phase ≡ true) (present : isAbsent contract (s .contractcount) ≡ false) {k : ℕ} (is : k ≡ contract) where
+  module _ (known : phaseKnown phase ≡ true) (present : isAbsent contract (s .contractcount) ≡ false) {place : ℕ} (is : place ≡ contract - 1) where
     here : contract - 1 < s .contractcount
     here = place-below contract (s .contractcount) present .1
 
-    terms-are : listingAt (exchangeOf m) (contract - 1) .contract ≡ getD (s .contracts) (k - 1) noContract
+    terms-are : listingAt (exchangeOf m) (contract - 1) .contract ≡ getD (s .contracts) place noContract
     unfolding listingIn
     terms-are = rw is (ap (λ (l : Listing). l .contract) (listing-at m f (contract - 1) here))
 
-    pub phase-unlisted : {r : Outcome} → changeListed (getD (s .contracts) (k - 1) noContract .phase) phase ≡ false → r ≡ refusedWith s 17 → ChangeIs r
+    pub phase-unlisted : {r : Outcome} → changeListed (getD (s .contracts) place noContract .phase) phase ≡ false → r ≡ refusedWith s 17 → ChangeIs r
     phase-unlisted h = phase-refused 17 (omega arith) (rw (phase-code, known, present, terms-are, h))
 
-    module _ (listed : changeListed (getD (s .contracts) (k - 1) noContract .phase) phase ≡ true) (no : isMatch s contract phase ≡ false) where
+    module _ (listed : changeListed (getD (s .contracts) place noContract .phase) phase ≡ true) (no : isMatch s contract phase ≡ false) where
       other : inAuction (listingAt (exchangeOf m) (contract - 1) .contract) ≡ false
       other = cases (inAuction (listingAt (exchangeOf m) (contract - 1) .contract)) refl
         where
@@ -159,7 +157,7 @@ module _ {s : State} {buys sells trades : List ℕ} (w : WellFormedState s buys 
       accepted-code : codeOf (exchangeOf m) (Phase contract phase) ≡ 0
       accepted-code = rw (phase-code, known, present, terms-are, listed, no-match (exchangeOf m) (contract - 1) other, le-ltb maxTrades (s .tradecount + 0) (omega (arith, f .trades-high)))
 
-      phase-lies : written m (kindOf (exchangeOf m) (Phase contract phase) .effect .stages) ≡ memory (withPhaseAt s (k - 1) phase) buys sells trades
+      phase-lies : written m (kindOf (exchangeOf m) (Phase contract phase) .effect .stages) ≡ memory (withPhaseAt s place phase) buys sells trades
       unfolding kindOf phaseChanged
       phase-lies =
           rw (only-phase (exchangeOf m) (contract - 1) other phase)
@@ -169,5 +167,5 @@ module _ {s : State} {buys sells trades : List ℕ} (w : WellFormedState s buys 
       unfolding kindOf phaseChanged
       no-lots = rw (no-match (exchangeOf m) (contract - 1) other, traded-nil)
 
-      pub phase-accepted : {r : Outcome} {next : State} → next ≡ withPhaseAt s (k - 1) phase → r ≡ acceptedWith next 0 0 0 → ChangeIs r
+      pub phase-accepted : {r : Outcome} {next : State} → next ≡ withPhaseAt s place phase → r ≡ acceptedWith next 0 0 0 → ChangeIs r
       phase-accepted n e = acceptance s buys sells trades (Phase contract phase) accepted-code no-lots (phase-lies ∙ rw n) e

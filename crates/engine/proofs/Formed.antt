@@ -12,14 +12,13 @@ use Rattle.laws.specs.Bound.{Within, within-abs, within-le}
 use Rattle.laws.specs.Choice.{all, all-at, both-true}
 use Rattle.laws.specs.Chains.{passed}
 use Rattle.rules.specs.Bounds.{within, maxContracts, maxAccounts, maxResting, maxTrades}
-use Rattle.rules.specs.Exchange.{absent, accountAt, holdingAt, listingAt}
+use Rattle.rules.specs.Exchange.{absent, accountAt, holdingAt, listingAt, isAbsent}
 use Rattle.rules.specs.Memory.{Memory, Declared, exchangeOf, inUse, listingIn, putAccounts, countsInRange, hasRoom, wellFormedMemory, memory, WellFormedState, queueStride, tradeStride}
 use Rattle.rules.specs.WellFormed.{wellFormedContents}
 use Rattle.rules.specs.declared.Account.{Account}
 use Rattle.rules.specs.declared.State.{State}
 use Rattle.rules.proofs.InUse.{accounts-in-use, contracts-in-use, account-in-use, holding-in-use, listing-in-use}
 use Rattle.invariants.proofs.Clauses.{WellFormed, well-formed}
-use Rattle.engine.specs.Outcome.{isAbsent}
 use Rattle.engine.proofs.Accounts.{put-account-set, same-room, same-room-put}
 use Rattle.engine.proofs.Tests.{place-below}
 
@@ -29,8 +28,8 @@ pub record Formed (m : Memory) : Type 0 where
   pub accounts-low : 1 ≤ m .state .accountcount
   pub accounts-high : m .state .accountcount ≤ 32
   pub trades-high : m .state .tradecount ≤ maxTrades
-  pub buys-high : (c : ℕ) → c < m .state .contractcount → getD (m .state .buys) c 0 ≤ maxResting
-  pub sells-high : (c : ℕ) → c < m .state .contractcount → getD (m .state .sells) c 0 ≤ maxResting
+  pub buys-high : (c : ℕ) → c < m .state .contractcount → getD (m .state .buycounts) c 0 ≤ maxResting
+  pub sells-high : (c : ℕ) → c < m .state .contractcount → getD (m .state .sellcounts) c 0 ≤ maxResting
   pub buys-room : queueStride * m .state .contractcount ≤ length (m .buys)
   pub sells-room : queueStride * m .state .contractcount ≤ length (m .sells)
   pub trades-room : tradeStride * maxTrades ≤ length (m .trades)
@@ -49,7 +48,7 @@ module _ {s : State} {buys sells trades : List ℕ} (w : WellFormedState s buys 
       let n : ℕ = s .contractcount in
       let parts = passed (countsInRange s) (hasRoom m ∷ wellFormedContents (exchangeOf m) ∷ []) (w .formed) in
       let counts = passed (within 1 maxContracts n)
-      (within 1 maxAccounts (s .accountcount) ∷ leb (s .tradecount) maxTrades ∷ all (λ c. leb (getD (s .buys) c 0) maxResting) n ∷ all (λ c. leb (getD (s .sells) c 0) maxResting) n ∷ [])
+      (within 1 maxAccounts (s .accountcount) ∷ leb (s .tradecount) maxTrades ∷ all (λ c. leb (getD (s .buycounts) c 0) maxResting) n ∷ all (λ c. leb (getD (s .sellcounts) c 0) maxResting) n ∷ [])
       (parts .0) in
       let contracts = both-true (leb 1 n) (leb n maxContracts) (counts .0) in
       let accounts = both-true (leb 1 (s .accountcount)) (leb (s .accountcount) maxAccounts) (counts .1 .0) in
@@ -60,8 +59,8 @@ module _ {s : State} {buys sells trades : List ℕ} (w : WellFormedState s buys 
         accounts-low = leb-true _ _ (accounts .0);
         accounts-high = leb-true _ _ (accounts .1);
         trades-high = leb-true _ _ (counts .1 .1 .0);
-        buys-high = few (s .buys) n (counts .1 .1 .1 .0);
-        sells-high = few (s .sells) n (counts .1 .1 .1 .1);
+        buys-high = few (s .buycounts) n (counts .1 .1 .1 .0);
+        sells-high = few (s .sellcounts) n (counts .1 .1 .1 .1);
         buys-room = leb-true _ _ (rooms .0);
         sells-room = leb-true _ _ (rooms .1 .0);
         trades-room = leb-true _ _ (rooms .1 .1);
@@ -121,19 +120,11 @@ module _ (m : Memory) (f : Formed m) where
   unfolding exchangeOf
   account-put a v h e = put-account-set (m .state .contractcount) (m .state .accountcount) (m .state .accounts) a v few-accounts wide h e
 
--- ---- places as the code computes them: k is a number as the code widens it
+-- ---- the place of a number that is not absent is one of the arrays'
 
-module _ {s : State} {buys sells trades : List ℕ} (w : WellFormedState s buys sells trades) (number : ℕ) {k : ℕ} (is : k ≡ number) where
-  module _ (present : isAbsent number (s .accountcount) ≡ false) where
-    pub account-low : 1 ≤ k
-    account-low = omega (arith, is, place-below number (s .accountcount) present .0)
+module _ {s : State} {buys sells trades : List ℕ} (w : WellFormedState s buys sells trades) (number : ℕ) {place : ℕ} (is : place ≡ number - 1) where
+  pub account-fits : isAbsent number (s .accountcount) ≡ false → place < 32
+  account-fits present = omega (arith, is, place-below number (s .accountcount) present .1, formed w .accounts-high)
 
-    pub account-fits : k - 1 < 32
-    account-fits = omega (arith, is, place-below number (s .accountcount) present .1, formed w .accounts-high)
-
-  module _ (present : isAbsent number (s .contractcount) ≡ false) where
-    pub contract-low : 1 ≤ k
-    contract-low = omega (arith, is, place-below number (s .contractcount) present .0)
-
-    pub contract-fits : k - 1 < 4
-    contract-fits = omega (arith, is, place-below number (s .contractcount) present .1, formed w .contracts-high)
+  pub contract-fits : isAbsent number (s .contractcount) ≡ false → place < 4
+  contract-fits present = omega (arith, is, place-below number (s .contractcount) present .1, formed w .contracts-high)

@@ -34,7 +34,7 @@ module _ (m : Memory) (f : Formed m) where
 
     -- what it holds in a contract can be charged, and so with the lots of one order more
     pub in-contract : (c : ℕ) → c < m .state .contractcount → (h : Holding) → h .long ≤ held c .long + 1_000 → h .short ≤ held c .short + 1_000
-        → ChargeableIn (getD (m .state .contracts) c noContract) (m .buys) (getD (m .state .buys) c 0) (m .sells) (getD (m .state .sells) c 0) c a h
+        → ChargeableIn (getD (m .state .contracts) c noContract) (m .buys) (getD (m .state .buycounts) c 0) (m .sells) (getD (m .state .sellcounts) c 0) c a h
     unfolding listingIn holdingAt accountAt
     in-contract c l h long short =
         let t = contract-terms c l in

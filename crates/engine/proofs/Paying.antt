@@ -14,7 +14,7 @@ use Rattle.laws.specs.Choice.{both-true, pick}
 use Rattle.rules.specs.Kinds.{codeOf, kindOf}
 use Rattle.rules.specs.Answers.{amountRefused, depositRefusals, firstOf, leavesTooLittle, liftsTooHigh, withdrawRefusals}
 use Rattle.rules.specs.Bounds.{within, maxAmount}
-use Rattle.rules.specs.Exchange.{accountAt, noAccount}
+use Rattle.rules.specs.Exchange.{accountAt, noAccount, isAbsent}
 use Rattle.rules.specs.Margin.{charged}
 use Rattle.rules.specs.Memory.{Memory, exchangeOf, inUse, put, stepIn, memory, WellFormedState, written}
 use Rattle.rules.specs.Step.{deposited, paid, withBalance, withdrawn}
@@ -23,7 +23,7 @@ use Rattle.rules.specs.declared.Command.the-variants.{Deposit, Withdraw}
 use Rattle.rules.specs.declared.State.{State}
 use Rattle.margin.specs.Charge.{ChargeableAt, ChargedAt}
 use Rattle.margin.proofs.Charging.{charged-at}
-use Rattle.engine.specs.Outcome.{isAbsent, OutcomeIs, refusedWith, acceptedWith, withBalanceAt}
+use Rattle.engine.specs.Outcome.{OutcomeIs, refusedWith, acceptedWith, withBalanceAt}
 use Rattle.engine.specs.declared.answers.Outcome.{Outcome}
 use Rattle.engine.proofs.Formed.{Formed, formed, no-account, account-at, account-put, balance-within}
 use Rattle.engine.proofs.Margins.{chargeable}
@@ -43,7 +43,7 @@ module _ {s : State} {buys sells trades : List ℕ} (w : WellFormedState s buys 
   f : Formed m
   f = formed w
 
-  -- ---- the account's place: `k` is its number as the code widens it
+  -- ---- the account's place
 
   module _ (present : isAbsent account (s .accountcount) ≡ false) where
     here : account - 1 < s .accountcount
@@ -63,17 +63,17 @@ module _ {s : State} {buys sells trades : List ℕ} (w : WellFormedState s buys 
         put-accounts m f (set (exchangeOf m .accounts) (account - 1) (withBalance (accountAt (exchangeOf m .accounts) (account - 1)) balance)) (set (s .accounts) (account - 1) v)
         (rw read (account-put m f (account - 1) v here refl))
 
-    module _ {k : ℕ} (is : k ≡ account) where
-      pub balance-fits : Within (2 * 10 ^ 18) (getD (s .accounts) (k - 1) noAccount .balance)
+    module _ {place : ℕ} (is : place ≡ account - 1) where
+      pub balance-fits : Within (2 * 10 ^ 18) (getD (s .accounts) place noAccount .balance)
       unfolding accountAt
       balance-fits = rw is (balance-within m f (account - 1) here)
 
       -- the account can be charged
-      pub account-chargeable : ChargeableAt s buys sells (k - 1)
+      pub account-chargeable : ChargeableAt s buys sells place
       account-chargeable = rw is (chargeable m f (account - 1) here)
 
-      charged-is : {total : ℕ} → ChargedAt s buys sells (k - 1) total → total ≡ charged (exchangeOf m) (account - 1)
-      charged-is c = charged-at s buys sells (k - 1) _ (rw is here) c trades ∙ rw is
+      charged-is : {total : ℕ} → ChargedAt s buys sells place total → total ≡ charged (exchangeOf m) (account - 1)
+      charged-is c = charged-at s buys sells place _ (rw is here) c trades ∙ rw is
 
   -- ---- deposit
 
@@ -95,9 +95,9 @@ module _ {s : State} {buys sells trades : List ℕ} (w : WellFormedState s buys 
       pub deposit-amount : {r : Outcome} → amountRefused amount ≡ true → r ≡ refusedWith s 16 → DepositIs r
       deposit-amount a = deposit-refused 16 (omega arith) (rw (deposit-code, present, a))
 
-      module _ (right : amountRefused amount ≡ false) {k : ℕ} (is : k ≡ account) where
+      module _ (right : amountRefused amount ≡ false) {place : ℕ} (is : place ≡ account - 1) where
         abbrev lifted : ℤ
-        lifted = getD (s .accounts) (k - 1) noAccount .balance +ℤ pos amount
+        lifted = getD (s .accounts) place noAccount .balance +ℤ pos amount
 
         lifts-is : liftsTooHigh (exchangeOf m) account amount ≡ ltZ (pos (10 ^ 18)) lifted
         unfolding liftsTooHigh
@@ -106,11 +106,11 @@ module _ {s : State} {buys sells trades : List ℕ} (w : WellFormedState s buys 
         pub deposit-high : {r : Outcome} → ltZ (pos (10 ^ 18)) lifted ≡ true → r ≡ refusedWith s 16 → DepositIs r
         deposit-high h = deposit-refused 16 (omega arith) (rw (deposit-code, present, right, lifts-is, h))
 
-        deposit-lies : written m (kindOf (exchangeOf m) (Deposit account amount) .effect .stages) ≡ memory (withBalanceAt s (k - 1) lifted) buys sells trades
+        deposit-lies : written m (kindOf (exchangeOf m) (Deposit account amount) .effect .stages) ≡ memory (withBalanceAt s place lifted) buys sells trades
         unfolding kindOf deposited
         deposit-lies = rw (is, balance-is present) (paid-lies present (getD (s .accounts) (account - 1) noAccount .balance +ℤ pos amount))
 
-        pub deposit-accepted : {r : Outcome} {next : State} → ltZ (pos (10 ^ 18)) lifted ≡ false → next ≡ withBalanceAt s (k - 1) lifted → r ≡ acceptedWith next 0 0 0 → DepositIs r
+        pub deposit-accepted : {r : Outcome} {next : State} → ltZ (pos (10 ^ 18)) lifted ≡ false → next ≡ withBalanceAt s place lifted → r ≡ acceptedWith next 0 0 0 → DepositIs r
         unfolding kindOf deposited
         deposit-accepted h n e = acceptance s buys sells trades (Deposit account amount) (rw (deposit-code, present, right, lifts-is, h)) refl (deposit-lies ∙ rw n) e
 
@@ -134,11 +134,11 @@ module _ {s : State} {buys sells trades : List ℕ} (w : WellFormedState s buys 
       pub withdraw-amount : {r : Outcome} → amountRefused amount ≡ true → r ≡ refusedWith s 16 → WithdrawIs r
       withdraw-amount a = withdraw-refused 16 (omega arith) (rw (withdraw-code, present, a))
 
-      module _ (right : amountRefused amount ≡ false) {k : ℕ} (is : k ≡ account) where
+      module _ (right : amountRefused amount ≡ false) {place : ℕ} (is : place ≡ account - 1) where
         abbrev left : ℤ
-        left = getD (s .accounts) (k - 1) noAccount .balance -ℤ pos amount
+        left = getD (s .accounts) place noAccount .balance -ℤ pos amount
 
-        module _ {total : ℕ} (c : ChargedAt s buys sells (k - 1) total) where
+        module _ {total : ℕ} (c : ChargedAt s buys sells place total) where
           leaves-is : leavesTooLittle (exchangeOf m) account amount ≡ ltZ left (pos total)
           unfolding leavesTooLittle
           leaves-is = rw (charged-is present is c, is, balance-is present)
@@ -146,10 +146,10 @@ module _ {s : State} {buys sells trades : List ℕ} (w : WellFormedState s buys 
           pub withdraw-short : {r : Outcome} → ltZ left (pos total) ≡ true → r ≡ refusedWith s 9 → WithdrawIs r
           withdraw-short h = withdraw-refused 9 (omega arith) (rw (withdraw-code, present, right, leaves-is, h))
 
-          withdraw-lies : written m (kindOf (exchangeOf m) (Withdraw account amount) .effect .stages) ≡ memory (withBalanceAt s (k - 1) left) buys sells trades
+          withdraw-lies : written m (kindOf (exchangeOf m) (Withdraw account amount) .effect .stages) ≡ memory (withBalanceAt s place left) buys sells trades
           unfolding kindOf withdrawn
           withdraw-lies = rw (is, balance-is present) (paid-lies present (getD (s .accounts) (account - 1) noAccount .balance -ℤ pos amount))
 
-          pub withdraw-accepted : {r : Outcome} {next : State} → ltZ left (pos total) ≡ false → next ≡ withBalanceAt s (k - 1) left → r ≡ acceptedWith next 0 0 0 → WithdrawIs r
+          pub withdraw-accepted : {r : Outcome} {next : State} → ltZ left (pos total) ≡ false → next ≡ withBalanceAt s place left → r ≡ acceptedWith next 0 0 0 → WithdrawIs r
           unfolding kindOf withdrawn
           withdraw-accepted h n e = acceptance s buys sells trades (Withdraw account amount) (rw (withdraw-code, present, right, leaves-is, h)) refl (withdraw-lies ∙ rw n) e

@@ -46,21 +46,21 @@ module _ (m : Memory) (f : Formed m) where
   unfolding listingIn
   read-contract c = refl
 
-  read-buys : (c : ℕ) → length (listingIn m c .buys) ≡ getD (m .state .buys) c 0
+  read-buys : (c : ℕ) → length (listingIn m c .buys) ≡ getD (m .state .buycounts) c 0
   unfolding listingIn
-  read-buys c = length-queue (m .buys) c (getD (m .state .buys) c 0)
+  read-buys c = length-queue (m .buys) c (getD (m .state .buycounts) c 0)
 
-  read-sells : (c : ℕ) → length (listingIn m c .sells) ≡ getD (m .state .sells) c 0
+  read-sells : (c : ℕ) → length (listingIn m c .sells) ≡ getD (m .state .sellcounts) c 0
   unfolding listingIn
-  read-sells c = length-queue (m .sells) c (getD (m .state .sells) c 0)
+  read-sells c = length-queue (m .sells) c (getD (m .state .sellcounts) c 0)
 
   fit-contracts : m .state .contractcount ≤ length (m .state .contracts)
   fit-contracts = omega (arith, f .declared .contracts, f .contracts-high)
 
-  fit-buys : m .state .contractcount ≤ length (m .state .buys)
+  fit-buys : m .state .contractcount ≤ length (m .state .buycounts)
   fit-buys = omega (arith, f .declared .buys, f .contracts-high)
 
-  fit-sells : m .state .contractcount ≤ length (m .state .sells)
+  fit-sells : m .state .contractcount ≤ length (m .state .sellcounts)
   fit-sells = omega (arith, f .declared .sells, f .contracts-high)
 
   -- ---- the rest of the state new: accounts, trades, counters
@@ -75,8 +75,8 @@ module _ (m : Memory) (f : Formed m) where
         record {
           contracts = contracts;
           accounts = putAccounts accounts (m .state .accounts);
-          buys = buys;
-          sells = sells;
+          buycounts = buys;
+          sellcounts = sells;
           contractcount = m .state .contractcount;
           accountcount = m .state .accountcount;
           tradecount = length trades;
@@ -92,15 +92,15 @@ module _ (m : Memory) (f : Formed m) where
     queue-kept queue area counts few room read =
         putQueues-same area counts (λ c. queue (listingAt sameListings c)) (m .state .contractcount) (λ c h. ap queue (listing-at m f c h) ∙ read c) few room
 
-    pub put-same-listings : put m sameListings ≡ record { state = stateOf (m .state .contracts) (m .state .buys) (m .state .sells); buys = m .buys; sells = m .sells; trades = putTrades (m .trades) (m .state .tradecount) trades }
+    pub put-same-listings : put m sameListings ≡ record { state = stateOf (m .state .contracts) (m .state .buycounts) (m .state .sellcounts); buys = m .buys; sells = m .sells; trades = putTrades (m .trades) (m .state .tradecount) trades }
     unfolding put putState listingIn
     put-same-listings =
         rw (
           value-same (λ l. l .contract) (m .state .contracts) noContract fit-contracts read-contract,
-          value-same (λ l. length (l .buys)) (m .state .buys) 0 fit-buys read-buys,
-          value-same (λ l. length (l .sells)) (m .state .sells) 0 fit-sells read-sells,
-          queue-kept (λ l. l .buys) (m .buys) (m .state .buys) (f .buys-high) (f .buys-room) (λ c. refl),
-          queue-kept (λ l. l .sells) (m .sells) (m .state .sells) (f .sells-high) (f .sells-room) (λ c. refl),
+          value-same (λ l. length (l .buys)) (m .state .buycounts) 0 fit-buys read-buys,
+          value-same (λ l. length (l .sells)) (m .state .sellcounts) 0 fit-sells read-sells,
+          queue-kept (λ l. l .buys) (m .buys) (m .state .buycounts) (f .buys-high) (f .buys-room) (λ c. refl),
+          queue-kept (λ l. l .sells) (m .sells) (m .state .sellcounts) (f .sells-high) (f .sells-room) (λ c. refl),
         )
 
     -- contract c's listing new too
@@ -126,19 +126,19 @@ module _ (m : Memory) (f : Formed m) where
       pub put-one-listing :
           put m oneListing
           ≡ record {
-            state = stateOf (set (m .state .contracts) c (l .contract)) (set (m .state .buys) c (length (l .buys))) (set (m .state .sells) c (length (l .sells)));
-            buys = putQueue (m .buys) c (getD (m .state .buys) c 0) (l .buys);
-            sells = putQueue (m .sells) c (getD (m .state .sells) c 0) (l .sells);
+            state = stateOf (set (m .state .contracts) c (l .contract)) (set (m .state .buycounts) c (length (l .buys))) (set (m .state .sellcounts) c (length (l .sells)));
+            buys = putQueue (m .buys) c (getD (m .state .buycounts) c 0) (l .buys);
+            sells = putQueue (m .sells) c (getD (m .state .sellcounts) c 0) (l .sells);
             trades = putTrades (m .trades) (m .state .tradecount) trades;
           }
       unfolding put putState listingIn
       put-one-listing =
           rw (
             value-set (λ v. v .contract) (m .state .contracts) noContract fit-contracts read-contract c l h,
-            value-set (λ v. length (v .buys)) (m .state .buys) 0 fit-buys read-buys c l h,
-            value-set (λ v. length (v .sells)) (m .state .sells) 0 fit-sells read-sells c l h,
-            queue-new (λ v. v .buys) (m .buys) (m .state .buys) (f .buys-high) (f .buys-room) short-buys (λ d. refl),
-            queue-new (λ v. v .sells) (m .sells) (m .state .sells) (f .sells-high) (f .sells-room) short-sells (λ d. refl),
+            value-set (λ v. length (v .buys)) (m .state .buycounts) 0 fit-buys read-buys c l h,
+            value-set (λ v. length (v .sells)) (m .state .sellcounts) 0 fit-sells read-sells c l h,
+            queue-new (λ v. v .buys) (m .buys) (m .state .buycounts) (f .buys-high) (f .buys-room) short-buys (λ d. refl),
+            queue-new (λ v. v .sells) (m .sells) (m .state .sellcounts) (f .sells-high) (f .sells-room) short-sells (λ d. refl),
           )
 
   -- ---- the trades as they are
@@ -163,9 +163,9 @@ module _ (m : Memory) (f : Formed m) where
   put-listing : (c : ℕ) (l : Listing) → c < m .state .contractcount → length (l .buys) ≤ maxResting → length (l .sells) ≤ maxResting
       → put m (withListing (exchangeOf m) c l)
       ≡ record {
-        state = withCountsIn (withContractsIn (m .state) (set (m .state .contracts) c (l .contract))) (set (m .state .buys) c (length (l .buys))) (set (m .state .sells) c (length (l .sells)));
-        buys = putQueue (m .buys) c (getD (m .state .buys) c 0) (l .buys);
-        sells = putQueue (m .sells) c (getD (m .state .sells) c 0) (l .sells);
+        state = withCountsIn (withContractsIn (m .state) (set (m .state .contracts) c (l .contract))) (set (m .state .buycounts) c (length (l .buys))) (set (m .state .sellcounts) c (length (l .sells)));
+        buys = putQueue (m .buys) c (getD (m .state .buycounts) c 0) (l .buys);
+        sells = putQueue (m .sells) c (getD (m .state .sellcounts) c 0) (l .sells);
         trades = m .trades;
       }
   unfolding exchangeOf
@@ -185,20 +185,20 @@ module _ (m : Memory) (f : Formed m) where
         ≡ record { state = withContractsIn (m .state) (set (m .state .contracts) c contract); buys = m .buys; sells = m .sells; trades = m .trades }
     unfolding listingIn
     put-contract contract =
-        let b : ℕ = getD (m .state .buys) c 0 in
-        let s : ℕ = getD (m .state .sells) c 0 in
+        let b : ℕ = getD (m .state .buycounts) c 0 in
+        let s : ℕ = getD (m .state .sellcounts) c 0 in
         let lb : length (queueIn (m .buys) c b) ≡ b = length-queue (m .buys) c b in
         let ls : length (queueIn (m .sells) c s) ≡ s = length-queue (m .sells) c s in
         rw (listing-at m f c h)
         (put-listing c (withContract (listingIn m c) contract) h (rw lb (f .buys-high c h)) (rw ls (f .sells-high c h))
-        ∙ rw (lb, ls, set-getD (m .state .buys) c 0, set-getD (m .state .sells) c 0, queue-same (m .buys) (m .state .buys) (f .buys-high) (f .buys-room) c h, queue-same (m .sells) (m .state .sells) (f .sells-high) (f .sells-room) c h))
+        ∙ rw (lb, ls, set-getD (m .state .buycounts) c 0, set-getD (m .state .sellcounts) c 0, queue-same (m .buys) (m .state .buycounts) (f .buys-high) (f .buys-room) c h, queue-same (m .sells) (m .state .sellcounts) (f .sells-high) (f .sells-room) c h))
 
     pub put-queues : (buys sells : List Order) → length buys ≤ maxResting → length sells ≤ maxResting
         → put m (withListing (exchangeOf m) c (record { contract = getD (m .state .contracts) c noContract; buys = buys; sells = sells }))
         ≡ record {
-          state = withCountsIn (m .state) (set (m .state .buys) c (length buys)) (set (m .state .sells) c (length sells));
-          buys = putQueue (m .buys) c (getD (m .state .buys) c 0) buys;
-          sells = putQueue (m .sells) c (getD (m .state .sells) c 0) sells;
+          state = withCountsIn (m .state) (set (m .state .buycounts) c (length buys)) (set (m .state .sellcounts) c (length sells));
+          buys = putQueue (m .buys) c (getD (m .state .buycounts) c 0) buys;
+          sells = putQueue (m .sells) c (getD (m .state .sellcounts) c 0) sells;
           trades = m .trades;
         }
     put-queues buys sells short-buys short-sells =

@@ -17,7 +17,7 @@ use Rattle.areas.proofs.Lists.{length-removeAt}
 use Rattle.rules.specs.Kinds.{codeOf, done, kindOf}
 use Rattle.rules.specs.Answers.{_when_, cancelRefusals, firstOf, noSuchOrder, numbered, ofAnother, pullRefusals, removalRefused, restingOrder}
 use Rattle.rules.specs.Bounds.{maxLots, inAuction, maxResting}
-use Rattle.rules.specs.Exchange.{Listing, listingAt, lotsWhere, noContract, noListing, noOrder}
+use Rattle.rules.specs.Exchange.{Listing, listingAt, lotsWhere, noContract, noListing, noOrder, isAbsent}
 use Rattle.rules.specs.Memory.{Memory, exchangeOf, listingIn, orderFrom, put, putQueue, queueIn, stepIn, memory, WellFormedState, firstWord}
 use Rattle.book.specs.Places.{firstWhere, indexOf}
 use Rattle.rules.specs.Step.{Effect, answerOf, cancelled, hasNumber, isOf, listingWithout, pulled, removed, withListing, without}
@@ -34,7 +34,7 @@ use Rattle.book.specs.Removal.{PulledIs}
 use Rattle.book.specs.declared.removal.Pulled.{Pulled}
 use Rattle.invariants.proofs.Accepted.{failed}
 use Rattle.invariants.proofs.Clauses.{ListingOk, OrderOk, order-ok}
-use Rattle.engine.specs.Outcome.{isAbsent, OutcomeIs, refusedWith, acceptedWith, withCountsIn}
+use Rattle.engine.specs.Outcome.{OutcomeIs, refusedWith, acceptedWith, withCountsIn}
 use Rattle.engine.specs.Removal.{removalCode, cancelCode, RemovedIs, CancelledIs}
 use Rattle.engine.specs.declared.answers.Outcome.{Outcome}
 use Rattle.engine.specs.declared.removal.Cancelled.{Cancelled}
@@ -171,11 +171,11 @@ lots-high : (accounts next nextstamp : ℕ) (contract : Contract) (test : Order 
 unfolding lotsWhere
 lots-high accounts next nextstamp contract test os h =
     sumOf-bound (λ o. pick (test o) (o .lots) 0) maxLots os noOrder
-    (λ i l. go (test (getD os i noOrder)) (getD os i noOrder) (order-ok accounts next nextstamp contract (getD os i noOrder) (allOf-at (orderInRange accounts next nextstamp contract) os i noOrder h l)))
+    (λ i l. by-test (test (getD os i noOrder)) (getD os i noOrder) (order-ok accounts next nextstamp contract (getD os i noOrder) (allOf-at (orderInRange accounts next nextstamp contract) os i noOrder h l)))
   where
-    go : (b : Bool) (o : Order) → OrderOk accounts next nextstamp contract o → pick b (o .lots) 0 ≤ maxLots
-    go true o k = k .lots-high
-    go false o k = omega arith
+    by-test : (b : Bool) (o : Order) → OrderOk accounts next nextstamp contract o → pick b (o .lots) 0 ≤ maxLots
+    by-test true o k = k .lots-high
+    by-test false o k = omega arith
 
 -- ---- the whole state
 
@@ -197,13 +197,13 @@ module _ {s : State} {buys sells trades : List ℕ} (w : WellFormedState s buys 
 
   shared-code : firstOf (pullRefusals (exchangeOf m) account contract operator) ≡ removalCode s account contract operator
   unfolding firstOf pullRefusals removalCode listingIn
-  shared-code = rw (no-account m f account, no-contract m f contract) (go (isAbsent contract (s .contractcount)) refl)
+  shared-code = rw (no-account m f account, no-contract m f contract) (by-absent-contract (isAbsent contract (s .contractcount)) refl)
     where
-      go : (b : Bool) → isAbsent contract (s .contractcount) ≡ b
+      by-absent-contract : (b : Bool) → isAbsent contract (s .contractcount) ≡ b
           → codes (isAbsent account (s .accountcount)) b (removalRefused (listingAt (exchangeOf m) (contract - 1) .contract) operator)
           ≡ codes (isAbsent account (s .accountcount)) b (removalRefused (getD (s .contracts) (contract - 1) noContract) operator)
-      go true e = refl
-      go false e = rw (listing-at m f (contract - 1) (place-below contract (s .contractcount) e .1))
+      by-absent-contract true e = refl
+      by-absent-contract false e = rw (listing-at m f (contract - 1) (place-below contract (s .contractcount) e .1))
 
   pull-code : codeOf (exchangeOf m) (Pull account contract operator) ≡ removalCode s account contract operator
   unfolding codeOf kindOf
@@ -218,7 +218,7 @@ module _ {s : State} {buys sells trades : List ℕ} (w : WellFormedState s buys 
       ((14 when noSuchOrder (restingOrder l number)) ∷ (15 when ofAnother (account - 1) (restingOrder l number)) ∷ []) (omega arith)
       ∙ rw shared-code
 
-  -- ---- the queues of the contract, k being its number as the code widens it
+  -- ---- the queues of the contract
 
   module _ (none : removalCode s account contract operator ≡ 0) where
     tests : (isAbsent account (s .accountcount) ≡ false) × (isAbsent contract (s .contractcount) ≡ false)
@@ -232,43 +232,43 @@ module _ {s : State} {buys sells trades : List ℕ} (w : WellFormedState s buys 
     pub account-low : 1 ≤ account
     account-low = place-below account (s .accountcount) (tests .0) .0
 
-    module _ {k : ℕ} (is : k ≡ contract) where
-      pub contract-low : 1 ≤ k
-      contract-low = rw is (place-below contract (s .contractcount) (tests .1) .0)
+    pub contract-low : 1 ≤ contract
+    contract-low = place-below contract (s .contractcount) (tests .1) .0
 
-      here : k - 1 < s .contractcount
+    module _ {place : ℕ} (is : place ≡ contract - 1) where
+      here : place < s .contractcount
       here = rw is (place-below contract (s .contractcount) (tests .1) .1)
 
-      pub contract-fits : k - 1 < 4
+      pub contract-fits : place < 4
       contract-fits = omega (arith, here, few-contracts)
 
-      listing-is : listingAt (exchangeOf m) (contract - 1) ≡ listingIn m (k - 1)
-      listing-is = rw (← is) (listing-at m f (k - 1) here)
+      listing-is : listingAt (exchangeOf m) (contract - 1) ≡ listingIn m place
+      listing-is = rw (← is) (listing-at m f place here)
 
       -- the orders of the side, their count and their room
       abbrev area : Bool → List ℕ
       area sell = pick sell sells buys
 
       abbrev count : Bool → ℕ
-      count sell = getD (pick sell (s .sells) (s .buys)) (k - 1) 0
+      count sell = getD (pick sell (s .sellcounts) (s .buycounts)) place 0
 
       abbrev orders : Bool → List Order
-      orders sell = queueIn (area sell) (k - 1) (count sell)
+      orders sell = queueIn (area sell) place (count sell)
 
       pub side-few : (sell : Bool) → count sell ≤ maxResting
-      side-few false = f .buys-high (k - 1) here
-      side-few true = f .sells-high (k - 1) here
+      side-few false = f .buys-high place here
+      side-few true = f .sells-high place here
 
-      pub side-room : (sell : Bool) → firstWord (k - 1) (count sell) ≤ length (area sell)
+      pub side-room : (sell : Bool) → firstWord place (count sell) ≤ length (area sell)
       side-room false = omega (arith, f .buys-room, side-few false, here)
       side-room true = omega (arith, f .sells-room, side-few true, here)
 
       both-once : usedOnce (numbers (orders false) ++ numbers (orders true)) ≡ true
       unfolding listingAt listingIn
       both-once =
-          let u : usedOnce (numbers (listingAt (exchangeOf m) (k - 1) .buys) ++ numbers (listingAt (exchangeOf m) (k - 1) .sells)) ≡ true =
-          listing-once (exchangeOf m .listings) (k - 1) (rw (contracts-count m f) here) (f .contents .once) in
-          rw (listing-at m f (k - 1) here) at u
+          let u : usedOnce (numbers (listingAt (exchangeOf m) place .buys) ++ numbers (listingAt (exchangeOf m) place .sells)) ≡ true =
+          listing-once (exchangeOf m .listings) place (rw (contracts-count m f) here) (f .contents .once) in
+          rw (listing-at m f place here) at u
 
       pub side-once : (sell : Bool) → usedOnce (numbers (orders sell)) ≡ true
       side-once false = once-append (numbers (orders false)) (numbers (orders true)) both-once .0
@@ -281,16 +281,16 @@ module _ {s : State} {buys sells trades : List ℕ} (w : WellFormedState s buys 
       -- ---- orders taken out of both queues
 
       module _ {bought sold bid offer : ℕ} {buys′ sells′ : List ℕ} (test : Order → Bool)
-          (b : RemovedIs test buys (k - 1) (count false) bought bid buys′) (o : RemovedIs test sells (k - 1) (count true) sold offer sells′) where
+          (b : RemovedIs test buys place (count false) bought bid buys′) (o : RemovedIs test sells place (count true) sold offer sells′) where
         short : (sell : Bool) → length (without test (orders sell)) ≤ maxResting
-        short sell = omega (arith, length-without test (orders sell), length-queue (area sell) (k - 1) (count sell), side-few sell)
+        short sell = omega (arith, length-without test (orders sell), length-queue (area sell) place (count sell), side-few sell)
 
         pub lies : put m (withListing (exchangeOf m) (contract - 1) (listingWithout test (listingAt (exchangeOf m) (contract - 1))))
-            ≡ memory (withCountsIn s (set (s .buys) (k - 1) bought) (set (s .sells) (k - 1) sold)) buys′ sells′ trades
+            ≡ memory (withCountsIn s (set (s .buycounts) place bought) (set (s .sellcounts) place sold)) buys′ sells′ trades
         unfolding listingIn
         lies =
-            rw (← is, listing-at m f (k - 1) here)
-            (put-queues m f (k - 1) here (without test (orders false)) (without test (orders true)) (short false) (short true)
+            rw (← is, listing-at m f place here)
+            (put-queues m f place here (without test (orders false)) (without test (orders true)) (short false) (short true)
             ∙ rw (b .queue, b .count, o .queue, o .count))
 
         answer : {number lots : ℕ} → lots ≡ bid + offer → done (removed (exchangeOf m) (contract - 1) test number) .answer ≡ answerOf 0 number 0 lots
@@ -299,7 +299,7 @@ module _ {s : State} {buys sells trades : List ℕ} (w : WellFormedState s buys 
 
         pub removal-accepted : (command : Command) {r : Outcome} {next : State} {number lots : ℕ} → codeOf (exchangeOf m) command ≡ 0
             → kindOf (exchangeOf m) command .effect ≡ removed (exchangeOf m) (contract - 1) test number
-            → next ≡ withCountsIn s (set (s .buys) (k - 1) bought) (set (s .sells) (k - 1) sold) → lots ≡ bid + offer → r ≡ acceptedWith next number 0 lots
+            → next ≡ withCountsIn s (set (s .buycounts) place bought) (set (s .sellcounts) place sold) → lots ≡ bid + offer → r ≡ acceptedWith next number 0 lots
             → OutcomeIs (stepIn m command) r buys′ sells′ trades
         unfolding removed
         removal-accepted command e c n l a = acceptance s buys sells trades command e (ap (λ (t : Effect). done t .answer) c ∙ answer l) (rw (c, n) lies) a
@@ -315,7 +315,7 @@ module _ {s : State} {buys sells trades : List ℕ} (w : WellFormedState s buys 
         unfolding restingOrder listingIn
         cancel-is = cancel-code number ∙ rw (none, listing-is)
 
-        module _ {bid : Cancelled} {buys′ : List ℕ} (b : CancelledIs (account - 1) number buys (k - 1) (count false) bid buys′) where
+        module _ {bid : Cancelled} {buys′ : List ℕ} (b : CancelledIs (account - 1) number buys place (count false) bid buys′) where
           -- bid .code ≢ 14
           bid-code : bid .code ≢ 14 → codeOf (exchangeOf m) (Cancel account contract operator number) ≡ bid .code
           bid-code h =
@@ -324,18 +324,18 @@ module _ {s : State} {buys sells trades : List ℕ} (w : WellFormedState s buys 
               ∙ sym (b .code)
 
           pub bid-done : {r : Outcome} {next : State} → bid .code ≡ 0
-              → next ≡ withCountsIn s (set (s .buys) (k - 1) (bid .count)) (set (s .sells) (k - 1) (count true)) → r ≡ acceptedWith next number 0 (bid .lots) → CancelIs r buys′ sells
+              → next ≡ withCountsIn s (set (s .buycounts) place (bid .count)) (set (s .sellcounts) place (count true)) → r ≡ acceptedWith next number 0 (bid .lots) → CancelIs r buys′ sells
           unfolding kindOf cancelled
           bid-done e n a =
               removal-accepted (hasNumber number) (b .done e)
-              (removed-none (hasNumber number) sells (k - 1) (count true) (side-room true) (apart number (found-code (account - 1) number (orders false) (λ z. omega (arith, b .code, e, z)))))
+              (removed-none (hasNumber number) sells place (count true) (side-room true) (apart number (found-code (account - 1) number (orders false) (λ z. omega (arith, b .code, e, z)))))
               (Cancel account contract operator number) (bid-code (λ z. omega arith) ∙ e) refl n (omega arith) a
 
           pub bid-another : {r : Outcome} → bid .code ≡ 15 → r ≡ refusedWith s 15 → CancelIs r buys′ sells
           bid-another e a =
               rw (b .kept (λ z. omega arith)) (refusal s buys sells trades (Cancel account contract operator number) 15 (omega arith) (bid-code (λ z. omega arith) ∙ e) a)
 
-          module _ (p : bid .code ≢ 0) (q : bid .code ≢ 15) {offer : Cancelled} {sells′ : List ℕ} (o : CancelledIs (account - 1) number sells (k - 1) (count true) offer sells′) where
+          module _ (p : bid .code ≢ 0) (q : bid .code ≢ 15) {offer : Cancelled} {sells′ : List ℕ} (o : CancelledIs (account - 1) number sells place (count true) offer sells′) where
             missing : indexOf number (orders false) ≡ length (orders false)
             missing = missing-code (account - 1) number (orders false) (λ e. p (b .code ∙ e)) (λ e. q (b .code ∙ e))
 
@@ -346,31 +346,31 @@ module _ {s : State} {buys sells trades : List ℕ} (w : WellFormedState s buys 
             offer-refused e a = rw (b .kept p, o .kept e) (refusal s buys sells trades (Cancel account contract operator number) (offer .code) (omega arith) offer-code a)
 
             pub offer-done : {r : Outcome} {next : State} → offer .code ≡ 0
-                → next ≡ withCountsIn s (set (s .buys) (k - 1) (count false)) (set (s .sells) (k - 1) (offer .count)) → r ≡ acceptedWith next number 0 (offer .lots) → CancelIs r buys′ sells′
+                → next ≡ withCountsIn s (set (s .buycounts) place (count false)) (set (s .sellcounts) place (offer .count)) → r ≡ acceptedWith next number 0 (offer .lots) → CancelIs r buys′ sells′
             unfolding kindOf cancelled
             offer-done e n a =
                 rw (b .kept p)
-                (removal-accepted (hasNumber number) (removed-none (hasNumber number) buys (k - 1) (count false) (side-room false) missing) (o .done e)
+                (removal-accepted (hasNumber number) (removed-none (hasNumber number) buys place (count false) (side-room false) missing) (o .done e)
                 (Cancel account contract operator number) (offer-code ∙ e) refl n (omega arith) a)
 
       -- ---- pull
 
       -- no queue has more lots than 64 orders of 1,000
-      in-range : ListingOk (length (exchangeOf m .accounts)) (s .next) (s .nextstamp) (listingIn m (k - 1))
+      in-range : ListingOk (length (exchangeOf m .accounts)) (s .next) (s .nextstamp) (listingIn m place)
       unfolding exchangeOf
-      in-range = rw (listing-at m f (k - 1) here) at (f .contents .listing (k - 1) (rw (contracts-count m f) here))
+      in-range = rw (listing-at m f place here) at (f .contents .listing place (rw (contracts-count m f) here))
 
       side-lots : (sell : Bool) (test : Order → Bool) → lotsWhere test (orders sell) ≤ 64_000
       unfolding listingIn
-      side-lots false test = omega (arith, lots-high _ _ _ _ test (orders false) (in-range .orders false), length-queue buys (k - 1) (count false), side-few false)
-      side-lots true test = omega (arith, lots-high _ _ _ _ test (orders true) (in-range .orders true), length-queue sells (k - 1) (count true), side-few true)
+      side-lots false test = omega (arith, lots-high _ _ _ _ test (orders false) (in-range .orders false), length-queue buys place (count false), side-few false)
+      side-lots true test = omega (arith, lots-high _ _ _ _ test (orders true) (in-range .orders true), length-queue sells place (count true), side-few true)
 
-      pub pulled-high : (sell : Bool) {p : Pulled} {area′ : List ℕ} → PulledIs (isOf (account - 1)) (area sell) (k - 1) (count sell) p area′ → p .lots ≤ 64_000
+      pub pulled-high : (sell : Bool) {p : Pulled} {area′ : List ℕ} → PulledIs (isOf (account - 1)) (area sell) place (count sell) p area′ → p .lots ≤ 64_000
       pulled-high sell b = rw (b .lots) (side-lots sell (isOf (account - 1)))
 
       pub pull-accepted : {r : Outcome} {next : State} {lots : ℕ} {bid offer : Pulled} {buys′ sells′ : List ℕ}
-          → PulledIs (isOf (account - 1)) buys (k - 1) (count false) bid buys′ → PulledIs (isOf (account - 1)) sells (k - 1) (count true) offer sells′
-          → next ≡ withCountsIn s (set (s .buys) (k - 1) (bid .count)) (set (s .sells) (k - 1) (offer .count)) → lots ≡ bid .lots + offer .lots
+          → PulledIs (isOf (account - 1)) buys place (count false) bid buys′ → PulledIs (isOf (account - 1)) sells place (count true) offer sells′
+          → next ≡ withCountsIn s (set (s .buycounts) place (bid .count)) (set (s .sellcounts) place (offer .count)) → lots ≡ bid .lots + offer .lots
           → r ≡ acceptedWith next 0 0 lots → OutcomeIs (stepIn m (Pull account contract operator)) r buys′ sells′ trades
       unfolding kindOf pulled
       pull-accepted b o n l a =

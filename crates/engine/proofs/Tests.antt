@@ -6,16 +6,16 @@ use Prim.Native.Nat.{ℕ, _-_, _<_, _≤_}
 use native.Mathlib.Omega.{arith}
 use borrow.Author.Tests.{eqb-false, leb-true, leb-false, le-ltb, lt-ltb, ltb-false}
 use lib.Dec.{eqb, leb, ltb}
+use Rattle.rules.specs.Exchange.{isAbsent}
 use Rattle.laws.specs.Choice.{either-false}
-use Rattle.engine.specs.Outcome.{isAbsent}
 
 -- a test that the code writes the other way round than the rules
 pub ltb-not : (a b : ℕ) → ltb b a ≡ not (leb a b)
-ltb-not a b = go (leb a b) refl
+ltb-not a b = by-comparison (leb a b) refl
   where
-    go : (t : Bool) → leb a b ≡ t → ltb b a ≡ not t
-    go true e = le-ltb b a (leb-true a b e)
-    go false e = lt-ltb b a (leb-false a b e)
+    by-comparison : (t : Bool) → leb a b ≡ t → ltb b a ≡ not t
+    by-comparison true e = le-ltb b a (leb-true a b e)
+    by-comparison false e = lt-ltb b a (leb-false a b e)
 
 -- a number that is not absent has a place
 pub place-below : (number count : ℕ) → isAbsent number count ≡ false → (1 ≤ number) × (number - 1 < count)

@@ -64,8 +64,8 @@ module _ (m : Memory) (f : Formed m) (c : ℕ) (l : Listing) (ts : List Trade) (
             record {
               contracts = set (m .state .contracts) c (l .contract);
               accounts = bookTrades (m .state .accounts) ts;
-              buys = set (m .state .buys) c (length (l .buys));
-              sells = set (m .state .sells) c (length (l .sells));
+              buycounts = set (m .state .buycounts) c (length (l .buys));
+              sellcounts = set (m .state .sellcounts) c (length (l .sells));
               contractcount = m .state .contractcount;
               accountcount = m .state .accountcount;
               tradecount = m .state .tradecount + length ts;
@@ -73,8 +73,8 @@ module _ (m : Memory) (f : Formed m) (c : ℕ) (l : Listing) (ts : List Trade) (
               nextstamp = nextstamp;
               settlements = m .state .settlements;
             };
-        buys = putQueue (m .buys) c (getD (m .state .buys) c 0) (l .buys);
-        sells = putQueue (m .sells) c (getD (m .state .sells) c 0) (l .sells);
+        buys = putQueue (m .buys) c (getD (m .state .buycounts) c 0) (l .buys);
+        sells = putQueue (m .sells) c (getD (m .state .sellcounts) c 0) (l .sells);
         trades = store tradeWords (m .trades) (tradeStride * m .state .tradecount) ts;
       }
   unfolding exchangeOf

@@ -1,28 +1,24 @@
 -- What a kind gives and leaves, against the rules' response. Assumes nothing.
-use mathlib.Core.Bool.{Bool, not, _&&_, _||_}
+use mathlib.Core.Bool.{Bool, not, _&&_}
 use mathlib.Core.List.{List}
 use mathlib.Core.Path.{_≡_}
 use Prim.Native.Nat.{ℕ}
-use lib.Dec.{eqb, ltb}
+use lib.Dec.{eqb}
 use lib.IntN.{ℤ}
 use lib.ListN.{getD, set}
 use Rattle.rules.specs.Bounds.{continuous, inAuction}
-use Rattle.rules.specs.Exchange.{noAccount, noContract, placeOf}
+use Rattle.rules.specs.Exchange.{isAbsent, noAccount, noContract, placeOf}
 use Rattle.rules.specs.Step.{answerOf, withBalance, withPhase}
-use Rattle.rules.specs.Memory.{Responded, memory}
+use Rattle.rules.specs.Memory.{AfterCommand, memory}
 use Rattle.rules.specs.declared.Account.{Account}
 use Rattle.rules.specs.declared.Contract.{Contract}
 use Rattle.rules.specs.declared.State.{State}
 use Rattle.engine.specs.declared.answers.Outcome.{Outcome}
 
 -- the answer, the state, and the full content of the three areas
-pub record OutcomeIs (response : Responded) (r : Outcome) (buys sells trades : List ℕ) : Type 0 where
+pub record OutcomeIs (response : AfterCommand) (r : Outcome) (buys sells trades : List ℕ) : Type 0 where
   pub answer : r .answer ≡ response .answer
   pub memory : memory (r .state) buys sells trades ≡ response .memory
-
--- a number that no place below a count has
-abbrev pub isAbsent : ℕ → ℕ → Bool
-isAbsent number count = eqb number 0 || ltb count number
 
 -- a change of a contract's state that makes a match: from auction to continuous
 unfoldable pub isMatch : State → ℕ → ℕ → Bool
@@ -44,8 +40,8 @@ withContractsIn s contracts =
     record {
       contracts = contracts;
       accounts = s .accounts;
-      buys = s .buys;
-      sells = s .sells;
+      buycounts = s .buycounts;
+      sellcounts = s .sellcounts;
       contractcount = s .contractcount;
       accountcount = s .accountcount;
       tradecount = s .tradecount;
@@ -59,8 +55,8 @@ withAccountsIn s accounts =
     record {
       contracts = s .contracts;
       accounts = accounts;
-      buys = s .buys;
-      sells = s .sells;
+      buycounts = s .buycounts;
+      sellcounts = s .sellcounts;
       contractcount = s .contractcount;
       accountcount = s .accountcount;
       tradecount = s .tradecount;
@@ -75,8 +71,8 @@ withCountsIn s buys sells =
     record {
       contracts = s .contracts;
       accounts = s .accounts;
-      buys = buys;
-      sells = sells;
+      buycounts = buys;
+      sellcounts = sells;
       contractcount = s .contractcount;
       accountcount = s .accountcount;
       tradecount = s .tradecount;

@@ -5,12 +5,11 @@ use mathlib.Core.Path.{_≡_}
 use Prim.Native.Nat.{ℕ}
 use lib.ListN.{length, getD}
 use Rattle.rules.specs.Answers.{_when_, firstOf, numbered, noSuchOrder, ofAnother, removalRefused}
-use Rattle.rules.specs.Exchange.{lotsWhere, noContract, placeOf}
+use Rattle.rules.specs.Exchange.{lotsWhere, noContract, placeOf, isAbsent}
 use Rattle.rules.specs.Memory.{queueIn, putQueue}
 use Rattle.rules.specs.Step.{without, hasNumber}
 use Rattle.rules.specs.declared.Order.{Order}
 use Rattle.rules.specs.declared.State.{State}
-use Rattle.engine.specs.Outcome.{isAbsent}
 use Rattle.engine.specs.declared.removal.Cancelled.{Cancelled}
 
 -- the tests that both kinds make first: "2, 3, 4"

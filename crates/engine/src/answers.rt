@@ -1,6 +1,7 @@
 // Answers, and the tests that several kinds share.
 ghost use mathlib.Core.Path.{_≡_};
-ghost use Rattle.engine.specs.Outcome.{refusedWith, acceptedWith, isAbsent};
+ghost use Rattle.rules.specs.Exchange.{isAbsent};
+ghost use Rattle.engine.specs.Outcome.{refusedWith, acceptedWith};
 use rules::Answer;
 use rules::State;
 

@@ -58,7 +58,7 @@ pub fn deposit(
     if amount_refused(amount) {
         return answers::refused(state, 16);
     }
-    let place = laws::wide(account) - 1;
+    let place = laws::place_of(account);
     let who = state.accounts[place];
     let balance = who.balance;
     if lifts_too_high(balance, amount) {
@@ -84,13 +84,13 @@ pub fn withdraw<'a>(
     if amount_refused(amount) {
         return answers::refused(state, 16);
     }
-    let place = laws::wide(account) - 1;
+    let place = laws::place_of(account);
     let who = state.accounts[place];
     let left = who.balance - amount as i64;
     let holdings = who.holdings;
     let terms = state.contracts;
-    let bids = state.buys;
-    let offers = state.sells;
+    let bids = state.buycounts;
+    let offers = state.sellcounts;
     let charged = margin::charged(
         holdings,
         terms,

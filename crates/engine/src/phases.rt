@@ -56,7 +56,7 @@ pub fn is_match(state: State, contract: u32, phase: u32) -> bool
     if answers::is_absent(contract, state.contractcount) {
         return false;
     }
-    let place = laws::wide(contract) - 1;
+    let place = laws::place_of(contract);
     let contracts = state.contracts;
     let terms = contracts[place];
     terms.phase == AUCTION
@@ -94,7 +94,7 @@ pub fn change(
     if answers::is_absent(contract, state.contractcount) {
         return answers::refused(state, 3);
     }
-    let place = laws::wide(contract) - 1;
+    let place = laws::place_of(contract);
     let contracts = state.contracts;
     let terms = contracts[place];
     let from = terms.phase;

@@ -42,7 +42,7 @@ fn refusal(state: State, account: u32, contract: u32, operator: bool) -> u32
     if answers::is_absent(contract, state.contractcount) {
         return 3;
     }
-    let place = laws::wide(contract) - 1;
+    let place = laws::place_of(contract);
     let contracts = state.contracts;
     let terms = contracts[place];
     if is_refused(terms, operator) {
@@ -54,15 +54,15 @@ fn refusal(state: State, account: u32, contract: u32, operator: bool) -> u32
 // The state with other counts of resting orders at one contract's place. Another crate takes orders out too.
 pub fn with_counts(state: State, c: usize, bought: usize, sold: usize) -> State
     requires { ⌜ c < 4 ⌝ }
-    ensures { λ r. ⌜ r ≡ withCountsIn state (set (state .buys) c bought) (set (state .sells) c sold) ⌝ }
+    ensures { λ r. ⌜ r ≡ withCountsIn state (set (state .buycounts) c bought) (set (state .sellcounts) c sold) ⌝ }
 {
     let mut next = state;
-    let mut bids = state.buys;
-    let mut offers = state.sells;
+    let mut bids = state.buycounts;
+    let mut offers = state.sellcounts;
     bids[c] = bought;
     offers[c] = sold;
-    next.buys = bids;
-    next.sells = offers;
+    next.buycounts = bids;
+    next.sellcounts = offers;
     next
 }
 
@@ -119,9 +119,9 @@ pub fn cancel(
     if code != 0 {
         return answers::refused(state, code);
     }
-    let c = laws::wide(contract) - 1;
-    let bids = state.buys;
-    let offers = state.sells;
+    let c = laws::place_of(contract);
+    let bids = state.buycounts;
+    let offers = state.sellcounts;
     let bought = bids[c];
     let sold = offers[c];
     let bid = cancel_in(buys, c, bought, account - 1, number);
@@ -159,9 +159,9 @@ pub fn pull(
     if code != 0 {
         return answers::refused(state, code);
     }
-    let c = laws::wide(contract) - 1;
-    let bids = state.buys;
-    let offers = state.sells;
+    let c = laws::place_of(contract);
+    let bids = state.buycounts;
+    let offers = state.sellcounts;
     let bought = bids[c];
     let sold = offers[c];
     let bid = book::removal::pull(buys, c, bought, account - 1, false);

@@ -29,11 +29,11 @@ module _ (state : State) (sell : Bool) (contract : ℕ) where
       rw (le-leb 1 contract some, lt-leb contract 4 h)
 
   module _ (some : 1 ≤ contract) (placed : contract ≤ 4) where
-    pub count-of-sells : sell ≡ true → getD (state .sells) (contract - 1) 0 ≡ sideCount state sell contract
+    pub count-of-sells : sell ≡ true → getD (state .sellcounts) (contract - 1) 0 ≡ sideCount state sell contract
     unfolding sideCount
     count-of-sells e = rw (le-leb 1 contract some, le-leb contract 4 placed, e)
 
-    pub count-of-buys : sell ≡ false → getD (state .buys) (contract - 1) 0 ≡ sideCount state sell contract
+    pub count-of-buys : sell ≡ false → getD (state .buycounts) (contract - 1) 0 ≡ sideCount state sell contract
     unfolding sideCount
     count-of-buys e = rw (le-leb 1 contract some, le-leb contract 4 placed, e)
 

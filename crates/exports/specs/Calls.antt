@@ -25,8 +25,8 @@ noState =
     record {
       contracts = replicate maxContracts noContract;
       accounts = replicate maxAccounts (accountWith 0 0);
-      buys = replicate maxContracts 0;
-      sells = replicate maxContracts 0;
+      buycounts = replicate maxContracts 0;
+      sellcounts = replicate maxContracts 0;
       contractcount = 0;
       accountcount = 0;
       tradecount = 0;
@@ -48,7 +48,7 @@ openedFrom file =
 -- the state's count of that side's orders; a contract that no state has a place for has none
 unfoldable pub sideCount : State → Bool → ℕ → ℕ
 sideCount state sell contract =
-    pick (within 1 maxContracts contract) (getD (pick sell (state .sells) (state .buys)) (contract - 1) 0) 0
+    pick (within 1 maxContracts contract) (getD (pick sell (state .sellcounts) (state .buycounts)) (contract - 1) 0) 0
 
 -- "the answer is the queue asked for"
 abbrev pub askedWords : State → List ℕ → List ℕ → Bool → ℕ → List ℕ

@@ -47,8 +47,8 @@ fn no_state() -> State
     State {
         contracts: [contract; rules::MAX_CONTRACTS],
         accounts: [account; rules::MAX_ACCOUNTS],
-        buys: [0; rules::MAX_CONTRACTS],
-        sells: [0; rules::MAX_CONTRACTS],
+        buycounts: [0; rules::MAX_CONTRACTS],
+        sellcounts: [0; rules::MAX_CONTRACTS],
         contractcount: 0,
         accountcount: 0,
         tradecount: 0,

@@ -20,9 +20,9 @@ fn count_of(state: State, sell: bool, contract: usize) -> usize
         return 0;
     }
     if sell {
-        return state.sells[contract - 1];
+        return state.sellcounts[contract - 1];
     }
-    state.buys[contract - 1]
+    state.buycounts[contract - 1]
 }
 
 pub fn side_part<'a>(

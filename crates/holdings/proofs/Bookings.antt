@@ -44,17 +44,17 @@ holding-read who w h e more = rw e (holding-more (w .each who h) more)
 
 holding-leg : {b : ℕ} (h : Holding) (sell : Bool) (close lots : ℕ) → HoldingWithin b h → HoldingWithin (b + lots) (afterLeg h sell close lots)
 unfolding afterLeg
-holding-leg {b} h sell close lots w = go sell (eqb close 0)
+holding-leg {b} h sell close lots w = by-leg sell (eqb close 0)
   where
-    go : (s o : Bool)
+    by-leg : (s o : Bool)
         → HoldingWithin (b + lots)
         (pick s
         (pick o (withShort h (h .short + lots)) (withLong h (h .long - lots)))
         (pick o (withLong h (h .long + lots)) (withShort h (h .short - lots))))
-    go true true = record { long = omega arith; short = omega arith }
-    go true false = record { long = omega arith; short = omega arith }
-    go false true = record { long = omega arith; short = omega arith }
-    go false false = record { long = omega arith; short = omega arith }
+    by-leg true true = record { long = omega arith; short = omega arith }
+    by-leg true false = record { long = omega arith; short = omega arith }
+    by-leg false true = record { long = omega arith; short = omega arith }
+    by-leg false false = record { long = omega arith; short = omega arith }
 
 held-leg : {b used : ℕ} (l : List Account) (a c : ℕ) (sell : Bool) (close lots : ℕ) → a < used → HeldWithin b used c l → HeldWithin (b + lots) used c (bookLeg l a c sell close lots)
 unfolding bookLeg accountAt holdingAt

@@ -8,7 +8,7 @@ use native.Mathlib.Omega.{arith}
 use borrow.Author.Tests.{eq-eqb, ne-eqb}
 use lib.ListN.{length}
 use Rattle.laws.specs.Choice.{pick-true, pick-false}
-use Rattle.rules.specs.Answers.{isGoodForDay}
+use Rattle.rules.specs.Answers.{isGoodForDay, takerFor}
 use Rattle.rules.specs.Bounds.{inAuction}
 use Rattle.rules.specs.Matching.{Entered, enter, restLots, restWhole}
 use Rattle.rules.specs.Memory.{putQueue, queueIn, firstWord}
@@ -20,7 +20,7 @@ use Rattle.rules.proofs.Codecs.{length-queue, put-queue}
 use Rattle.book.proofs.Trading.{all-booked}
 use Rattle.matching.specs.Entry.{EntryIs, EntryReady}
 use Rattle.matching.specs.declared.entry.Entry.{Entry}
-use Rattle.refusals.specs.Insertion.{sideArea, takerFor}
+use Rattle.refusals.specs.Insertion.{sideArea}
 use Rattle.insertion.specs.Arrival.{Arrived, Arriving, EnteredIs, Ready, countOf, enteredFor, takerIn}
 use Rattle.insertion.specs.declared.Arrival.{Arrival}
 

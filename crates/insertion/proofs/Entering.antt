@@ -8,7 +8,7 @@ use native.Mathlib.Omega.{arith}
 use borrow.Author.Tests.{le-ltb, ltb-false}
 use lib.ListN.{length, getD}
 use Rattle.laws.specs.Choice.{ap-pick, pick, pick-false}
-use Rattle.rules.specs.Answers.{insertRefusals, listingOf, orderRefusals, takerOf, tradesNeeded, tradesRefused}
+use Rattle.rules.specs.Answers.{insertRefusals, listingOf, orderRefusals, takerOf, tradesNeeded, tradesRefused, takerFor}
 use Rattle.rules.specs.Bounds.{inAuction, maxResting, maxTrades}
 use Rattle.rules.specs.Exchange.{Exchange, Listing, opposite, own, placeOf, withQueues}
 use Rattle.rules.specs.Kinds.{codeOf, decide, kindOf}
@@ -33,7 +33,7 @@ use Rattle.invariants.proofs.InsertAccepted.{Given, Passes, next-given, numbere
 use Rattle.invariants.proofs.Marks.{Marks, no-mark}
 use Rattle.invariants.proofs.MemoryKeeps.{sound}
 use Rattle.invariants.proofs.Traded.{traded-counted}
-use Rattle.refusals.specs.Insertion.{Present, sideArea, sideCount, takerFor}
+use Rattle.refusals.specs.Insertion.{Present, sideArea, sideCount}
 use Rattle.insertion.specs.Arrival.{Enterable, EnteredIs, Ready, arrivalOf, countOf, enteredFor, enteredIn, withEntry}
 use Rattle.insertion.specs.declared.Arrival.{Arrival}
 use Rattle.engine.specs.Outcome.{OutcomeIs, acceptedWith}
@@ -202,8 +202,8 @@ module _ {s : State} {buys sells trades : List ℕ} (w : WellFormedState s buys 
           contract-is m f c (here .contract),
           ap-pick length (o .sell) (entered .opposite) (entered .own),
           ap-pick length (o .sell) (entered .own) (entered .opposite),
-          put-buys buys sells (s .buys) (s .sells) c (entered .own) (entered .opposite) (o .sell),
-          put-sells buys sells (s .buys) (s .sells) c (entered .own) (entered .opposite) (o .sell),
+          put-buys buys sells (s .buycounts) (s .sellcounts) c (entered .own) (entered .opposite) (o .sell),
+          put-sells buys sells (s .buycounts) (s .sellcounts) c (entered .own) (entered .opposite) (o .sell),
         ))
 
   -- ---- the outcome

@@ -6,11 +6,11 @@ use mathlib.Core.Path.{_≡_}
 use Prim.Native.Nat.{ℕ, _+_, _*_, _<_, _≤_}
 use lib.ListN.{length, getD, set}
 use Rattle.laws.specs.Choice.{pick}
-use Rattle.rules.specs.Answers.{isGoodForDay, listingOf, tradesRefused}
+use Rattle.rules.specs.Answers.{isGoodForDay, listingOf, tradesRefused, takerFor}
 use Rattle.rules.specs.Bounds.{inAuction, maxLots, maxResting, numbersEnd}
 use Rattle.rules.specs.Exchange.{noContract, own, placeOf}
 use Rattle.rules.specs.Matching.{Entered, enter, restWhole, tradedLots}
-use Rattle.rules.specs.Memory.{Memory, Responded, exchangeOf, firstWord, memory, put, queueIn}
+use Rattle.rules.specs.Memory.{Memory, AfterCommand, exchangeOf, firstWord, memory, put, queueIn}
 use Rattle.rules.specs.Step.{answerOf, enteredOf, exchangeAfter, limitOf, listingAfter, withLast}
 use Rattle.rules.specs.WellFormed.{wellFormedContents}
 use Rattle.rules.specs.declared.Account.{Account}
@@ -21,7 +21,7 @@ use Rattle.rules.specs.declared.Taker.{Taker}
 use Rattle.matching.specs.Entry.{EntryIs}
 use Rattle.matching.specs.Sweep.{SweepReady}
 use Rattle.matching.specs.declared.entry.Entry.{Entry}
-use Rattle.refusals.specs.Insertion.{Present, QueueRoom, sideArea, sideCount, takerFor}
+use Rattle.refusals.specs.Insertion.{Present, QueueRoom, sideArea, sideCount}
 use Rattle.insertion.specs.declared.Arrival.{Arrival}
 
 -- ---- an order on a whole state
@@ -37,7 +37,7 @@ pub record Enterable (s : State) (buys sells trades : List ℕ) (o : NewOrder) (
   pub leaves : wellFormedContents (exchangeAfter (exchangeOf (memory s buys sells trades)) o (enteredOf (exchangeOf (memory s buys sells trades)) number quote o) next) ≡ true
 
 -- the answer to it, and what it leaves
-abbrev pub enteredIn : Memory → NewOrder → ℕ → ℕ → ℕ → Responded
+abbrev pub enteredIn : Memory → NewOrder → ℕ → ℕ → ℕ → AfterCommand
 enteredIn m o number quote next =
     record {
       answer = answerOf 0 number (tradedLots (enteredOf (exchangeOf m) number quote o .trades)) (enteredOf (exchangeOf m) number quote o .rested);
@@ -107,8 +107,8 @@ withEntry s a e next =
     record {
       contracts = set (s .contracts) (a .place) (withLast (a .terms) (e .last));
       accounts = e .accounts;
-      buys = set (s .buys) (a .place) (pick (a .order .sell) (e .opposite) (e .own));
-      sells = set (s .sells) (a .place) (pick (a .order .sell) (e .own) (e .opposite));
+      buycounts = set (s .buycounts) (a .place) (pick (a .order .sell) (e .opposite) (e .own));
+      sellcounts = set (s .sellcounts) (a .place) (pick (a .order .sell) (e .own) (e .opposite));
       contractcount = s .contractcount;
       accountcount = s .accountcount;
       tradecount = e .made;

@@ -1,7 +1,8 @@
-// An order entered with a number and a quote mark, and insert. For our own crates: each asks for what it reads to be in range.
+// An order entered with a number and a quote mark, and insert. For our own crates: `insert` asks for a well-formed state, the others
+// for what they read to be in range.
 //
-// `arrival_of`, `enter` and `with_entry` are three calls, so that none of those that stay calls takes or gives the whole state: each such
-// call would copy it twice.
+// An order enters by three calls, `arrival_of`, `enter` and `with_entry`, so that the one that stays a call, `enter_on`, takes the
+// accounts and not the whole state: a call that takes the state and gives it back copies it twice.
 ghost use Prim.Native.Nat.{_<_, _≤_};
 ghost use mathlib.Core.Path.{_≡_};
 ghost use Rattle.laws.specs.Choice.{pick};
@@ -41,10 +42,10 @@ pub fn arrival_of(state: State, o: NewOrder, number: u32, quote: u32) -> Arrival
     requires { ⌜ (1 ≤ o .contract) × (placeOf (o .contract) < 4) ⌝ }
     ensures { λ r. ⌜ r ≡ arrivalOf state o number quote ⌝ }
 {
-    let place = laws::wide(o.contract) - 1;
+    let place = laws::place_of(o.contract);
     let contracts = state.contracts;
-    let bids = state.buys;
-    let offers = state.sells;
+    let bids = state.buycounts;
+    let offers = state.sellcounts;
     let terms = contracts[place];
     Arrival {
         order: o,
@@ -150,8 +151,8 @@ pub fn with_entry(state: State, a: Arrival, e: Entry, next: u32) -> State
     let o = a.order;
     let c = a.place;
     let mut contracts = state.contracts;
-    let mut bids = state.buys;
-    let mut offers = state.sells;
+    let mut bids = state.buycounts;
+    let mut offers = state.sellcounts;
     let accounts = e.accounts;
     let mut terms = a.terms;
     terms.last = e.last;
@@ -161,8 +162,8 @@ pub fn with_entry(state: State, a: Arrival, e: Entry, next: u32) -> State
     State {
         contracts,
         accounts,
-        buys: bids,
-        sells: offers,
+        buycounts: bids,
+        sellcounts: offers,
         contractcount: state.contractcount,
         accountcount: state.accountcount,
         tradecount: e.made,
@@ -186,7 +187,7 @@ pub fn insert(
     if answers::is_absent(o.account, state.accountcount) {
         return answers::refused(state, 2);
     }
-    let a = laws::wide(o.account) - 1;
+    let a = laws::place_of(o.account);
     let who = state.accounts[a];
     let refusal = codes::code_of(state, who, &buys[..], &sells[..], &trades[..], o);
     if refusal != 0 {

@@ -44,28 +44,28 @@ module _ (n : ℕ) where
       (test (getD (numbered n os) 0 noOrder) ≡ true) × (getD (numbered n os) 0 noOrder .number ≡ n)
   unfolding noSuchOrder numbered allOf
   found test [] h e = absurd (true≢false e)
-  found test (o ∷ os) h e = go (eqb (o .number) n) refl (found test os (q .1)) e
+  found test (o ∷ os) h e = by-number (eqb (o .number) n) refl (found test os (q .1)) e
     where
       q : (test o ≡ true) × (allOf test os ≡ true)
       q = both-true (test o) (allOf test os) h
 
-      go : (b : Bool) → eqb (o .number) n ≡ b →
+      by-number : (b : Bool) → eqb (o .number) n ≡ b →
           (noSuchOrder (numbered n os) ≡ false → (test (getD (numbered n os) 0 noOrder) ≡ true) × (getD (numbered n os) 0 noOrder .number ≡ n)) →
           noSuchOrder (pick b (o ∷ []) (numbered n os)) ≡ false →
           (test (getD (pick b (o ∷ []) (numbered n os)) 0 noOrder) ≡ true) × (getD (pick b (o ∷ []) (numbered n os)) 0 noOrder .number ≡ n)
-      go true k ih f = (q .0, eqb-true (o .number) n k)
-      go false k ih f = ih f
+      by-number true k ih f = (q .0, eqb-true (o .number) n k)
+      by-number false k ih f = ih f
 
   -- a sell where it is not among the buys
   behind : (os ps : List Order) → noSuchOrder (numbered n (os ++ ps)) ≡ false → noSuchOrder (numbered n os) ≡ true → noSuchOrder (numbered n ps) ≡ false
   unfolding noSuchOrder numbered
   behind [] ps e f = e
-  behind (o ∷ os) ps e f = go (eqb (o .number) n) (behind os ps) e f
+  behind (o ∷ os) ps e f = by-number (eqb (o .number) n) (behind os ps) e f
     where
-      go : (b : Bool) → (noSuchOrder (numbered n (os ++ ps)) ≡ false → noSuchOrder (numbered n os) ≡ true → noSuchOrder (numbered n ps) ≡ false) →
+      by-number : (b : Bool) → (noSuchOrder (numbered n (os ++ ps)) ≡ false → noSuchOrder (numbered n os) ≡ true → noSuchOrder (numbered n ps) ≡ false) →
           noSuchOrder (pick b (o ∷ []) (numbered n (os ++ ps))) ≡ false → noSuchOrder (pick b (o ∷ []) (numbered n os)) ≡ true → noSuchOrder (numbered n ps) ≡ false
-      go true ih e f = absurd (false≢true f)
-      go false ih e f = ih e f
+      by-number true ih e f = absurd (false≢true f)
+      by-number false ih e f = ih e f
 
   flip : (o : Order) (b : Bool) → eqb (o .number) n ≡ b → eqb n (o .number) ≡ b
   flip o true e = eq-eqb n (o .number) (sym (eqb-true (o .number) n e))
@@ -75,55 +75,55 @@ module _ (n : ℕ) where
   found-used : (os : List Order) → noSuchOrder (numbered n os) ≡ false → 1 ≤ uses numberOf n os
   unfolding noSuchOrder numbered uses sumOf
   found-used [] e = absurd (true≢false e)
-  found-used (o ∷ os) e = go (eqb (o .number) n) refl (found-used os) e
+  found-used (o ∷ os) e = by-number (eqb (o .number) n) refl (found-used os) e
     where
-      go : (b : Bool) → eqb (o .number) n ≡ b → (noSuchOrder (numbered n os) ≡ false → 1 ≤ uses numberOf n os) →
+      by-number : (b : Bool) → eqb (o .number) n ≡ b → (noSuchOrder (numbered n os) ≡ false → 1 ≤ uses numberOf n os) →
           noSuchOrder (pick b (o ∷ []) (numbered n os)) ≡ false → 1 ≤ pick (eqb n (o .number)) 1 0 + uses numberOf n os
-      go true k ih f = rw (flip o true k) (omega arith)
-      go false k ih f = rw (flip o false k) (omega (arith, ih f))
+      by-number true k ih f = rw (flip o true k) (omega arith)
+      by-number false k ih f = rw (flip o false k) (omega (arith, ih f))
 
   -- and no more when it is gone, where the queue is shorter by as many orders as had it
   without-unused : (os : List Order) → uses numberOf n (without (hasNumber n) os) ≡ 0
   unfolding without uses sumOf
   without-unused [] = refl
-  without-unused (o ∷ os) = go (eqb (o .number) n) refl (without-unused os)
+  without-unused (o ∷ os) = by-number (eqb (o .number) n) refl (without-unused os)
     where
-      go : (b : Bool) → eqb (o .number) n ≡ b → uses numberOf n (without (hasNumber n) os) ≡ 0 →
+      by-number : (b : Bool) → eqb (o .number) n ≡ b → uses numberOf n (without (hasNumber n) os) ≡ 0 →
           uses numberOf n (pick b (without (hasNumber n) os) (o ∷ without (hasNumber n) os)) ≡ 0
-      go true k ih = ih
-      go false k ih = rw (flip o false k) (omega (arith, ih))
+      by-number true k ih = ih
+      by-number false k ih = rw (flip o false k) (omega (arith, ih))
 
   without-shorter : (os : List Order) → length (without (hasNumber n) os) + uses numberOf n os ≡ length os
   unfolding without uses sumOf
   without-shorter [] = refl
-  without-shorter (o ∷ os) = go (eqb (o .number) n) refl (without-shorter os)
+  without-shorter (o ∷ os) = by-number (eqb (o .number) n) refl (without-shorter os)
     where
-      go : (b : Bool) → eqb (o .number) n ≡ b → length (without (hasNumber n) os) + uses numberOf n os ≡ length os →
+      by-number : (b : Bool) → eqb (o .number) n ≡ b → length (without (hasNumber n) os) + uses numberOf n os ≡ length os →
           length (pick b (without (hasNumber n) os) (o ∷ without (hasNumber n) os)) + (pick (eqb n (o .number)) 1 0 + uses numberOf n os) ≡ length (o ∷ os)
-      go true k ih = rw (flip o true k) (omega (arith, ih))
-      go false k ih = rw (flip o false k) (omega (arith, ih))
+      by-number true k ih = rw (flip o true k) (omega (arith, ih))
+      by-number false k ih = rw (flip o false k) (omega (arith, ih))
 
   -- used once, it is the only order with its number: what it has, every order with that number has
   unused-fits : (lots : ℕ) (os : List Order) → uses numberOf n os ≡ 0 → allOf (fits n lots) os ≡ true
   unfolding uses sumOf allOf
   unused-fits lots [] h = refl
-  unused-fits lots (o ∷ os) h = go (eqb (o .number) n) refl (unused-fits lots os)
+  unused-fits lots (o ∷ os) h = by-number (eqb (o .number) n) refl (unused-fits lots os)
     where
-      go : (b : Bool) → eqb (o .number) n ≡ b → (uses numberOf n os ≡ 0 → allOf (fits n lots) os ≡ true) → (pick b (leb lots (o .lots)) true && allOf (fits n lots) os) ≡ true
-      go true k ih = let h′ : 1 + uses numberOf n os ≡ 0 = rw (flip o true k) at h in absurd (omega arith)
-      go false k ih = let h′ : 0 + uses numberOf n os ≡ 0 = rw (flip o false k) at h in ih (omega arith)
+      by-number : (b : Bool) → eqb (o .number) n ≡ b → (uses numberOf n os ≡ 0 → allOf (fits n lots) os ≡ true) → (pick b (leb lots (o .lots)) true && allOf (fits n lots) os) ≡ true
+      by-number true k ih = let h′ : 1 + uses numberOf n os ≡ 0 = rw (flip o true k) at h in absurd (omega arith)
+      by-number false k ih = let h′ : 0 + uses numberOf n os ≡ 0 = rw (flip o false k) at h in ih (omega arith)
 
   found-fits : (lots : ℕ) (os : List Order) → uses numberOf n os ≤ 1 → lots ≤ getD (numbered n os) 0 noOrder .lots → allOf (fits n lots) os ≡ true
   unfolding uses sumOf allOf numbered
   found-fits lots [] h l = refl
-  found-fits lots (o ∷ os) h l = go (eqb (o .number) n) refl (found-fits lots os) l
+  found-fits lots (o ∷ os) h l = by-number (eqb (o .number) n) refl (found-fits lots os) l
     where
-      go : (b : Bool) → eqb (o .number) n ≡ b → (uses numberOf n os ≤ 1 → lots ≤ getD (numbered n os) 0 noOrder .lots → allOf (fits n lots) os ≡ true) →
+      by-number : (b : Bool) → eqb (o .number) n ≡ b → (uses numberOf n os ≤ 1 → lots ≤ getD (numbered n os) 0 noOrder .lots → allOf (fits n lots) os ≡ true) →
           lots ≤ getD (pick b (o ∷ []) (numbered n os)) 0 noOrder .lots → (pick b (leb lots (o .lots)) true && allOf (fits n lots) os) ≡ true
-      go true k ih l =
+      by-number true k ih l =
           let h′ : 1 + uses numberOf n os ≤ 1 = rw (flip o true k) at h in
           true-both (leb lots (o .lots)) (allOf (fits n lots) os) (le-leb lots (o .lots) l) (unused-fits lots os (omega arith))
-      go false k ih l = let h′ : 0 + uses numberOf n os ≤ 1 = rw (flip o false k) at h in ih (omega arith) l
+      by-number false k ih l = let h′ : 0 + uses numberOf n os ≤ 1 = rw (flip o false k) at h in ih (omega arith) l
 
 module _ (x : Exchange) (w : WellFormed x) (k : Asked) (e : firstOf (changeRefusals x k) ≡ 0) where
   abbrev place : ℕ
@@ -185,11 +185,11 @@ module _ (x : Exchange) (w : WellFormed x) (k : Asked) (e : firstOf (changeRefus
   -- it rests on its side
   mine-used : 1 ≤ uses numberOf number (own (isSell x k) listing)
   unfolding isSell
-  mine-used = go (noSuchOrder (numbered number (listing .buys))) refl
+  mine-used = by-side (noSuchOrder (numbered number (listing .buys))) refl
     where
-      go : (b : Bool) → noSuchOrder (numbered number (listing .buys)) ≡ b → 1 ≤ uses numberOf number (own b listing)
-      go true q = found-used number (listing .sells) (behind number (listing .buys) (listing .sells) rests q)
-      go false q = found-used number (listing .buys) q
+      by-side : (b : Bool) → noSuchOrder (numbered number (listing .buys)) ≡ b → 1 ≤ uses numberOf number (own b listing)
+      by-side true q = found-used number (listing .sells) (behind number (listing .buys) (listing .sells) rests q)
+      by-side false q = found-used number (listing .buys) q
 
   own-used : (b : Bool) → uses numberOf number (own b listing) ≤ usesIn numberOf number listing
   unfolding usesIn
@@ -325,12 +325,12 @@ module _ (x : Exchange) (w : WellFormed x) (k : Asked) (e : firstOf (changeRefus
         fewer-lots
 
     fit : (b : Bool) → allOf (fits number (k .lots)) (own b listing) ≡ true
-    fit b = by b (both-true _ _ (rw (allOf-append (fits number (k .lots)) (listing .buys) (listing .sells)) at both-fit))
+    fit b = by-side b (both-true _ _ (rw (allOf-append (fits number (k .lots)) (listing .buys) (listing .sells)) at both-fit))
       where
-        by : (b : Bool) → (allOf (fits number (k .lots)) (listing .buys) ≡ true) × (allOf (fits number (k .lots)) (listing .sells) ≡ true) →
+        by-side : (b : Bool) → (allOf (fits number (k .lots)) (listing .buys) ≡ true) × (allOf (fits number (k .lots)) (listing .sells) ≡ true) →
             allOf (fits number (k .lots)) (own b listing) ≡ true
-        by true p = p .1
-        by false p = p .0
+        by-side true p = p .1
+        by-side false p = p .0
 
     abbrev less : Listing
     less = listingLessened k listing

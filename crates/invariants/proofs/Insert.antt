@@ -88,12 +88,12 @@ own-closes true true lots h r p q = omega (arith, q refl refl)
 unused-all : (number : ℕ) (queue : List Order) → uses numberOf number queue ≡ 0 → allOf (λ r. not (eqb number (r .number))) queue ≡ true
 unfolding uses sumOf allOf
 unused-all number [] h = refl
-unused-all number (r ∷ rs) h = go (eqb number (r .number)) refl (unused-all number rs)
+unused-all number (r ∷ rs) h = by-number (eqb number (r .number)) refl (unused-all number rs)
   where
-    go : (b : Bool) → eqb number (r .number) ≡ b → (uses numberOf number rs ≡ 0 → allOf (λ r. not (eqb number (r .number))) rs ≡ true) →
+    by-number : (b : Bool) → eqb number (r .number) ≡ b → (uses numberOf number rs ≡ 0 → allOf (λ r. not (eqb number (r .number))) rs ≡ true) →
         allOf (λ r. not (eqb number (r .number))) (r ∷ rs) ≡ true
-    go true e ih = let h′ : 1 + uses numberOf number rs ≡ 0 = rw e at h in absurd (omega arith)
-    go false e ih = let h′ : 0 + uses numberOf number rs ≡ 0 = rw e at h in rw e (ih (omega arith))
+    by-number true e ih = let h′ : 1 + uses numberOf number rs ≡ 0 = rw e at h in absurd (omega arith)
+    by-number false e ih = let h′ : 0 + uses numberOf number rs ≡ 0 = rw e at h in rw e (ih (omega arith))
 
 unused-others : (number : ℕ) (sell : Bool) (m : Listing) → usesIn numberOf number m ≡ 0 → allOf (λ r. not (eqb number (r .number))) (opposite sell m) ≡ true
 unfolding usesIn
@@ -111,13 +111,13 @@ own-uses field n true m = omega arith
 own-uses field n false m = refl
 
 one-more : (used : List ℕ) (value : ℕ) → usedOnce used ≡ true → occurs value used ≡ 0 → (n : ℕ) → occurs n used + pick (eqb n value) 1 0 ≤ 1
-one-more used value once unused n = go (eqb n value) refl
+one-more used value once unused n = by-value (eqb n value) refl
   where
-    go : (b : Bool) → eqb n value ≡ b → occurs n used + pick (eqb n value) 1 0 ≤ 1
-    go true e =
+    by-value : (b : Bool) → eqb n value ≡ b → occurs n used + pick (eqb n value) 1 0 ≤ 1
+    by-value true e =
         let z : occurs n used ≡ 0 = rw (eqb-true n value e) unused in
         rw e (omega arith)
-    go false e = rw e (omega (arith, once-count used once n))
+    by-value false e = rw e (omega (arith, once-count used once n))
 
 module _ (x : Exchange) (k : WellFormed x) (number quote next : ℕ) (g : Given x number next) (o : NewOrder) (p : Passes x number o)
     (z : Marks x quote o) where
@@ -327,18 +327,18 @@ module _ (x : Exchange) (k : WellFormed x) (number quote next : ℕ) (g : Given 
 
   -- code 13: with 64 on its own side nothing rests
   none-rests : maxResting ≤ length mine → rested x k number quote next g o p z ≡ 0
-  none-rests full = go (isGoodForDay (o .time)) refl
+  none-rests full = by-time-condition (isGoodForDay (o .time)) refl
     where
-      go : (b : Bool) → isGoodForDay (o .time) ≡ b → rested x k number quote next g o p z ≡ 0
-      go true e = let r = p .room e full in omega (arith, rested-left x k number quote next g o p z, filled (r .0) (r .1))
-      go false e = none-rested e
+      by-time-condition : (b : Bool) → isGoodForDay (o .time) ≡ b → rested x k number quote next g o p z ≡ 0
+      by-time-condition true e = let r = p .room e full in omega (arith, rested-left x k number quote next g o p z, filled (r .0) (r .1))
+      by-time-condition false e = none-rested e
 
   mine-length : length mine ≤ maxResting → length (restLots (takerOf x number quote o) (limitOf (o .condition)) (rested x k number quote next g o p z) mine) ≤ maxResting
-  mine-length h = go (leb maxResting (length mine)) refl
+  mine-length h = by-room (leb maxResting (length mine)) refl
     where
-      go : (b : Bool) → leb maxResting (length mine) ≡ b → length (restLots (takerOf x number quote o) (limitOf (o .condition)) (rested x k number quote next g o p z) mine) ≤ maxResting
-      go true e = omega (arith, rested-length (takerOf x number quote o) (limitOf (o .condition)) (rested x k number quote next g o p z) mine, none-rests (leb-true _ _ e))
-      go false e = omega (arith, rested-length-one (takerOf x number quote o) (limitOf (o .condition)) (rested x k number quote next g o p z) mine, leb-false maxResting (length mine) e)
+      by-room : (b : Bool) → leb maxResting (length mine) ≡ b → length (restLots (takerOf x number quote o) (limitOf (o .condition)) (rested x k number quote next g o p z) mine) ≤ maxResting
+      by-room true e = omega (arith, rested-length (takerOf x number quote o) (limitOf (o .condition)) (rested x k number quote next g o p z) mine, none-rests (leb-true _ _ e))
+      by-room false e = omega (arith, rested-length-one (takerOf x number quote o) (limitOf (o .condition)) (rested x k number quote next g o p z) mine, leb-false maxResting (length mine) e)
 
   others-length : length (lots-swept .rest) ≤ length others
   unfolding restWhole enter

@@ -42,14 +42,14 @@ module _ (accounts next nextstamp : ℕ) where
       record {
         mine-sorted = k .order sell;
         others-sorted = rw other-own at (k .order (not sell));
-        sides-uncrossed = by sell;
+        sides-uncrossed = by-side sell;
         mine-orders = k .orders sell;
         others-orders = rw other-own at (k .orders (not sell));
       }
     where
-      by : (b : Bool) → inAuction (m .contract) ≡ false → uncrossedFrom b (own b m) (opposite b m) ≡ true
-      by true = k .apart
-      by false = k .apart
+      by-side : (b : Bool) → inAuction (m .contract) ≡ false → uncrossedFrom b (own b m) (opposite b m) ≡ true
+      by-side true = k .apart
+      by-side false = k .apart
 
   pub sides-listing : (sell : Bool) (c : Contract) (mine others : List Order) → contractInRange c ≡ true →
       SidesOk accounts next nextstamp c sell mine others → ListingOk accounts next nextstamp (withQueues sell c mine others)

@@ -94,12 +94,12 @@ nothing-booked sell h = record { rise = omega arith; kept = omega arith; fall = 
 
 pub booked-bounds : (l : List Account) (u c : ℕ) (sell : Bool) (close lots : ℕ) → close ≤ 1 → legCovered l u c sell close lots ≡ true → (a : ℕ) →
     LegBounds sell (opensFor a u close lots) (closesFor a u close lots) (holdingAt l a c) (holdingAt (bookLeg l u c sell close lots) a c)
-booked-bounds l u c sell close lots m k a = go (eqb u a) refl
+booked-bounds l u c sell close lots m k a = by-account (eqb u a) refl
   where
-    go : (b : Bool) → eqb u a ≡ b →
+    by-account : (b : Bool) → eqb u a ≡ b →
         LegBounds sell (opensFor a u close lots) (closesFor a u close lots) (holdingAt l a c) (holdingAt (bookLeg l u c sell close lots) a c)
-    go true e = rw (e, ← eqb-true u a e) (booked-here l u c sell close lots m k)
-    go false e = rw (e, holding-other-account l u c sell close lots a c (λ q. eqb-false u a e (sym q))) (nothing-booked sell (holdingAt l a c))
+    by-account true e = rw (e, ← eqb-true u a e) (booked-here l u c sell close lots m k)
+    by-account false e = rw (e, holding-other-account l u c sell close lots a c (λ q. eqb-false u a e (sym q))) (nothing-booked sell (holdingAt l a c))
 
 -- a leg is covered where the account holds what it closes
 pub covered-by : (l : List Account) (u c : ℕ) (sell : Bool) (close lots : ℕ) → close ≤ 1 →

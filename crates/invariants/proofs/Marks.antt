@@ -64,11 +64,11 @@ pub mark-fewer : (a : ℕ) → LessWithFewer (markOf a)
 mark-fewer a o n low high = le-refl _
 
 pub mark-dropped : (a : ℕ) (o : Order) (n : ℕ) → markOf a (unmarked o) ≤ n
-mark-dropped a o n = go (eqb (o .account) a)
+mark-dropped a o n = by-account (eqb (o .account) a)
   where
-    go : (b : Bool) → pick (b && false) 1 0 ≤ n
-    go true = omega arith
-    go false = omega arith
+    by-account : (b : Bool) → pick (b && false) 1 0 ≤ n
+    by-account true = omega arith
+    by-account false = omega arith
 
 -- ---- the mark of an order that is entered
 
@@ -97,13 +97,13 @@ module _ (accounts : List Account) (t : Taker) where
   rested-marks price n queue allowed single k =
       record {
         allowed = rested-all t price (markAllowed accounts) n queue (λ some. allowed) (k .allowed);
-        single = λ a l. go a (eqb (t .account) a) refl (rested-sum t price (markOf a) n queue) (k .single a l);
+        single = λ a l. by-account a (eqb (t .account) a) refl (rested-sum t price (markOf a) n queue) (k .single a l);
       }
     where
-      go : (a : ℕ) (b : Bool) → eqb (t .account) a ≡ b → sumOf (markOf a) (restLots t price n queue) ≤ pick (eqb (t .account) a && eqb (t .quote) 1) 1 0 + sumOf (markOf a) queue →
+      by-account : (a : ℕ) (b : Bool) → eqb (t .account) a ≡ b → sumOf (markOf a) (restLots t price n queue) ≤ pick (eqb (t .account) a && eqb (t .quote) 1) 1 0 + sumOf (markOf a) queue →
           sumOf (markOf a) queue ≤ 1 → sumOf (markOf a) (restLots t price n queue) ≤ 1
-      go a true e s h =
+      by-account a true e s h =
           let s′ : sumOf (markOf a) (restLots t price n queue) ≤ pick (eqb (t .quote) 1) 1 0 + sumOf (markOf a) queue = rw e at s in
           let h′ : pick (eqb (t .quote) 1) 1 0 + sumOf (markOf a) queue ≤ 1 = rw (eqb-true (t .account) a e) at single in
           omega arith
-      go a false e s h = let s′ : sumOf (markOf a) (restLots t price n queue) ≤ 0 + sumOf (markOf a) queue = rw e at s in omega arith
+      by-account a false e s h = let s′ : sumOf (markOf a) (restLots t price n queue) ≤ 0 + sumOf (markOf a) queue = rw e at s in omega arith

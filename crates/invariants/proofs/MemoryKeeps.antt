@@ -24,8 +24,8 @@ use Rattle.invariants.proofs.MemoryRoom.{CountsOk, RoomOk, memory-ok, m
 
 queue-few : (m : Memory) → CountsOk (m .state) → (c : ℕ) (sell : Bool) → c < m .state .contractcount → length (own sell (listingIn m c)) ≤ maxResting
 unfolding listingIn
-queue-few m k c true l = rw (length-queue (m .sells) c (getD (m .state .sells) c 0)) (k .sells c l)
-queue-few m k c false l = rw (length-queue (m .buys) c (getD (m .state .buys) c 0)) (k .buys c l)
+queue-few m k c true l = rw (length-queue (m .sells) c (getD (m .state .sellcounts) c 0)) (k .sells c l)
+queue-few m k c false l = rw (length-queue (m .buys) c (getD (m .state .buycounts) c 0)) (k .buys c l)
 
 pub counted : (m : Memory) → CountsOk (m .state) → Counted (exchangeOf m)
 unfolding exchangeOf listingAt
@@ -159,11 +159,11 @@ module _ (m : Memory) (c : Command) (w : wellFormedMemory m ≡ true) where
 -- of any memory, well formed or not
 pub respond-lengths : (m : Memory) (c : Command) → SameLengths m (respond m c .memory)
 unfolding respond
-respond-lengths m c = by (wellFormedMemory m) refl
+respond-lengths m c = by-wellformed (wellFormedMemory m) refl
   where
-    by : (b : Bool) → wellFormedMemory m ≡ b → SameLengths m (respond m c .memory)
-    by true w = rw w (step-in-lengths m w c)
-    by false w = rw w (same-lengths m)
+    by-wellformed : (b : Bool) → wellFormedMemory m ≡ b → SameLengths m (respond m c .memory)
+    by-wellformed true w = rw w (step-in-lengths m w c)
+    by-wellformed false w = rw w (same-lengths m)
 
 -- ---- a run: well formed at its start is well formed throughout
 

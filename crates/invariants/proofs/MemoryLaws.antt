@@ -33,14 +33,14 @@ put-first-at f ls room c l =
 
 -- as many values as are read are read back
 front-read : {A : Type 0} (n : ℕ) (vs room : List A) → length vs ≡ length (take n room) → take n (putFirst vs room) ≡ vs
-front-read n vs room e = go (leb n (length room)) refl
+front-read n vs room e = by-room (leb n (length room)) refl
   where
     e′ : length vs ≡ min n (length room)
     e′ = e ∙ length-take n room
 
-    go : (b : Bool) → leb n (length room) ≡ b → take n (vs ++ drop (length vs) room) ≡ vs
-    go true h = take-at vs (drop (length vs) room) n (omega (arith, e′, leb-true n (length room) h))
-    go false h =
+    by-room : (b : Bool) → leb n (length room) ≡ b → take n (vs ++ drop (length vs) room) ≡ vs
+    by-room true h = take-at vs (drop (length vs) room) n (omega (arith, e′, leb-true n (length room) h))
+    by-room false h =
         let l = leb-false n (length room) h in
         rw (drop-of-length-le room {i = length vs} (omega (arith, e′)), append-nil vs) (take-all n vs (omega (arith, e′)))
 
@@ -78,13 +78,13 @@ module _ (m : Memory) (counts : CountsOk (m .state)) (room : RoomOk m) (x : Exch
   buys-read : (c : ℕ) → c < m .state .contractcount → queueIn (put m x .buys) c (length (listingAt x c .buys)) ≡ listingAt x c .buys
   unfolding put
   buys-read c l =
-      queue-putQueues (m .buys) (m .state .buys) (λ c. listingAt x c .buys) (m .state .contractcount) (counts .buys) (short false) (room .buys)
+      queue-putQueues (m .buys) (m .state .buycounts) (λ c. listingAt x c .buys) (m .state .contractcount) (counts .buys) (short false) (room .buys)
       (m .state .contractcount) c (le-refl _) l
 
   sells-read : (c : ℕ) → c < m .state .contractcount → queueIn (put m x .sells) c (length (listingAt x c .sells)) ≡ listingAt x c .sells
   unfolding put
   sells-read c l =
-      queue-putQueues (m .sells) (m .state .sells) (λ c. listingAt x c .sells) (m .state .contractcount) (counts .sells) (short true)
+      queue-putQueues (m .sells) (m .state .sellcounts) (λ c. listingAt x c .sells) (m .state .contractcount) (counts .sells) (short true)
       (room .sells) (m .state .contractcount) c (le-refl _) l
 
   -- the contracts and the counts of the queues
@@ -92,20 +92,20 @@ module _ (m : Memory) (counts : CountsOk (m .state)) (room : RoomOk m) (x : Exch
   unfolding put putState listingAt
   contract-read c l = put-first-at (λ n. n .contract) (x .listings) (m .state .contracts) c (rw contracts-same l)
 
-  buy-count : (c : ℕ) → c < m .state .contractcount → getD (put m x .state .buys) c 0 ≡ length (listingAt x c .buys)
+  buy-count : (c : ℕ) → c < m .state .contractcount → getD (put m x .state .buycounts) c 0 ≡ length (listingAt x c .buys)
   unfolding put putState listingAt
-  buy-count c l = put-first-at (λ n. length (n .buys)) (x .listings) (m .state .buys) c (rw contracts-same l)
+  buy-count c l = put-first-at (λ n. length (n .buys)) (x .listings) (m .state .buycounts) c (rw contracts-same l)
 
-  sell-count : (c : ℕ) → c < m .state .contractcount → getD (put m x .state .sells) c 0 ≡ length (listingAt x c .sells)
+  sell-count : (c : ℕ) → c < m .state .contractcount → getD (put m x .state .sellcounts) c 0 ≡ length (listingAt x c .sells)
   unfolding put putState listingAt
-  sell-count c l = put-first-at (λ n. length (n .sells)) (x .listings) (m .state .sells) c (rw contracts-same l)
+  sell-count c l = put-first-at (λ n. length (n .sells)) (x .listings) (m .state .sellcounts) c (rw contracts-same l)
 
   listing-read : (c : ℕ) → c < m .state .contractcount → listingIn (put m x) c ≡ listingAt x c
   unfolding listingIn
   listing-read c l =
-      let b : queueIn (put m x .buys) c (getD (put m x .state .buys) c 0) ≡ listingAt x c .buys =
+      let b : queueIn (put m x .buys) c (getD (put m x .state .buycounts) c 0) ≡ listingAt x c .buys =
       ap (λ (n : ℕ). queueIn (put m x .buys) c n) (buy-count c l) ∙ buys-read c l in
-      let s : queueIn (put m x .sells) c (getD (put m x .state .sells) c 0) ≡ listingAt x c .sells =
+      let s : queueIn (put m x .sells) c (getD (put m x .state .sellcounts) c 0) ≡ listingAt x c .sells =
       ap (λ (n : ℕ). queueIn (put m x .sells) c n) (sell-count c l) ∙ sells-read c l in
       let k = contract-read c l in
       λ i. record { contract = k i; buys = b i; sells = s i }
@@ -135,13 +135,13 @@ module _ (m : Memory) (counts : CountsOk (m .state)) (room : RoomOk m) (x : Exch
   pub length-buys : length (put m x .buys) ≡ length (m .buys)
   unfolding put
   length-buys =
-      length-putQueues (m .buys) (m .state .buys) (λ c. listingAt x c .buys) (m .state .contractcount) (counts .buys) (short false) (room .buys)
+      length-putQueues (m .buys) (m .state .buycounts) (λ c. listingAt x c .buys) (m .state .contractcount) (counts .buys) (short false) (room .buys)
       (m .state .contractcount) (le-refl _)
 
   pub length-sells : length (put m x .sells) ≡ length (m .sells)
   unfolding put
   length-sells =
-      length-putQueues (m .sells) (m .state .sells) (λ c. listingAt x c .sells) (m .state .contractcount) (counts .sells) (short true)
+      length-putQueues (m .sells) (m .state .sellcounts) (λ c. listingAt x c .sells) (m .state .contractcount) (counts .sells) (short true)
       (room .sells) (m .state .contractcount) (le-refl _)
 
   pub length-tradeArea : length (put m x .trades) ≡ length (m .trades)
@@ -191,17 +191,17 @@ module _ (m : Memory) (counts : CountsOk (m .state)) (room : RoomOk m) (arrays :
       first-same (λ l. l .contract) (listingIn m) (m .state .contracts) (m .state .contractcount)
       (omega (arith, counts .contracts-high, arrays .contracts)) (λ c l. refl)
 
-  buys-put : putFirst (map (λ l. length (l .buys)) (exchangeOf m .listings)) (m .state .buys) ≡ m .state .buys
+  buys-put : putFirst (map (λ l. length (l .buys)) (exchangeOf m .listings)) (m .state .buycounts) ≡ m .state .buycounts
   unfolding exchangeOf listingIn
   buys-put =
-      first-same (λ l. length (l .buys)) (listingIn m) (m .state .buys) (m .state .contractcount)
-      (omega (arith, counts .contracts-high, arrays .buys)) (λ c l. length-queue (m .buys) c (getD (m .state .buys) c 0))
+      first-same (λ l. length (l .buys)) (listingIn m) (m .state .buycounts) (m .state .contractcount)
+      (omega (arith, counts .contracts-high, arrays .buys)) (λ c l. length-queue (m .buys) c (getD (m .state .buycounts) c 0))
 
-  sells-put : putFirst (map (λ l. length (l .sells)) (exchangeOf m .listings)) (m .state .sells) ≡ m .state .sells
+  sells-put : putFirst (map (λ l. length (l .sells)) (exchangeOf m .listings)) (m .state .sellcounts) ≡ m .state .sellcounts
   unfolding exchangeOf listingIn
   sells-put =
-      first-same (λ l. length (l .sells)) (listingIn m) (m .state .sells) (m .state .contractcount)
-      (omega (arith, counts .contracts-high, arrays .sells)) (λ c l. length-queue (m .sells) c (getD (m .state .sells) c 0))
+      first-same (λ l. length (l .sells)) (listingIn m) (m .state .sellcounts) (m .state .contractcount)
+      (omega (arith, counts .contracts-high, arrays .sells)) (λ c l. length-queue (m .sells) c (getD (m .state .sellcounts) c 0))
 
   state-put : putState (m .state) (exchangeOf m) ≡ m .state
   unfolding putState exchangeOf
@@ -211,8 +211,8 @@ module _ (m : Memory) (counts : CountsOk (m .state)) (room : RoomOk m) (arrays :
       λ i. record {
         contracts = contracts-put i;
         accounts = a i;
-        buys = buys-put i;
-        sells = sells-put i;
+        buycounts = buys-put i;
+        sellcounts = sells-put i;
         contractcount = m .state .contractcount;
         accountcount = m .state .accountcount;
         tradecount = t i;
@@ -221,16 +221,16 @@ module _ (m : Memory) (counts : CountsOk (m .state)) (room : RoomOk m) (arrays :
         settlements = m .state .settlements;
       }
 
-  buy-area : putQueues (m .buys) (m .state .buys) (λ c. listingAt (exchangeOf m) c .buys) (m .state .contractcount) ≡ m .buys
+  buy-area : putQueues (m .buys) (m .state .buycounts) (λ c. listingAt (exchangeOf m) c .buys) (m .state .contractcount) ≡ m .buys
   unfolding listingIn
   buy-area =
-      putQueues-same (m .buys) (m .state .buys) (λ c. listingAt (exchangeOf m) c .buys) (m .state .contractcount)
+      putQueues-same (m .buys) (m .state .buycounts) (λ c. listingAt (exchangeOf m) c .buys) (m .state .contractcount)
       (λ c l. ap (λ (n : Listing). n .buys) (listing-in-use m c l)) (counts .buys) (room .buys)
 
-  sell-area : putQueues (m .sells) (m .state .sells) (λ c. listingAt (exchangeOf m) c .sells) (m .state .contractcount) ≡ m .sells
+  sell-area : putQueues (m .sells) (m .state .sellcounts) (λ c. listingAt (exchangeOf m) c .sells) (m .state .contractcount) ≡ m .sells
   unfolding listingIn
   sell-area =
-      putQueues-same (m .sells) (m .state .sells) (λ c. listingAt (exchangeOf m) c .sells) (m .state .contractcount)
+      putQueues-same (m .sells) (m .state .sellcounts) (λ c. listingAt (exchangeOf m) c .sells) (m .state .contractcount)
       (λ c l. ap (λ (n : Listing). n .sells) (listing-in-use m c l)) (counts .sells) (room .sells)
 
   trade-area : putTrades (m .trades) (m .state .tradecount) (exchangeOf m .trades) ≡ m .trades

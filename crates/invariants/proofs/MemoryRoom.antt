@@ -21,8 +21,8 @@ pub record CountsOk (s : State) : Type 0 where
   pub accounts-low : 1 ≤ s .accountcount
   pub accounts-high : s .accountcount ≤ maxAccounts
   pub trades : s .tradecount ≤ maxTrades
-  pub buys : (c : ℕ) → c < s .contractcount → getD (s .buys) c 0 ≤ maxResting
-  pub sells : (c : ℕ) → c < s .contractcount → getD (s .sells) c 0 ≤ maxResting
+  pub buys : (c : ℕ) → c < s .contractcount → getD (s .buycounts) c 0 ≤ maxResting
+  pub sells : (c : ℕ) → c < s .contractcount → getD (s .sellcounts) c 0 ≤ maxResting
 
 module _ (s : State) where
   abbrev few : List ℕ → ℕ → Bool
@@ -30,7 +30,7 @@ module _ (s : State) where
 
   abbrev countTests : List Bool
   countTests =
-      within 1 maxAccounts (s .accountcount) ∷ leb (s .tradecount) maxTrades ∷ all (few (s .buys)) (s .contractcount) ∷ all (few (s .sells))
+      within 1 maxAccounts (s .accountcount) ∷ leb (s .tradecount) maxTrades ∷ all (few (s .buycounts)) (s .contractcount) ∷ all (few (s .sellcounts))
       (s .contractcount) ∷ []
 
   pub counts-ok : countsInRange s ≡ true → CountsOk s
@@ -45,8 +45,8 @@ module _ (s : State) where
         accounts-low = leb-true _ _ (a .0);
         accounts-high = leb-true _ _ (a .1);
         trades = leb-true _ _ (p .1 .1 .0);
-        buys = λ i l. leb-true _ _ (all-at (few (s .buys)) i (s .contractcount) (p .1 .1 .1 .0) l);
-        sells = λ i l. leb-true _ _ (all-at (few (s .sells)) i (s .contractcount) (p .1 .1 .1 .1) l);
+        buys = λ i l. leb-true _ _ (all-at (few (s .buycounts)) i (s .contractcount) (p .1 .1 .1 .0) l);
+        sells = λ i l. leb-true _ _ (all-at (few (s .sellcounts)) i (s .contractcount) (p .1 .1 .1 .1) l);
       }
 
   pub counts-test : CountsOk s → countsInRange s ≡ true
@@ -59,8 +59,8 @@ module _ (s : State) where
           (
             le-leb _ _ (k .trades),
             (
-              all-true (few (s .buys)) (s .contractcount) (λ i l. le-leb _ _ (k .buys i l)),
-              all-true (few (s .sells)) (s .contractcount)
+              all-true (few (s .buycounts)) (s .contractcount) (λ i l. le-leb _ _ (k .buys i l)),
+              all-true (few (s .sellcounts)) (s .contractcount)
                   (λ i l. le-leb _ _ (k .sells i l)),
             ),
           ),

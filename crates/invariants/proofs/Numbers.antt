@@ -40,25 +40,25 @@ none n (k ∷ ks) h =
 absent-all : (n : ℕ) (l : List ℕ) → occurs n l ≡ 0 → allOf (λ k. not (eqb n k)) l ≡ true
 unfolding occurs sumOf allOf
 absent-all n [] h = refl
-absent-all n (k ∷ ks) h = go (eqb n k) refl (λ z. absent-all n ks z)
+absent-all n (k ∷ ks) h = by-number (eqb n k) refl (λ z. absent-all n ks z)
   where
-    go : (b : Bool) → eqb n k ≡ b → (occurs n ks ≡ 0 → allOf (λ j. not (eqb n j)) ks ≡ true) → allOf (λ j. not (eqb n j)) (k ∷ ks) ≡ true
-    go true e ih = let h′ : 1 + occurs n ks ≡ 0 = rw e at h in absurd (omega arith)
-    go false e ih = let h′ : 0 + occurs n ks ≡ 0 = rw e at h in rw e (ih (omega arith))
+    by-number : (b : Bool) → eqb n k ≡ b → (occurs n ks ≡ 0 → allOf (λ j. not (eqb n j)) ks ≡ true) → allOf (λ j. not (eqb n j)) (k ∷ ks) ≡ true
+    by-number true e ih = let h′ : 1 + occurs n ks ≡ 0 = rw e at h in absurd (omega arith)
+    by-number false e ih = let h′ : 0 + occurs n ks ≡ 0 = rw e at h in rw e (ih (omega arith))
 
 pub once-count : (l : List ℕ) → usedOnce l ≡ true → (n : ℕ) → occurs n l ≤ 1
 unfolding occurs sumOf usedOnce
 once-count [] h n = omega arith
-once-count (k ∷ ks) h n = go (eqb n k) refl (once-count ks (p .1) n)
+once-count (k ∷ ks) h n = by-number (eqb n k) refl (once-count ks (p .1) n)
   where
     p : (allOf (λ j. not (eqb k j)) ks ≡ true) × (usedOnce ks ≡ true)
     p = both-true (allOf (λ j. not (eqb k j)) ks) (usedOnce ks) h
 
-    go : (b : Bool) → eqb n k ≡ b → occurs n ks ≤ 1 → pick (eqb n k) 1 0 + occurs n ks ≤ 1
-    go true e ih =
+    by-number : (b : Bool) → eqb n k ≡ b → occurs n ks ≤ 1 → pick (eqb n k) 1 0 + occurs n ks ≤ 1
+    by-number true e ih =
         let z : occurs n ks ≡ 0 = rw (eqb-true n k e) (none k ks (p .0)) in
         rw e (omega arith)
-    go false e ih = rw e (omega arith)
+    by-number false e ih = rw e (omega arith)
 
 pub count-once : (l : List ℕ) → ((n : ℕ) → occurs n l ≤ 1) → usedOnce l ≡ true
 unfolding occurs sumOf usedOnce

@@ -70,11 +70,11 @@ module _ (file : List ℕ) (h : sound file ≡ true) where
 
   mark-low : (a : ℕ) → openingAccount file a .maker ≤ 1
   unfolding openingAccount makerFrom
-  mark-low a = by (leb makerBit (u64At file (accountPlace file a)))
+  mark-low a = by-maker (leb makerBit (u64At file (accountPlace file a)))
     where
-      by : (maker : Bool) → pick maker 1 0 ≤ 1
-      by true = omega arith
-      by false = omega arith
+      by-maker : (maker : Bool) → pick maker 1 0 ≤ 1
+      by-maker true = omega arith
+      by-maker false = omega arith
 
   pub opening-sound : Sound (opening file)
   unfolding opening openingListing

@@ -37,11 +37,11 @@ use Rattle.invariants.proofs.MemoryRoom.{CountsOk, RoomOk, memory-ok}
 
 -- in use in one state
 in-the-one : (test : Exchange → Bool) (x : Exchange) → inOne test (x ∷ []) ≡ test x
-in-the-one test x = by (test x) refl
+in-the-one test x = by-test (test x) refl
   where
-    by : (b : Bool) → test x ≡ b → inOne test (x ∷ []) ≡ b
-    by true e = rw e
-    by false e = rw e
+    by-test : (b : Bool) → test x ≡ b → inOne test (x ∷ []) ≡ b
+    by-test true e = rw e
+    by-test false e = rw e
 
 -- a place in use in neither of two states
 neither : (s t : Bool) (word was : ℕ) → s ≡ false → t ≡ false → was ≡ byPlace s t word was
@@ -59,12 +59,12 @@ past-first values room c d h =
 
 first-by-place : {A : Type 0} (f : Listing → A) (ls : List Listing) (room : List A) (c : ℕ) →
     getD (putFirst (map f ls) room) c (f noListing) ≡ pick (ltb c (length ls)) (f (getD ls c noListing)) (getD room c (f noListing))
-first-by-place {A} f ls room c = by (ltb c (length ls)) refl
+first-by-place {A} f ls room c = by-place (ltb c (length ls)) refl
   where
-    by : (t : Bool) → ltb c (length ls) ≡ t →
+    by-place : (t : Bool) → ltb c (length ls) ≡ t →
         getD (putFirst (map f ls) room) c (f noListing) ≡ pick t (f (getD ls c noListing)) (getD room c (f noListing))
-    by true e = put-first-at f ls room c (ltb-true c (length ls) e)
-    by false e = past-first (map f ls) room c (f noListing) (rw (length-map ls f) (ltb-false c (length ls) e))
+    by-place true e = put-first-at f ls room c (ltb-true c (length ls) e)
+    by-place false e = past-first (map f ls) room c (f noListing) (rw (length-map ls f) (ltb-false c (length ls) e))
 
 -- an account in use, and one that is not
 account-put : (as′ rooms : List Account) (a : ℕ) → length as′ ≤ length rooms → a < length as′ →
@@ -107,7 +107,7 @@ module _ (m : Memory) (counts : CountsOk (m .state)) (room : RoomOk m) (arrays :
       getD (putQueues area cs (λ c. side (listingAt x c)) (m .state .contractcount)) (firstWord c i + word) 0
       ≡ byPlace (ltb i (length (side (listingAt x c)))) (inOne (λ y. ltb i (length (side (listingAt y c)))) (exchangeOf m ∷ []))
       (wordOf word (getD (side (listingAt x c)) i noOrder)) (getD area (firstWord c i + word) 0)
-  side-told area cs side none counted before after fits c i word place b = by (ltb c (m .state .contractcount)) refl
+  side-told area cs side none counted before after fits c i word place b = by-listed (ltb c (m .state .contractcount)) refl
     where
       inPlace : Exchange → Bool
       inPlace y = ltb i (length (side (listingAt y c)))
@@ -118,15 +118,15 @@ module _ (m : Memory) (counts : CountsOk (m .state)) (room : RoomOk m) (arrays :
       empty : (y : Exchange) → length (y .listings) ≤ c → inPlace y ≡ false
       empty y h = ap (λ (l : Listing). ltb i (length (side l))) (not-listed y c h) ∙ ap (λ (q : List Order). ltb i (length q)) none ∙ le-ltb i 0 (omega arith)
 
-      by : (t : Bool) → ltb c (m .state .contractcount) ≡ t →
+      by-listed : (t : Bool) → ltb c (m .state .contractcount) ≡ t →
           getD (putQueues area cs (λ c. side (listingAt x c)) (m .state .contractcount)) (firstWord c i + word) 0
           ≡ told (inOne inPlace (exchangeOf m ∷ [])) (getD area (firstWord c i + word) 0)
-      by true e =
+      by-listed true e =
           let h = ltb-true c (m .state .contractcount) e in
           word-putQueues area cs (λ c. side (listingAt x c)) (m .state .contractcount) before after fits i word place b (m .state .contractcount) c (le-refl _) h
           ∙ ap (λ (t : Bool). told t (getD area (firstWord c i + word) 0))
           (sym (in-the-one inPlace (exchangeOf m) ∙ ap (λ (n : ℕ). ltb i n) (ap (λ (l : Listing). length (side l)) (listing-in-use m c h) ∙ counted c)))
-      by false e =
+      by-listed false e =
           let h = ltb-false c (m .state .contractcount) e in
           word-putQueues-past area cs (λ c. side (listingAt x c)) (m .state .contractcount) before after fits i word place b (m .state .contractcount) c (le-refl _) h
           ∙ neither (inPlace x) (inOne inPlace (exchangeOf m ∷ [])) (wordOf word (getD (side (listingAt x c)) i noOrder))
@@ -139,10 +139,10 @@ module _ (m : Memory) (counts : CountsOk (m .state)) (room : RoomOk m) (arrays :
       (getD (areaOf sell m) (firstWord c i + word) 0)
   unfolding put listingIn
   orders-told true =
-      side-told (m .sells) (m .state .sells) (λ l. l .sells) refl (λ c. length-queue (m .sells) c (getD (m .state .sells) c 0)) (counts .sells)
+      side-told (m .sells) (m .state .sellcounts) (λ l. l .sells) refl (λ c. length-queue (m .sells) c (getD (m .state .sellcounts) c 0)) (counts .sells)
       (λ c l. few .queues c true (rw contracts l)) (room .sells)
   orders-told false =
-      side-told (m .buys) (m .state .buys) (λ l. l .buys) refl (λ c. length-queue (m .buys) c (getD (m .state .buys) c 0)) (counts .buys)
+      side-told (m .buys) (m .state .buycounts) (λ l. l .buys) refl (λ c. length-queue (m .buys) c (getD (m .state .buycounts) c 0)) (counts .buys)
       (λ c l. few .queues c false (rw contracts l)) (room .buys)
 
   trades-told : (i word : ℕ) → word < tradeStride →
@@ -164,8 +164,8 @@ module _ (m : Memory) (counts : CountsOk (m .state)) (room : RoomOk m) (arrays :
   counts-told : (sell : Bool) (c : ℕ) →
       getD (countsOf sell (put m x)) c 0 ≡ pick (listed c x) (length (own sell (listingAt x c))) (getD (countsOf sell m) c 0)
   unfolding put putState listingAt
-  counts-told true = first-by-place (λ l. length (l .sells)) (x .listings) (m .state .sells)
-  counts-told false = first-by-place (λ l. length (l .buys)) (x .listings) (m .state .buys)
+  counts-told true = first-by-place (λ l. length (l .sells)) (x .listings) (m .state .sellcounts)
+  counts-told false = first-by-place (λ l. length (l .buys)) (x .listings) (m .state .buycounts)
 
   -- the accounts have their places
   accounts-fit : length (x .accounts) ≤ length (m .state .accounts)
@@ -183,12 +183,12 @@ module _ (m : Memory) (counts : CountsOk (m .state)) (room : RoomOk m) (arrays :
   -- what is not a holding
   field-told : {A : Type 0} (f : Account → A) → ((v room : Account) → f (putAccount v room) ≡ f v) → (a : ℕ) →
       f (accountAt (put m x .state .accounts) a) ≡ pick (known a x) (f (accountAt (x .accounts) a)) (f (accountAt (m .state .accounts) a))
-  field-told {A} f own′ a = by (known a x) refl
+  field-told {A} f own′ a = by-known (known a x) refl
     where
-      by : (t : Bool) → known a x ≡ t →
+      by-known : (t : Bool) → known a x ≡ t →
           f (accountAt (put m x .state .accounts) a) ≡ pick t (f (accountAt (x .accounts) a)) (f (accountAt (m .state .accounts) a))
-      by true e = ap f (account-written a e) ∙ own′ (accountAt (x .accounts) a) (accountAt (m .state .accounts) a)
-      by false e = ap f (account-unaltered a e)
+      by-known true e = ap f (account-written a e) ∙ own′ (accountAt (x .accounts) a) (accountAt (m .state .accounts) a)
+      by-known false e = ap f (account-unaltered a e)
 
   -- an account in use holds in each contract in use
   wide : (a : ℕ) → known a x ≡ true → length (accountAt (x .accounts) a .holdings) ≡ length (x .listings)
@@ -201,24 +201,24 @@ module _ (m : Memory) (counts : CountsOk (m .state)) (room : RoomOk m) (arrays :
       holdingAt (put m x .state .accounts) a c
       ≡ pick (known a x && listed c x) (holdingAt (x .accounts) a c) (holdingAt (m .state .accounts) a c)
   unfolding holdingAt
-  holdings-told a c = by (known a x) (listed c x) refl refl
+  holdings-told a c = by-known-and-listed (known a x) (listed c x) refl refl
     where
       in-account : known a x ≡ true →
           holdingAt (put m x .state .accounts) a c
           ≡ getD (putFirst (accountAt (x .accounts) a .holdings) (accountAt (m .state .accounts) a .holdings)) c noHolding
       in-account e = ap (λ (v : Account). getD (v .holdings) c noHolding) (account-written a e)
 
-      by : (s t : Bool) → known a x ≡ s → listed c x ≡ t →
+      by-known-and-listed : (s t : Bool) → known a x ≡ s → listed c x ≡ t →
           holdingAt (put m x .state .accounts) a c ≡ pick (s && t) (holdingAt (x .accounts) a c) (holdingAt (m .state .accounts) a c)
-      by true true p q =
+      by-known-and-listed true true p q =
           in-account p
           ∙ List·getD-append (accountAt (x .accounts) a .holdings) (drop (length (accountAt (x .accounts) a .holdings)) (accountAt (m .state .accounts) a .holdings)) noHolding c
           (rw (wide a p) (ltb-true c (length (x .listings)) q))
-      by true false p q =
+      by-known-and-listed true false p q =
           in-account p
           ∙ past-first (accountAt (x .accounts) a .holdings) (accountAt (m .state .accounts) a .holdings) c noHolding
           (rw (wide a p) (ltb-false c (length (x .listings)) q))
-      by false t p q = ap (λ (v : Account). getD (v .holdings) c noHolding) (account-unaltered a p)
+      by-known-and-listed false t p q = ap (λ (v : Account). getD (v .holdings) c noHolding) (account-unaltered a p)
 
   lengths-told : (sell : Bool) → length (areaOf sell (put m x)) ≡ length (areaOf sell m)
   lengths-told true = length-sells m counts room x shape few

@@ -329,24 +329,24 @@ module _ (x : Exchange) (w : WellFormed x) (account contract lots buy sell : ℕ
   quote-code = rw (p .account, p .contract, p .open′, p .maker, p .below) refl
 
   none-or-it : (n : ℕ) → pick (eqb n 0) 0 n ≡ n
-  none-or-it n = by (eqb n 0) refl
+  none-or-it n = by-zero (eqb n 0) refl
     where
-      by : (b : Bool) → eqb n 0 ≡ b → pick b 0 n ≡ n
-      by true e = sym (eqb-true n 0 e)
-      by false e = refl
+      by-zero : (b : Bool) → eqb n 0 ≡ b → pick b 0 n ≡ n
+      by-zero true e = sym (eqb-true n 0 e)
+      by-zero false e = refl
 
   inserts-code : firstCode gone (insertsOf q) ≡ pick (eqb (firstOf (orderRefusals gone (buyOf q))) 0) (firstOf (orderRefusals (withBuy x q) (sellOf q))) (firstOf (orderRefusals gone (buyOf q)))
   unfolding firstCode
-  inserts-code = rw buy-code (by (eqb (firstOf (orderRefusals gone (buyOf q))) 0) refl)
+  inserts-code = rw buy-code (by-buy-code (eqb (firstOf (orderRefusals gone (buyOf q))) 0) refl)
     where
-      by : (b : Bool) → eqb (firstOf (orderRefusals gone (buyOf q))) 0 ≡ b →
+      by-buy-code : (b : Bool) → eqb (firstOf (orderRefusals gone (buyOf q))) 0 ≡ b →
           pick b (firstCode (step gone (Insert (buyOf q))) (Insert (sellOf q) ∷ [])) (firstOf (orderRefusals gone (buyOf q)))
           ≡ pick b (firstOf (orderRefusals (withBuy x q) (sellOf q))) (firstOf (orderRefusals gone (buyOf q)))
-      by true e =
+      by-buy-code true e =
           ap (λ (y : Exchange). firstCode y (Insert (sellOf q) ∷ [])) (insert-step gone (buyOf q) (buy-code ∙ eqb-true _ 0 e))
           ∙ none-or-it (codeOf bought (Insert (sellOf q)))
           ∙ sell-code
-      by false e = refl
+      by-buy-code false e = refl
 
   -- ---- the two inserts, where both are accepted
 
@@ -357,11 +357,11 @@ module _ (x : Exchange) (w : WellFormed x) (account contract lots buy sell : ℕ
       (buy-code ∙ k .0, sell-code ∙ k .1)
     where
       first-zero : (m n : ℕ) → pick (eqb m 0) n m ≡ 0 → (m ≡ 0) × (n ≡ 0)
-      first-zero m n h = by (eqb m 0) refl h
+      first-zero m n h = by-zero (eqb m 0) refl h
         where
-          by : (b : Bool) → eqb m 0 ≡ b → pick b n m ≡ 0 → (m ≡ 0) × (n ≡ 0)
-          by true f h = (eqb-true m 0 f, h)
-          by false f h = absurd (eqb-false m 0 f h)
+          by-zero : (b : Bool) → eqb m 0 ≡ b → pick b n m ≡ 0 → (m ≡ 0) × (n ≡ 0)
+          by-zero true f h = (eqb-true m 0 f, h)
+          by-zero false f h = absurd (eqb-false m 0 f h)
 
   inserts-state : codeOf x (Quote account contract lots buy sell) ≡ 0 → stepAll gone (insertsOf q) ≡ insertedTo bought 0 (sellOf q)
   unfolding stepAll

@@ -34,11 +34,11 @@ use Rattle.invariants.proofs.Removal.{removed-counted, removed-keeps}
 none-left : (a : ℕ) (os : List Order) → quotes a (without (isQuoteOf a) os) ≡ 0
 unfolding quotes sumOf without
 none-left a [] = refl
-none-left a (o ∷ os) = go (isQuoteOf a o) refl (none-left a os)
+none-left a (o ∷ os) = by-quote (isQuoteOf a o) refl (none-left a os)
   where
-    go : (b : Bool) → isQuoteOf a o ≡ b → quotes a (without (isQuoteOf a) os) ≡ 0 → quotes a (pick b (without (isQuoteOf a) os) (o ∷ without (isQuoteOf a) os)) ≡ 0
-    go true e ih = ih
-    go false e ih = rw e (omega (arith, ih))
+    by-quote : (b : Bool) → isQuoteOf a o ≡ b → quotes a (without (isQuoteOf a) os) ≡ 0 → quotes a (pick b (without (isQuoteOf a) os) (o ∷ without (isQuoteOf a) os)) ≡ 0
+    by-quote true e ih = ih
+    by-quote false e ih = rw e (omega (arith, ih))
 
 -- account and contract are in use
 module _ (x : Exchange) (w : WellFormed x) (q : Offered) (account-there : placeOf (q .account) < length (x .accounts)) (there : placeOf (q .contract) < length (x .listings)) where
@@ -74,11 +74,11 @@ module _ (x : Exchange) (w : WellFormed x) (q : Offered) (account-there : placeO
   gone-accounts = refl
 
   pub none-marked : (sell : Bool) → quotes account (own sell (listingAt (withoutQuote x q) place)) ≡ 0
-  none-marked sell = rw gone-listing (by sell)
+  none-marked sell = rw gone-listing (by-side sell)
     where
-      by : (b : Bool) → quotes account (own b left) ≡ 0
-      by true = none-left account (listingAt x place .sells)
-      by false = none-left account (listingAt x place .buys)
+      by-side : (b : Bool) → quotes account (own b left) ≡ 0
+      by-side true = none-left account (listingAt x place .sells)
+      by-side false = none-left account (listingAt x place .buys)
 
   -- ---- the buy, which passes its tests
 

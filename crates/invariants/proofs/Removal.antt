@@ -32,32 +32,32 @@ module _ (test : Order → Bool) where
   pub without-sum : (f : Order → ℕ) (queue : List Order) → sumOf f (without test queue) ≤ sumOf f queue
   unfolding sumOf without
   without-sum f [] = omega arith
-  without-sum f (o ∷ os) = go (test o) (without-sum f os)
+  without-sum f (o ∷ os) = by-test (test o) (without-sum f os)
     where
-      go : (b : Bool) → sumOf f (without test os) ≤ sumOf f os → sumOf f (pick b (without test os) (o ∷ without test os)) ≤ f o + sumOf f os
-      go true ih = omega arith
-      go false ih = omega arith
+      by-test : (b : Bool) → sumOf f (without test os) ≤ sumOf f os → sumOf f (pick b (without test os) (o ∷ without test os)) ≤ f o + sumOf f os
+      by-test true ih = omega arith
+      by-test false ih = omega arith
 
   pub without-all : (p : Order → Bool) (queue : List Order) → allOf p queue ≡ true → allOf p (without test queue) ≡ true
   unfolding allOf without
   without-all p [] h = refl
-  without-all p (o ∷ os) h = go (test o) (without-all p os (q .1))
+  without-all p (o ∷ os) h = by-test (test o) (without-all p os (q .1))
     where
       q : (p o ≡ true) × (allOf p os ≡ true)
       q = both-true (p o) (allOf p os) h
 
-      go : (b : Bool) → allOf p (without test os) ≡ true → allOf p (pick b (without test os) (o ∷ without test os)) ≡ true
-      go true ih = ih
-      go false ih = true-both (p o) (allOf p (without test os)) (q .0) ih
+      by-test : (b : Bool) → allOf p (without test os) ≡ true → allOf p (pick b (without test os) (o ∷ without test os)) ≡ true
+      by-test true ih = ih
+      by-test false ih = true-both (p o) (allOf p (without test os)) (q .0) ih
 
   pub without-sorted : (sell : Bool) (queue : List Order) → sorted sell queue ≡ true → sorted sell (without test queue) ≡ true
   unfolding without
   without-sorted sell [] s = s
-  without-sorted sell (o ∷ os) s = go (test o) (without-sorted sell os (sorted-tail sell o os s))
+  without-sorted sell (o ∷ os) s = by-test (test o) (without-sorted sell os (sorted-tail sell o os s))
     where
-      go : (b : Bool) → sorted sell (without test os) ≡ true → sorted sell (pick b (without test os) (o ∷ without test os)) ≡ true
-      go true ih = ih
-      go false ih = ahead-sorted sell o (without test os) (without-all (ahead sell o) os (sorted-ahead sell o os s)) ih
+      by-test : (b : Bool) → sorted sell (without test os) ≡ true → sorted sell (pick b (without test os) (o ∷ without test os)) ≡ true
+      by-test true ih = ih
+      by-test false ih = ahead-sorted sell o (without test os) (without-all (ahead sell o) os (sorted-ahead sell o os s)) ih
 
   -- ---- uncrossed: the best of what is left is no better
 

@@ -85,17 +85,17 @@ holding-lots accounts a c = rw (account-lots accounts a) (List·getD-map nowOnly
 
 leg-lots : (h : Holding) (sell : Bool) (close lots : ℕ) → nowOnly (afterLeg h sell close lots) ≡ afterLeg (nowOnly h) sell close lots
 unfolding afterLeg
-leg-lots h sell close lots = go sell (eqb close 0)
+leg-lots h sell close lots = by-leg sell (eqb close 0)
   where
-    go : (s o : Bool) →
+    by-leg : (s o : Bool) →
         nowOnly (pick s (pick o (withShort h (h .short + lots)) (withLong h (h .long - lots)))
         (pick o (withLong h (h .long + lots)) (withShort h (h .short - lots))))
         ≡ pick s (pick o (withShort (nowOnly h) (h .short + lots)) (withLong (nowOnly h) (h .long - lots)))
         (pick o (withLong (nowOnly h) (h .long + lots)) (withShort (nowOnly h) (h .short - lots)))
-    go false false = refl
-    go false true = refl
-    go true false = refl
-    go true true = refl
+    by-leg false false = refl
+    by-leg false true = refl
+    by-leg true false = refl
+    by-leg true true = refl
 
 module _ (accounts : List Account) (a c : ℕ) (sell : Bool) (close lots : ℕ) where
   book-lots : lotsOnly (bookLeg accounts a c sell close lots) ≡ bookLeg (lotsOnly accounts) a c sell close lots

@@ -35,11 +35,11 @@ step-refused m c =
 -- A REFUSAL CHANGES NOTHING: whatever the state and its areas hold, well formed or not
 pub refusal-changes-nothing : (m : Memory) (c : Command) → (respond m c .answer .code ≡ 0 → ⊥) → respond m c ≡ unchanged m (respond m c .answer .code)
 unfolding respond
-refusal-changes-nothing m c = by (wellFormedMemory m) refl
+refusal-changes-nothing m c = by-wellformed (wellFormedMemory m) refl
   where
-    by : (t : Bool) → wellFormedMemory m ≡ t → (respond m c .answer .code ≡ 0 → ⊥) → respond m c ≡ unchanged m (respond m c .answer .code)
-    by true w = rw w (step-refused m c)
-    by false w = rw w (λ h. refl)
+    by-wellformed : (t : Bool) → wellFormedMemory m ≡ t → (respond m c .answer .code ≡ 0 → ⊥) → respond m c ≡ unchanged m (respond m c .answer .code)
+    by-wellformed true w = rw w (step-refused m c)
+    by-wellformed false w = rw w (λ h. refl)
 
 -- ---- "Room beyond a count affects no answer"
 
@@ -58,13 +58,13 @@ module _ (m n : Memory) (s : AgreeInUse m n) where
   same-listing c h =
       sym (listing-in-use m c h) ∙ ap (λ (x : Exchange). listingAt x c) (s .contents) ∙ listing-in-use n c (subst (λ (k : ℕ). c < k) same-contracts h)
 
-  buys-counted : (m : Memory) (c : ℕ) → length (listingIn m c .buys) ≡ getD (m .state .buys) c 0
+  buys-counted : (m : Memory) (c : ℕ) → length (listingIn m c .buys) ≡ getD (m .state .buycounts) c 0
   unfolding listingIn
-  buys-counted m c = length-queue (m .buys) c (getD (m .state .buys) c 0)
+  buys-counted m c = length-queue (m .buys) c (getD (m .state .buycounts) c 0)
 
-  sells-counted : (m : Memory) (c : ℕ) → length (listingIn m c .sells) ≡ getD (m .state .sells) c 0
+  sells-counted : (m : Memory) (c : ℕ) → length (listingIn m c .sells) ≡ getD (m .state .sellcounts) c 0
   unfolding listingIn
-  sells-counted m c = length-queue (m .sells) c (getD (m .state .sells) c 0)
+  sells-counted m c = length-queue (m .sells) c (getD (m .state .sellcounts) c 0)
 
   -- a side's counts, in range in both or in neither
   few : (own : Listing → List Order) (counts : Memory → List ℕ) → ((m : Memory) (c : ℕ) → length (own (listingIn m c)) ≡ getD (counts m) c 0)
@@ -76,7 +76,7 @@ module _ (m n : Memory) (s : AgreeInUse m n) where
   same-counts : countsInRange (m .state) ≡ countsInRange (n .state)
   unfolding countsInRange
   same-counts =
-      rw (few (λ l. l .buys) (λ m. m .state .buys) buys-counted, few (λ l. l .sells) (λ m. m .state .sells) sells-counted)
+      rw (few (λ l. l .buys) (λ m. m .state .buycounts) buys-counted, few (λ l. l .sells) (λ m. m .state .sellcounts) sells-counted)
       (rw (same-contracts, s .accounts, same-trades) refl)
 
   -- both are well formed, or neither
@@ -92,11 +92,11 @@ written-accounts m (x ∷ xs) = written-accounts (put m x) xs
 
 accounts-stay : (m : Memory) (c : Command) → respond m c .memory .state .accountcount ≡ m .state .accountcount
 unfolding respond stepIn
-accounts-stay m c = by (wellFormedMemory m) refl
+accounts-stay m c = by-wellformed (wellFormedMemory m) refl
   where
-    by : (t : Bool) → wellFormedMemory m ≡ t → respond m c .memory .state .accountcount ≡ m .state .accountcount
-    by true w = rw w (written-accounts m (decide (exchangeOf m) c .stages))
-    by false w = rw w refl
+    by-wellformed : (t : Bool) → wellFormedMemory m ≡ t → respond m c .memory .state .accountcount ≡ m .state .accountcount
+    by-wellformed true w = rw w (written-accounts m (decide (exchangeOf m) c .stages))
+    by-wellformed false w = rw w refl
 
 unmoved : (m : Memory) (c : Command) → wellFormedMemory m ≡ false → respond m c .memory ≡ m
 unfolding respond
@@ -105,11 +105,11 @@ unmoved m c w = rw w refl
 -- the answer, by the test and by what is in use
 answer-by : (m : Memory) (c : Command) → respond m c .answer ≡ pick (wellFormedMemory m) (decide (exchangeOf m) c .answer) (answerOf 21 0 0 0)
 unfolding respond stepIn
-answer-by m c = by (wellFormedMemory m) refl
+answer-by m c = by-wellformed (wellFormedMemory m) refl
   where
-    by : (t : Bool) → wellFormedMemory m ≡ t → respond m c .answer ≡ pick (wellFormedMemory m) (decide (exchangeOf m) c .answer) (answerOf 21 0 0 0)
-    by true w = rw w refl
-    by false w = rw w refl
+    by-wellformed : (t : Bool) → wellFormedMemory m ≡ t → respond m c .answer ≡ pick (wellFormedMemory m) (decide (exchangeOf m) c .answer) (answerOf 21 0 0 0)
+    by-wellformed true w = rw w refl
+    by-wellformed false w = rw w refl
 
 module _ (m n : Memory) (s : AgreeInUse m n) (c : Command) where
   -- one command: the same answer
@@ -124,17 +124,17 @@ module _ (m n : Memory) (s : AgreeInUse m n) (c : Command) where
 
   -- .. and memories that agree in use
   still-agree : AgreeInUse (respond m c .memory) (respond n c .memory)
-  still-agree = by (wellFormedMemory m) refl
+  still-agree = by-wellformed (wellFormedMemory m) refl
     where
-      by : (t : Bool) → wellFormedMemory m ≡ t → AgreeInUse (respond m c .memory) (respond n c .memory)
-      by true w =
+      by-wellformed : (t : Bool) → wellFormedMemory m ≡ t → AgreeInUse (respond m c .memory) (respond n c .memory)
+      by-wellformed true w =
           let v : wellFormedMemory n ≡ true = sym (same-test m n s) ∙ w in
           record {
             accounts = accounts-stay m c ∙ s .accounts ∙ sym (accounts-stay n c);
             contents = read-back m c w ∙ ap (λ (x : Exchange). step x c) (s .contents) ∙ sym (read-back n c v);
             room = kept-room m w ∙ sym (kept-room n v);
           }
-      by false w =
+      by-wellformed false w =
           let v : wellFormedMemory n ≡ false = sym (same-test m n s) ∙ w in
           rw (unmoved m c w, unmoved n c v) s
 

@@ -38,15 +38,15 @@ use Rattle.invariants.proofs.Ticks.{allowed-multiple, weighted-multiple
 trades-in : (c : ℕ) (test : Trade → Bool) (ts : List Trade) → allOf test ts ≡ true → allOf (λ t. eqb (t .contract) c && test t) (tradesIn c ts) ≡ true
 unfolding allOf tradesIn
 trades-in c test [] h = refl
-trades-in c test (t ∷ ts) h = go (eqb (t .contract) c) refl (trades-in c test ts (q .1))
+trades-in c test (t ∷ ts) h = by-contract (eqb (t .contract) c) refl (trades-in c test ts (q .1))
   where
     q : (test t ≡ true) × (allOf test ts ≡ true)
     q = both-true (test t) (allOf test ts) h
 
-    go : (b : Bool) → eqb (t .contract) c ≡ b → allOf (λ t. eqb (t .contract) c && test t) (tradesIn c ts) ≡ true
+    by-contract : (b : Bool) → eqb (t .contract) c ≡ b → allOf (λ t. eqb (t .contract) c && test t) (tradesIn c ts) ≡ true
         → allOf (λ t. eqb (t .contract) c && test t) (pick b (t ∷ tradesIn c ts) (tradesIn c ts)) ≡ true
-    go true e ih = true-both (eqb (t .contract) c && test t) _ (true-both (eqb (t .contract) c) (test t) e (q .0)) ih
-    go false e ih = ih
+    by-contract true e ih = true-both (eqb (t .contract) c && test t) _ (true-both (eqb (t .contract) c) (test t) e (q .0)) ih
+    by-contract false e ih = ih
 
 module _ (x : Exchange) (c : ℕ) (k : ListingOk (length (x .accounts)) (x .next) (x .nextstamp) (listingAt x c)) where
   abbrev tick : ℕ

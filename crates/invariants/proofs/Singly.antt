@@ -25,14 +25,14 @@ only test (o ∷ os) = pick (test o) (o ∷ only test os) (only test os)
 unused-stay : (n : ℕ) (os : List Order) → uses numberOf n os ≡ 0 → without (hasNumber n) os ≡ os
 unfolding uses sumOf without
 unused-stay n [] h = refl
-unused-stay n (o ∷ os) h = go (eqb (o .number) n) refl (unused-stay n os)
+unused-stay n (o ∷ os) h = by-number (eqb (o .number) n) refl (unused-stay n os)
   where
-    go : (b : Bool) → eqb (o .number) n ≡ b → (uses numberOf n os ≡ 0 → without (hasNumber n) os ≡ os) → pick b (without (hasNumber n) os) (o ∷ without (hasNumber n) os) ≡ o ∷ os
-    go true e ih =
+    by-number : (b : Bool) → eqb (o .number) n ≡ b → (uses numberOf n os ≡ 0 → without (hasNumber n) os ≡ os) → pick b (without (hasNumber n) os) (o ∷ without (hasNumber n) os) ≡ o ∷ os
+    by-number true e ih =
         let z : eqb n (o .number) ≡ true = eq-eqb n (o .number) (sym (eqb-true (o .number) n e)) in
         let h′ : 1 + uses numberOf n os ≡ 0 = rw z at h in
         absurd (omega arith)
-    go false e ih =
+    by-number false e ih =
         let z : eqb n (o .number) ≡ false = ne-eqb n (o .number) (λ k. eqb-false (o .number) n e (sym k)) in
         let h′ : 0 + uses numberOf n os ≡ 0 = rw z at h in
         rw (ih (omega arith)) refl
@@ -41,64 +41,64 @@ module _ (test : Order → Bool) where
   pub without-append : (os ps : List Order) → without test (os ++ ps) ≡ without test os ++ without test ps
   unfolding without
   without-append [] ps = refl
-  without-append (o ∷ os) ps = go (test o) (without-append os ps)
+  without-append (o ∷ os) ps = by-test (test o) (without-append os ps)
     where
-      go : (b : Bool) → without test (os ++ ps) ≡ without test os ++ without test ps →
+      by-test : (b : Bool) → without test (os ++ ps) ≡ without test os ++ without test ps →
           pick b (without test (os ++ ps)) (o ∷ without test (os ++ ps)) ≡ pick b (without test os) (o ∷ without test os) ++ without test ps
-      go true ih = ih
-      go false ih = rw ih refl
+      by-test true ih = ih
+      by-test false ih = rw ih refl
 
   -- where none satisfies it, nothing is taken out
   pub without-none : (os : List Order) → only test os ≡ [] → without test os ≡ os
   unfolding without only
   without-none [] e = refl
-  without-none (o ∷ os) e = go (test o) e (without-none os)
+  without-none (o ∷ os) e = by-test (test o) e (without-none os)
     where
-      go : (b : Bool) → pick b (o ∷ only test os) (only test os) ≡ [] → (only test os ≡ [] → without test os ≡ os) →
+      by-test : (b : Bool) → pick b (o ∷ only test os) (only test os) ≡ [] → (only test os ≡ [] → without test os ≡ os) →
           pick b (without test os) (o ∷ without test os) ≡ o ∷ os
-      go true e ih = let z : _≡_ {A = ℕ} 0 1 = cc in absurd (omega arith)
-      go false e ih = rw (ih e) refl
+      by-test true e ih = let z : _≡_ {A = ℕ} 0 1 = cc in absurd (omega arith)
+      by-test false e ih = rw (ih e) refl
 
   pub only-append : (os ps : List Order) → only test (os ++ ps) ≡ only test os ++ only test ps
   unfolding only
   only-append [] ps = refl
-  only-append (o ∷ os) ps = go (test o) (only-append os ps)
+  only-append (o ∷ os) ps = by-test (test o) (only-append os ps)
     where
-      go : (b : Bool) → only test (os ++ ps) ≡ only test os ++ only test ps →
+      by-test : (b : Bool) → only test (os ++ ps) ≡ only test os ++ only test ps →
           pick b (o ∷ only test (os ++ ps)) (only test (os ++ ps)) ≡ pick b (o ∷ only test os) (only test os) ++ only test ps
-      go true ih = rw ih refl
-      go false ih = ih
+      by-test true ih = rw ih refl
+      by-test false ih = ih
 
   pub only-count : (os : List Order) → length (only test os) ≡ sumOf (λ o. pick (test o) 1 0) os
   unfolding only sumOf
   only-count [] = refl
-  only-count (o ∷ os) = go (test o) (only-count os)
+  only-count (o ∷ os) = by-test (test o) (only-count os)
     where
-      go : (b : Bool) → length (only test os) ≡ sumOf (λ o. pick (test o) 1 0) os → length (pick b (o ∷ only test os) (only test os)) ≡ pick b 1 0 + sumOf (λ o. pick (test o) 1 0) os
-      go true ih = omega (arith, ih)
-      go false ih = omega (arith, ih)
+      by-test : (b : Bool) → length (only test os) ≡ sumOf (λ o. pick (test o) 1 0) os → length (pick b (o ∷ only test os) (only test os)) ≡ pick b 1 0 + sumOf (λ o. pick (test o) 1 0) os
+      by-test true ih = omega (arith, ih)
+      by-test false ih = omega (arith, ih)
 
   module _ (n : ℕ) where
     only-without : (os : List Order) → only test (without (hasNumber n) os) ≡ without (hasNumber n) (only test os)
     unfolding without only
     only-without [] = refl
-    only-without (o ∷ os) = go (eqb (o .number) n) (test o) refl refl (only-without os)
+    only-without (o ∷ os) = by-number-and-test (eqb (o .number) n) (test o) refl refl (only-without os)
       where
-        go : (b c : Bool) → eqb (o .number) n ≡ b → test o ≡ c → only test (without (hasNumber n) os) ≡ without (hasNumber n) (only test os) →
+        by-number-and-test : (b c : Bool) → eqb (o .number) n ≡ b → test o ≡ c → only test (without (hasNumber n) os) ≡ without (hasNumber n) (only test os) →
             only test (pick b (without (hasNumber n) os) (o ∷ without (hasNumber n) os)) ≡ without (hasNumber n) (pick c (o ∷ only test os) (only test os))
-        go true true e f ih = rw e ih
-        go true false e f ih = ih
-        go false true e f ih = rw (e, f) (ap (λ (l : List Order). o ∷ l) ih)
-        go false false e f ih = rw f ih
+        by-number-and-test true true e f ih = rw e ih
+        by-number-and-test true false e f ih = ih
+        by-number-and-test false true e f ih = rw (e, f) (ap (λ (l : List Order). o ∷ l) ih)
+        by-number-and-test false false e f ih = rw f ih
 
     only-uses : (os : List Order) → uses numberOf n (only test os) ≤ uses numberOf n os
     unfolding only uses sumOf
     only-uses [] = omega arith
-    only-uses (o ∷ os) = go (test o) (only-uses os)
+    only-uses (o ∷ os) = by-test (test o) (only-uses os)
       where
-        go : (b : Bool) → uses numberOf n (only test os) ≤ uses numberOf n os → uses numberOf n (pick b (o ∷ only test os) (only test os)) ≤ pick (eqb n (o .number)) 1 0 + uses numberOf n os
-        go true ih = omega arith
-        go false ih = omega arith
+        by-test : (b : Bool) → uses numberOf n (only test os) ≤ uses numberOf n os → uses numberOf n (pick b (o ∷ only test os) (only test os)) ≤ pick (eqb n (o .number)) 1 0 + uses numberOf n os
+        by-test true ih = omega arith
+        by-test false ih = omega arith
 
     -- every order with the number satisfies the test
     abbrev pub satisfies : Order → Bool
@@ -107,40 +107,40 @@ module _ (test : Order → Bool) where
     unused-satisfies : (os : List Order) → uses numberOf n os ≡ 0 → allOf satisfies os ≡ true
     unfolding uses sumOf allOf
     unused-satisfies [] h = refl
-    unused-satisfies (o ∷ os) h = go (eqb n (o .number)) refl (unused-satisfies os)
+    unused-satisfies (o ∷ os) h = by-number (eqb n (o .number)) refl (unused-satisfies os)
       where
-        go : (b : Bool) → eqb n (o .number) ≡ b → (uses numberOf n os ≡ 0 → allOf satisfies os ≡ true) → (pick b (test o) true && allOf satisfies os) ≡ true
-        go true e ih = let h′ : 1 + uses numberOf n os ≡ 0 = rw e at h in absurd (omega arith)
-        go false e ih = let h′ : 0 + uses numberOf n os ≡ 0 = rw e at h in ih (omega arith)
+        by-number : (b : Bool) → eqb n (o .number) ≡ b → (uses numberOf n os ≡ 0 → allOf satisfies os ≡ true) → (pick b (test o) true && allOf satisfies os) ≡ true
+        by-number true e ih = let h′ : 1 + uses numberOf n os ≡ 0 = rw e at h in absurd (omega arith)
+        by-number false e ih = let h′ : 0 + uses numberOf n os ≡ 0 = rw e at h in ih (omega arith)
 
     -- then taking that order out first makes no difference
     pub twice : (os : List Order) → allOf satisfies os ≡ true → without test (without (hasNumber n) os) ≡ without test os
     unfolding without allOf
     twice [] h = refl
-    twice (o ∷ os) h = go (eqb (o .number) n) (test o) refl refl (twice os (q .1))
+    twice (o ∷ os) h = by-number-and-test (eqb (o .number) n) (test o) refl refl (twice os (q .1))
       where
         q : (satisfies o ≡ true) × (allOf satisfies os ≡ true)
         q = both-true (satisfies o) (allOf satisfies os) h
 
-        go : (b c : Bool) → eqb (o .number) n ≡ b → test o ≡ c → without test (without (hasNumber n) os) ≡ without test os →
+        by-number-and-test : (b c : Bool) → eqb (o .number) n ≡ b → test o ≡ c → without test (without (hasNumber n) os) ≡ without test os →
             without test (pick b (without (hasNumber n) os) (o ∷ without (hasNumber n) os)) ≡ pick c (without test os) (o ∷ without test os)
-        go true true e f ih = ih
-        go true false e f ih =
+        by-number-and-test true true e f ih = ih
+        by-number-and-test true false e f ih =
             let z : eqb n (o .number) ≡ true = eq-eqb n (o .number) (sym (eqb-true (o .number) n e)) in
             let s : test o ≡ true = rw z at (q .0) in
             absurd (true≢false (sym s ∙ f))
-        go false true e f ih = rw f ih
-        go false false e f ih = rw f (ap (λ (l : List Order). o ∷ l) ih)
+        by-number-and-test false true e f ih = rw f ih
+        by-number-and-test false false e f ih = rw f (ap (λ (l : List Order). o ∷ l) ih)
 
     -- an order with the number is there
     pub used-found : (os : List Order) → 1 ≤ uses numberOf n os → noSuchOrder (numbered n os) ≡ false
     unfolding uses sumOf numbered noSuchOrder
     used-found [] h = absurd (omega arith)
-    used-found (o ∷ os) h = go (eqb (o .number) n) refl (used-found os)
+    used-found (o ∷ os) h = by-number (eqb (o .number) n) refl (used-found os)
       where
-        go : (b : Bool) → eqb (o .number) n ≡ b → (1 ≤ uses numberOf n os → noSuchOrder (numbered n os) ≡ false) → noSuchOrder (pick b (o ∷ []) (numbered n os)) ≡ false
-        go true e ih = refl
-        go false e ih =
+        by-number : (b : Bool) → eqb (o .number) n ≡ b → (1 ≤ uses numberOf n os → noSuchOrder (numbered n os) ≡ false) → noSuchOrder (pick b (o ∷ []) (numbered n os)) ≡ false
+        by-number true e ih = refl
+        by-number false e ih =
             let z : eqb n (o .number) ≡ false = ne-eqb n (o .number) (λ k. eqb-false (o .number) n e (sym k)) in
             let h′ : 1 ≤ 0 + uses numberOf n os = rw z at h in
             ih (omega arith)
@@ -149,17 +149,17 @@ module _ (test : Order → Bool) where
     pub own-found : (a : ℕ) → ((o : Order) → test o ≡ true → eqb (o .account) a ≡ true) → (os : List Order) → allOf satisfies os ≡ true → ofAnother a (numbered n os) ≡ false
     unfolding numbered ofAnother allOf
     own-found a says [] h = refl
-    own-found a says (o ∷ os) h = go (eqb (o .number) n) refl (own-found a says os (q .1))
+    own-found a says (o ∷ os) h = by-number (eqb (o .number) n) refl (own-found a says os (q .1))
       where
         q : (satisfies o ≡ true) × (allOf satisfies os ≡ true)
         q = both-true (satisfies o) (allOf satisfies os) h
 
-        go : (b : Bool) → eqb (o .number) n ≡ b → ofAnother a (numbered n os) ≡ false → ofAnother a (pick b (o ∷ []) (numbered n os)) ≡ false
-        go true e ih =
+        by-number : (b : Bool) → eqb (o .number) n ≡ b → ofAnother a (numbered n os) ≡ false → ofAnother a (pick b (o ∷ []) (numbered n os)) ≡ false
+        by-number true e ih =
             let z : eqb n (o .number) ≡ true = eq-eqb n (o .number) (sym (eqb-true (o .number) n e)) in
             let s : test o ≡ true = rw z at (q .0) in
             ap not (says o s)
-        go false e ih = ih
+        by-number false e ih = ih
 
   -- ---- the first of them, where its number is used once
 
@@ -173,16 +173,16 @@ module _ (test : Order → Bool) where
     pub first-satisfies : (L : List Order) → only test L ≡ o ∷ os → uses numberOf (o .number) L ≤ 1 → allOf (satisfies (o .number)) L ≡ true
     unfolding uses sumOf allOf only
     first-satisfies [] e h = refl
-    first-satisfies (p ∷ ps) e h = go (test p) refl e (first-satisfies ps)
+    first-satisfies (p ∷ ps) e h = by-test (test p) refl e (first-satisfies ps)
       where
-        go : (b : Bool) → test p ≡ b → pick b (p ∷ only test ps) (only test ps) ≡ o ∷ os → (only test ps ≡ o ∷ os → uses numberOf (o .number) ps ≤ 1 → allOf (satisfies (o .number)) ps ≡ true) →
+        by-test : (b : Bool) → test p ≡ b → pick b (p ∷ only test ps) (only test ps) ≡ o ∷ os → (only test ps ≡ o ∷ os → uses numberOf (o .number) ps ≤ 1 → allOf (satisfies (o .number)) ps ≡ true) →
             (satisfies (o .number) p && allOf (satisfies (o .number)) ps) ≡ true
-        go true t f ih =
+        by-test true t f ih =
             let same : p ≡ o = cc in
             let m : eqb (o .number) (p .number) ≡ true = eq-eqb (o .number) (p .number) (ap numberOf (sym same)) in
             let h′ : 1 + uses numberOf (o .number) ps ≤ 1 = rw m at h in
             true-both (satisfies (o .number) p) _ (rw (m, t) refl) (unused-satisfies (o .number) ps (omega arith))
-        go false t f ih =
+        by-test false t f ih =
             let u = first-used o os ps f in
             other (eqb (o .number) (p .number)) refl u (ih f)
           where

@@ -38,11 +38,11 @@ better-worse false price other h = lt-ltb other price h
 
 pub ahead-is : (sell : Bool) (o p : Order) → ahead sell o p ≡ true → Ahead sell o p
 unfolding ahead
-ahead-is sell o p e = go (worse sell (p .price) (o .price)) refl e
+ahead-is sell o p e = by-price (worse sell (p .price) (o .price)) refl e
   where
-    go : (b : Bool) → worse sell (p .price) (o .price) ≡ b → (b || eqb (o .price) (p .price) && ltb (o .stamp) (p .stamp)) ≡ true → Ahead sell o p
-    go true w h = better (worse-better sell (o .price) (p .price) w)
-    go false w h =
+    by-price : (b : Bool) → worse sell (p .price) (o .price) ≡ b → (b || eqb (o .price) (p .price) && ltb (o .stamp) (p .stamp)) ≡ true → Ahead sell o p
+    by-price true w h = better (worse-better sell (o .price) (p .price) w)
+    by-price false w h =
         let q = both-true (eqb (o .price) (p .price)) (ltb (o .stamp) (p .stamp)) h in
         earlier (eqb-true (o .price) (p .price) (q .0)) (ltb-true (o .stamp) (p .stamp) (q .1))
 
@@ -85,14 +85,14 @@ pub restIn-all : (test : Order → Bool) (sell : Bool) (o : Order) (os : List Or
     allOf test (restIn sell o os) ≡ true
 unfolding restIn allOf
 restIn-all test sell o [] e h = true-both (test o) true e refl
-restIn-all test sell o (p ∷ ps) e h = go (worse sell (p .price) (o .price)) (restIn-all test sell o ps e (q .1))
+restIn-all test sell o (p ∷ ps) e h = by-price (worse sell (p .price) (o .price)) (restIn-all test sell o ps e (q .1))
   where
     q : (test p ≡ true) × (allOf test ps ≡ true)
     q = both-true (test p) (allOf test ps) h
 
-    go : (b : Bool) → allOf test (restIn sell o ps) ≡ true → allOf test (pick b (o ∷ p ∷ ps) (p ∷ restIn sell o ps)) ≡ true
-    go true ih = true-both (test o) (test p && allOf test ps) e h
-    go false ih = true-both (test p) (allOf test (restIn sell o ps)) (q .0) ih
+    by-price : (b : Bool) → allOf test (restIn sell o ps) ≡ true → allOf test (pick b (o ∷ p ∷ ps) (p ∷ restIn sell o ps)) ≡ true
+    by-price true ih = true-both (test o) (test p && allOf test ps) e h
+    by-price false ih = true-both (test p) (allOf test (restIn sell o ps)) (q .0) ih
 
 -- an order at a price that is no worse, with a lower time stamp, is ahead
 not-worse : (sell : Bool) (p o : Order) → worse sell (p .price) (o .price) ≡ false → p .stamp < o .stamp → Ahead sell p o
@@ -107,7 +107,7 @@ pub restIn-sorted :
     (restIn sell o os) ≡ true
 unfolding restIn
 restIn-sorted sell o [] s n = unfold sorted aheadOfFirst in refl
-restIn-sorted sell o (p ∷ ps) s n = go (worse sell (p .price) (o .price)) refl (restIn-sorted sell o ps (sorted-tail sell p ps s) (q .1))
+restIn-sorted sell o (p ∷ ps) s n = by-price (worse sell (p .price) (o .price)) refl (restIn-sorted sell o ps (sorted-tail sell p ps s) (q .1))
   where
     q : (ltb (p .stamp) (o .stamp) ≡ true) × (allOf (λ r. ltb (r .stamp) (o .stamp)) ps ≡ true)
     q = both-true (ltb (p .stamp) (o .stamp)) (allOf (λ r. ltb (r .stamp) (o .stamp)) ps) (unfold allOf in n)
@@ -115,10 +115,10 @@ restIn-sorted sell o (p ∷ ps) s n = go (worse sell (p .price) (o .price)) refl
     front : Ahead sell o p → sorted sell (o ∷ p ∷ ps) ≡ true
     front h = unfold sorted aheadOfFirst in true-both (ahead sell o p) (sorted sell (p ∷ ps)) (is-ahead sell o p h) s
 
-    go : (b : Bool) → worse sell (p .price) (o .price) ≡ b → sorted sell (restIn sell o ps) ≡ true →
+    by-price : (b : Bool) → worse sell (p .price) (o .price) ≡ b → sorted sell (restIn sell o ps) ≡ true →
         sorted sell (pick b (o ∷ p ∷ ps) (p ∷ restIn sell o ps)) ≡ true
-    go true w ih = front (better (worse-better sell (o .price) (p .price) w))
-    go false w ih =
+    by-price true w ih = front (better (worse-better sell (o .price) (p .price) w))
+    by-price false w ih =
         ahead-sorted sell p (restIn sell o ps)
         (restIn-all (ahead sell p) sell o ps (is-ahead sell p o (not-worse sell p o w (ltb-true (p .stamp) (o .stamp) (q .0))))
         (sorted-ahead sell p ps s)) ih
@@ -126,11 +126,11 @@ restIn-sorted sell o (p ∷ ps) s n = go (worse sell (p .price) (o .price)) refl
 pub restIn-sum : (f : Order → ℕ) (sell : Bool) (o : Order) (os : List Order) → sumOf f (restIn sell o os) ≡ f o + sumOf f os
 unfolding restIn sumOf
 restIn-sum f sell o [] = refl
-restIn-sum f sell o (p ∷ ps) = go (worse sell (p .price) (o .price)) (restIn-sum f sell o ps)
+restIn-sum f sell o (p ∷ ps) = by-price (worse sell (p .price) (o .price)) (restIn-sum f sell o ps)
   where
-    go : (b : Bool) → sumOf f (restIn sell o ps) ≡ f o + sumOf f ps → sumOf f (pick b (o ∷ p ∷ ps) (p ∷ restIn sell o ps)) ≡ f o + (f p + sumOf f ps)
-    go true ih = refl
-    go false ih = omega arith
+    by-price : (b : Bool) → sumOf f (restIn sell o ps) ≡ f o + sumOf f ps → sumOf f (pick b (o ∷ p ∷ ps) (p ∷ restIn sell o ps)) ≡ f o + (f p + sumOf f ps)
+    by-price true ih = refl
+    by-price false ih = omega arith
 
 -- ---- uncrossed, as a fact of every buy and every sell
 

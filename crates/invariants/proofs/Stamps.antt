@@ -123,11 +123,11 @@ module _ (x : Exchange) (new : List Arrival) where
 
   without-follow : (d : ℕ) (test : Order → Bool) → Follow x new (withListing x d (listingWithout test (listingAt x d)))
   without-follow d test =
-      relisted-follow x (withListing x d (listingWithout test (listingAt x d))) d (listingWithout test (listingAt x d)) refl same-follow by
+      relisted-follow x (withListing x d (listingWithout test (listingAt x d))) d (listingWithout test (listingAt x d)) refl same-follow by-side
     where
-      by : (sell : Bool) → allOf (follows x new d sell) (own sell (listingWithout test (listingAt x d))) ≡ true
-      by true = without-all test (follows x new d true) (listingAt x d .sells) (same-follow d true)
-      by false = without-all test (follows x new d false) (listingAt x d .buys) (same-follow d false)
+      by-side : (sell : Bool) → allOf (follows x new d sell) (own sell (listingWithout test (listingAt x d))) ≡ true
+      by-side true = without-all test (follows x new d true) (listingAt x d .sells) (same-follow d true)
+      by-side false = without-all test (follows x new d false) (listingAt x d .buys) (same-follow d false)
 
   -- ---- an order entered, in a state whose orders follow
 
@@ -148,14 +148,14 @@ module _ (x : Exchange) (new : List Arrival) where
 
     queues-follow : (mine others : List Order) → allOf (follows x new place (o .sell)) mine ≡ true → allOf (follows x new place (not (o .sell))) others ≡ true →
         (sell : Bool) → allOf (follows x new place sell) (pick sell (pick (o .sell) mine others) (pick (o .sell) others mine)) ≡ true
-    queues-follow mine others p q = by (o .sell) p q
+    queues-follow mine others p q = by-side (o .sell) p q
       where
-        by : (s : Bool) → allOf (follows x new place s) mine ≡ true → allOf (follows x new place (not s)) others ≡ true →
+        by-side : (s : Bool) → allOf (follows x new place s) mine ≡ true → allOf (follows x new place (not s)) others ≡ true →
             (sell : Bool) → allOf (follows x new place sell) (pick sell (pick s mine others) (pick s others mine)) ≡ true
-        by true p q true = p
-        by true p q false = q
-        by false p q true = q
-        by false p q false = p
+        by-side true p q true = p
+        by-side true p q false = q
+        by-side false p q true = q
+        by-side false p q false = p
 
     entered-follow : (next : ℕ) → Follow x new (exchangeAfter y o (enteredOf y number quote o) next)
     unfolding exchangeAfter listingAfter restWhole enter
@@ -179,7 +179,7 @@ module _ (x : Exchange) (new : List Arrival) where
   match-follow : (d phase : ℕ) → Follow x new (exchangeMatched x d phase (matchOf x d))
   unfolding exchangeMatched listingMatched
   match-follow d phase =
-      relisted-follow x (exchangeMatched x d phase (matchOf x d)) d (listingMatched (listingAt x d) phase (matchOf x d)) refl same-follow (by both-sides)
+      relisted-follow x (exchangeMatched x d phase (matchOf x d)) d (listingMatched (listingAt x d) phase (matchOf x d)) refl same-follow (by-side both-sides)
     where
       Both : Matched → Type 0
       Both m = (allOf (follows x new d false) (m .buys) ≡ true) × (allOf (follows x new d true) (m .sells) ≡ true)
@@ -192,9 +192,9 @@ module _ (x : Exchange) (new : List Arrival) where
           (same-follow d false) (same-follow d true)))
           (λ a. (same-follow d false, same-follow d true))
 
-      by : Both (matchOf x d) → (sell : Bool) → allOf (follows x new d sell) (own sell (listingMatched (listingAt x d) phase (matchOf x d))) ≡ true
-      by b true = b .1
-      by b false = b .0
+      by-side : Both (matchOf x d) → (sell : Bool) → allOf (follows x new d sell) (own sell (listingMatched (listingAt x d) phase (matchOf x d))) ≡ true
+      by-side b true = b .1
+      by-side b false = b .0
 
   -- ---- a change
 
@@ -210,11 +210,11 @@ module _ (x : Exchange) (new : List Arrival) where
     kept-follow : Follow x new (lastOf x (placeKept x k .stages))
     unfolding placeKept
     kept-follow =
-        relisted-follow x (lastOf x (placeKept x k .stages)) (placeOf (k .contract)) _ refl same-follow by
+        relisted-follow x (lastOf x (placeKept x k .stages)) (placeOf (k .contract)) _ refl same-follow by-side
       where
-        by : (sell : Bool) → allOf (follows x new (placeOf (k .contract)) sell) (own sell (listingLessened k (listingFor x k))) ≡ true
-        by true = rw (same-all (k .number) (k .lots) (follows x new (placeOf (k .contract)) true) (λ o. refl) (listingFor x k .sells)) (same-follow (placeOf (k .contract)) true)
-        by false = rw (same-all (k .number) (k .lots) (follows x new (placeOf (k .contract)) false) (λ o. refl) (listingFor x k .buys)) (same-follow (placeOf (k .contract)) false)
+        by-side : (sell : Bool) → allOf (follows x new (placeOf (k .contract)) sell) (own sell (listingLessened k (listingFor x k))) ≡ true
+        by-side true = rw (same-all (k .number) (k .lots) (follows x new (placeOf (k .contract)) true) (λ o. refl) (listingFor x k .sells)) (same-follow (placeOf (k .contract)) true)
+        by-side false = rw (same-all (k .number) (k .lots) (follows x new (placeOf (k .contract)) false) (λ o. refl) (listingFor x k .buys)) (same-follow (placeOf (k .contract)) false)
 
 change-follow : (x : Exchange) (k : Asked) → Follow x ((k .number stamped x .nextstamp) ∷ []) (lastOf x (changed x k .stages))
 unfolding cancelled removed placeLost unchanged reentered
@@ -303,17 +303,17 @@ isChange command = eqb (kindNumber command) 9
 rests-stamped : (queue : List Order) (number stamp : ℕ) → allOf stampIsNumber queue ≡ true → restsIn queue number stamp ≡ true → eqb stamp number ≡ true
 unfolding allOf restsIn
 rests-stamped [] number stamp h e = absurd (false≢true e)
-rests-stamped (o ∷ os) number stamp h e = go (eqb (o .number) number && eqb (o .stamp) stamp) refl (rests-stamped os number stamp (q .1)) e
+rests-stamped (o ∷ os) number stamp h e = by-number-and-stamp (eqb (o .number) number && eqb (o .stamp) stamp) refl (rests-stamped os number stamp (q .1)) e
   where
     q : (stampIsNumber o ≡ true) × (allOf stampIsNumber os ≡ true)
     q = both-true (stampIsNumber o) (allOf stampIsNumber os) h
 
-    go : (b : Bool) → (eqb (o .number) number && eqb (o .stamp) stamp) ≡ b → (restsIn os number stamp ≡ true → eqb stamp number ≡ true) → (b || restsIn os number stamp) ≡ true →
+    by-number-and-stamp : (b : Bool) → (eqb (o .number) number && eqb (o .stamp) stamp) ≡ b → (restsIn os number stamp ≡ true → eqb stamp number ≡ true) → (b || restsIn os number stamp) ≡ true →
         eqb stamp number ≡ true
-    go true f ih e =
+    by-number-and-stamp true f ih e =
         let p = both-true (eqb (o .number) number) (eqb (o .stamp) stamp) f in
         eq-eqb stamp number (sym (eqb-true (o .stamp) stamp (p .1)) ∙ eqb-true (o .stamp) (o .number) (q .0) ∙ eqb-true (o .number) number (p .0))
-    go false f ih e = ih e
+    by-number-and-stamp false f ih e = ih e
 
 -- each number given is its time stamp
 abbrev Alike : List Arrival → Type 0
@@ -323,21 +323,21 @@ Alike ((n stamped s) ∷ gs) = (s ≡ n) × Alike gs
 among-alike : (gs : List Arrival) → Alike gs → (number stamp : ℕ) → among gs number stamp ≡ true → eqb stamp number ≡ true
 unfolding among
 among-alike [] a number stamp e = absurd (false≢true e)
-among-alike ((n stamped s) ∷ gs) a number stamp e = go (eqb number n && eqb stamp s) refl (among-alike gs (a .1) number stamp) e
+among-alike ((n stamped s) ∷ gs) a number stamp e = by-number-and-stamp (eqb number n && eqb stamp s) refl (among-alike gs (a .1) number stamp) e
   where
-    go : (b : Bool) → (eqb number n && eqb stamp s) ≡ b → (among gs number stamp ≡ true → eqb stamp number ≡ true) → (b || among gs number stamp) ≡ true → eqb stamp number ≡ true
-    go true f ih e =
+    by-number-and-stamp : (b : Bool) → (eqb number n && eqb stamp s) ≡ b → (among gs number stamp ≡ true → eqb stamp number ≡ true) → (b || among gs number stamp) ≡ true → eqb stamp number ≡ true
+    by-number-and-stamp true f ih e =
         let p = both-true (eqb number n) (eqb stamp s) f in
         eq-eqb stamp number (eqb-true stamp s (p .1) ∙ a .0 ∙ sym (eqb-true number n (p .0)))
-    go false f ih e = ih e
+    by-number-and-stamp false f ih e = ih e
 
 follow-stamped : (x y : Exchange) → StampsAsNumbers x → (new : List Arrival) → Alike new → Follow x new y → (c : ℕ) (sell : Bool) → allOf stampIsNumber (own sell (listingAt y c)) ≡ true
 follow-stamped x y h new alike f c sell =
-    allOf-imp (follows x new c sell) stampIsNumber (own sell (listingAt y c)) (λ o e. go o (restsIn (own sell (listingAt x c)) (o .number) (o .stamp)) refl e) (f c sell)
+    allOf-imp (follows x new c sell) stampIsNumber (own sell (listingAt y c)) (λ o e. by-resting o (restsIn (own sell (listingAt x c)) (o .number) (o .stamp)) refl e) (f c sell)
   where
-    go : (o : Order) (b : Bool) → restsIn (own sell (listingAt x c)) (o .number) (o .stamp) ≡ b → (b || among new (o .number) (o .stamp)) ≡ true → stampIsNumber o ≡ true
-    go o true r e = rests-stamped (own sell (listingAt x c)) (o .number) (o .stamp) (h .orders c sell) r
-    go o false r e = among-alike new alike (o .number) (o .stamp) e
+    by-resting : (o : Order) (b : Bool) → restsIn (own sell (listingAt x c)) (o .number) (o .stamp) ≡ b → (b || among new (o .number) (o .stamp)) ≡ true → stampIsNumber o ≡ true
+    by-resting o true r e = rests-stamped (own sell (listingAt x c)) (o .number) (o .stamp) (h .orders c sell) r
+    by-resting o false r e = among-alike new alike (o .number) (o .stamp) e
 
 -- a settlement leaves no order
 settled-none : (n : ℕ) (f : ℕ → Listing) (c : ℕ) (sell : Bool) → ((i : ℕ) → own sell (f i) ≡ []) → own sell (getD (tabulate n f) c noListing) ≡ []

@@ -94,8 +94,8 @@ module _ (m : Memory) (held : List Exchange) (x : Exchange) (n p : Memory) (s : 
       λ i. record {
         contracts = same-contracts i;
         accounts = same-accounts i;
-        buys = buys i;
-        sells = sells i;
+        buycounts = buys i;
+        sellcounts = sells i;
         contractcount = contractcount i;
         accountcount = accountcount i;
         tradecount = tradecount i;

@@ -42,7 +42,7 @@ abbrev pub areaOf : Bool → Memory → List ℕ
 areaOf sell m = pick sell (m .sells) (m .buys)
 
 abbrev pub countsOf : Bool → Memory → List ℕ
-countsOf sell m = pick sell (m .state .sells) (m .state .buys)
+countsOf sell m = pick sell (m .state .sellcounts) (m .state .buycounts)
 
 -- ---- m′ holds x, and all else that is in it is m's or zero. The memory had held the states `held`: m's own, and those that stood
 -- between where a command does its work in steps ("a place in use only between the steps is set to zero", 02, ticket 7)

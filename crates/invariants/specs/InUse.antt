@@ -2,13 +2,13 @@
 -- `room-affects-no-answer` (proofs/RoomBeyond). Assumes nothing.
 use mathlib.Core.Path.{_≡_}
 use Prim.Native.Nat.{ℕ}
-use Rattle.rules.specs.Memory.{Memory, Responded, exchangeOf, hasRoom}
+use Rattle.rules.specs.Memory.{Memory, AfterCommand, exchangeOf, hasRoom}
 use Rattle.rules.specs.Step.{answerOf}
 
 -- ---- "a refusal gives three zeros and changes nothing"
 
 -- the answer with a code and three zeros, and the memory as it was
-abbrev pub unchanged : Memory → ℕ → Responded
+abbrev pub unchanged : Memory → ℕ → AfterCommand
 unchanged m code = record { answer = answerOf code 0 0 0; memory = m }
 
 -- ---- "Room beyond a count affects no answer"

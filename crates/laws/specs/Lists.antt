@@ -41,8 +41,8 @@ module _ {A B : Type 0} (f : A → B) where
 pub at-set :
     {A : Type 0} (P : ℕ → A → Type 0) (l : List A) (i : ℕ) (v d : A) → i < length l →
     P i v → (j : ℕ) → (j ≢ i → P j (getD l j d)) → P j (getD (set l i v) j d)
-at-set {A} P l i v d h p j q = go (ℕ-discrete j i)
+at-set {A} P l i v d h p j q = by-index (ℕ-discrete j i)
   where
-    go : Dec (j ≡ i) → P j (getD (set l i v) j d)
-    go (yes e) = subst (λ (k : ℕ). P k (getD (set l i v) k d)) (sym e) (subst (P i) (sym (getD-set-same l i v d h)) p)
-    go (no n) = subst (P j) (sym (getD-set-other l i j v d n)) (q n)
+    by-index : Dec (j ≡ i) → P j (getD (set l i v) j d)
+    by-index (yes e) = subst (λ (k : ℕ). P k (getD (set l i v) k d)) (sym e) (subst (P i) (sym (getD-set-same l i v d h)) p)
+    by-index (no n) = subst (P j) (sym (getD-set-other l i j v d n)) (q n)

@@ -126,11 +126,11 @@ pub ruleset ring = (d-add, d-neg, d-mul, pos-d, negsuc-d, neg-pos-d)
 -- ---- the order of differences: a − b ≤ a′ − b′ where a + b′ ≤ a′ + b
 
 as-leb : (m n m′ n′ : ℕ) → (m ≤ n → m′ ≤ n′) → (n < m → n′ < m′) → leb m n ≡ leb m′ n′
-as-leb m n m′ n′ f g = by (leb m n) refl
+as-leb m n m′ n′ f g = by-comparison (leb m n) refl
   where
-    by : (t : Bool) → leb m n ≡ t → leb m n ≡ leb m′ n′
-    by true e = e ∙ sym (le-leb m′ n′ (f (leb-true m n e)))
-    by false e = e ∙ sym (lt-leb m′ n′ (g (leb-false m n e)))
+    by-comparison : (t : Bool) → leb m n ≡ t → leb m n ≡ leb m′ n′
+    by-comparison true e = e ∙ sym (le-leb m′ n′ (f (leb-true m n e)))
+    by-comparison false e = e ∙ sym (lt-leb m′ n′ (g (leb-false m n e)))
 
 pub leZ-d : (a b a′ b′ : ℕ) → leZ (d a b) (d a′ b′) ≡ leb (a + b′) (a′ + b)
 leZ-d a b a′ b′ =
@@ -175,11 +175,11 @@ pub leZ-ltZ : (x y : ℤ) → leZ x y ≡ not (ltZ y x)
 leZ-ltZ x y = rw (split x, split y) (rw (leZ-d, ltZ-d) (leb-not (posPart x + negPart y) (posPart y + negPart x)))
   where
     leb-not : (m n : ℕ) → leb m n ≡ not (ltb n m)
-    leb-not m n = by (leb m n) refl
+    leb-not m n = by-comparison (leb m n) refl
       where
-        by : (t : Bool) → leb m n ≡ t → leb m n ≡ not (ltb n m)
-        by true e = e ∙ sym (ap not (le-ltb n m (leb-true m n e)))
-        by false e = e ∙ sym (ap not (lt-ltb n m (leb-false m n e)))
+        by-comparison : (t : Bool) → leb m n ≡ t → leb m n ≡ not (ltb n m)
+        by-comparison true e = e ∙ sym (ap not (le-ltb n m (leb-true m n e)))
+        by-comparison false e = e ∙ sym (ap not (lt-ltb n m (leb-false m n e)))
 
 -- ---- the parts
 

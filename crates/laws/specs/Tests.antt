@@ -41,28 +41,28 @@ never (t ∷ ts) = never ts
 pub fails : {b : Bool} {ts : List Bool} {z : Bool} → Chain b ts z → (i : ℕ) → getD ts i true ≡ false → false ≡ b
 fails {b} {ts} {z} c i h = sym (c .is ∙ start ts i h)
   where
-    go : (t : Bool) (ts : List Bool) (i : ℕ) → getD (t ∷ ts) i true ≡ false → joined t (ts ++ (z ∷ [])) ≡ false
-    go t ts zero h = rw h (never (ts ++ (z ∷ [])))
-    go t [] (suc i) h = absurd (true≢false h)
-    go t (u ∷ us) (suc zero) h =
+    joined-fails : (t : Bool) (ts : List Bool) (i : ℕ) → getD (t ∷ ts) i true ≡ false → joined t (ts ++ (z ∷ [])) ≡ false
+    joined-fails t ts zero h = rw h (never (ts ++ (z ∷ [])))
+    joined-fails t [] (suc i) h = absurd (true≢false h)
+    joined-fails t (u ∷ us) (suc zero) h =
         ap (λ (x : Bool). joined x (us ++ (z ∷ []))) (both-false t u h) ∙ never (us ++ (z ∷ []))
-    go t (u ∷ us) (suc (suc i)) h = go (t && u) us (suc i) h
+    joined-fails t (u ∷ us) (suc (suc i)) h = joined-fails (t && u) us (suc i) h
 
     start : (ts : List Bool) (i : ℕ) → getD ts i true ≡ false → chain (ts ++ (z ∷ [])) ≡ false
     start [] i h = absurd (true≢false h)
-    start (t ∷ ts) i h = go t ts i h
+    start (t ∷ ts) i h = joined-fails t ts i h
 
 -- where the others pass, the last decides
 pub last : {b : Bool} {ts : List Bool} {z : Bool} → Chain b ts z → Hold ts → z ≡ b
 last {b} {ts} {z} c p = start ts p ∙ sym (c .is)
   where
-    go : (t : Bool) (ts : List Bool) → Hold (t ∷ ts) → z ≡ joined t (ts ++ (z ∷ []))
-    go t [] p = rw (p .0)
-    go t (u ∷ us) p = rw (p .0) (go u us (p .1))
+    joined-last : (t : Bool) (ts : List Bool) → Hold (t ∷ ts) → z ≡ joined t (ts ++ (z ∷ []))
+    joined-last t [] p = rw (p .0)
+    joined-last t (u ∷ us) p = rw (p .0) (joined-last u us (p .1))
 
     start : (ts : List Bool) → Hold ts → z ≡ chain (ts ++ (z ∷ []))
     start [] p = refl
-    start (t ∷ ts) p = go t ts p
+    start (t ∷ ts) p = joined-last t ts p
 
 -- a part of a chain as one test
 pub group : (t u : Bool) (us vs : List Bool) → joined t (u ∷ (us ++ vs)) ≡ joined t (joined u us ∷ vs)

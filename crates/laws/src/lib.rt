@@ -1,6 +1,6 @@
 // Small functions on numbers that every crate above uses. The definitions and laws that the crates share stand in specs/ and proofs/.
 ghost use mathlib.Core.Path.{_≡_};
-ghost use Prim.Native.Nat.{min, max};
+ghost use Prim.Native.Nat.{min, max, _-_, _≤_};
 
 pub fn smaller(a: u32, b: u32) -> u32
     ensures { λ r. ⌜ r ≡ min a b ⌝ }
@@ -21,8 +21,16 @@ pub fn wide(x: u32) -> usize
     x as usize
 }
 
-pub fn wide32(x: u32) -> u64
+pub fn wide64(x: u32) -> u64
     ensures { λ r. ⌜ r ≡ x ⌝ }
 {
     x as u64
+}
+
+// Contracts and accounts are numbered from 1, their places from 0.
+pub fn place_of(number: u32) -> usize
+    requires { ⌜ 1 ≤ number ⌝ }
+    ensures { λ r. ⌜ r ≡ number - 1 ⌝ }
+{
+    number as usize - 1
 }

@@ -24,11 +24,11 @@ below zero l = l
 below (suc n) l = omega arith
 
 turned : (n : ℕ) → pos 0 -ℤ (negsuc n +ℤ pos 1) ≡ pos n
-turned n = +ℤ-idl (negℤ (negsuc n +ℤ pos 1)) ∙ ap negℤ (+ℤ-one (negsuc n)) ∙ go n
+turned n = +ℤ-idl (negℤ (negsuc n +ℤ pos 1)) ∙ ap negℤ (+ℤ-one (negsuc n)) ∙ by-zero n
   where
-    go : (n : ℕ) → negℤ (sucℤ (negsuc n)) ≡ pos n
-    go zero = refl
-    go (suc n) = refl
+    by-zero : (n : ℕ) → negℤ (sucℤ (negsuc n)) ≡ pos n
+    by-zero zero = refl
+    by-zero (suc n) = refl
 
 pub steps : (x : ℤ) → SFits w64 x → ltZ x (pos 0) ≡ true → Steps x
 steps (pos n) f e = absurd (not-suc-le-zero (ltb-true n 0 e))

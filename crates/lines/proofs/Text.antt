@@ -52,17 +52,17 @@ module _ {before after : List ℕ} {at next : ℕ} (x : ℤ) (n : ℕ) (size : n
   pub signed-below : ltZ x (pos 0) ≡ true → Written 21 before at (45 ∷ decimal n) after next
       → Written 21 before at (signed x) after next
   unfolding signed
-  signed-below below w = go x below size
+  signed-below below w = by-sign x below size
     where
-      go : (x : ℤ) → ltZ x (pos 0) ≡ true → n ≡ natAbs x → Written 21 before at (signed x) after next
-      go (pos k) t e = absurd (not-suc-le-zero (ltb-true k 0 t))
-      go (negsuc k) t e = rw (← e) w
+      by-sign : (x : ℤ) → ltZ x (pos 0) ≡ true → n ≡ natAbs x → Written 21 before at (signed x) after next
+      by-sign (pos k) t e = absurd (not-suc-le-zero (ltb-true k 0 t))
+      by-sign (negsuc k) t e = rw (← e) w
 
   pub signed-above : ltZ x (pos 0) ≡ false → Written 20 before at (decimal n) after next
       → Written 21 before at (signed x) after next
   unfolding signed
-  signed-above above w = go x above size
+  signed-above above w = by-sign x above size
     where
-      go : (x : ℤ) → ltZ x (pos 0) ≡ false → n ≡ natAbs x → Written 21 before at (signed x) after next
-      go (pos k) t e = rw (← e) (looser w 21 (omega arith))
-      go (negsuc k) t e = absurd (true≢false t)
+      by-sign : (x : ℤ) → ltZ x (pos 0) ≡ false → n ≡ natAbs x → Written 21 before at (signed x) after next
+      by-sign (pos k) t e = rw (← e) (looser w 21 (omega arith))
+      by-sign (negsuc k) t e = absurd (true≢false t)

@@ -25,12 +25,12 @@ value-snoc n (e ∷ ds) d = value-snoc (n * 10 + (e - 48)) ds d
 pub digits-value : (places n : ℕ) → n < 10 ^ places → value (digits places n) ≡ n
 unfolding digits valueFrom
 digits-value zero n h = omega arith
-digits-value (suc places) n h = go (ltb n 10) refl (λ q. digits-value places (n / 10) q)
+digits-value (suc places) n h = by-one-digit (ltb n 10) refl (λ q. digits-value places (n / 10) q)
   where
-    go : (t : Bool) → ltb n 10 ≡ t → (n / 10 < 10 ^ places → value (digits places (n / 10)) ≡ n / 10)
+    by-one-digit : (t : Bool) → ltb n 10 ≡ t → (n / 10 < 10 ^ places → value (digits places (n / 10)) ≡ n / 10)
         → value (pick t ((48 + n) ∷ []) (digits places (n / 10) ++ ((48 + n % 10) ∷ []))) ≡ n
-    go true e before = omega arith
-    go false e before =
+    by-one-digit true e before = omega arith
+    by-one-digit false e before =
         let q : n / 10 < 10 ^ places = omega (arith, pow-suc 10 places) in
         rw (value-snoc 0 (digits places (n / 10)) (48 + n % 10), before q) (omega (arith, div-add-mod' n 10))
 

@@ -61,7 +61,7 @@ module _ (m : Memory) (a : ℕ) (la : a < m .state .accountcount) where
   abbrev chargedAt : ℕ → ℕ
   chargedAt c =
       charge (getD (m .state .contracts) c noContract)
-      * chargedLots (listingOf (getD (m .state .contracts) c noContract) (m .buys) (getD (m .state .buys) c 0) (m .sells) (getD (m .state .sells) c 0) c) a
+      * chargedLots (listingOf (getD (m .state .contracts) c noContract) (m .buys) (getD (m .state .buycounts) c 0) (m .sells) (getD (m .state .sellcounts) c 0) c) a
       (getD (getD (m .state .accounts) a noAccount .holdings) c noHolding)
 
   charged-none : 0 ≡ chargedTo (exchangeOf m) a 0
@@ -92,7 +92,7 @@ module _ (holdings : List Holding) (terms : List Contract) (buys bids sells offe
 
 -- of a state it is the rules' margin
 pub charged-first : (s : State) (buys sells trades : List ℕ) (a n : ℕ) → a < s .accountcount → n ≤ s .contractcount
-    → chargedFirst (getD (s .accounts) a noAccount .holdings) (s .contracts) buys (s .buys) sells (s .sells) a n
+    → chargedFirst (getD (s .accounts) a noAccount .holdings) (s .contracts) buys (s .buycounts) sells (s .sellcounts) a n
     ≡ chargedTo (exchangeOf (memory s buys sells trades)) a n
 unfolding chargedFirst
 charged-first s buys sells trades a zero la h = charged-none (memory s buys sells trades) a la
@@ -102,7 +102,7 @@ charged-first s buys sells trades a (suc n) la h =
 
 -- once all contracts are in
 all-charged : (s : State) (buys sells trades : List ℕ) (a : ℕ) → a < s .accountcount
-    → chargedFirst (getD (s .accounts) a noAccount .holdings) (s .contracts) buys (s .buys) sells (s .sells) a (s .contractcount)
+    → chargedFirst (getD (s .accounts) a noAccount .holdings) (s .contracts) buys (s .buycounts) sells (s .sellcounts) a (s .contractcount)
     ≡ charged (exchangeOf (memory s buys sells trades)) a
 all-charged s buys sells trades a la =
     charged-first s buys sells trades a (s .contractcount) la (omega arith)

@@ -45,8 +45,8 @@ pub record Has (s : State) (holdings : List Holding) (terms : List Contract) (co
   pub held : getD (s .accounts) a noAccount .holdings ≡ holdings
   pub listed : s .contracts ≡ terms
   pub count : s .contractcount ≡ contracts
-  pub bought : s .buys ≡ bids
-  pub sold : s .sells ≡ offers
+  pub bought : s .buycounts ≡ bids
+  pub sold : s .sellcounts ≡ offers
 
 -- the charged margin of the account in any state that has these, whatever trades the day has; it is small
 pub record ChargedIs (holdings : List Holding) (terms : List Contract) (contracts : ℕ) (buys bids sells offers : List ℕ) (a r : ℕ) : Type 0 where
@@ -55,7 +55,7 @@ pub record ChargedIs (holdings : List Holding) (terms : List Contract) (contract
 
 -- the same of what a state has
 abbrev pub ChargeableAt : State → List ℕ → List ℕ → ℕ → Type 0
-ChargeableAt s buys sells a = Chargeable (getD (s .accounts) a noAccount .holdings) (s .contracts) (s .contractcount) buys (s .buys) sells (s .sells) a
+ChargeableAt s buys sells a = Chargeable (getD (s .accounts) a noAccount .holdings) (s .contracts) (s .contractcount) buys (s .buycounts) sells (s .sellcounts) a
 
 abbrev pub ChargedAt : State → List ℕ → List ℕ → ℕ → ℕ → Type 0
-ChargedAt s buys sells a r = ChargedIs (getD (s .accounts) a noAccount .holdings) (s .contracts) (s .contractcount) buys (s .buys) sells (s .sells) a r
+ChargedAt s buys sells a r = ChargedIs (getD (s .accounts) a noAccount .holdings) (s .contracts) (s .contractcount) buys (s .buycounts) sells (s .sellcounts) a r

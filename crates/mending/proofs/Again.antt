@@ -89,12 +89,12 @@ module _ (a b : List ℕ) (i j w : ℕ) (same : (t : ℕ) → t < w → getD a (
 
 malformed-is : (file : List ℕ) (first k n : ℕ) → eqb (reason file first k n) 0 ≡ true → wellFormedAt file (first + 24 * k)
 unfolding reason
-malformed-is file first k n e = go (isMalformed (commandOf (recordFrom file (first + 24 * k)))) refl e
+malformed-is file first k n e = by-malformed (isMalformed (commandOf (recordFrom file (first + 24 * k)))) refl e
   where
-    go : (t : Bool) → isMalformed (commandOf (recordFrom file (first + 24 * k))) ≡ t
+    by-malformed : (t : Bool) → isMalformed (commandOf (recordFrom file (first + 24 * k))) ≡ t
         → eqb (pick {A = ℕ} t 1 (pick {A = ℕ} (leb 2_000 n) 3 0)) 0 ≡ true → wellFormedAt file (first + 24 * k)
-    go true f e = absurd (true≢false (sym e))
-    go false f e = f
+    by-malformed true f e = absurd (true≢false (sym e))
+    by-malformed false f e = f
 
 before-seam : (l ys : List ℕ) (at : ℕ) → at + 24 ≤ length l → wellFormedAt l at → wellFormedAt (l ++ ys) at
 before-seam l ys at h g =
@@ -114,14 +114,14 @@ pub kept-good : (file : List ℕ) (first k : ℕ) → first + 24 * k ≤ length 
 unfolding kept keptBytes
 kept-good file first zero h j i = absurd (omega arith)
 kept-good file first (suc k) h j i =
-    go (eqb (reason file first k (kept file first k)) 0) refl i (kept-good file first k (omega arith)) (length-kept file first k (omega arith))
+    by-reason (eqb (reason file first k (kept file first k)) 0) refl i (kept-good file first k (omega arith)) (length-kept file first k (omega arith))
   where
-    go : (t : Bool) → eqb (reason file first k (kept file first k)) 0 ≡ t → j < kept file first k + pick {A = ℕ} t 1 0
+    by-reason : (t : Bool) → eqb (reason file first k (kept file first k)) 0 ≡ t → j < kept file first k + pick {A = ℕ} t 1 0
         → ((j : ℕ) → j < kept file first k → wellFormedAt (keptBytes file first k) (24 * j))
         → length (keptBytes file first k) ≡ 24 * kept file first k
         → wellFormedAt (keptBytes file first k ++ pick t (take 24 (drop (first + 24 * k) file)) []) (24 * j)
-    go false e i g l = rw (append-nil (keptBytes file first k)) (g j (omega arith))
-    go true e i g l = last (ltb j (kept file first k)) refl
+    by-reason false e i g l = rw (append-nil (keptBytes file first k)) (g j (omega arith))
+    by-reason true e i g l = last (ltb j (kept file first k)) refl
       where
         last : (u : Bool) → ltb j (kept file first k) ≡ u
             → wellFormedAt (keptBytes file first k ++ take 24 (drop (first + 24 * k) file)) (24 * j)

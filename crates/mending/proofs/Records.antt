@@ -115,24 +115,24 @@ module _ (file : List ℕ) (first : ℕ) where
   pub length-kept : (k : ℕ) → first + 24 * k ≤ length file → length (keptBytes file first k) ≡ 24 * kept file first k
   unfolding keptBytes kept
   length-kept zero h = refl
-  length-kept (suc k) h = go (eqb (why file first k) 0) (length-kept k (omega arith))
+  length-kept (suc k) h = by-reason (eqb (why file first k) 0) (length-kept k (omega arith))
     where
-      go : (t : Bool) → length (keptBytes file first k) ≡ 24 * kept file first k
+      by-reason : (t : Bool) → length (keptBytes file first k) ≡ 24 * kept file first k
           → length (keptBytes file first k ++ pick t (take 24 (drop (first + 24 * k) file)) []) ≡ 24 * (kept file first k + pick t 1 0)
-      go true i =
+      by-reason true i =
           length-append (keptBytes file first k) (take 24 (drop (first + 24 * k) file))
           ∙ omega (arith, i, length-part file (first + 24 * k) 24 (omega arith))
-      go false i = rw (append-nil (keptBytes file first k)) (omega (arith, i))
+      by-reason false i = rw (append-nil (keptBytes file first k)) (omega (arith, i))
 
   pub length-dropped : (k : ℕ) → length (dropped file first k) ≡ 9 * (k - kept file first k)
   unfolding dropped kept
   length-dropped zero = refl
-  length-dropped (suc k) = go (eqb (why file first k) 0) (length-dropped k) (kept-most file first k)
+  length-dropped (suc k) = by-reason (eqb (why file first k) 0) (length-dropped k) (kept-most file first k)
     where
-      go : (t : Bool) → length (dropped file first k) ≡ 9 * (k - kept file first k) → kept file first k ≤ k
+      by-reason : (t : Bool) → length (dropped file first k) ≡ 9 * (k - kept file first k) → kept file first k ≤ k
           → length (dropped file first k ++ pick t [] (entry k (why file first k))) ≡ 9 * (suc k - (kept file first k + pick t 1 0))
-      go true i h = rw (append-nil (dropped file first k)) (omega (arith, i))
-      go false i h =
+      by-reason true i h = rw (append-nil (dropped file first k)) (omega (arith, i))
+      by-reason false i h =
           length-append (dropped file first k) (entry k (why file first k))
           ∙ omega (arith, i, length-entry k (why file first k))
 

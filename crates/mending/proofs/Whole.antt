@@ -30,13 +30,13 @@ pub kept-limit : (file : List ℕ) (first k : ℕ) → kept file first k ≤ 2_0
 unfolding kept reason
 kept-limit file first zero = omega arith
 kept-limit file first (suc k) =
-    go (isMalformed (commandOf (recordFrom file (first + 24 * k)))) (leb 2_000 (kept file first k)) refl (kept-limit file first k)
+    by-malformed-and-full (isMalformed (commandOf (recordFrom file (first + 24 * k)))) (leb 2_000 (kept file first k)) refl (kept-limit file first k)
   where
-    go : (t u : Bool) → leb 2_000 (kept file first k) ≡ u → kept file first k ≤ 2_000
+    by-malformed-and-full : (t u : Bool) → leb 2_000 (kept file first k) ≡ u → kept file first k ≤ 2_000
         → kept file first k + pick {A = ℕ} (eqb (pick {A = ℕ} t 1 (pick {A = ℕ} u 3 0)) 0) 1 0 ≤ 2_000
-    go true u e h = omega arith
-    go false true e h = omega arith
-    go false false e h = omega (arith, leb-false 2_000 (kept file first k) e)
+    by-malformed-and-full true u e h = omega arith
+    by-malformed-and-full false true e h = omega arith
+    by-malformed-and-full false false e h = omega (arith, leb-false 2_000 (kept file first k) e)
 
 module _ (file : List ℕ) (sound : headSound file ≡ true) where
   pub place-least : 12 ≤ commandPlace file 0
@@ -180,8 +180,8 @@ place-most file sound =
     omega (arith, sound-head file sound .contracts, sound-head file sound .accounts, command-place file 0)
 
 pub dropped-most : (file : List ℕ) (first : ℕ) → droppedCount file first ≤ wholeRecords file first + 1
-dropped-most file first = go (partialRecord file first)
+dropped-most file first = by-partial (partialRecord file first)
   where
-    go : (t : Bool) → wholeRecords file first - kept file first (wholeRecords file first) + pick t 1 0 ≤ wholeRecords file first + 1
-    go true = omega arith
-    go false = omega arith
+    by-partial : (t : Bool) → wholeRecords file first - kept file first (wholeRecords file first) + pick t 1 0 ≤ wholeRecords file first + 1
+    by-partial true = omega arith
+    by-partial false = omega arith

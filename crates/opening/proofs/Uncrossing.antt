@@ -3,7 +3,7 @@
 use mathlib.Core.Bool.{Bool, true, false, not, _&&_}
 use mathlib.Core.List.{List, [], _∷_}
 use mathlib.Core.Path.{_≡_, refl, sym, ap, _∙_}
-use Prim.Native.Nat.{ℕ, _+_, _-_, _*_, _<_, _≤_}
+use Prim.Native.Nat.{ℕ, _+_, _*_, _<_, _≤_}
 use native.Mathlib.Omega.{arith}
 use borrow.Author.Tests.{eqb-true, le-leb, le-ltb, lt-ltb, not-true}
 use lib.Dec.{eqb, leb, ltb}
@@ -12,7 +12,7 @@ use Rattle.laws.specs.Choice.{allOf, allOf-imp, both-true, pick, pick-true, tru
 use Rattle.rules.specs.Answers.{changeListed}
 use Rattle.rules.specs.Auction.{Matched, auctionMatch, matchOf, unmatched}
 use Rattle.rules.specs.Bounds.{inAuction, maxLots, maxTrades}
-use Rattle.rules.specs.Exchange.{Exchange, Listing, accountAt, holdingAt, listingAt, noContract, own, placeOf}
+use Rattle.rules.specs.Exchange.{Exchange, Listing, accountAt, holdingAt, listingAt, noContract, own, placeOf, isAbsent}
 use Rattle.rules.specs.Kinds.{codeOf, done, kindOf}
 use Rattle.rules.specs.Memory.{Memory, WellFormedState, exchangeOf, listingIn, memory, queueIn, stepIn, written}
 use Rattle.rules.specs.Step.{answerOf, exchangeMatched, listingMatched, phaseChanged, withTrades}
@@ -31,7 +31,7 @@ use Rattle.auction.proofs.Chosen.{level-auction}
 use Rattle.invariants.proofs.Clauses.{Counted, WellFormed, order-ok}
 use Rattle.invariants.proofs.MemoryKeeps.{sound}
 use Rattle.invariants.proofs.Phases.{phase-counted, phase-keeps}
-use Rattle.engine.specs.Outcome.{OutcomeIs, acceptedWith, isAbsent, isMatch, refusedWith}
+use Rattle.engine.specs.Outcome.{OutcomeIs, acceptedWith, isMatch, refusedWith}
 use Rattle.engine.specs.declared.answers.Outcome.{Outcome}
 use Rattle.engine.proofs.Changes.{from-auction, phase-code}
 use Rattle.engine.proofs.Formed.{Formed, accounts-count, contracts-count, formed, listing-at}
@@ -82,20 +82,19 @@ module _ {s : State} {buys sells trades : List ℕ} (w : WellFormedState s buys 
   here : c < s .contractcount
   here = place-below contract (s .contractcount) (parts .0) .1
 
-  -- k is the contract's number as the code widens it
-  pub place-low : {k : ℕ} → k ≡ contract → 1 ≤ k
-  place-low is = omega (arith, place-below contract (s .contractcount) (parts .0) .0)
+  pub contract-low : 1 ≤ contract
+  contract-low = place-below contract (s .contractcount) (parts .0) .0
 
-  pub place-fits : {k : ℕ} → k ≡ contract → k - 1 < 4
+  pub place-fits : {place : ℕ} → place ≡ c → place < 4
   place-fits is = omega (arith, here, f .contracts-high)
 
   -- ---- its queues as they lie
 
   abbrev bids : List Order
-  bids = queueIn buys c (getD (s .buys) c 0)
+  bids = queueIn buys c (getD (s .buycounts) c 0)
 
   abbrev asks : List Order
-  asks = queueIn sells c (getD (s .sells) c 0)
+  asks = queueIn sells c (getD (s .sellcounts) c 0)
 
   abbrev matched : Matched
   matched = auctionMatch c (terms .last) bids asks
@@ -109,7 +108,7 @@ module _ {s : State} {buys sells trades : List ℕ} (w : WellFormedState s buys 
       ap (λ l. pick (inAuction (l .contract)) (auctionMatch c (l .contract .last) (l .buys) (l .sells)) (unmatched (l .buys) (l .sells))) listing-is
       ∙ pick-true (inAuction terms) matched (unmatched bids asks) (parts .1)
 
-  room : QueuesRoom buys (getD (s .buys) c 0) sells (getD (s .sells) c 0) c
+  room : QueuesRoom buys (getD (s .buycounts) c 0) sells (getD (s .sellcounts) c 0) c
   room =
       record {
         few-buys = f .buys-high c here;
@@ -118,7 +117,7 @@ module _ {s : State} {buys sells trades : List ℕ} (w : WellFormedState s buys 
         sells-room = omega (arith, here, f .sells-high c here, f .sells-room);
       }
 
-  pub queues : {k : ℕ} → k ≡ contract → QueuesRoom buys (getD (s .buys) (k - 1) 0) sells (getD (s .sells) (k - 1) 0) (k - 1)
+  pub queues : {place : ℕ} → place ≡ c → QueuesRoom buys (getD (s .buycounts) place 0) sells (getD (s .sellcounts) place 0) place
   queues is = rw is room
 
   -- their orders are of accounts in use, of at most 1,000 lots
@@ -141,19 +140,19 @@ module _ {s : State} {buys sells trades : List ℕ} (w : WellFormedState s buys 
 
   -- ---- the match at the level that the code has found
 
-  module _ {k : ℕ} (is : k ≡ contract) {level : Level}
-      (el : level ≡ chosenLevel (getD (s .contracts) (k - 1) noContract .last) (queueIn buys (k - 1) (getD (s .buys) (k - 1) 0)) (queueIn sells (k - 1) (getD (s .sells) (k - 1) 0))) where
+  module _ {place : ℕ} (is : place ≡ c) {level : Level}
+      (el : level ≡ chosenLevel (getD (s .contracts) place noContract .last) (queueIn buys place (getD (s .buycounts) place 0)) (queueIn sells place (getD (s .sellcounts) place 0))) where
     level-is : levelMatch c level bids asks ≡ matched
     level-is = level-auction c (terms .last) bids asks (rw is at el)
 
-    module _ {needed : ℕ} (en : needed ≡ length (levelMatch (k - 1) level (queueIn buys (k - 1) (getD (s .buys) (k - 1) 0)) (queueIn sells (k - 1) (getD (s .sells) (k - 1) 0)) .trades)) where
+    module _ {needed : ℕ} (en : needed ≡ length (levelMatch place level (queueIn buys place (getD (s .buycounts) place 0)) (queueIn sells place (getD (s .sellcounts) place 0)) .trades)) where
       needed-is : needed ≡ length (matched .trades)
       needed-is = (rw is at en) ∙ ap (λ (r : Matched). length (r .trades)) level-is
 
       -- no more than orders
       pub needed-few : s .tradecount + needed ≤ 1_152
       needed-few =
-          omega (arith, needed-is, auction-count c (terms .last) bids asks, length-queue buys c (getD (s .buys) c 0), length-queue sells c (getD (s .sells) c 0), room .few-buys, room .few-sells, f .trades-high)
+          omega (arith, needed-is, auction-count c (terms .last) bids asks, length-queue buys c (getD (s .buycounts) c 0), length-queue sells c (getD (s .sellcounts) c 0), room .few-buys, room .few-sells, f .trades-high)
 
       -- 12
       pub left-full : {r : Outcome} → maxTrades < s .tradecount + needed → r ≡ refusedWith s 12 → OutcomeIs (stepIn m (Phase contract 1)) r buys sells trades
@@ -163,7 +162,7 @@ module _ {s : State} {buys sells trades : List ℕ} (w : WellFormedState s buys 
         accepted : codeOf x (Phase contract 1) ≡ 0
         accepted = code-is ∙ rw (← needed-is, le-ltb _ _ h)
 
-        ready : MatchReady (levelMatch c level bids asks) c (s .accounts) buys (getD (s .buys) c 0) sells (getD (s .sells) c 0) trades (s .tradecount)
+        ready : MatchReady (levelMatch c level bids asks) c (s .accounts) buys (getD (s .buycounts) c 0) sells (getD (s .sellcounts) c 0) trades (s .tradecount)
         unfolding accountAt holdingAt listingIn
         ready =
             record {
@@ -183,7 +182,7 @@ module _ {s : State} {buys sells trades : List ℕ} (w : WellFormedState s buys 
                   };
             }
 
-        pub left-ready : MatchReady (levelMatch c level (queueIn buys c (getD (s .buys) (k - 1) 0)) (queueIn sells c (getD (s .sells) (k - 1) 0))) c (s .accounts) buys (getD (s .buys) (k - 1) 0) sells (getD (s .sells) (k - 1) 0) trades (s .tradecount)
+        pub left-ready : MatchReady (levelMatch c level (queueIn buys c (getD (s .buycounts) place 0)) (queueIn sells c (getD (s .sellcounts) place 0))) c (s .accounts) buys (getD (s .buycounts) place 0) sells (getD (s .sellcounts) place 0) trades (s .tradecount)
         left-ready = rw is ready
 
         -- ---- what it leaves
@@ -200,11 +199,11 @@ module _ {s : State} {buys sells trades : List ℕ} (w : WellFormedState s buys 
         counted = phase-counted x contract 1 accepted (f .contents) (sound m (w .formed) .counts)
 
         module _ {r : Match} {buys′ sells′ area′ : List ℕ}
-            (outcome : MatchedIs (levelMatch c level (queueIn buys c (getD (s .buys) (k - 1) 0)) (queueIn sells c (getD (s .sells) (k - 1) 0))) c (getD (s .contracts) (k - 1) noContract .last) (s .accounts) buys (getD (s .buys) (k - 1) 0) sells (getD (s .sells) (k - 1) 0) trades (s .tradecount) r buys′ sells′ area′) where
-          made : MatchedIs matched c (terms .last) (s .accounts) buys (getD (s .buys) c 0) sells (getD (s .sells) c 0) trades (s .tradecount) r buys′ sells′ area′
+            (outcome : MatchedIs (levelMatch c level (queueIn buys c (getD (s .buycounts) place 0)) (queueIn sells c (getD (s .sellcounts) place 0))) c (getD (s .contracts) place noContract .last) (s .accounts) buys (getD (s .buycounts) place 0) sells (getD (s .sellcounts) place 0) trades (s .tradecount) r buys′ sells′ area′) where
+          made : MatchedIs matched c (terms .last) (s .accounts) buys (getD (s .buycounts) c 0) sells (getD (s .sellcounts) c 0) trades (s .tradecount) r buys′ sells′ area′
           made = rw (is, level-is) at outcome
 
-          lies : written m (kindOf x (Phase contract 1) .effect .stages) ≡ memory (withMatch s (k - 1) r) buys′ sells′ area′
+          lies : written m (kindOf x (Phase contract 1) .effect .stages) ≡ memory (withMatch s place r) buys′ sells′ area′
           unfolding kindOf phaseChanged exchangeMatched listingMatched exchangeOf listingIn
           lies =
               put-traded m f c listing (matchOf x c .trades) (x .next) (x .nextstamp) here kept counted
@@ -214,6 +213,6 @@ module _ {s : State} {buys sells trades : List ℕ} (w : WellFormedState s buys 
           unfolding kindOf phaseChanged
           answer-is = rw (match-is, made .booked .traded)
 
-          pub left-accepted : {next : State} {result : Outcome} → next ≡ withMatch s (k - 1) r → result ≡ acceptedWith next 0 (r .traded) 0
+          pub left-accepted : {next : State} {result : Outcome} → next ≡ withMatch s place r → result ≡ acceptedWith next 0 (r .traded) 0
               → OutcomeIs (stepIn m (Phase contract 1)) result buys′ sells′ area′
           left-accepted en e = acceptance s buys sells trades (Phase contract 1) accepted answer-is (lies ∙ rw en) e

@@ -13,8 +13,8 @@ withMatch s c m =
     record {
       contracts = set (s .contracts) c (withPhase (withLast (getD (s .contracts) c noContract) (m .last)) continuous);
       accounts = m .accounts;
-      buys = set (s .buys) c (m .bought);
-      sells = set (s .sells) c (m .sold);
+      buycounts = set (s .buycounts) c (m .bought);
+      sellcounts = set (s .sellcounts) c (m .sold);
       contractcount = s .contractcount;
       accountcount = s .accountcount;
       tradecount = m .made;

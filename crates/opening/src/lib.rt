@@ -25,8 +25,8 @@ fn with_match(state: State, c: usize, m: Match) -> State
     ensures { λ r. ⌜ r ≡ withMatch state c m ⌝ }
 {
     let mut contracts = state.contracts;
-    let mut bids = state.buys;
-    let mut offers = state.sells;
+    let mut bids = state.buycounts;
+    let mut offers = state.sellcounts;
     let accounts = m.accounts;
     let mut terms = contracts[c];
     terms.last = m.last;
@@ -37,8 +37,8 @@ fn with_match(state: State, c: usize, m: Match) -> State
     State {
         contracts,
         accounts,
-        buys: bids,
-        sells: offers,
+        buycounts: bids,
+        sellcounts: offers,
         contractcount: state.contractcount,
         accountcount: state.accountcount,
         tradecount: m.made,
@@ -59,9 +59,9 @@ fn leave_auction(
     requires { ⌜ WellFormedState state (now buys) (now sells) (now trades) × (isMatch state contract 1 ≡ true) ⌝ }
     ensures { λ r. ⌜ OutcomeIs (stepIn (memory state (now (buys .entry)) (now (sells .entry)) (now (trades .entry))) (Phase contract 1)) r (now (buys .exit)) (now (sells .exit)) (now (trades .exit)) ⌝ }
 {
-    let c = laws::wide(contract) - 1;
-    let bids = state.buys;
-    let offers = state.sells;
+    let c = laws::place_of(contract);
+    let bids = state.buycounts;
+    let offers = state.sellcounts;
     let bought = bids[c];
     let sold = offers[c];
     let contracts = state.contracts;

@@ -7,9 +7,9 @@ use Prim.Native.Nat.{ℕ, _-_}
 use borrow.Author.Tests.{ne-eqb}
 use lib.ListN.{getD}
 use Rattle.laws.specs.Choice.{pick}
-use Rattle.rules.specs.Answers.{dayWithoutLimit, fillableLots, firstOf, listingOf, takerOf}
+use Rattle.rules.specs.Answers.{dayWithoutLimit, fillableLots, firstOf, listingOf, takerOf, takerFor, fieldsRefusals}
 use Rattle.rules.specs.Command.{commandOf, isInsert, newOrder}
-use Rattle.rules.specs.Exchange.{Exchange, listingAt, noContract, opposite, placeOf}
+use Rattle.rules.specs.Exchange.{Exchange, listingAt, noContract, opposite, placeOf, isAbsent}
 use Rattle.rules.specs.Matching.{sweep, tradedLots}
 use Rattle.rules.specs.Memory.{Memory, exchangeOf, queueIn, wellFormedMemory, memory, WellFormedState}
 use Rattle.rules.specs.declared.Command.the-variants.{Insert}
@@ -19,9 +19,8 @@ use Rattle.rules.specs.declared.State.{State}
 use Rattle.rules.specs.declared.Taker.{Taker}
 use Rattle.rules.proofs.EachKind.{inserts-its-order}
 use Rattle.rules.proofs.Fillable.{swept-fillable}
-use Rattle.engine.specs.Outcome.{isAbsent}
 use Rattle.engine.proofs.Formed.{Formed, formed, no-account, no-contract}
-use Rattle.refusals.specs.Insertion.{Facing, Present, QueueRoom, fieldsRefusals, sideArea, sideCount, takerFor}
+use Rattle.refusals.specs.Insertion.{Facing, Present, QueueRoom, sideArea, sideCount}
 use Rattle.refusals.proofs.Sides.{contract-is, opposite-facing, opposite-is}
 use Rattle.query.specs.Gettable.{GatheredIs, askRefusals, gettableNow, lotsNow, orderReading, orderRefusals, readNow, readingWith, refusedReading}
 use Rattle.query.specs.declared.Reading.{Reading}
@@ -55,9 +54,8 @@ module _ {s : State} {buys sells trades : List ℕ} (w : WellFormedState s buys 
     unfolding orderReading readingWith
     no-such-contract g = sym (rw (in-parts, e, g))
 
-    -- k is the contract's number as the code widens it
-    module _ (g : isAbsent (o .contract) (s .contractcount) ≡ false) (p : Present s o) {k : ℕ} (is : k ≡ o .contract) {fields : ℕ}
-        (ef : fields ≡ firstOf (fieldsRefusals (dayWithoutLimit (o .condition) (o .time)) (getD (s .contracts) (k - 1) noContract) o)) where
+    module _ (g : isAbsent (o .contract) (s .contractcount) ≡ false) (p : Present s o) {place : ℕ} (is : place ≡ o .contract - 1) {fields : ℕ}
+        (ef : fields ≡ firstOf (fieldsRefusals (dayWithoutLimit (o .condition) (o .time)) (getD (s .contracts) place noContract) o)) where
       code-is : firstOf (orderRefusals x o) ≡ fields
       unfolding listingOf
       code-is = in-parts ∙ rw (e, g, ef, is, contract-is m f c (p .contract))
@@ -66,15 +64,15 @@ module _ {s : State} {buys sells trades : List ℕ} (w : WellFormedState s buys 
       unfolding orderReading readingWith
       refused-fields some = sym (rw (code-is, ne-eqb fields 0 some))
 
-      module _ {area : List ℕ} {count : ℕ} (ea : area ≡ sideArea (not (o .sell)) buys sells) (ec : count ≡ sideCount (not (o .sell)) s (k - 1)) where
+      module _ {area : List ℕ} {count : ℕ} (ea : area ≡ sideArea (not (o .sell)) buys sells) (ec : count ≡ sideCount (not (o .sell)) s place) where
         pub room : QueueRoom area (o .contract - 1) count
         room = rw (ec, ea, is) (opposite-facing m f c (p .contract) (s .next) 0 (s .nextstamp) (listingAt x c .contract) o .queue)
 
-        module _ {t : Taker} (et : t ≡ takerFor (s .next) 0 (s .nextstamp) (getD (s .contracts) (k - 1) noContract) (queueIn area (o .contract - 1) count) o) where
-          pub facing : Facing t area (k - 1) count
+        module _ {t : Taker} (et : t ≡ takerFor (s .next) 0 (s .nextstamp) (getD (s .contracts) place noContract) (queueIn area (o .contract - 1) count) o) where
+          pub facing : Facing t area place count
           facing = rw (et, ec, ea, is) (opposite-facing m f c (p .contract) (s .next) 0 (s .nextstamp) _ o)
 
-          pub answered : fields ≡ 0 → {r : Gathered} → GatheredIs t (o .lots) (queueIn area (k - 1) count) r
+          pub answered : fields ≡ 0 → {r : Gathered} → GatheredIs t (o .lots) (queueIn area place count) r
               → record { code = 0; lots = r .lots; read = r .read } ≡ orderReading x o
           unfolding orderReading readingWith lotsNow readNow fillableLots takerOf listingOf exchangeOf
           answered passed {r} gathered =

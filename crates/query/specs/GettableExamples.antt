@@ -83,8 +83,8 @@ memoryOf contracts =
       state = record {
         contracts = record { multiplier = 10; tick = 1; reference = 110; band = 10; limit = 1_000; rate = 1_000; method = 0; phase = preOpen; last = 110 } ∷ [];
         accounts = record { balance = pos 0; maker = 0; holdings = noHolding ∷ [] } ∷ [];
-        buys = 0 ∷ [];
-        sells = 0 ∷ [];
+        buycounts = 0 ∷ [];
+        sellcounts = 0 ∷ [];
         contractcount = contracts;
         accountcount = 1;
         tradecount = 0;

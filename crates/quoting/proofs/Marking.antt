@@ -11,7 +11,7 @@ use Rattle.laws.specs.Choice.{pick}
 use Rattle.rules.specs.Answers.{firstOf, orderRefusals}
 use Rattle.rules.specs.Exchange.{Exchange, placeOf}
 use Rattle.rules.specs.Kinds.{refused}
-use Rattle.rules.specs.Memory.{Memory, Responded, WellFormedState, exchangeOf, inMemory, memory}
+use Rattle.rules.specs.Memory.{Memory, AfterCommand, WellFormedState, exchangeOf, inMemory, memory}
 use Rattle.rules.specs.declared.NewOrder.{NewOrder}
 use Rattle.rules.specs.declared.State.{State}
 use Rattle.invariants.proofs.Accepted.{Failed, failed}
@@ -25,12 +25,12 @@ use Rattle.insertion.proofs.Entering.{may-enter}
 use Rattle.quoting.specs.Placing.{Markable, markedIn}
 
 -- a code that is told, whichever way it went
-told-either : (code : ℕ) (entered : Responded) (m : Memory) → entered .answer .code ≡ 0 → pick (eqb code 0) entered (inMemory m (refused code)) .answer .code ≡ code
-told-either code entered m z = by (eqb code 0) refl
+told-either : (code : ℕ) (entered : AfterCommand) (m : Memory) → entered .answer .code ≡ 0 → pick (eqb code 0) entered (inMemory m (refused code)) .answer .code ≡ code
+told-either code entered m z = by-code (eqb code 0) refl
   where
-    by : (b : Bool) → eqb code 0 ≡ b → pick b entered (inMemory m (refused code)) .answer .code ≡ code
-    by true e = z ∙ sym (eqb-true code 0 e)
-    by false e = refl
+    by-code : (b : Bool) → eqb code 0 ≡ b → pick b entered (inMemory m (refused code)) .answer .code ≡ code
+    by-code true e = z ∙ sym (eqb-true code 0 e)
+    by-code false e = refl
 
 -- what an order's outcome tells
 module _ (m : Memory) (o : NewOrder) {r : Outcome} {buys′ sells′ trades′ : List ℕ} (is : OutcomeIs (markedIn m o) r buys′ sells′ trades′) where
@@ -55,11 +55,10 @@ module _ {s : State} {buys sells trades : List ℕ} (w : WellFormedState s buys 
   f : Formed m
   f = formed w
 
-  -- j is the account's number as the code widens it
-  pub marked-low : {j : ℕ} → j ≡ o .account → 1 ≤ j
-  marked-low e = omega (arith, g .present .account-low)
+  pub marked-low : 1 ≤ o .account
+  marked-low = g .present .account-low
 
-  pub marked-fits : {j : ℕ} → j ≡ o .account → j - 1 < 32
+  pub marked-fits : {place : ℕ} → place ≡ o .account - 1 → place < 32
   marked-fits e = omega (arith, g .present .account, f .accounts-high)
 
   module _ {code : ℕ} (ec : code ≡ firstOf (orderRefusals x o)) where

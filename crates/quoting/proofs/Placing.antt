@@ -3,7 +3,7 @@
 use mathlib.Core.Bool.{Bool, true, false, not}
 use mathlib.Core.List.{List, [], _∷_, _++_}
 use mathlib.Core.Path.{_≡_, refl, sym, ap, _∙_, subst}
-use Prim.Native.Nat.{ℕ, _+_, _-_, _*_, _<_, _≤_}
+use Prim.Native.Nat.{ℕ, _+_, _*_, _<_, _≤_}
 use native.Mathlib.Omega.{arith}
 use borrow.Author.Tests.{eqb-true, ne-eqb, not-false}
 use lib.Dec.{eqb, ltb}
@@ -13,7 +13,7 @@ use Rattle.areas.specs.Lists.{over}
 use Rattle.areas.specs.Records.{store}
 use Rattle.rules.specs.Answers.{Refusal, _when_, firstOf, isGoodForDay, listingOf, orderRefusals, takerOf, tradesNeeded}
 use Rattle.rules.specs.Bounds.{continuous, inAuction, maxLots, maxResting, maxTrades}
-use Rattle.rules.specs.Exchange.{Exchange, Listing, absent, accountAt, listingAt, noAccount, noContract, opposite, own, placeOf}
+use Rattle.rules.specs.Exchange.{Exchange, Listing, absent, accountAt, listingAt, noAccount, noContract, opposite, own, placeOf, isAbsent}
 use Rattle.rules.specs.Kinds.{codeOf, done, kindOf}
 use Rattle.rules.specs.Matching.{enter, restWhole, restedLots, sweep, tradedLots}
 use Rattle.rules.specs.Memory.{Declared, Memory, WellFormedState, exchangeOf, listingIn, memory, put, putQueue, putState, queueIn, queueStride, stepIn, tradeStride, tradeWords, wellFormedMemory, written}
@@ -41,7 +41,7 @@ use Rattle.invariants.proofs.Accepted.{Failed, failed}
 use Rattle.invariants.proofs.Clauses.{Counted, WellFormed}
 use Rattle.invariants.proofs.MemoryKeeps.{sound, stage-keeps, stage-read}
 use Rattle.invariants.proofs.QuoteKeeps.{buy-counted, buy-keeps, buy-passes, buy-sells, gone-accounts, gone-counted, gone-keeps, none-marked, sells-unmarked, still-maker}
-use Rattle.engine.specs.Outcome.{OutcomeIs, acceptedWith, isAbsent, refusedWith, withCountsIn}
+use Rattle.engine.specs.Outcome.{OutcomeIs, acceptedWith, refusedWith, withCountsIn}
 use Rattle.engine.specs.Removal.{removalCode}
 use Rattle.engine.specs.declared.answers.Outcome.{Outcome}
 use Rattle.engine.proofs.Formed.{Formed, account-at, accounts-count, contracts-count, formed, listing-at, no-account, no-contract}
@@ -61,11 +61,11 @@ use Rattle.quoting.proofs.Undo.{made-room, undo-both, undo-nothing, und
 -- an order trades at most once with each order that it meets
 needed-few : (y : Exchange) (number : ℕ) (o : NewOrder) → tradesNeeded y number o ≤ length (opposite (o .sell) (listingOf y o))
 unfolding tradesNeeded
-needed-few y number o = by (inAuction (listingOf y o .contract))
+needed-few y number o = by-auction (inAuction (listingOf y o .contract))
   where
-    by : (b : Bool) → pick b 0 (length (sweep (takerOf y number 0 o) (o .lots) (listingOf y o .contract .last) (opposite (o .sell) (listingOf y o)) .trades)) ≤ length (opposite (o .sell) (listingOf y o))
-    by true = omega arith
-    by false = omega (arith, trades-counted (takerOf y number 0 o) (o .lots) (listingOf y o .contract .last) (opposite (o .sell) (listingOf y o)), count-within (takerOf y number 0 o) (o .lots) (opposite (o .sell) (listingOf y o)))
+    by-auction : (b : Bool) → pick b 0 (length (sweep (takerOf y number 0 o) (o .lots) (listingOf y o .contract .last) (opposite (o .sell) (listingOf y o)) .trades)) ≤ length (opposite (o .sell) (listingOf y o))
+    by-auction true = omega arith
+    by-auction false = omega (arith, trades-counted (takerOf y number 0 o) (o .lots) (listingOf y o .contract .last) (opposite (o .sell) (listingOf y o)), count-within (takerOf y number 0 o) (o .lots) (opposite (o .sell) (listingOf y o)))
 
 -- an order trades and rests at most its lots
 rested-lots : (b : Bool) (lots : ℕ) (ts : List Trade) → restedLots b lots ts ≤ lots
@@ -79,11 +79,11 @@ entered-lots y number mark o =
     entered-either y number mark o (λ e. (tradedLots (e .trades) ≤ o .lots) × (e .rested ≤ o .lots)) (λ h. (omega (arith, traded-nil), omega arith))
     (λ h. (swept-at-most (takerOf y number mark o) (o .lots) (listingOf y o .contract .last) (opposite (o .sell) (listingOf y o)), rested-lots (isGoodForDay (o .time)) (o .lots) _))
 
--- what the code takes out of the two queues is the account's old quote; k is the contract's number as the code widens it
-pub gone-written : {s : State} {buys sells trades : List ℕ} (w : WellFormedState s buys sells trades) (account contract : ℕ) → removalCode s account contract false ≡ 0 → {k : ℕ} → k ≡ contract
+-- what the code takes out of the two queues is the account's old quote
+pub gone-written : {s : State} {buys sells trades : List ℕ} (w : WellFormedState s buys sells trades) (account contract : ℕ) → removalCode s account contract false ≡ 0 → {place : ℕ} → place ≡ placeOf contract
     → {r : State} {bid offer : Pulled} {buys′ sells′ : List ℕ}
-    → PulledIs (isQuoteOf (placeOf account)) buys (k - 1) (getD (s .buys) (k - 1) 0) bid buys′ → PulledIs (isQuoteOf (placeOf account)) sells (k - 1) (getD (s .sells) (k - 1) 0) offer sells′
-    → r ≡ withCountsIn s (set (s .buys) (k - 1) (bid .count)) (set (s .sells) (k - 1) (offer .count)) → memory r buys′ sells′ trades ≡ goneIn (memory s buys sells trades) account contract
+    → PulledIs (isQuoteOf (placeOf account)) buys place (getD (s .buycounts) place 0) bid buys′ → PulledIs (isQuoteOf (placeOf account)) sells place (getD (s .sellcounts) place 0) offer sells′
+    → r ≡ withCountsIn s (set (s .buycounts) place (bid .count)) (set (s .sellcounts) place (offer .count)) → memory r buys′ sells′ trades ≡ goneIn (memory s buys sells trades) account contract
 gone-written w account contract none is b o e =
     rw e
     (sym (lies w account contract false none is (isQuoteOf (placeOf account)) (record { queue = b .queue; count = b .count; lots = b .lots }) (record { queue = o .queue; count = o .count; lots = o .lots })))
@@ -136,14 +136,14 @@ module _ {s : State} {buys sells trades : List ℕ} (w : WellFormedState s buys 
 
   early-same : firstOf rulesEarly ≡ firstOf early
   unfolding firstOf
-  early-same = rw (no-account m f account, no-contract m f contract) (by (isAbsent account (s .accountcount)) refl (isAbsent contract (s .contractcount)) refl)
+  early-same = rw (no-account m f account, no-contract m f contract) (by-absence (isAbsent account (s .accountcount)) refl (isAbsent contract (s .contractcount)) refl)
     where
-      by : (b : Bool) → isAbsent account (s .accountcount) ≡ b → (d : Bool) → isAbsent contract (s .contractcount) ≡ d
+      by-absence : (b : Bool) → isAbsent account (s .accountcount) ≡ b → (d : Bool) → isAbsent contract (s .contractcount) ≡ d
           → _≡_ {A = ℕ} (pick b 2 (pick d 3 (pick (not (eqb (listingAt x c .contract .phase) continuous)) 4 (pick (not (eqb (accountAt (x .accounts) a .maker) 1)) 23 (pick (not (ltb buy sell)) 24 0)))))
           (pick b 2 (pick d 3 (pick (not (eqb (getD (s .contracts) c noContract .phase) continuous)) 4 (pick (not (eqb (getD (s .accounts) a noAccount .maker) 1)) 23 (pick (not (ltb buy sell)) 24 0)))))
-      by true e d h = refl
-      by false e true h = refl
-      by false e false h = rw (contract-is m f c (place-below contract (s .contractcount) h .1), maker-is (place-below account (s .accountcount) e .1)) refl
+      by-absence true e d h = refl
+      by-absence false e true h = refl
+      by-absence false e false h = rw (contract-is m f c (place-below contract (s .contractcount) h .1), maker-is (place-below account (s .accountcount) e .1)) refl
 
   abbrev orderCodes : List Refusal
   orderCodes = orderRefusals (withoutQuote x q) (buyOf q) ++ orderRefusals (withBuy x q) (sellOf q)
@@ -165,8 +165,8 @@ module _ {s : State} {buys sells trades : List ℕ} (w : WellFormedState s buys 
     pub here : c < s .contractcount
     here = place-below contract (s .contractcount) (tests .1 .0) .1
 
-    pub place-low : {k : ℕ} → k ≡ contract → 1 ≤ k
-    place-low e = omega (arith, place-below contract (s .contractcount) (tests .1 .0) .0)
+    pub contract-low : 1 ≤ contract
+    contract-low = place-below contract (s .contractcount) (tests .1 .0) .0
 
     pub removable : removalCode s account contract false ≡ 0
     unfolding removalCode firstOf
@@ -202,20 +202,20 @@ module _ {s : State} {buys sells trades : List ℕ} (w : WellFormedState s buys 
     gone-few = gone-counted x (f .contents) q holder listed counts
 
     abbrev queue : Bool → List Order
-    queue side = queueIn (pick side sells buys) c (getD (pick side (s .sells) (s .buys)) c 0)
+    queue side = queueIn (pick side sells buys) c (getD (pick side (s .sellcounts) (s .buycounts)) c 0)
 
     abbrev left : Bool → List Order
     left side = without (isQuoteOf a) (queue side)
 
-    side-few : (side : Bool) → getD (pick side (s .sells) (s .buys)) c 0 ≤ maxResting
+    side-few : (side : Bool) → getD (pick side (s .sellcounts) (s .buycounts)) c 0 ≤ maxResting
     side-few true = f .sells-high c here
     side-few false = f .buys-high c here
 
     left-few : (side : Bool) → length (left side) ≤ maxResting
-    left-few side = omega (arith, length-without (isQuoteOf a) (queue side), length-queue (pick side sells buys) c (getD (pick side (s .sells) (s .buys)) c 0), side-few side)
+    left-few side = omega (arith, length-without (isQuoteOf a) (queue side), length-queue (pick side sells buys) c (getD (pick side (s .sellcounts) (s .buycounts)) c 0), side-few side)
 
     gone-lies : put m (withoutQuote x q)
-        ≡ memory (withCountsIn s (set (s .buys) c (length (left false))) (set (s .sells) c (length (left true)))) (putQueue buys c (getD (s .buys) c 0) (left false)) (putQueue sells c (getD (s .sells) c 0) (left true)) trades
+        ≡ memory (withCountsIn s (set (s .buycounts) c (length (left false))) (set (s .sellcounts) c (length (left true)))) (putQueue buys c (getD (s .buycounts) c 0) (left false)) (putQueue sells c (getD (s .sellcounts) c 0) (left true)) trades
     unfolding withoutQuote listingIn
     gone-lies = rw (listing-at m f c here) (put-queues m f c here (left false) (left true) (left-few false) (left-few true))
 
@@ -387,7 +387,7 @@ module _ {s : State} {buys sells trades : List ℕ} (w : WellFormedState s buys 
             wrote : m₂ ≡ put m₁ after₁
             wrote = buy-left ∙ ap (put m₁) (sym after-is)
 
-            written₁ : (buys₂ ≡ putQueue buys₁ c (getD (gone .buys) c 0) (listing₁ .buys)) × (sells₂ ≡ putQueue sells₁ c (getD (gone .sells) c 0) (listing₁ .sells)) × (trades₂ ≡ store tradeWords trades (tradeStride * gone .tradecount) made)
+            written₁ : (buys₂ ≡ putQueue buys₁ c (getD (gone .buycounts) c 0) (listing₁ .buys)) × (sells₂ ≡ putQueue sells₁ c (getD (gone .sellcounts) c 0) (listing₁ .sells)) × (trades₂ ≡ store tradeWords trades (tradeStride * gone .tradecount) made)
             written₁ =
                 let e = wrote ∙ put-traded m₁ f₁ c listing₁ made (exchangeOf m₁ .next + 1) (exchangeOf m₁ .nextstamp + 1) here₁ kept₁ counted₁ in
                 (ap (λ (n : Memory). n .buys) e, ap (λ (n : Memory). n .sells) e, ap (λ (n : Memory). n .trades) e)
@@ -532,26 +532,26 @@ module _ {s : State} {buys sells trades : List ℕ} (w : WellFormedState s buys 
                         trades-back = λ z. absurd (z zero-told);
                       }
 
-    -- ---- what is kept and put back; k is the contract's number as the code widens it, n the room of the copy
+    -- ---- what is kept and put back; n is the room of the copy
 
     pub traded-few : s .tradecount ≤ maxTrades
     traded-few = f .trades-high
 
-    pub buys-room : {k n : ℕ} → k ≡ contract → n ≡ queueStride → queueStride * (k - 1) + n ≤ length buys
-    buys-room ek en = rw (ek, en) room-buys
+    pub buys-room : {place n : ℕ} → place ≡ placeOf contract → n ≡ queueStride → queueStride * place + n ≤ length buys
+    buys-room is en = rw (is, en) room-buys
 
-    pub sells-room : {k n : ℕ} → k ≡ contract → n ≡ queueStride → queueStride * (k - 1) + n ≤ length sells
-    sells-room ek en = rw (ek, en) room-sells
+    pub sells-room : {place n : ℕ} → place ≡ placeOf contract → n ≡ queueStride → queueStride * place + n ≤ length sells
+    sells-room is en = rw (is, en) room-sells
 
     pub kept-room : {at n : ℕ} → at ≡ madeFrom (s .tradecount) → n ≡ tradeStride * maxResting → at + n ≤ length trades
     kept-room ea en = rw (ea, en) trades-room
 
     module _ {r : Outcome} {buys′ sells′ trades′ : List ℕ} (p : PlacedIs s buys sells trades account contract lots buy sell r buys′ sells′ trades′) (some : r .answer .code ≡ 0 → ⊥) where
-      pub buys-again : {k n : ℕ} → k ≡ contract → n ≡ queueStride → {kept buys″ : List ℕ} → kept ≡ take n (drop (queueStride * (k - 1)) buys) → buys″ ≡ over buys′ (queueStride * (k - 1)) kept → buys″ ≡ buys
-      buys-again ek en e h = h ∙ rw (e, ek, en) (p .buys-back some .back)
+      pub buys-again : {place n : ℕ} → place ≡ placeOf contract → n ≡ queueStride → {kept buys″ : List ℕ} → kept ≡ take n (drop (queueStride * place) buys) → buys″ ≡ over buys′ (queueStride * place) kept → buys″ ≡ buys
+      buys-again is en e h = h ∙ rw (e, is, en) (p .buys-back some .back)
 
-      pub sells-again : {k n : ℕ} → k ≡ contract → n ≡ queueStride → {kept sells″ : List ℕ} → kept ≡ take n (drop (queueStride * (k - 1)) sells) → sells″ ≡ over sells′ (queueStride * (k - 1)) kept → sells″ ≡ sells
-      sells-again ek en e h = h ∙ rw (e, ek, en) (p .sells-back some .back)
+      pub sells-again : {place n : ℕ} → place ≡ placeOf contract → n ≡ queueStride → {kept sells″ : List ℕ} → kept ≡ take n (drop (queueStride * place) sells) → sells″ ≡ over sells′ (queueStride * place) kept → sells″ ≡ sells
+      sells-again is en e h = h ∙ rw (e, is, en) (p .sells-back some .back)
 
       pub trades-again : {at n : ℕ} → at ≡ madeFrom (s .tradecount) → n ≡ tradeStride * maxResting → {kept trades″ : List ℕ} → kept ≡ take n (drop at trades) → trades″ ≡ over trades′ at kept → trades″ ≡ trades
       trades-again ea en e h = h ∙ rw (e, ea, en) (p .trades-back some .back)

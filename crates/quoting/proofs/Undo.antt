@@ -64,25 +64,25 @@ undo-queue area c k q few short room =
 pub undo-trades : (area : List ℕ) (recorded : ℕ) (ts : List Trade) → length ts ≤ maxResting → recorded + length ts ≤ maxTrades → tradeStride * maxTrades ≤ length area
     → Undoable (madeFrom recorded) (tradeStride * maxResting) area (store tradeWords area (tradeStride * recorded) ts)
 undo-trades area recorded ts few fit room =
-    rw (store-over trade-codec area (tradeStride * recorded) ts) (by (leb recorded 960) refl)
+    rw (store-over trade-codec area (tradeStride * recorded) ts) (by-recorded (leb recorded 960) refl)
   where
-    by : (b : Bool) → leb recorded 960 ≡ b → Undoable (tradeStride * pick b recorded 960) (tradeStride * maxResting) area (over area (tradeStride * recorded) (encode tradeWords ts))
-    by true e =
+    by-recorded : (b : Bool) → leb recorded 960 ≡ b → Undoable (tradeStride * pick b recorded 960) (tradeStride * maxResting) area (over area (tradeStride * recorded) (encode tradeWords ts))
+    by-recorded true e =
         let h : recorded ≤ 960 = leb-true recorded 960 e in
         undo-write area (tradeStride * recorded) (tradeStride * maxResting) 0 (tradeStride * recorded) (encode tradeWords ts) (omega arith) (rw (length-encode trade-codec ts) (omega arith)) (omega arith)
-    by false e =
+    by-recorded false e =
         let h = leb-false recorded 960 e in
         undo-write area (tradeStride * 960) (tradeStride * maxResting) (tradeStride * (recorded - 960)) (tradeStride * recorded) (encode tradeWords ts) (omega arith) (rw (length-encode trade-codec ts) (omega arith)) (omega arith)
 
 -- the part that is kept of the trades lies within the day's room
 pub made-room : (recorded : ℕ) → madeFrom recorded + tradeStride * maxResting ≤ tradeStride * maxTrades
-made-room recorded = by (leb recorded 960) refl
+made-room recorded = by-recorded (leb recorded 960) refl
   where
-    by : (b : Bool) → leb recorded 960 ≡ b → tradeStride * pick b recorded 960 + tradeStride * maxResting ≤ tradeStride * maxTrades
-    by true e =
+    by-recorded : (b : Bool) → leb recorded 960 ≡ b → tradeStride * pick b recorded 960 + tradeStride * maxResting ≤ tradeStride * maxTrades
+    by-recorded true e =
         let h : recorded ≤ 960 = leb-true recorded 960 e in
         omega arith
-    by false e = omega arith
+    by-recorded false e = omega arith
 
 -- nothing written
 pub undo-nothing : (at n : ℕ) (a : List ℕ) → at + n ≤ length a → Undoable at n a a

@@ -10,9 +10,9 @@ use Rattle.areas.specs.Lists.{over}
 use Rattle.laws.specs.Choice.{pick}
 use Rattle.rules.specs.Answers.{Refusal, _when_, firstOf, listingOf, orderRefusals}
 use Rattle.rules.specs.Bounds.{continuous, maxResting, maxTrades}
-use Rattle.rules.specs.Exchange.{accountAt, listingAt, noAccount, noContract, own, placeOf}
+use Rattle.rules.specs.Exchange.{accountAt, listingAt, noAccount, noContract, own, placeOf, isAbsent}
 use Rattle.rules.specs.Kinds.{refused}
-use Rattle.rules.specs.Memory.{Memory, Responded, exchangeOf, inMemory, memory, put, queueStride, stepIn, tradeStride}
+use Rattle.rules.specs.Memory.{Memory, AfterCommand, exchangeOf, inMemory, memory, put, queueStride, stepIn, tradeStride}
 use Rattle.rules.specs.Step.{listingWithout, withListing}
 use Rattle.rules.specs.WellFormed.{isQuoteOf, quotes}
 use Rattle.rules.specs.declared.Command.the-variants.{Quote}
@@ -20,7 +20,7 @@ use Rattle.rules.specs.declared.NewOrder.{NewOrder}
 use Rattle.rules.specs.declared.PriceCondition.the-variants.{Limit}
 use Rattle.rules.specs.declared.State.{State}
 use Rattle.rules.specs.declared.TimeCondition.the-variants.{GoodForDay}
-use Rattle.engine.specs.Outcome.{OutcomeIs, isAbsent}
+use Rattle.engine.specs.Outcome.{OutcomeIs}
 use Rattle.engine.specs.declared.answers.Outcome.{Outcome}
 use Rattle.refusals.specs.Insertion.{Present}
 use Rattle.insertion.specs.Arrival.{enteredIn}
@@ -55,7 +55,7 @@ pub record Markable (s : State) (buys sells trades : List ℕ) (o : NewOrder) : 
   pub single : quotes (placeOf (o .account)) (own (o .sell) (listingOf (exchangeOf (memory s buys sells trades)) o)) ≡ 0
 
 -- refused with its code from 5 on, or entered with the next number, marked
-abbrev pub markedIn : Memory → NewOrder → Responded
+abbrev pub markedIn : Memory → NewOrder → AfterCommand
 markedIn m o =
     pick (eqb (firstOf (orderRefusals (exchangeOf m) o)) 0)
     (enteredIn m o (m .state .next) 1 (m .state .next + 1))

@@ -36,13 +36,13 @@ fn early_code(state: State, account: u32, contract: u32, buy: u32, sell: u32) ->
     if answers::is_absent(contract, state.contractcount) {
         return 3;
     }
-    let c = laws::wide(contract) - 1;
+    let c = laws::place_of(contract);
     let contracts = state.contracts;
     let terms = contracts[c];
     if terms.phase != CONTINUOUS {
         return 4;
     }
-    let a = laws::wide(account) - 1;
+    let a = laws::place_of(account);
     let who = state.accounts[a];
     if who.maker != 1 {
         return 23;
@@ -81,9 +81,9 @@ fn remove_quote(
     requires { ⌜ WellFormedState state (now buys) (now sells) (now trades) × (removalCode state account contract false ≡ 0) ⌝ }
     ensures { λ r. ⌜ memory r (now (buys .exit)) (now (sells .exit)) (now (trades .entry)) ≡ goneIn (memory state (now (buys .entry)) (now (sells .entry)) (now (trades .entry))) account contract ⌝ }
 {
-    let c = laws::wide(contract) - 1;
-    let bids = state.buys;
-    let offers = state.sells;
+    let c = laws::place_of(contract);
+    let bids = state.buycounts;
+    let offers = state.sellcounts;
     let bought = bids[c];
     let sold = offers[c];
     let bid = book::removal::pull(buys, c, bought, account - 1, true);
@@ -102,7 +102,7 @@ fn enter_marked(
     requires { ⌜ WellFormedState state (now buys) (now sells) (now trades) × Markable state (now buys) (now sells) (now trades) o ⌝ }
     ensures { λ r. ⌜ OutcomeIs (markedIn (memory state (now (buys .entry)) (now (sells .entry)) (now (trades .entry))) o) r (now (buys .exit)) (now (sells .exit)) (now (trades .exit)) ⌝ }
 {
-    let a = laws::wide(o.account) - 1;
+    let a = laws::place_of(o.account);
     let who = state.accounts[a];
     let code = codes::order_code(state, who, &buys[..], &sells[..], &trades[..], o);
     if code != 0 {
@@ -213,7 +213,7 @@ pub fn quote(
     if early != 0 {
         return answers::refused(state, early);
     }
-    let queue = rules::QUEUE_STRIDE * (laws::wide(contract) - 1);
+    let queue = rules::QUEUE_STRIDE * laws::place_of(contract);
     let recorded = first_made(state.tradecount);
     let mut bids = [0; rules::QUEUE_STRIDE];
     let mut offers = [0; rules::QUEUE_STRIDE];

@@ -38,8 +38,8 @@ withLeg s a c sell lots =
     record {
       contracts = s .contracts;
       accounts = bookLeg (s .accounts) a c sell 0 lots;
-      buys = s .buys;
-      sells = s .sells;
+      buycounts = s .buycounts;
+      sellcounts = s .sellcounts;
       contractcount = s .contractcount;
       accountcount = s .accountcount;
       tradecount = s .tradecount;
@@ -86,11 +86,11 @@ module _ {s : State} {buys sells trades : List ℕ} (w : WellFormedState s buys 
   in-place = omega (arith, p .contract, p .account, f .contracts-high, f .accounts-high, f .declared .holdings a (omega (arith, p .account, f .accounts-high)))
 
   with-lots : o .lots ≤ 1_000 → (i : ℕ) → i < s .contractcount
-      → ChargeableIn (getD (s .contracts) i noContract) buys (getD (s .buys) i 0) sells (getD (s .sells) i 0) i a (getD (set holdings c after) i noHolding)
+      → ChargeableIn (getD (s .contracts) i noContract) buys (getD (s .buycounts) i 0) sells (getD (s .sellcounts) i 0) i a (getD (set holdings c after) i noHolding)
   with-lots few i li =
       let leg = open-leg (getD holdings c noHolding) (o .sell) (o .lots) in
       at-set
-      (λ (i : ℕ) (h : Holding). i < s .contractcount → ChargeableIn (getD (s .contracts) i noContract) buys (getD (s .buys) i 0) sells (getD (s .sells) i 0) i a h)
+      (λ (i : ℕ) (h : Holding). i < s .contractcount → ChargeableIn (getD (s .contracts) i noContract) buys (getD (s .buycounts) i 0) sells (getD (s .sellcounts) i 0) i a h)
       holdings c after noHolding in-place
       (λ l. in-contract m f a (p .account) c l after (omega (arith, leg .0)) (omega (arith, leg .1)))
       i (λ n l. in-contract m f a (p .account) i l (getD holdings i noHolding) (omega arith) (omega arith)) li
@@ -100,9 +100,9 @@ module _ {s : State} {buys sells trades : List ℕ} (w : WellFormedState s buys 
   unfolding bookLeg accountAt holdingAt
   held-after = ap (λ (u : Account). u .holdings) (getD-set-same (s .accounts) a _ noAccount (omega (arith, p .account, few-accounts m f)))
 
-  -- k and j are the numbers of the contract and of the account as the code widens them
-  module _ (few : o .lots ≤ 1_000) {k j : ℕ} (is : k ≡ o .contract) (ej : j ≡ o .account) {who : Account} (ew : getD (s .accounts) (o .account - 1) noAccount ≡ who) where
-    pub can-hold : HoldingWithin 2_000_000 (getD (who .holdings) (k - 1) noHolding)
+  -- the places of the contract and of the account
+  module _ (few : o .lots ≤ 1_000) {place holder : ℕ} (is : place ≡ o .contract - 1) (whose : holder ≡ o .account - 1) {who : Account} (ew : getD (s .accounts) (o .account - 1) noAccount ≡ who) where
+    pub can-hold : HoldingWithin 2_000_000 (getD (who .holdings) place noHolding)
     can-hold =
         let g = chargeable m f a (p .account) .each c (p .contract) in
         rw (is, ← ew) (record { long = omega (arith, g .long); short = omega (arith, g .short) })
@@ -111,16 +111,16 @@ module _ {s : State} {buys sells trades : List ℕ} (w : WellFormedState s buys 
     unfolding accountAt
     balance-fits = rw (← ew) (balance-within m f a (p .account))
 
-    module _ {held : Account} (eh : held ≡ withHolding who (k - 1) (afterLeg (getD (who .holdings) (k - 1) noHolding) (o .sell) 0 (o .lots))) where
-      pub can-charge : Chargeable (held .holdings) (s .contracts) (s .contractcount) buys (s .buys) sells (s .sells) (j - 1)
-      can-charge = rw (eh, ej, is, ← ew) (record { account = omega (arith, p .account, f .accounts-high); few = f .contracts-high; each = with-lots few })
+    module _ {held : Account} (eh : held ≡ withHolding who place (afterLeg (getD (who .holdings) place noHolding) (o .sell) 0 (o .lots))) where
+      pub can-charge : Chargeable (held .holdings) (s .contracts) (s .contractcount) buys (s .buycounts) sells (s .sellcounts) holder
+      can-charge = rw (eh, whose, is, ← ew) (record { account = omega (arith, p .account, f .accounts-high); few = f .contracts-high; each = with-lots few })
 
-      module _ {total : ℕ} (et : ChargedIs (held .holdings) (s .contracts) (s .contractcount) buys (s .buys) sells (s .sells) (j - 1) total) where
+      module _ {total : ℕ} (et : ChargedIs (held .holdings) (s .contracts) (s .contractcount) buys (s .buycounts) sells (s .sellcounts) holder total) where
         charged-is : total ≡ chargedWith x a c (o .sell) (o .lots)
         charged-is =
             et .charged (withLeg s a c (o .sell) (o .lots)) trades
-            (record { account = rw ej (p .account); held = rw (ej, eh, is, ← ew) held-after; listed = refl; count = refl; bought = refl; sold = refl })
-            ∙ rw (ej, leg-in-use s buys sells trades a c (o .sell) (o .lots) (p .account) (p .contract))
+            (record { account = rw whose (p .account); held = rw (whose, eh, is, ← ew) held-after; listed = refl; count = refl; bought = refl; sold = refl })
+            ∙ rw (whose, leg-in-use s buys sells trades a c (o .sell) (o .lots) (p .account) (p .contract))
 
         pub money-is : {r : Bool} → o .close ≡ false → r ≡ ltZ (who .balance) (pos total) → r ≡ moneyRefused x o
         unfolding moneyRefused accountAt

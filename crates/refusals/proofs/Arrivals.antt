@@ -44,11 +44,11 @@ module _ (area : List ℕ) (c count : ℕ) where
 pub count-within : (t : Taker) (left : ℕ) (os : List Order) → countTrades t left os ≤ length os
 unfolding countTrades
 count-within t left [] = omega arith
-count-within t left (o ∷ os) = go (ltb 0 left && counterpart t o) (count-within t (left - o .lots) os)
+count-within t left (o ∷ os) = by-trade (ltb 0 left && counterpart t o) (count-within t (left - o .lots) os)
   where
-    go : (b : Bool) → countTrades t (left - o .lots) os ≤ length os → pick b (1 + countTrades t (left - o .lots) os) 0 ≤ suc (length os)
-    go true h = omega arith
-    go false h = omega arith
+    by-trade : (b : Bool) → countTrades t (left - o .lots) os ≤ length os → pick b (1 + countTrades t (left - o .lots) os) 0 ≤ suc (length os)
+    by-trade true h = omega arith
+    by-trade false h = omega arith
 
 module _ (t : Taker) (lots : ℕ) {area : List ℕ} {c count : ℕ} (room : QueueRoom area c count) where
   pub few-trades : countTrades t lots (queueIn area c count) ≤ maxResting

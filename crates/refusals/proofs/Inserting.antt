@@ -10,9 +10,9 @@ use lib.Dec.{eqb, leb, ltb}
 use lib.ListN.{length, getD}
 use Rattle.laws.specs.Choice.{both-true, pick}
 use Rattle.rules.specs.Kinds.{codeOf, kindOf}
-use Rattle.rules.specs.Answers.{Refusal, conditionsRefused, firstOf, fillableLots, holdingRefused, insertRefusals, listingOf, mark, moneyRefused, orderRefusals, overHolding, overLimit, takerOf, takesOrders, tradesNeeded, tradesRefused}
+use Rattle.rules.specs.Answers.{Refusal, conditionsRefused, firstOf, fillableLots, holdingRefused, insertRefusals, listingOf, mark, moneyRefused, orderRefusals, overHolding, overLimit, takerOf, takesOrders, tradesNeeded, tradesRefused, takerFor, fieldsRefusals, accountRefusals}
 use Rattle.rules.specs.Bounds.{inAuction, maxLots, termsInRange, within, maxResting, maxTrades}
-use Rattle.rules.specs.Exchange.{Exchange, accountAt, holdingAt, noAccount, noContract, noHolding, opposite, own, placeOf, resting}
+use Rattle.rules.specs.Exchange.{Exchange, accountAt, holdingAt, noAccount, noContract, noHolding, opposite, own, placeOf, resting, isAbsent}
 use Rattle.rules.specs.Memory.{Memory, exchangeOf, queueIn, memory, WellFormedState, firstWord}
 use Rattle.rules.specs.declared.Account.{Account}
 use Rattle.rules.specs.declared.Command.the-variants.{Insert}
@@ -23,8 +23,7 @@ use Rattle.rules.specs.declared.Taker.{Taker}
 use Rattle.rules.proofs.Codecs.{length-queue}
 use Rattle.book.proofs.EarlyStop.{trades-counted}
 use Rattle.invariants.proofs.Accepted.{failed}
-use Rattle.refusals.specs.Insertion.{Facing, Present, QueueRoom, accountRefusals, bookRefusals, fieldsRefusals, lotsRefused, sideArea, sideCount, takerFor}
-use Rattle.engine.specs.Outcome.{isAbsent}
+use Rattle.refusals.specs.Insertion.{Facing, Present, QueueRoom, bookTests, lotsRefused, sideArea, sideCount}
 use Rattle.engine.proofs.Formed.{Formed, formed, holding-at, no-account, no-contract}
 use Rattle.engine.proofs.Puts.{trades-count}
 use Rattle.engine.proofs.Refusals.{first-append}
@@ -61,13 +60,13 @@ module _ {s : State} {buys sells trades : List ℕ} (w : WellFormedState s buys 
 
   bookPart : List Refusal
   bookPart =
-      bookRefusals (inAuction (listingOf x o .contract)) (x .next) (x .nextstamp) (length (x .trades)) (length (own (o .sell) (listingOf x o))) (takerOf x (x .next) 0 o) (opposite (o .sell) (listingOf x o)) o
+      bookTests (inAuction (listingOf x o .contract)) (x .next) (x .nextstamp) (length (x .trades)) (length (own (o .sell) (listingOf x o))) (takerOf x (x .next) 0 o) (opposite (o .sell) (listingOf x o)) o
 
   abbrev code : ℕ
   code = firstOf (orderRefusals x o)
 
   in-parts : code ≡ firstOf (fieldsPart ++ (accountRefusals x o ++ bookPart))
-  unfolding orderRefusals firstOf accountRefusals bookRefusals fillableLots tradesRefused tradesNeeded fieldsPart bookPart
+  unfolding orderRefusals firstOf bookTests fillableLots tradesRefused tradesNeeded fieldsPart bookPart
   in-parts = rw trades-counted
 
   fields-first : firstOf (fieldsPart ++ (accountRefusals x o ++ bookPart)) ≡ pick (eqb (firstOf fieldsPart) 0) (firstOf (accountRefusals x o ++ bookPart)) (firstOf fieldsPart)
@@ -75,7 +74,6 @@ module _ {s : State} {buys sells trades : List ℕ} (w : WellFormedState s buys 
   fields-first = first-append fieldsPart (accountRefusals x o ++ bookPart) (omega arith)
 
   account-first : firstOf (accountRefusals x o ++ bookPart) ≡ pick (eqb (firstOf (accountRefusals x o)) 0) (firstOf bookPart) (firstOf (accountRefusals x o))
-  unfolding accountRefusals
   account-first = first-append (accountRefusals x o) bookPart (omega arith)
 
   -- ---- 2, 3 and 4
@@ -90,12 +88,12 @@ module _ {s : State} {buys sells trades : List ℕ} (w : WellFormedState s buys 
   pub code-contract : isAbsent (o .account) (s .accountcount) ≡ false → isAbsent (o .contract) (s .contractcount) ≡ true → 3 ≡ codeOf x (Insert o)
   code-contract e g = sym (rw (insert-parts, e, g))
 
-  -- the account's place; j is its number as the code widens it
-  pub holder-low : isAbsent (o .account) (s .accountcount) ≡ false → {j : ℕ} → j ≡ o .account → 1 ≤ j
-  holder-low e ej = omega (arith, place-below (o .account) (s .accountcount) e .0)
+  -- the account's place
+  pub holder-low : isAbsent (o .account) (s .accountcount) ≡ false → 1 ≤ o .account
+  holder-low e = place-below (o .account) (s .accountcount) e .0
 
-  pub holder-fits : isAbsent (o .account) (s .accountcount) ≡ false → {j : ℕ} → j ≡ o .account → j - 1 < 32
-  holder-fits e ej = omega (arith, place-below (o .account) (s .accountcount) e .1, f .accounts-high)
+  pub holder-fits : isAbsent (o .account) (s .accountcount) ≡ false → {place : ℕ} → place ≡ o .account - 1 → place < 32
+  holder-fits e is = omega (arith, place-below (o .account) (s .accountcount) e .1, f .accounts-high)
 
   pub present : isAbsent (o .account) (s .accountcount) ≡ false → isAbsent (o .contract) (s .contractcount) ≡ false → Present s o
   present e g =
@@ -106,23 +104,23 @@ module _ {s : State} {buys sells trades : List ℕ} (w : WellFormedState s buys 
   pub recorded-high : s .tradecount ≤ maxTrades
   recorded-high = f .trades-high
 
-  -- ---- an order whose account and contract are in use; k is its contract's number as the code widens it
+  -- ---- an order whose account and contract are in use
 
-  module _ (p : Present s o) {k : ℕ} (is : k ≡ o .contract) where
-    pub place-fits : k - 1 < 4
+  module _ (p : Present s o) {place : ℕ} (is : place ≡ o .contract - 1) where
+    pub place-fits : place < 4
     place-fits = omega (arith, p .contract, f .contracts-high)
 
-    pub terms-in-range : termsInRange (getD (s .contracts) (k - 1) noContract) ≡ true
+    pub terms-in-range : termsInRange (getD (s .contracts) place noContract) ≡ true
     terms-in-range = rw is (contract-terms m f c (p .contract))
 
     -- 8
-    module _ {own₁ : List ℕ} {count : ℕ} (ea : own₁ ≡ sideArea (o .sell) buys sells) (ec : count ≡ sideCount (o .sell) s (k - 1)) where
-      pub own-room : (count ≤ maxResting) × (firstWord (k - 1) count ≤ length own₁)
+    module _ {own₁ : List ℕ} {count : ℕ} (ea : own₁ ≡ sideArea (o .sell) buys sells) (ec : count ≡ sideCount (o .sell) s place) where
+      pub own-room : (count ≤ maxResting) × (firstWord place count ≤ length own₁)
       own-room =
           let r = side-room m f c (p .contract) (o .sell) in
           rw (ec, ea, is) (r .few, r .room)
 
-      module _ {mark₁ rested : ℕ} (em : mark₁ ≡ mark (o .close)) (er : rested ≡ resting mark₁ (o .account - 1) (queueIn own₁ (k - 1) count)) where
+      module _ {mark₁ rested : ℕ} (em : mark₁ ≡ mark (o .close)) (er : rested ≡ resting mark₁ (o .account - 1) (queueIn own₁ place count)) where
         rested-is : rested ≡ resting (mark (o .close)) (o .account - 1) (queueIn (sideArea (o .sell) buys sells) c (sideCount (o .sell) s c))
         rested-is = er ∙ rw (em, ec, ea, is)
 
@@ -130,7 +128,7 @@ module _ {s : State} {buys sells trades : List ℕ} (w : WellFormedState s buys 
         rested-low = rw rested-is (resting-low m f c (p .contract) (o .account - 1) (p .account) (o .sell) (o .close))
 
         module _ {who : Account} (ew : getD (s .accounts) (o .account - 1) noAccount ≡ who) {r : Bool}
-            (el : r ≡ lotsRefused (getD (s .contracts) (k - 1) noContract) (getD (who .holdings) (k - 1) noHolding) rested o) where
+            (el : r ≡ lotsRefused (getD (s .contracts) place noContract) (getD (who .holdings) place noHolding) rested o) where
           holding-is : r ≡ holdingRefused x o
           unfolding holdingRefused overHolding overLimit lotsRefused listingOf holdingAt accountAt
           holding-is =
@@ -139,22 +137,22 @@ module _ {s : State} {buys sells trades : List ℕ} (w : WellFormedState s buys 
               (sym (lots-by-mark (o .close) _ _ _ (o .lots) (o .account - 1) _))
 
           pub account-lots : r ≡ true → 8 ≡ firstOf (accountRefusals x o)
-          unfolding firstOf accountRefusals
+          unfolding firstOf
           account-lots t = rw (← holding-is, t)
 
           -- 9
           module _ (t : r ≡ false) {q : Bool} (eq : q ≡ moneyRefused x o) where
             pub account-money : q ≡ true → 9 ≡ firstOf (accountRefusals x o)
-            unfolding firstOf accountRefusals
+            unfolding firstOf
             account-money u = rw (← holding-is, t, ← eq, u)
 
             pub account-clear : q ≡ false → 0 ≡ firstOf (accountRefusals x o)
-            unfolding firstOf accountRefusals
+            unfolding firstOf
             account-clear u = rw (← holding-is, t, ← eq, u)
 
     -- ---- 4 of an insert, and on to its order
 
-    module _ (e : isAbsent (o .account) (s .accountcount) ≡ false) (g : isAbsent (o .contract) (s .contractcount) ≡ false) {t : Bool} (et : t ≡ takesOrders (getD (s .contracts) (k - 1) noContract)) where
+    module _ (e : isAbsent (o .account) (s .accountcount) ≡ false) (g : isAbsent (o .contract) (s .contractcount) ≡ false) {t : Bool} (et : t ≡ takesOrders (getD (s .contracts) place noContract)) where
       takes-is : takesOrders (listingOf x o .contract) ≡ t
       unfolding listingOf
       takes-is = rw (contract-is m f c (p .contract)) (sym (rw is at et))
@@ -167,13 +165,13 @@ module _ {s : State} {buys sells trades : List ℕ} (w : WellFormedState s buys 
 
     -- ---- the parts one after the other
 
-    fields-is : firstOf (fieldsRefusals (conditionsRefused (getD (s .contracts) (k - 1) noContract) o) (getD (s .contracts) (k - 1) noContract) o) ≡ firstOf fieldsPart
+    fields-is : firstOf (fieldsRefusals (conditionsRefused (getD (s .contracts) place noContract) o) (getD (s .contracts) place noContract) o) ≡ firstOf fieldsPart
     unfolding fieldsPart listingOf
     fields-is = rw (is, contract-is m f c (p .contract))
 
     -- 5 to 7
-    module _ {conditions : Bool} (en : conditions ≡ conditionsRefused (getD (s .contracts) (k - 1) noContract) o)
-        {fields : ℕ} (et : fields ≡ firstOf (fieldsRefusals conditions (getD (s .contracts) (k - 1) noContract) o)) where
+    module _ {conditions : Bool} (en : conditions ≡ conditionsRefused (getD (s .contracts) place noContract) o)
+        {fields : ℕ} (et : fields ≡ firstOf (fieldsRefusals conditions (getD (s .contracts) place noContract) o)) where
       fields-are : fields ≡ firstOf fieldsPart
       fields-are = et ∙ rw en fields-is
 
@@ -183,7 +181,7 @@ module _ {s : State} {buys sells trades : List ℕ} (w : WellFormedState s buys 
       -- 5
       pub lots-few : fields ≡ 0 → o .lots ≤ 1_000
       lots-few passed =
-          let tests = failed (fieldsRefusals conditions (getD (s .contracts) (k - 1) noContract) o) (omega arith) (sym et ∙ passed) in
+          let tests = failed (fieldsRefusals conditions (getD (s .contracts) place noContract) o) (omega arith) (sym et ∙ passed) in
           leb-true (o .lots) maxLots (both-true (leb 1 (o .lots)) (leb (o .lots) maxLots) (not-false (within 1 maxLots (o .lots)) (tests .0)) .1)
 
       -- 8 and 9
@@ -195,23 +193,23 @@ module _ {s : State} {buys sells trades : List ℕ} (w : WellFormedState s buys 
         code-lots-or-money some = sym (on-to-account ∙ rw (account-first, ← ex, ne-eqb account 0 some))
 
         -- 10 to 13
-        module _ (clear : account ≡ 0) {own₁ count : ℕ} {area : List ℕ} (eo : own₁ ≡ sideCount (o .sell) s (k - 1)) (ea : area ≡ sideArea (not (o .sell)) buys sells)
-            (ec : count ≡ sideCount (not (o .sell)) s (k - 1)) where
+        module _ (clear : account ≡ 0) {own₁ count : ℕ} {area : List ℕ} (eo : own₁ ≡ sideCount (o .sell) s place) (ea : area ≡ sideArea (not (o .sell)) buys sells)
+            (ec : count ≡ sideCount (not (o .sell)) s place) where
           pub opposite-room : QueueRoom area (o .contract - 1) count
           opposite-room = rw (ec, ea, is) (side-room m f c (p .contract) (not (o .sell)))
 
-          module _ {t : Taker} (er : t ≡ takerFor (s .next) 0 (s .nextstamp) (getD (s .contracts) (k - 1) noContract) (queueIn area (o .contract - 1) count) o) where
-            pub facing : Facing t area (k - 1) count
+          module _ {t : Taker} (er : t ≡ takerFor (s .next) 0 (s .nextstamp) (getD (s .contracts) place noContract) (queueIn area (o .contract - 1) count) o) where
+            pub facing : Facing t area place count
             facing = rw (er, ec, ea, is) (opposite-facing m f c (p .contract) (s .next) 0 (s .nextstamp) _ o)
 
             pub recorded-few : s .tradecount ≤ maxTrades
             recorded-few = f .trades-high
 
-            book-is : firstOf (bookRefusals (inAuction (getD (s .contracts) (k - 1) noContract)) (s .next) (s .nextstamp) (s .tradecount) own₁ t (queueIn area (k - 1) count) o) ≡ firstOf bookPart
+            book-is : firstOf (bookTests (inAuction (getD (s .contracts) place noContract)) (s .next) (s .nextstamp) (s .tradecount) own₁ t (queueIn area place count) o) ≡ firstOf bookPart
             unfolding bookPart listingOf takerOf exchangeOf
             book-is =
                 rw (er, eo, ec, ea, is, trades-count m f, side-is m f c (p .contract) (o .sell), length-queue, opposite-is m f c (p .contract) (o .sell), contract-is m f c (p .contract))
 
-            pub code-book : {book : ℕ} → book ≡ firstOf (bookRefusals (inAuction (getD (s .contracts) (k - 1) noContract)) (s .next) (s .nextstamp) (s .tradecount) own₁ t (queueIn area (k - 1) count) o)
+            pub code-book : {book : ℕ} → book ≡ firstOf (bookTests (inAuction (getD (s .contracts) place noContract)) (s .next) (s .nextstamp) (s .tradecount) own₁ t (queueIn area place count) o)
                 → book ≡ code
             code-book eb = eb ∙ book-is ∙ sym (on-to-account ∙ rw (account-first, ← ex, clear))

@@ -9,7 +9,7 @@ use lib.Dec.{eqb}
 use lib.ListN.{getD}
 use Rattle.laws.specs.Choice.{pick}
 use Rattle.rules.specs.Answers as rules
-use Rattle.rules.specs.Answers.{_when_, firstOf, listingOf, stampsUsedUp, takerOf, tradesNeeded}
+use Rattle.rules.specs.Answers.{_when_, firstOf, listingOf, stampsUsedUp, takerOf, tradesNeeded, takerFor, accountRefusals}
 use Rattle.rules.specs.Bounds.{inAuction}
 use Rattle.rules.specs.Exchange.{Exchange, noContract, placeOf}
 use Rattle.rules.specs.Memory.{Memory, exchangeOf, queueIn, memory, WellFormedState}
@@ -17,7 +17,7 @@ use Rattle.rules.specs.declared.NewOrder.{NewOrder}
 use Rattle.rules.specs.declared.State.{State}
 use Rattle.rules.specs.declared.Taker.{Taker}
 use Rattle.book.proofs.EarlyStop.{trades-counted}
-use Rattle.refusals.specs.Insertion.{Present, QueueRoom, accountRefusals, reentryRefusals, sideArea, sideCount, takerFor, tradesRefused}
+use Rattle.refusals.specs.Insertion.{Present, QueueRoom, reentryRefusals, sideArea, sideCount, tradesRefused}
 use Rattle.engine.proofs.Formed.{Formed, formed}
 use Rattle.engine.proofs.Puts.{trades-count}
 use Rattle.engine.proofs.Refusals.{first-append}
@@ -40,7 +40,7 @@ module _ {s : State} {buys sells trades : List ℕ} (w : WellFormedState s buys 
   code = firstOf (reentryRefusals x number o)
 
   in-parts : code ≡ pick (eqb (firstOf (accountRefusals x o)) 0) (firstOf ((10 when stampsUsedUp x) ∷ (12 when rules.tradesRefused x number o) ∷ [])) (firstOf (accountRefusals x o))
-  unfolding reentryRefusals accountRefusals
+  unfolding reentryRefusals
   in-parts = first-append (accountRefusals x o) ((10 when stampsUsedUp x) ∷ (12 when rules.tradesRefused x number o) ∷ []) (omega arith)
 
   -- 8 and 9
@@ -58,14 +58,14 @@ module _ {s : State} {buys sells trades : List ℕ} (w : WellFormedState s buys 
       unfolding exchangeOf
       reentry-stamps h = sym (on ∙ rw (le-leb _ _ h))
 
-      -- 12; k is the contract's number as the code widens it
-      module _ (left : s .nextstamp < 1_000_000) {k : ℕ} (is : k ≡ o .contract) {area : List ℕ} {count : ℕ}
-          (ea : area ≡ sideArea (not (o .sell)) buys sells) (ec : count ≡ sideCount (not (o .sell)) s (k - 1)) where
+      -- 12
+      module _ (left : s .nextstamp < 1_000_000) {place : ℕ} (is : place ≡ o .contract - 1) {area : List ℕ} {count : ℕ}
+          (ea : area ≡ sideArea (not (o .sell)) buys sells) (ec : count ≡ sideCount (not (o .sell)) s place) where
         pub reentry-room : QueueRoom area (o .contract - 1) count
         reentry-room = rw (ec, ea, is) (side-room m f c (p .contract) (not (o .sell)))
 
-        module _ {t : Taker} (et : t ≡ takerFor number 0 (s .nextstamp) (getD (s .contracts) (k - 1) noContract) (queueIn area (o .contract - 1) count) o) {r : Bool}
-            (er : r ≡ tradesRefused (inAuction (getD (s .contracts) (k - 1) noContract)) (s .tradecount) t (queueIn area (k - 1) count) (o .lots)) where
+        module _ {t : Taker} (et : t ≡ takerFor number 0 (s .nextstamp) (getD (s .contracts) place noContract) (queueIn area (o .contract - 1) count) o) {r : Bool}
+            (er : r ≡ tradesRefused (inAuction (getD (s .contracts) place noContract)) (s .tradecount) t (queueIn area place count) (o .lots)) where
           trades-is : r ≡ rules.tradesRefused x number o
           unfolding rules.tradesRefused tradesNeeded listingOf takerOf exchangeOf
           trades-is =

@@ -7,7 +7,7 @@ use Prim.Native.Nat.{ℕ, _+_, _*_, _<_, _≤_}
 use native.Mathlib.Omega.{arith}
 use lib.ListN.{length, getD}
 use Rattle.laws.specs.Choice.{allOf, allOf-at}
-use Rattle.rules.specs.Answers.{mark}
+use Rattle.rules.specs.Answers.{mark, takerFor}
 use Rattle.rules.specs.Bounds.{termsInRange, maxResting}
 use Rattle.rules.specs.Exchange.{Exchange, Listing, holdingAt, listingAt, noContract, noOrder, opposite, own, resting}
 use Rattle.rules.specs.Memory.{Memory, exchangeOf, listingIn, queueIn, firstWord}
@@ -19,7 +19,7 @@ use Rattle.rules.proofs.Codecs.{length-queue}
 use Rattle.rules.proofs.Terms.{terms, terms-passed}
 use Rattle.holdings.specs.Bounds.{HoldingWithin}
 use Rattle.invariants.proofs.Clauses.{HoldingOk, ListingOk, order-ok}
-use Rattle.refusals.specs.Insertion.{Facing, QueueRoom, sideArea, sideCount, takerFor}
+use Rattle.refusals.specs.Insertion.{Facing, QueueRoom, sideArea, sideCount}
 use Rattle.engine.proofs.Formed.{Formed, accounts-count, contracts-count, holding-at, listing-at}
 
 module _ (m : Memory) (f : Formed m) (c : ℕ) (h : c < m .state .contractcount) where

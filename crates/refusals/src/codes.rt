@@ -13,7 +13,7 @@ ghost use Rattle.rules.specs.Matching as matching;
 ghost use Rattle.rules.specs.Kinds.{codeOf};
 ghost use Rattle.rules.specs.Memory.{exchangeOf, queueIn, memory, WellFormedState};
 ghost use Rattle.rules.specs.declared.Command.the-variants.{Insert};
-ghost use Rattle.refusals.specs.Insertion.{fieldsRefusals, lotsRefused, killRefused, tradesRefused, fullRefused, accountRefusals, bookRefusals, reentryRefusals, Present, OwnedBy, QueueRoom, Facing};
+ghost use Rattle.refusals.specs.Insertion.{lotsRefused, tradesRefused, bookTests, reentryRefusals, Present, OwnedBy, QueueRoom, Facing};
 use crate::orders;
 use engine::answers;
 use rules::AUCTION;
@@ -85,7 +85,7 @@ fn price_refused(terms: Contract, condition: PriceCondition, price: u32) -> bool
 // for it too.
 pub fn fields_code(terms: Contract, conditions: bool, o: NewOrder) -> u32
     requires { ⌜ termsInRange terms ≡ true ⌝ }
-    ensures { λ r. ⌜ r ≡ answer.firstOf (fieldsRefusals conditions terms o) ⌝ }
+    ensures { λ r. ⌜ r ≡ answer.firstOf (answer.fieldsRefusals conditions terms o) ⌝ }
 {
     let condition = o.condition;
     if !terms::within(1, rules::MAX_LOTS, o.lots) {
@@ -106,14 +106,14 @@ fn lots_refused(terms: Contract, h: Holding, rested: u64, o: NewOrder) -> bool
     requires { ⌜ rested ≤ 1000000 ⌝ }
     ensures { λ r. ⌜ r ≡ lotsRefused terms h rested o ⌝ }
 {
-    let lots = laws::wide32(o.lots);
+    let lots = laws::wide64(o.lots);
     let close = o.close;
     if close {
         let held = orders::by_side(o.sell, h.long, h.short);
-        return laws::wide32(held) < rested + lots;
+        return laws::wide64(held) < rested + lots;
     }
     let held = orders::by_side(o.sell, h.short, h.long);
-    laws::wide32(terms.limit) < laws::wide32(held) + rested + lots
+    laws::wide64(terms.limit) < laws::wide64(held) + rested + lots
 }
 
 // 9: an open passes if all charged margin, its lots included, is at most the balance. A close is never refused for money. `who` is
@@ -132,14 +132,14 @@ fn money_refused<'a>(
     if o.close {
         return false;
     }
-    let c = laws::wide(o.contract) - 1;
-    let a = laws::wide(o.account) - 1;
+    let c = laws::place_of(o.contract);
+    let a = laws::place_of(o.account);
     let held = holdings::book_leg(who, c, o.sell, 0, o.lots);
     let balance = who.balance;
     let holdings = held.holdings;
     let contracts = state.contracts;
-    let bids = state.buys;
-    let offers = state.sells;
+    let bids = state.buycounts;
+    let offers = state.sellcounts;
     let charged = margin::charged(
         holdings,
         contracts,
@@ -163,9 +163,9 @@ fn account_code<'a>(
     o: NewOrder,
 ) -> u32
     requires { ⌜ WellFormedState state (now buys) (now sells) (now trades) × Present state o × (o .lots ≤ 1000) × (getD (state .accounts) (o .account - 1) noAccount ≡ who) ⌝ }
-    ensures { λ r. ⌜ r ≡ answer.firstOf (accountRefusals (exchangeOf (memory state (now (buys .entry)) (now (sells .entry)) (now (trades .entry)))) o) ⌝ }
+    ensures { λ r. ⌜ r ≡ answer.firstOf (answer.accountRefusals (exchangeOf (memory state (now (buys .entry)) (now (sells .entry)) (now (trades .entry)))) o) ⌝ }
 {
-    let c = laws::wide(o.contract) - 1;
+    let c = laws::place_of(o.contract);
     let contracts = state.contracts;
     let terms = contracts[c];
     let h = who.holdings[c];
@@ -186,7 +186,7 @@ fn is_short(area: &[u32], c: usize, count: usize, t: Taker, lots: u32) -> bool
     requires { ⌜ Facing t (now area) c count ⌝ }
     ensures { λ r. ⌜ r ≡ ltb (matching.fillable t (queueIn (now (area .entry)) c count)) lots ⌝ }
 {
-    book::scan::fillable(area, c, count, t) < laws::wide32(lots)
+    book::scan::fillable(area, c, count, t) < laws::wide64(lots)
 }
 
 // 11: "fill or kill: fillable lots below lots".
@@ -199,7 +199,7 @@ fn kill_refused(
     time: TimeCondition,
 ) -> bool
     requires { ⌜ Facing t (now area) c count ⌝ }
-    ensures { λ r. ⌜ r ≡ killRefused t (queueIn (now (area .entry)) c count) lots time ⌝ }
+    ensures { λ r. ⌜ r ≡ answer.killRefused (matching.fillable t (queueIn (now (area .entry)) c count)) lots time ⌝ }
 {
     if !orders::is_kill(time) {
         return false;
@@ -243,7 +243,7 @@ fn full_refused(
     time: TimeCondition,
 ) -> bool
     requires { ⌜ Facing t (now area) c count ⌝ }
-    ensures { λ r. ⌜ r ≡ fullRefused auction own t (queueIn (now (area .entry)) c count) lots time ⌝ }
+    ensures { λ r. ⌜ r ≡ answer.fullRefused auction own (matching.fillable t (queueIn (now (area .entry)) c count)) lots time ⌝ }
 {
     if !orders::is_day(time) {
         return false;
@@ -279,7 +279,7 @@ fn book_code(
     o: NewOrder,
 ) -> u32
     requires { ⌜ Facing t (now area) c count × (state .tradecount ≤ maxTrades) ⌝ }
-    ensures { λ r. ⌜ r ≡ answer.firstOf (bookRefusals (inAuction terms) (state .next) (state .nextstamp) (state .tradecount) own t (queueIn (now (area .entry)) c count) o) ⌝ }
+    ensures { λ r. ⌜ r ≡ answer.firstOf (bookTests (inAuction terms) (state .next) (state .nextstamp) (state .tradecount) own t (queueIn (now (area .entry)) c count) o) ⌝ }
 {
     let time = o.time;
     let lots = o.lots;
@@ -312,7 +312,7 @@ pub fn order_code<'a>(
     requires { ⌜ WellFormedState state (now buys) (now sells) (now trades) × Present state o × (getD (state .accounts) (o .account - 1) noAccount ≡ who) ⌝ }
     ensures { λ r. ⌜ r ≡ answer.firstOf (answer.orderRefusals (exchangeOf (memory state (now (buys .entry)) (now (sells .entry)) (now (trades .entry)))) o) ⌝ }
 {
-    let c = laws::wide(o.contract) - 1;
+    let c = laws::place_of(o.contract);
     let contracts = state.contracts;
     let terms = contracts[c];
     let conditions = conditions_refused(terms, o);
@@ -347,7 +347,7 @@ pub fn code_of<'a>(
     if answers::is_absent(o.contract, state.contractcount) {
         return 3;
     }
-    let c = laws::wide(o.contract) - 1;
+    let c = laws::place_of(o.contract);
     let contracts = state.contracts;
     let terms = contracts[c];
     if !takes_orders(terms) {
@@ -377,7 +377,7 @@ pub fn reentry_code<'a>(
     if rules::NUMBERS_END <= state.nextstamp {
         return 10;
     }
-    let c = laws::wide(o.contract) - 1;
+    let c = laws::place_of(o.contract);
     let contracts = state.contracts;
     let terms = contracts[c];
     let area = orders::side_area(!o.sell, buys, sells);

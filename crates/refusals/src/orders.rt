@@ -8,7 +8,7 @@ ghost use Rattle.rules.specs.Exchange as exchange;
 ghost use Rattle.rules.specs.Matching.{methodOf};
 ghost use Rattle.rules.specs.Memory.{queueIn};
 ghost use Rattle.rules.specs.Step.{limitOf};
-ghost use Rattle.refusals.specs.Insertion.{sideArea, sideCount, QueueRoom, takerFor};
+ghost use Rattle.refusals.specs.Insertion.{sideArea, sideCount, QueueRoom};
 use rules::Contract;
 use rules::NewOrder;
 use rules::PairingMethod;
@@ -87,8 +87,8 @@ pub fn side_count(sell: bool, state: State, c: usize) -> usize
     requires { ⌜ c < 4 ⌝ }
     ensures { λ r. ⌜ r ≡ sideCount sell state c ⌝ }
 {
-    let bids = state.buys;
-    let offers = state.sells;
+    let bids = state.buycounts;
+    let offers = state.sellcounts;
     if sell {
         return offers[c];
     }
@@ -132,9 +132,9 @@ pub fn taker_of(
     o: NewOrder,
 ) -> Taker
     requires { ⌜ (1 ≤ o .account) × (1 ≤ o .contract) × QueueRoom (now area) (o .contract - 1) count ⌝ }
-    ensures { λ r. ⌜ r ≡ takerFor number quote stamp terms (queueIn (now (area .entry)) (o .contract - 1) count) o ⌝ }
+    ensures { λ r. ⌜ r ≡ answer.takerFor number quote stamp terms (queueIn (now (area .entry)) (o .contract - 1) count) o ⌝ }
 {
-    let c = laws::wide(o.contract) - 1;
+    let c = laws::place_of(o.contract);
     let best = best_price(area, c, count);
     let condition = o.condition;
     let method = method_of(terms);

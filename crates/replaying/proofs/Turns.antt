@@ -38,24 +38,24 @@ all-set P d (x ∷ xs) (suc i) v h hv (suc j) = all-set (λ m. P (suc m)) d xs i
 long-lifted : (h : Holding) (close lots long short : ℕ) → lots ≤ 1_000 → (h .long ≤ long) × (h .short ≤ short)
     → (afterLeg h false close lots .long ≤ long + 1_000) × (afterLeg h false close lots .short ≤ short)
 unfolding afterLeg
-long-lifted h close lots long short few w = go (eqb close 0)
+long-lifted h close lots long short few w = by-close (eqb close 0)
   where
-    go : (o : Bool)
+    by-close : (o : Bool)
         → (pick o (withLong h (h .long + lots)) (withShort h (h .short - lots)) .long ≤ long + 1_000)
         × (pick o (withLong h (h .long + lots)) (withShort h (h .short - lots)) .short ≤ short)
-    go true = (omega arith, omega arith)
-    go false = (omega arith, omega arith)
+    by-close true = (omega arith, omega arith)
+    by-close false = (omega arith, omega arith)
 
 short-lifted : (h : Holding) (close lots long short : ℕ) → lots ≤ 1_000 → (h .long ≤ long) × (h .short ≤ short)
     → (afterLeg h true close lots .long ≤ long) × (afterLeg h true close lots .short ≤ short + 1_000)
 unfolding afterLeg
-short-lifted h close lots long short few w = go (eqb close 0)
+short-lifted h close lots long short few w = by-close (eqb close 0)
   where
-    go : (o : Bool)
+    by-close : (o : Bool)
         → (pick o (withShort h (h .short + lots)) (withLong h (h .long - lots)) .long ≤ long)
         × (pick o (withShort h (h .short + lots)) (withLong h (h .long - lots)) .short ≤ short + 1_000)
-    go true = (omega arith, omega arith)
-    go false = (omega arith, omega arith)
+    by-close true = (omega arith, omega arith)
+    by-close false = (omega arith, omega arith)
 
 module _ {k n long short : ℕ} (l : List Account) (w : HeldTo k n long short l) where
   -- a new holding within higher bounds, at one place

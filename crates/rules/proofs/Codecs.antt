@@ -99,14 +99,14 @@ module _ {A : Type 0} {W : ℕ} {words : A → List ℕ} {first : List ℕ → A
 
   pub put-put : (a : List ℕ) (base n m : ℕ) (os ps : List A) → length os ≤ m → base ≤ length a
       → store words (store words a base (padded n z os)) base (padded m z ps) ≡ store words a base (padded (max n m) z ps)
-  put-put a base n m os ps h b = go (leb n (max m (length ps))) refl
+  put-put a base n m os ps h b = by-length (leb n (max m (length ps))) refl
     where
-      go : (t : Bool) → leb n (max m (length ps)) ≡ t
+      by-length : (t : Bool) → leb n (max m (length ps)) ≡ t
           → store words (store words a base (padded n z os)) base (padded m z ps) ≡ store words a base (padded (max n m) z ps)
-      go true e =
+      by-length true e =
           let k = leb-true n (max m (length ps)) e in
           put-longer a base n m os ps (omega arith) b ∙ ap (λ (r : List A). store words a base r) (same-fill m (max n m) z ps (omega arith))
-      go false e =
+      by-length false e =
           let k = leb-false n (max m (length ps)) e in
           put-shorter a base n m os ps (omega arith) h b ∙ ap (λ (r : List A). store words a base r) (more-fill m n z ps (omega arith))
 
@@ -152,11 +152,11 @@ module _ (area : List ℕ) (c n : ℕ) where
   take-queue i h = take-records order-codec area (queueStride * c) n i h
 
 pub before-or-after : (c d : ℕ) → (c ≡ d → ⊥) → (c < d) ⊎ (d < c)
-before-or-after c d apart = go (ltb c d) refl
+before-or-after c d apart = by-comparison (ltb c d) refl
   where
-    go : (b : Bool) → ltb c d ≡ b → (c < d) ⊎ (d < c)
-    go true e = inl (ltb-true c d e)
-    go false e = ⊎-elim (λ p. absurd (apart (sym p))) (λ l. inr l) (eq-or-lt-of-le (ltb-false c d e))
+    by-comparison : (b : Bool) → ltb c d ≡ b → (c < d) ⊎ (d < c)
+    by-comparison true e = inl (ltb-true c d e)
+    by-comparison false e = ⊎-elim (λ p. absurd (apart (sym p))) (λ l. inr l) (eq-or-lt-of-le (ltb-false c d e))
 
 -- ---- a queue written: `room` for 64 orders, and no more than 64 before and after
 
@@ -229,17 +229,17 @@ module _ (area counts : List ℕ) (queues : ℕ → List Order) where
       → length (queues d) ≤ maxResting → queueStride * n ≤ length area → putQueues area counts queues n ≡ putQueue area d (getD counts d 0) (queues d)
   unfolding putQueues
   putQueues-one zero d h same few short room = absurd (omega arith)
-  putQueues-one (suc c) d h same few short room = go (eqb d c) refl (λ l. putQueues-one c d l (λ b k. same b (omega arith)) (λ b k. few b (omega arith)) short (omega arith))
+  putQueues-one (suc c) d h same few short room = by-contract (eqb d c) refl (λ l. putQueues-one c d l (λ b k. same b (omega arith)) (λ b k. few b (omega arith)) short (omega arith))
     where
       before : (b : ℕ) → d ≡ c → b < c → d ≡ b → ⊥
       before b e l k = omega arith
 
-      go : (t : Bool) → eqb d c ≡ t → (d < c → putQueues area counts queues c ≡ putQueue area d (getD counts d 0) (queues d))
+      by-contract : (t : Bool) → eqb d c ≡ t → (d < c → putQueues area counts queues c ≡ putQueue area d (getD counts d 0) (queues d))
           → putQueue (putQueues area counts queues c) c (getD counts c 0) (queues c) ≡ putQueue area d (getD counts d 0) (queues d)
-      go true e ih =
+      by-contract true e ih =
           let k : d ≡ c = eqb-true d c e in
           rw (putQueues-same c (λ b l. same b (omega arith) (before b k l)) (λ b l. few b (omega arith)) (omega arith), k)
-      go false e ih =
+      by-contract false e ih =
           let apart : d ≡ c → ⊥ = eqb-false d c e in
           let l : d < c = ⊎-elim (λ k. absurd (apart k)) (λ k. k) (eq-or-lt-of-le (le-of-suc-le-suc h)) in
           let wide : length (putQueue area d (getD counts d 0) (queues d)) ≡ length area = length-putQueue area d (getD counts d 0) (queues d) (few d (omega arith)) short (omega arith) in
@@ -267,15 +267,15 @@ module _ (area counts : List ℕ) (queues : ℕ → List Order) where
     pub queue-putQueues : (n c : ℕ) → n ≤ contracts → c < n → queueIn (putQueues area counts queues n) c (length (queues c)) ≡ queues c
     unfolding putQueues
     queue-putQueues zero c k h = absurd (omega arith)
-    queue-putQueues (suc b) c k h = go (eqb b c) refl (λ l. queue-putQueues b c (omega arith) l)
+    queue-putQueues (suc b) c k h = by-contract (eqb b c) refl (λ l. queue-putQueues b c (omega arith) l)
       where
         fits : queueStride * b ≤ length (putQueues area counts queues b)
         fits = rw (length-putQueues b (omega arith)) (omega arith)
 
-        go : (t : Bool) → eqb b c ≡ t → (c < b → queueIn (putQueues area counts queues b) c (length (queues c)) ≡ queues c)
+        by-contract : (t : Bool) → eqb b c ≡ t → (c < b → queueIn (putQueues area counts queues b) c (length (queues c)) ≡ queues c)
             → queueIn (putQueue (putQueues area counts queues b) b (getD counts b 0) (queues b)) c (length (queues c)) ≡ queues c
-        go true e ih = rw (← eqb-true b c e) (queue-put (putQueues area counts queues b) b (getD counts b 0) (queues b) fits)
-        go false e ih =
+        by-contract true e ih = rw (← eqb-true b c e) (queue-put (putQueues area counts queues b) b (getD counts b 0) (queues b) fits)
+        by-contract false e ih =
             let apart : b ≡ c → ⊥ = eqb-false b c e in
             let l : c < b = ⊎-elim (λ p. absurd (apart (sym p))) (λ p. p) (eq-or-lt-of-le (le-of-suc-le-suc h)) in
             queue-put-other (putQueues area counts queues b) b (getD counts b 0) (queues b) (few b k) (short b k) c apart (length (queues c)) (short c (omega arith)) fits ∙ ih l

@@ -39,14 +39,14 @@ heldBy f l b = f (accountAt l b .balance) (accountAt l b .maker)
 -- the start of the day is as it was
 after-leg-start : (h : Holding) (sell : Bool) (close lots : ℕ) → startHolding (afterLeg h sell close lots) ≡ startHolding h
 unfolding afterLeg
-after-leg-start h sell close lots = go sell (eqb close 0)
+after-leg-start h sell close lots = by-leg sell (eqb close 0)
   where
-    go : (s o : Bool)
+    by-leg : (s o : Bool)
         → startHolding (pick s (pick o (withShort h (h .short + lots)) (withLong h (h .long - lots))) (pick o (withLong h (h .long + lots)) (withShort h (h .short - lots)))) ≡ startHolding h
-    go true true = refl
-    go true false = refl
-    go false true = refl
-    go false false = refl
+    by-leg true true = refl
+    by-leg true false = refl
+    by-leg false true = refl
+    by-leg false false = refl
 
 account-start : (x : Account) (c : ℕ) (sell : Bool) (close lots : ℕ)
     → startAccount (withHolding x c (afterLeg (getD (x .holdings) c noHolding) sell close lots)) ≡ startAccount x
@@ -192,25 +192,25 @@ each-leg P l a c sell close lots h p =
 -- a buy leg adds to long holdings alone, a sell leg to short ones, and no more than its lots
 after-leg-long : (h : Holding) (sell : Bool) (close lots : ℕ) → afterLeg h sell close lots .long ≤ h .long + pick sell 0 lots
 unfolding afterLeg
-after-leg-long h sell close lots = go sell (eqb close 0)
+after-leg-long h sell close lots = by-leg sell (eqb close 0)
   where
-    go : (s o : Bool)
+    by-leg : (s o : Bool)
         → pick s (pick o (withShort h (h .short + lots)) (withLong h (h .long - lots))) (pick o (withLong h (h .long + lots)) (withShort h (h .short - lots))) .long ≤ h .long + pick s 0 lots
-    go true true = omega arith
-    go true false = omega arith
-    go false true = omega arith
-    go false false = omega arith
+    by-leg true true = omega arith
+    by-leg true false = omega arith
+    by-leg false true = omega arith
+    by-leg false false = omega arith
 
 after-leg-short : (h : Holding) (sell : Bool) (close lots : ℕ) → afterLeg h sell close lots .short ≤ h .short + pick sell lots 0
 unfolding afterLeg
-after-leg-short h sell close lots = go sell (eqb close 0)
+after-leg-short h sell close lots = by-leg sell (eqb close 0)
   where
-    go : (s o : Bool)
+    by-leg : (s o : Bool)
         → pick s (pick o (withShort h (h .short + lots)) (withLong h (h .long - lots))) (pick o (withLong h (h .long + lots)) (withShort h (h .short - lots))) .short ≤ h .short + pick s lots 0
-    go true true = omega arith
-    go true false = omega arith
-    go false true = omega arith
-    go false false = omega arith
+    by-leg true true = omega arith
+    by-leg true false = omega arith
+    by-leg false true = omega arith
+    by-leg false false = omega arith
 
 pub held-leg : {m n : ℕ} (l : List Account) (a c : ℕ) (sell : Bool) (close lots : ℕ) → HeldWithin m n l
     → HeldWithin (m + pick sell 0 lots) (n + pick sell lots 0) (bookLeg l a c sell close lots)

@@ -45,13 +45,13 @@ module _ (number lots : ℕ) where
   -- a queue goes by price and time stamp
   less-ahead : (sell : Bool) (o p : Order) → ahead sell (lessOne o) (lessOne p) ≡ ahead sell o p
   unfolding ahead
-  less-ahead sell o p = go (hasNumber number o) (hasNumber number p)
+  less-ahead sell o p = by-numbers (hasNumber number o) (hasNumber number p)
     where
-      go : (a b : Bool) → ahead sell (pick a (lesser o) o) (pick b (lesser p) p) ≡ ahead sell o p
-      go true true = refl
-      go true false = refl
-      go false true = refl
-      go false false = refl
+      by-numbers : (a b : Bool) → ahead sell (pick a (lesser o) o) (pick b (lesser p) p) ≡ ahead sell o p
+      by-numbers true true = refl
+      by-numbers true false = refl
+      by-numbers false true = refl
+      by-numbers false false = refl
 
   pub less-sorted : (sell : Bool) (os : List Order) → sorted sell (lessened number lots os) ≡ sorted sell os
   unfolding lessened sorted aheadOfFirst
@@ -63,39 +63,39 @@ module _ (number lots : ℕ) where
   unfolding lessened uncrossed
   less-uncrossed [] sells = refl
   less-uncrossed (b ∷ bs) [] = refl
-  less-uncrossed (b ∷ bs) (s ∷ ss) = go (hasNumber number b) (hasNumber number s)
+  less-uncrossed (b ∷ bs) (s ∷ ss) = by-numbers (hasNumber number b) (hasNumber number s)
     where
-      go : (x y : Bool) → uncrossed (pick x (lesser b) b ∷ bs) (pick y (lesser s) s ∷ ss) ≡ uncrossed (b ∷ bs) (s ∷ ss)
-      go true true = refl
-      go true false = refl
-      go false true = refl
-      go false false = refl
+      by-numbers : (x y : Bool) → uncrossed (pick x (lesser b) b ∷ bs) (pick y (lesser s) s ∷ ss) ≡ uncrossed (b ∷ bs) (s ∷ ss)
+      by-numbers true true = refl
+      by-numbers true false = refl
+      by-numbers false true = refl
+      by-numbers false false = refl
 
   -- a function of an order that goes by neither the lots nor the mark adds up to the same
   pub same-sum : (f : Order → ℕ) → ((o : Order) → f (lesser o) ≡ f o) → (os : List Order) → sumOf f (lessened number lots os) ≡ sumOf f os
   unfolding lessened sumOf
   same-sum f same [] = refl
-  same-sum f same (o ∷ os) = go (hasNumber number o) (same-sum f same os)
+  same-sum f same (o ∷ os) = by-number (hasNumber number o) (same-sum f same os)
     where
-      go : (b : Bool) → sumOf f (lessened number lots os) ≡ sumOf f os → f (pick b (lesser o) o) + sumOf f (lessened number lots os) ≡ f o + sumOf f os
-      go true ih = rw (same o, ih)
-      go false ih = rw ih
+      by-number : (b : Bool) → sumOf f (lessened number lots os) ≡ sumOf f os → f (pick b (lesser o) o) + sumOf f (lessened number lots os) ≡ f o + sumOf f os
+      by-number true ih = rw (same o, ih)
+      by-number false ih = rw ih
 
   -- and a test of it is passed as before
   pub same-all : (test : Order → Bool) → ((o : Order) → test (lesser o) ≡ test o) → (os : List Order) → allOf test (lessened number lots os) ≡ allOf test os
   unfolding lessened allOf
   same-all test same [] = refl
-  same-all test same (o ∷ os) = go (hasNumber number o) (same-all test same os)
+  same-all test same (o ∷ os) = by-number (hasNumber number o) (same-all test same os)
     where
-      go : (b : Bool) → allOf test (lessened number lots os) ≡ allOf test os → allOf test (pick b (lesser o) o ∷ lessened number lots os) ≡ allOf test (o ∷ os)
-      go true ih = rw (same o, ih)
-      go false ih = rw ih
+      by-number : (b : Bool) → allOf test (lessened number lots os) ≡ allOf test os → allOf test (pick b (lesser o) o ∷ lessened number lots os) ≡ allOf test (o ∷ os)
+      by-number true ih = rw (same o, ih)
+      by-number false ih = rw ih
 
   pub less-all : (test : Order → Bool) → ((o : Order) → lots ≤ o .lots → test o ≡ true → test (lesser o) ≡ true) → (os : List Order) →
       allOf fits os ≡ true → allOf test os ≡ true → allOf test (lessened number lots os) ≡ true
   unfolding lessened allOf
   less-all test kept [] f h = refl
-  less-all test kept (o ∷ os) f h = go (hasNumber number o) (p .0) (less-all test kept os (p .1) (q .1))
+  less-all test kept (o ∷ os) f h = by-number (hasNumber number o) (p .0) (less-all test kept os (p .1) (q .1))
     where
       p : (fits o ≡ true) × (allOf fits os ≡ true)
       p = both-true (fits o) (allOf fits os) f
@@ -103,20 +103,20 @@ module _ (number lots : ℕ) where
       q : (test o ≡ true) × (allOf test os ≡ true)
       q = both-true (test o) (allOf test os) h
 
-      go : (b : Bool) → pick b (leb lots (o .lots)) true ≡ true → allOf test (lessened number lots os) ≡ true → allOf test (pick b (lesser o) o ∷ lessened number lots os) ≡ true
-      go true e ih = true-both (test (lesser o)) (allOf test (lessened number lots os)) (kept o (leb-true lots (o .lots) e) (q .0)) ih
-      go false e ih = true-both (test o) (allOf test (lessened number lots os)) (q .0) ih
+      by-number : (b : Bool) → pick b (leb lots (o .lots)) true ≡ true → allOf test (lessened number lots os) ≡ true → allOf test (pick b (lesser o) o ∷ lessened number lots os) ≡ true
+      by-number true e ih = true-both (test (lesser o)) (allOf test (lessened number lots os)) (kept o (leb-true lots (o .lots) e) (q .0)) ih
+      by-number false e ih = true-both (test o) (allOf test (lessened number lots os)) (q .0) ih
 
   pub less-sum : (f : Order → ℕ) → ((o : Order) → lots ≤ o .lots → f (lesser o) ≤ f o) → (os : List Order) → allOf fits os ≡ true →
       sumOf f (lessened number lots os) ≤ sumOf f os
   unfolding lessened allOf sumOf
   less-sum f less [] h = omega arith
-  less-sum f less (o ∷ os) h = go (hasNumber number o) (p .0) (less-sum f less os (p .1))
+  less-sum f less (o ∷ os) h = by-number (hasNumber number o) (p .0) (less-sum f less os (p .1))
     where
       p : (fits o ≡ true) × (allOf fits os ≡ true)
       p = both-true (fits o) (allOf fits os) h
 
-      go : (b : Bool) → pick b (leb lots (o .lots)) true ≡ true → sumOf f (lessened number lots os) ≤ sumOf f os →
+      by-number : (b : Bool) → pick b (leb lots (o .lots)) true ≡ true → sumOf f (lessened number lots os) ≤ sumOf f os →
           f (pick b (lesser o) o) + sumOf f (lessened number lots os) ≤ f o + sumOf f os
-      go true e ih = omega (arith, less o (leb-true lots (o .lots) e))
-      go false e ih = omega arith
+      by-number true e ih = omega (arith, less o (leb-true lots (o .lots) e))
+      by-number false e ih = omega arith

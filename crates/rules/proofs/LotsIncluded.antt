@@ -43,16 +43,16 @@ module _ (x : Exchange) (a c : ℕ) (sell : Bool) (lots : ℕ) (known : a < leng
   in-contract : (d : ℕ) →
       chargedLots (listingAt x d) a (holdingAt (withOpen x a c sell lots .accounts) a d)
       ≡ chargedLotsWith (listingAt x d) a (holdingAt (x .accounts) a d) sell (pick (eqb d c) lots 0)
-  in-contract d = by (eqb d c) refl
+  in-contract d = by-contract (eqb d c) refl
     where
-      by : (t : Bool) → eqb d c ≡ t →
+      by-contract : (t : Bool) → eqb d c ≡ t →
           chargedLots (listingAt x d) a (holdingAt (withOpen x a c sell lots .accounts) a d)
           ≡ chargedLotsWith (listingAt x d) a (holdingAt (x .accounts) a d) sell (pick t lots 0)
-      by true e =
+      by-contract true e =
           rw (eqb-true d c e)
           (ap (chargedLots (listingAt x c) a) (holding-same (x .accounts) a c sell 0 lots known holds)
           ∙ held-or-come (listingAt x c) a (holdingAt (x .accounts) a c) sell lots)
-      by false e =
+      by-contract false e =
           ap (chargedLots (listingAt x d) a) (holding-other-contract (x .accounts) a c sell 0 lots a d (eqb-false d c e))
           ∙ no-lots (listingAt x d) a (holdingAt (x .accounts) a d) sell
 

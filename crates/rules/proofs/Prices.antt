@@ -53,19 +53,19 @@ middle-from-above a b c h =
 
 -- it is one of the three
 clamped-one : (l u c : ℕ) → l ≤ u → (max l (min u c) ≡ l) ⊎ (max l (min u c) ≡ u) ⊎ (max l (min u c) ≡ c)
-clamped-one l u c h = go (leb c l) (leb u c) refl refl
+clamped-one l u c h = by-bounds (leb c l) (leb u c) refl refl
   where
-    go : (x y : Bool) → leb c l ≡ x → leb u c ≡ y → (max l (min u c) ≡ l) ⊎ (max l (min u c) ≡ u) ⊎ (max l (min u c) ≡ c)
-    go true y p q = inl (omega (arith, leb-true c l p))
-    go false true p q = inr (inl (omega (arith, leb-true u c q)))
-    go false false p q = inr (inr (omega (arith, leb-false c l p, leb-false u c q)))
+    by-bounds : (x y : Bool) → leb c l ≡ x → leb u c ≡ y → (max l (min u c) ≡ l) ⊎ (max l (min u c) ≡ u) ⊎ (max l (min u c) ≡ c)
+    by-bounds true y p q = inl (omega (arith, leb-true c l p))
+    by-bounds false true p q = inr (inl (omega (arith, leb-true u c q)))
+    by-bounds false false p q = inr (inr (omega (arith, leb-false c l p, leb-false u c q)))
 
 pub middle-one : (a b c : ℕ) → (middle a b c ≡ a) ⊎ (middle a b c ≡ b) ⊎ (middle a b c ≡ c)
-middle-one a b c = go (leb a b) refl
+middle-one a b c = by-comparison (leb a b) refl
   where
-    go : (x : Bool) → leb a b ≡ x → (middle a b c ≡ a) ⊎ (middle a b c ≡ b) ⊎ (middle a b c ≡ c)
-    go true p = rw (middle-from-below a b c (leb-true a b p)) (clamped-one a b c (leb-true a b p))
-    go false p =
+    by-comparison : (x : Bool) → leb a b ≡ x → (middle a b c ≡ a) ⊎ (middle a b c ≡ b) ⊎ (middle a b c ≡ c)
+    by-comparison true p = rw (middle-from-below a b c (leb-true a b p)) (clamped-one a b c (leb-true a b p))
+    by-comparison false p =
         let h : b ≤ a = omega (arith, leb-false a b p) in
         rw (middle-from-above a b c h)
         (⊎-elim (λ e. inr (inl e)) (λ r. ⊎-elim (λ e. inl e) (λ e. inr (inr e)) r) (clamped-one b a c h))
@@ -93,7 +93,7 @@ rounded-low tick m n some e h =
 
 pub average-low : (tick a b : ℕ) → 1 ≤ tick → onTick tick a ≡ true → onTick tick b ≡ true → min a b ≤ average tick a b
 unfolding average
-average-low tick a b some ea eb = go (leb a b) refl
+average-low tick a b some ea eb = by-comparison (leb a b) refl
   where
     half : (m : ℕ) → m ≤ a → m ≤ b → m ≤ (a + b) / 2
     half m h k =
@@ -101,11 +101,11 @@ average-low tick a b some ea eb = go (leb a b) refl
         let d : m * 2 ≤ a + b = omega arith in
         le-div-iff-mul-le two .1 d
 
-    go : (x : Bool) → leb a b ≡ x → min a b ≤ (a + b) / 2 / tick * tick
-    go true p =
+    by-comparison : (x : Bool) → leb a b ≡ x → min a b ≤ (a + b) / 2 / tick * tick
+    by-comparison true p =
         let h : a ≤ b = leb-true a b p in
         omega (arith, rounded-low tick a ((a + b) / 2) some ea (half a (omega arith) h))
-    go false p =
+    by-comparison false p =
         let h : b < a = leb-false a b p in
         omega (arith, rounded-low tick b ((a + b) / 2) some eb (half b (omega arith) (omega arith)))
 
@@ -128,12 +128,12 @@ RoundsTo tick FirstIn = Unit {0}
 -- a contract's method rounds to the contract's tick
 pub method-rounds : (c : Contract) → RoundsTo (c .tick) (methodOf c)
 unfolding methodOf
-method-rounds c = go (eqb (c .method) 0) (eqb (c .method) 1)
+method-rounds c = by-method (eqb (c .method) 0) (eqb (c .method) 1)
   where
-    go : (x y : Bool) → RoundsTo (c .tick) (pick x Middle (pick y (Average (c .tick)) FirstIn))
-    go true y = tt
-    go false true = refl
-    go false false = tt
+    by-method : (x y : Bool) → RoundsTo (c .tick) (pick x Middle (pick y (Average (c .tick)) FirstIn))
+    by-method true y = tt
+    by-method false true = refl
+    by-method false false = tt
 
 -- "so every file sound until now keeps its results": a contract whose last two bytes are zero has the middle price (and is in range
 -- as before: Terms, `zero-in-range`)

@@ -30,7 +30,7 @@ module _ {A : Type 0} {W : ℕ} {words : A → List ℕ} {first : List ℕ → A
       getD (store words a base (padded n z os)) (base + W * i + word) 0
       ≡ pick (ltb i (length os)) (getD (words (getD os i z)) word 0) (pick (ltb i n) 0 (getD a (base + W * i + word) 0))
   unfolding store
-  word-put a base n i word os inside b = by (ltb i (length os)) (ltb i n) refl refl
+  word-put a base n i word os inside b = by-place (ltb i (length os)) (ltb i n) refl refl
     where
       written : List ℕ
       written = encode words (padded n z os)
@@ -48,18 +48,18 @@ module _ {A : Type 0} {W : ℕ} {words : A → List ℕ} {first : List ℕ → A
           ∙ getD-over-in a base written inside (W * i + word) 0 (rw wide (among (max n (length os)) h))
           ∙ getD-encode C (padded n z os) i word z (rw (length-filled n z os) h) b
 
-      by : (s t : Bool) → ltb i (length os) ≡ s → ltb i n ≡ t →
+      by-place : (s t : Bool) → ltb i (length os) ≡ s → ltb i n ≡ t →
           getD (over a base written) (base + W * i + word) 0
           ≡ pick s (getD (words (getD os i z)) word 0) (pick t 0 (getD a (base + W * i + word) 0))
-      by true t p q =
+      by-place true t p q =
           let h = ltb-true i (length os) p in
           at (omega arith) ∙ ap (λ (o : A). getD (words o) word 0) (getD-padded n i z z os h)
-      by false true p q =
+      by-place false true p q =
           let h = ltb-false i (length os) p in
           let l = ltb-true i n q in
           at (omega arith) ∙ ap (λ (o : A). getD (words o) word 0) (getD-fill n i z z os h l)
           ∙ ap (λ (ws : List ℕ). getD ws word 0) blank ∙ getD-replicate W word 0 0 b
-      by false false p q =
+      by-place false false p q =
           let h = ltb-false i (length os) p in
           let l = ltb-false i n q in
           let k : max n (length os) ≤ i = omega arith in
@@ -118,19 +118,19 @@ module _ (area counts : List ℕ) (queues : ℕ → List Order) (contracts : ℕ
       ≡ pick (ltb i (length (queues c))) (wordOf word (getD (queues c) i noOrder)) (pick (ltb i (getD counts c 0)) 0 (getD area (firstWord c i + word) 0))
   unfolding putQueues
   word-putQueues zero c k h = absurd (omega arith)
-  word-putQueues (suc d) c k h = by (eqb d c) refl (λ l. word-putQueues d c (omega arith) l)
+  word-putQueues (suc d) c k h = by-contract (eqb d c) refl (λ l. word-putQueues d c (omega arith) l)
     where
       told : ℕ → ℕ
       told was = pick (ltb i (length (queues c))) (wordOf word (getD (queues c) i noOrder)) (pick (ltb i (getD counts c 0)) 0 was)
 
-      by : (t : Bool) → eqb d c ≡ t → (c < d → getD (putQueues area counts queues d) (firstWord c i + word) 0 ≡ told (getD area (firstWord c i + word) 0)) →
+      by-contract : (t : Bool) → eqb d c ≡ t → (c < d → getD (putQueues area counts queues d) (firstWord c i + word) 0 ≡ told (getD area (firstWord c i + word) 0)) →
           getD (putQueue (putQueues area counts queues d) d (getD counts d 0) (queues d)) (firstWord c i + word) 0 ≡ told (getD area (firstWord c i + word) 0)
-      by true e ih =
+      by-contract true e ih =
           let s = eqb-true d c e in
           rw s
           (word-putQueue (putQueues area counts queues c) c (getD counts c 0) (queues c) i word place b (fits c (omega arith))
           ∙ ap told (word-putQueues-past c c (omega arith) (omega arith)))
-      by false e ih =
+      by-contract false e ih =
           let apart : d ≡ c → ⊥ = eqb-false d c e in
           let l : c < d = ⊎-elim (λ p. absurd (apart (sym p))) (λ p. p) (eq-or-lt-of-le (le-of-suc-le-suc h)) in
           word-putQueue-other (putQueues area counts queues d) d (getD counts d 0) (queues d) i word place b (fits d k) (few d k) (short d k) c apart ∙ ih l

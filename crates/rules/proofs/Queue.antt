@@ -54,32 +54,32 @@ module _ (test : Order → Bool) where
 
   pub without-append : (os ps : List Order) → without test (os ++ ps) ≡ without test os ++ without test ps
   without-append [] ps = rw without-nil
-  without-append (o ∷ os) ps = go (test o) refl (without-append os ps)
+  without-append (o ∷ os) ps = by-test (test o) refl (without-append os ps)
     where
-      go : (b : Bool) → test o ≡ b → without test (os ++ ps) ≡ without test os ++ without test ps
+      by-test : (b : Bool) → test o ≡ b → without test (os ++ ps) ≡ without test os ++ without test ps
           → without test (o ∷ (os ++ ps)) ≡ without test (o ∷ os) ++ without test ps
-      go true e ih = rw (without-met o (os ++ ps) e, without-met o os e) ih
-      go false e ih = rw (without-unmet o (os ++ ps) e, without-unmet o os e, ih)
+      by-test true e ih = rw (without-met o (os ++ ps) e, without-met o os e) ih
+      by-test false e ih = rw (without-unmet o (os ++ ps) e, without-unmet o os e, ih)
 
   pub length-without : (os : List Order) → length (without test os) ≤ length os
   length-without [] = rw without-nil (omega arith)
-  length-without (o ∷ os) = go (test o) refl (length-without os)
+  length-without (o ∷ os) = by-test (test o) refl (length-without os)
     where
-      go : (b : Bool) → test o ≡ b → length (without test os) ≤ length os → length (without test (o ∷ os)) ≤ suc (length os)
-      go true e ih = rw (without-met o os e) (omega arith)
-      go false e ih = rw (without-unmet o os e) (omega arith)
+      by-test : (b : Bool) → test o ≡ b → length (without test os) ≤ length os → length (without test (o ∷ os)) ≤ suc (length os)
+      by-test true e ih = rw (without-met o os e) (omega arith)
+      by-test false e ih = rw (without-unmet o os e) (omega arith)
 
 -- lots that none of the orders taken out has
 pub lots-without : (test other : Order → Bool) (os : List Order) → ((o : Order) → test o ≡ true → other o ≡ false)
     → lotsWhere other (without test os) ≡ lotsWhere other os
 lots-without test other [] h = rw (without-nil test)
-lots-without test other (o ∷ os) h = go (test o) (other o) refl refl (lots-without test other os h)
+lots-without test other (o ∷ os) h = by-tests (test o) (other o) refl refl (lots-without test other os h)
   where
-    go : (b c : Bool) → test o ≡ b → other o ≡ c → lotsWhere other (without test os) ≡ lotsWhere other os
+    by-tests : (b c : Bool) → test o ≡ b → other o ≡ c → lotsWhere other (without test os) ≡ lotsWhere other os
         → lotsWhere other (without test (o ∷ os)) ≡ lotsWhere other (o ∷ os)
-    go true c e k ih = rw (without-met test o os e, lots-unmet other o os (h o e)) ih
-    go false true e k ih = rw (without-unmet test o os e, lots-met other o (without test os) k, lots-met other o os k, ih)
-    go false false e k ih = rw (without-unmet test o os e, lots-unmet other o (without test os) k, lots-unmet other o os k) ih
+    by-tests true c e k ih = rw (without-met test o os e, lots-unmet other o os (h o e)) ih
+    by-tests false true e k ih = rw (without-unmet test o os e, lots-met other o (without test os) k, lots-met other o os k, ih)
+    by-tests false false e k ih = rw (without-unmet test o os e, lots-unmet other o (without test os) k, lots-unmet other o os k) ih
 
 -- ---- an order comes to rest
 

@@ -174,34 +174,34 @@ pub restIn-uncrossed : (sell : Bool) (o : Order) (os rs : List Order) → uncros
 unfolding restIn
 restIn-uncrossed sell o os [] h c = none-opposite sell (restIn sell o os)
 restIn-uncrossed sell o [] (r ∷ rs) h c = clear-firsts sell o [] r rs c
-restIn-uncrossed sell o (p ∷ ps) (r ∷ rs) h c = go (worse sell (p .price) (o .price))
+restIn-uncrossed sell o (p ∷ ps) (r ∷ rs) h c = by-price (worse sell (p .price) (o .price))
   where
-    go : (b : Bool) → uncrossedFrom sell (pick b (o ∷ p ∷ ps) (p ∷ restIn sell o ps)) (r ∷ rs) ≡ true
-    go true = clear-firsts sell o (p ∷ ps) r rs c
-    go false = clear-firsts sell p (restIn sell o ps) r rs (firsts-clear sell p ps r rs h)
+    by-price : (b : Bool) → uncrossedFrom sell (pick b (o ∷ p ∷ ps) (p ∷ restIn sell o ps)) (r ∷ rs) ≡ true
+    by-price true = clear-firsts sell o (p ∷ ps) r rs c
+    by-price false = clear-firsts sell p (restIn sell o ps) r rs (firsts-clear sell p ps r rs h)
 
 module _ (t : Taker) (left last : ℕ) (own opposite : List Order) (before : uncrossedFrom (t .sell) own opposite ≡ true) (order : sorted (not (t .sell)) opposite ≡ true) where
   pub rest-uncrossed : uncrossedFrom (t .sell) own (sweep t left last opposite .rest) ≡ true
-  rest-uncrossed = go opposite before order
+  rest-uncrossed = by-opposite opposite before order
     where
-      go : (opposite : List Order) → uncrossedFrom (t .sell) own opposite ≡ true → sorted (not (t .sell)) opposite ≡ true
+      by-opposite : (opposite : List Order) → uncrossedFrom (t .sell) own opposite ≡ true → sorted (not (t .sell)) opposite ≡ true
           → uncrossedFrom (t .sell) own (sweep t left last opposite .rest) ≡ true
-      go [] h s = rw (sweep-end t left last) h
-      go (p ∷ ps) h s =
+      by-opposite [] h s = rw (sweep-end t left last) h
+      by-opposite (p ∷ ps) h s =
           further-uncrossed (t .sell) own p ps (sweep t left last (p ∷ ps) .rest) h
           (rest-behind (not (t .sell)) t left last (p ∷ ps) (p .price) (behind-refl (not (t .sell)) (p .price), sorted-behind (not (t .sell)) p ps s))
 
   -- lots are left over: their limit stands clear of the orders left
   pub remainder-clear : (limit : ℕ) → t .condition ≡ Limit limit → tradedLots (sweep t left last opposite .trades) < left
       → ClearOf (t .sell) limit (sweep t left last opposite .rest)
-  remainder-clear limit e some = go (sweep t left last opposite .rest) (⊎-elim (λ k. absurd (less k)) (λ u. u) (sweep-stops t left last opposite))
+  remainder-clear limit e some = by-rest (sweep t left last opposite .rest) (⊎-elim (λ k. absurd (less k)) (λ u. u) (sweep-stops t left last opposite))
     where
       less : tradedLots (sweep t left last opposite .trades) ≡ left → ⊥
       less k = omega arith
 
-      go : (rs : List Order) → Unmet t rs → ClearOf (t .sell) limit rs
-      go [] u = tt
-      go (r ∷ rs) u = unmet-clear (t .sell) limit (t .best) (r .price) (rw e at u)
+      by-rest : (rs : List Order) → Unmet t rs → ClearOf (t .sell) limit rs
+      by-rest [] u = tt
+      by-rest (r ∷ rs) u = unmet-clear (t .sell) limit (t .best) (r .price) (rw e at u)
 
 -- nothing comes to rest, or something does
 rest-none : (t : Taker) (price : ℕ) (own : List Order) → restLots t price 0 own ≡ own
@@ -222,16 +222,16 @@ pub entered-uncrossed : (t : Taker) (lots price : ℕ) (goodForDay : Bool) (last
     → sorted (not (t .sell)) opposite ≡ true → uncrossedFrom (t .sell) own opposite ≡ true
     → uncrossedFrom (t .sell) (enter t lots price goodForDay last own opposite .own) (enter t lots price goodForDay last own opposite .opposite) ≡ true
 unfolding enter restedLots
-entered-uncrossed t lots price goodForDay last own opposite limit order before = go goodForDay limit (lots - tradedLots (sweep t lots last opposite .trades)) refl
+entered-uncrossed t lots price goodForDay last own opposite limit order before = by-remainder goodForDay limit (lots - tradedLots (sweep t lots last opposite .trades)) refl
   where
     same : uncrossedFrom (t .sell) own (sweep t lots last opposite .rest) ≡ true
     same = rest-uncrossed t lots last own opposite before order
 
-    go : (good : Bool) → (good ≡ true → t .condition ≡ Limit price) → (n : ℕ) → lots - tradedLots (sweep t lots last opposite .trades) ≡ n
+    by-remainder : (good : Bool) → (good ≡ true → t .condition ≡ Limit price) → (n : ℕ) → lots - tradedLots (sweep t lots last opposite .trades) ≡ n
         → uncrossedFrom (t .sell) (restLots t price (pick good n 0) own) (sweep t lots last opposite .rest) ≡ true
-    go false l n e = rw (rest-none t price own) same
-    go true l zero e = rw (rest-none t price own) same
-    go true l (suc n) e =
+    by-remainder false l n e = rw (rest-none t price own) same
+    by-remainder true l zero e = rw (rest-none t price own) same
+    by-remainder true l (suc n) e =
         rw (rest-some t price n own)
         (restIn-uncrossed (t .sell) (remainder t price (suc n)) own (sweep t lots last opposite .rest) same
         (rw (remainder-price t price (suc n)) (remainder-clear t lots last own opposite before order price (l refl) (omega arith))))

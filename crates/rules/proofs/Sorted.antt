@@ -39,12 +39,12 @@ behind-not-worse false a b e = ltb-false b a e
 
 pub behind-ahead : (sell : Bool) (o p : Order) → ahead sell o p ≡ true → Behind sell (p .price) (o .price)
 unfolding ahead
-behind-ahead sell o p e = go (worse sell (p .price) (o .price)) refl e
+behind-ahead sell o p e = by-price (worse sell (p .price) (o .price)) refl e
   where
-    go : (w : Bool) → worse sell (p .price) (o .price) ≡ w → (w || eqb (o .price) (p .price) && ltb (o .stamp) (p .stamp)) ≡ true
+    by-price : (w : Bool) → worse sell (p .price) (o .price) ≡ w → (w || eqb (o .price) (p .price) && ltb (o .stamp) (p .stamp)) ≡ true
         → Behind sell (p .price) (o .price)
-    go true k h = behind-worse sell (p .price) (o .price) k
-    go false k h = rw (eqb-true (o .price) (p .price) (both-true (eqb (o .price) (p .price)) (ltb (o .stamp) (p .stamp)) h .0)) (behind-refl sell (p .price))
+    by-price true k h = behind-worse sell (p .price) (o .price) k
+    by-price false k h = rw (eqb-true (o .price) (p .price) (both-true (eqb (o .price) (p .price)) (ltb (o .stamp) (p .stamp)) h .0)) (behind-refl sell (p .price))
 
 -- every order of a queue stands at a price or behind it
 abbrev pub AllBehind : Bool → ℕ → List Order → Type 0

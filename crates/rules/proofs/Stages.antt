@@ -14,11 +14,11 @@ pub decided : (P : Decision → Type 0) (x : Exchange) (command : Command) →
     ((codeOf x command ≡ 0 → ⊥) → P (refused (codeOf x command))) →
     P (decide x command)
 unfolding decide
-decided P x command accepts refuses = by (eqb (codeOf x command) 0) refl
+decided P x command accepts refuses = by-acceptance (eqb (codeOf x command) 0) refl
   where
-    by : (b : Bool) → eqb (codeOf x command) 0 ≡ b → P (decide x command)
-    by true e = rw e (accepts (eqb-true (codeOf x command) 0 e))
-    by false e = rw e (refuses (eqb-false (codeOf x command) 0 e))
+    by-acceptance : (b : Bool) → eqb (codeOf x command) 0 ≡ b → P (decide x command)
+    by-acceptance true e = rw e (accepts (eqb-true (codeOf x command) 0 e))
+    by-acceptance false e = rw e (refuses (eqb-false (codeOf x command) 0 e))
 
 -- ---- stages
 

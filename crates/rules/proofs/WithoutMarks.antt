@@ -100,7 +100,7 @@ plain-sweep : (t : Taker) (left last : ℕ) (os : List Order) →
     sweep (plainTaker t) left last (plain os) ≡ record { trades = sweep t left last os .trades; rest = plain (sweep t left last os .rest) }
 unfolding sweep tradeWith
 plain-sweep t left last [] = refl
-plain-sweep t left last (o ∷ os) = go (ltb 0 left && counterpart t o) (plain-sweep t (left - n) (tradePrice (t .method) (t .condition) (o .price) last) os)
+plain-sweep t left last (o ∷ os) = by-trade (ltb 0 left && counterpart t o) (plain-sweep t (left - n) (tradePrice (t .method) (t .condition) (o .price) last) os)
   where
     n : ℕ
     n = min left (o .lots)
@@ -114,22 +114,22 @@ plain-sweep t left last (o ∷ os) = go (ltb 0 left && counterpart t o) (plain-s
     kept : List Order → Swept → Swept
     kept os s = afterTrade (tradeWith t o left last) os s
 
-    go : (b : Bool) →
+    by-trade : (b : Bool) →
         sweep (plainTaker t) (left - n) (tradePrice (t .method) (t .condition) (o .price) last) (plain os) ≡ record { trades = after .trades; rest = plain (after .rest) } →
         pick b (kept (stays (unmarked o) (o .lots - n)) (sweep (plainTaker t) (left - n) (tradePrice (t .method) (t .condition) (o .price) last) (plain os))) (untouched (plain (o ∷ os)))
         ≡ record { trades = pick b (turn after) (untouched (o ∷ os)) .trades; rest = plain (pick b (turn after) (untouched (o ∷ os)) .rest) }
-    go true ih = rw (ih, plain-stays o (o .lots - n), plain-append (stays o (o .lots - n)) (after .rest)) refl
-    go false ih = refl
+    by-trade true ih = rw (ih, plain-stays o (o .lots - n), plain-append (stays o (o .lots - n)) (after .rest)) refl
+    by-trade false ih = refl
 
 plain-restIn : (sell : Bool) (o : Order) (queue : List Order) → restIn sell (unmarked o) (plain queue) ≡ plain (restIn sell o queue)
 unfolding restIn
 plain-restIn sell o [] = refl
-plain-restIn sell o (p ∷ ps) = go (worse sell (p .price) (o .price)) (plain-restIn sell o ps)
+plain-restIn sell o (p ∷ ps) = by-price (worse sell (p .price) (o .price)) (plain-restIn sell o ps)
   where
-    go : (b : Bool) → restIn sell (unmarked o) (plain ps) ≡ plain (restIn sell o ps) →
+    by-price : (b : Bool) → restIn sell (unmarked o) (plain ps) ≡ plain (restIn sell o ps) →
         pick b (unmarked o ∷ plain (p ∷ ps)) (unmarked p ∷ restIn sell (unmarked o) (plain ps)) ≡ plain (pick b (o ∷ p ∷ ps) (p ∷ restIn sell o ps))
-    go true ih = refl
-    go false ih = rw ih refl
+    by-price true ih = refl
+    by-price false ih = rw ih refl
 
 plain-rest : (t : Taker) (price n : ℕ) (queue : List Order) → restLots (plainTaker t) price n (plain queue) ≡ plain (restLots t price n queue)
 unfolding restLots remainder
@@ -156,11 +156,11 @@ plain-enter t lots price day last mine others = rw (plain-sweep t lots last othe
 plain-entered : (t : Taker) (o : NewOrder) (l : Listing) → enteredBy (plainTaker t) o (plainListing l) ≡ plainEntered (enteredBy t o l)
 plain-entered t o l =
     rw (plain-own (o .sell) l, plain-opposite (o .sell) l, plain-whole t (o .lots) (limitOf (o .condition)) (own (o .sell) l) (opposite (o .sell) l), plain-enter t (o .lots) (limitOf (o .condition)) (isGoodForDay (o .time)) (l .contract .last) (own (o .sell) l) (opposite (o .sell) l))
-    (by (inAuction (l .contract)) _ _)
+    (by-auction (inAuction (l .contract)) _ _)
   where
-    by : (b : Bool) (d e : Entered) → pick b (plainEntered d) (plainEntered e) ≡ plainEntered (pick b d e)
-    by true d e = refl
-    by false d e = refl
+    by-auction : (b : Bool) (d e : Entered) → pick b (plainEntered d) (plainEntered e) ≡ plainEntered (pick b d e)
+    by-auction true d e = refl
+    by-auction false d e = refl
 
 module _ (x : Exchange) where
   plain-listing : (c : ℕ) → listingAt (withoutMarks x) c ≡ plainListing (listingAt x c)

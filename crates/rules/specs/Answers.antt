@@ -65,22 +65,26 @@ ownQueue x o = own (o .sell) (listingOf x o)
 abbrev pub oppositeQueue : Exchange → NewOrder → List Order
 oppositeQueue x o = opposite (o .sell) (listingOf x o)
 
--- the order with the number that it has, its quote mark (02, ticket 7), and the next time stamp: "new at insert and at each loss of
--- place" (02, ticket 8)
-unfoldable pub takerOf : Exchange → ℕ → ℕ → NewOrder → Taker
-takerOf x number quote o =
+-- the order with the number that it has, its quote mark (02, ticket 7) and its time stamp, in a contract with these terms, against the
+-- opposite queue
+abbrev pub takerFor : ℕ → ℕ → ℕ → Contract → List Order → NewOrder → Taker
+takerFor number quote stamp terms queue o =
     record {
       account = placeOf (o .account);
       contract = placeOf (o .contract);
       sell = o .sell;
       close = mark (o .close);
       number = number;
-      stamp = x .nextstamp;
+      stamp = stamp;
       quote = quote;
       condition = o .condition;
-      method = methodOf (listingOf x o .contract);
-      best = bestPrice (oppositeQueue x o);
+      method = methodOf terms;
+      best = bestPrice queue;
     }
+
+-- it gets the next time stamp: "new at insert and at each loss of place" (02, ticket 8)
+unfoldable pub takerOf : Exchange → ℕ → ℕ → NewOrder → Taker
+takerOf x number quote o = takerFor number quote (x .nextstamp) (listingOf x o .contract) (oppositeQueue x o) o
 
 unfoldable pub fillableLots : Exchange → NewOrder → ℕ
 fillableLots x o = fillable (takerOf x (x .next) 0 o) (oppositeQueue x o)
@@ -146,28 +150,52 @@ numbersUsedUp x = leb numbersEnd (x .next)
 abbrev pub stampsUsedUp : Exchange → Bool
 stampsUsedUp x = leb numbersEnd (x .nextstamp)
 
+-- 11: "fill or kill: fillable lots below lots"; so many can be filled
+abbrev pub killRefused : ℕ → ℕ → TimeCondition → Bool
+killRefused filled lots time = isFillOrKill time && ltb filled lots
+
 -- 12: "it would make more trades than the day has room for"
 unfoldable pub tradesRefused : Exchange → ℕ → NewOrder → Bool
 tradesRefused x number o = ltb maxTrades (length (x .trades) + tradesNeeded x number o)
 
+-- 13: "good for day, own side has 64, fillable lots below lots"; in auction "13 whenever the own side has 64" (02, ticket 4): whether it
+-- is in auction, how many orders rest on its own side, how many lots can be filled
+abbrev pub fullRefused : Bool → ℕ → ℕ → ℕ → TimeCondition → Bool
+fullRefused auctioned rest filled lots time = isGoodForDay time && leb maxResting rest && (auctioned || ltb filled lots)
+
 -- ---- the refusals of each kind, "Order: 21, 1, then .."
+
+-- an order's own fields, by its contract's terms; `conditions` is the test of 6
+abbrev pub fieldsRefusals : Bool → Contract → NewOrder → List Refusal
+fieldsRefusals conditions terms o =
+    -- "lots outside 1 to 1,000"
+    (5 when not (within 1 maxLots (o .lots)))
+    ∷ (6 when conditions)
+    ∷ (7 when priceRefused terms o)
+    ∷ []
+
+-- its account's lots and money
+abbrev pub accountRefusals : Exchange → NewOrder → List Refusal
+accountRefusals x o =
+    (8 when holdingRefused x o)
+    ∷ (9 when moneyRefused x o)
+    ∷ []
+
+-- the order in the book
+abbrev pub bookRefusals : Exchange → NewOrder → List Refusal
+bookRefusals x o =
+    (10 when (numbersUsedUp x || stampsUsedUp x))
+    ∷ (11 when killRefused (fillableLots x o) (o .lots) (o .time))
+    ∷ (12 when tradesRefused x (x .next) o)
+    ∷ (13 when fullRefused (inAuction (listingOf x o .contract)) (length (ownQueue x o)) (fillableLots x o) (o .lots) (o .time))
+    ∷ []
 
 -- an order's code "from 5 on" (02, ticket 7)
 unfoldable pub orderRefusals : Exchange → NewOrder → List Refusal
 orderRefusals x o =
-    -- "lots outside 1 to 1,000"
-    (5 when not (within 1 maxLots (o .lots)))
-    ∷ (6 when conditionsRefused (listingOf x o .contract) o)
-    ∷ (7 when priceRefused (listingOf x o .contract) o)
-    ∷ (8 when holdingRefused x o)
-    ∷ (9 when moneyRefused x o)
-    ∷ (10 when (numbersUsedUp x || stampsUsedUp x))
-    -- "fill or kill: fillable lots below lots"
-    ∷ (11 when (isFillOrKill (o .time) && ltb (fillableLots x o) (o .lots)))
-    ∷ (12 when tradesRefused x (x .next) o)
-    -- "good for day, own side has 64, fillable lots below lots"; in auction "13 whenever the own side has 64" (02, ticket 4)
-    ∷ (13 when (isGoodForDay (o .time) && leb maxResting (length (ownQueue x o)) && (inAuction (listingOf x o .contract) || ltb (fillableLots x o) (o .lots))))
-    ∷ []
+    fieldsRefusals (conditionsRefused (listingOf x o .contract) o) (listingOf x o .contract) o
+    ++ accountRefusals x o
+    ++ bookRefusals x o
 
 -- "for insert 2 to 13 rising"
 unfoldable pub insertRefusals : Exchange → NewOrder → List Refusal

@@ -13,7 +13,7 @@ use Rattle.rules.specs.Answers.{amountRefused, cancelRefusals, changeLis
 use Rattle.rules.specs.Bounds.{allowedToday, dayHigh, dayLow, onTick, auction, closed, continuous, noTrading, preOpen}
 use Rattle.rules.specs.Auction.{auctionMatch, bestFrom, bestOf, better, chosenPrice, lotsReaching, matchAt, matchIn, matchOf, prices, surplus, tradeAt, volume}
 use Rattle.rules.specs.Change.{changeRefusals}
-use Rattle.rules.specs.Command.{bits, changeOf, commandOf, insertFlags, insertOf, newOrder, phaseOf, priceCondition, settleOf, timeCondition, zeros}
+use Rattle.rules.specs.Command.{bits, changeOf, commandOf, depositOf, insertFlags, insertOf, newOrder, phaseOf, priceCondition, settleOf, timeCondition, withdrawOf, zeros}
 use Rattle.rules.specs.Examples.{Row, _gives_, allRight}
 use Rattle.rules.specs.Exchange.{Exchange, absent, accountAt, bestPrice, holdingAt, listingAt, lotsWhere, noHolding, noTrade, resting}
 use Rattle.rules.specs.Holdings.{afterLeg, bookLeg}
@@ -94,6 +94,10 @@ sell account close lots =
 
 raw : ℕ → ℕ → ℕ → ℕ → ℕ → Record
 raw kind account number flags lots = record { kind = kind; account = account; contract = number; flags = flags; lots = lots; price = 0; number = 0; amount = 0 }
+
+-- a record with an account and an amount alone
+paying : ℕ → ℕ → ℕ → Record
+paying kind account amount = record { kind = kind; account = account; contract = 0; flags = 0; lots = 0; price = 0; number = 0; amount = amount }
 
 pub codes : List Row
 codes =
@@ -222,7 +226,11 @@ codes =
     ∷ (codeOf open′ (commandOf (raw 3 0 0 12 0)) gives 1)
     ∷ (codeOf open′ (commandOf (raw 3 0 0 42 0)) gives 2)
     ∷ (codeOf open′ (commandOf (raw 7 0 0 0 1)) gives 1)
+    ∷ (codeOf open′ (commandOf (paying 3 0 1)) gives 1)
     ∷ (codeOf open′ (commandOf (raw 10 1 1 0 0)) gives 1)
+    -- kind 1 pays in, kind 2 pays out
+    ∷ (codeOf open′ (commandOf (paying 1 2 331)) gives 0)
+    ∷ (codeOf open′ (commandOf (paying 2 2 331)) gives 9)
     -- a change: its flags and its amount are unused
     ∷ (codeOf open′ (commandOf (raw 9 1 1 0 5)) gives 14)
     ∷ (codeOf open′ (commandOf (raw 9 1 1 1 5)) gives 1)
@@ -230,5 +238,5 @@ codes =
     ∷ []
 
 pub code-examples : allRight codes ≡ true
-unfolding allRight codes contract order rich poor asked open′ stamps buy sell raw absent accountAt afterLeg all allOf allowedToday amountRefused bestPrice bits bookLeg cancelRefusals changeListed changeOf changeRefusals chargeOf chargedLots chargedTo codeOf commandOf dayHigh dayLow depositRefusals fillable fillableLots firstOf holdingAt insertFlags insertOf insertRefusals kindOf leavesTooLittle liftsTooHigh listingAt listingOf holdingRefused lotsWhere meets methodOf middle pairedPrice moneyRefused newOrder noSuchOrder numbered ofAnother onTick overHolding overLimit phaseOf phaseRefusals priceCondition priceRefusedBy pullRefusals removalRefused resting restingOrder settleOf settleRefusals stays sumOf sweep tabulate takerOf timeCondition tradePrice tradeWith tradesNeeded tradesRefused withdrawRefusals zeros crossed auctionMatch bestFrom bestOf better chosenPrice conditionsRefused lotsReaching matchAt matchIn matchOf prices surplus takesOrders tradeAt volume orderRefusals
+unfolding allRight codes contract order rich poor asked open′ stamps buy sell raw paying absent accountAt afterLeg all allOf allowedToday amountRefused bestPrice bits bookLeg cancelRefusals changeListed changeOf changeRefusals chargeOf chargedLots chargedTo codeOf commandOf dayHigh dayLow depositOf depositRefusals fillable fillableLots firstOf holdingAt insertFlags insertOf insertRefusals kindOf leavesTooLittle liftsTooHigh listingAt listingOf holdingRefused lotsWhere meets methodOf middle pairedPrice moneyRefused newOrder noSuchOrder numbered ofAnother onTick overHolding overLimit phaseOf phaseRefusals priceCondition priceRefusedBy pullRefusals removalRefused resting restingOrder settleOf settleRefusals stays sumOf sweep tabulate takerOf timeCondition tradePrice tradeWith tradesNeeded tradesRefused withdrawOf withdrawRefusals zeros crossed auctionMatch bestFrom bestOf better chosenPrice conditionsRefused lotsReaching matchAt matchIn matchOf prices surplus takesOrders tradeAt volume orderRefusals
 code-examples = refl

@@ -31,8 +31,8 @@ start lots =
     (record {
       contracts = record { multiplier = 10; tick = 1; reference = 100; band = 10; limit = 1_000; rate = 1_000; method = 0; phase = preOpen; last = 107 } ∷ [];
       accounts = account lots 0 ∷ account 0 lots ∷ [];
-      buys = 0 ∷ [];
-      sells = 0 ∷ [];
+      buycounts = 0 ∷ [];
+      sellcounts = 0 ∷ [];
       contractcount = 1;
       accountcount = 2;
       tradecount = 0;
@@ -88,6 +88,7 @@ table =
     ∷ (inTo 0 (kindOf (exchangeOf (start 0)) (Deposit 1 5) .moves) gives 5)
     ∷ (outOf 1 (kindOf (exchangeOf (start 0)) (Withdraw 2 5) .moves) gives 5)
     ∷ (paidIn 0 (start 0) (Deposit 1 5 ∷ []) gives 0)
+    ∷ (respond (start 0) (Deposit 1 5) .answer .code gives 21)
     ∷ []
 
 pub condition-3-examples : allRight table ≡ true

@@ -57,8 +57,12 @@ noTrade = record { contract = 0; price = 0; lots = 0; buyorder = 0; sellorder = 
 abbrev pub placeOf : ℕ → ℕ
 placeOf number = number - 1
 
+-- a number that none of so many places has: 0, or above the count
+abbrev pub isAbsent : ℕ → ℕ → Bool
+isAbsent number count = eqb number 0 || ltb count number
+
 unfoldable pub absent : {A : Type 0} → ℕ → List A → Bool
-absent number places = eqb number 0 || ltb (length places) number
+absent number places = isAbsent number (length places)
 
 -- the listing at a place, the account at a place, what it holds in a contract
 unfoldable pub listingAt : Exchange → ℕ → Listing

@@ -30,5 +30,8 @@ pub mod AuctionExamples
 pub mod MethodExamples
 pub mod ProfitExamples
 pub mod WellFormedExamples
+pub mod DayFileExamples
+pub mod StepExamples
+pub mod SideExamples
 pub mod PaperDay
 pub mod FillOrKillExamples

@@ -98,8 +98,8 @@ memory state buys sells trades = record { state = state; buys = buys; sells = se
 pub record Declared (s : State) : Type 0 where
   pub contracts : length (s .contracts) ≡ maxContracts
   pub accounts : length (s .accounts) ≡ maxAccounts
-  pub buys : length (s .buys) ≡ maxContracts
-  pub sells : length (s .sells) ≡ maxContracts
+  pub buys : length (s .buycounts) ≡ maxContracts
+  pub sells : length (s .sellcounts) ≡ maxContracts
   pub holdings : (a : ℕ) → a < maxAccounts → length (accountAt (s .accounts) a .holdings) ≡ maxContracts
 
 -- a contract in use with its queues
@@ -107,8 +107,8 @@ unfoldable pub listingIn : Memory → ℕ → Listing
 listingIn m c =
     record {
       contract = getD (m .state .contracts) c noContract;
-      buys = queueIn (m .buys) c (getD (m .state .buys) c 0);
-      sells = queueIn (m .sells) c (getD (m .state .sells) c 0);
+      buys = queueIn (m .buys) c (getD (m .state .buycounts) c 0);
+      sells = queueIn (m .sells) c (getD (m .state .sellcounts) c 0);
     }
 
 -- an account with its holdings in the contracts in use
@@ -163,8 +163,8 @@ putState s x =
     record {
       contracts = putFirst (map (λ l. l .contract) (x .listings)) (s .contracts);
       accounts = putAccounts (x .accounts) (s .accounts);
-      buys = putFirst (map (λ l. length (l .buys)) (x .listings)) (s .buys);
-      sells = putFirst (map (λ l. length (l .sells)) (x .listings)) (s .sells);
+      buycounts = putFirst (map (λ l. length (l .buys)) (x .listings)) (s .buycounts);
+      sellcounts = putFirst (map (λ l. length (l .sells)) (x .listings)) (s .sellcounts);
       contractcount = s .contractcount;
       accountcount = s .accountcount;
       tradecount = length (x .trades);
@@ -178,8 +178,8 @@ unfoldable pub put : Memory → Exchange → Memory
 put m x =
     record {
       state = putState (m .state) x;
-      buys = putQueues (m .buys) (m .state .buys) (λ c. listingAt x c .buys) (m .state .contractcount);
-      sells = putQueues (m .sells) (m .state .sells) (λ c. listingAt x c .sells) (m .state .contractcount);
+      buys = putQueues (m .buys) (m .state .buycounts) (λ c. listingAt x c .buys) (m .state .contractcount);
+      sells = putQueues (m .sells) (m .state .sellcounts) (λ c. listingAt x c .sells) (m .state .contractcount);
       trades = putTrades (m .trades) (m .state .tradecount) (x .trades);
     }
 
@@ -192,8 +192,8 @@ countsInRange s =
     within 1 maxContracts (s .contractcount)
     && within 1 maxAccounts (s .accountcount)
     && leb (s .tradecount) maxTrades
-    && all (λ c. leb (getD (s .buys) c 0) maxResting) (s .contractcount)
-    && all (λ c. leb (getD (s .sells) c 0) maxResting) (s .contractcount)
+    && all (λ c. leb (getD (s .buycounts) c 0) maxResting) (s .contractcount)
+    && all (λ c. leb (getD (s .sellcounts) c 0) maxResting) (s .contractcount)
 
 unfoldable pub hasRoom : Memory → Bool
 hasRoom m =
@@ -211,7 +211,8 @@ pub record WellFormedState (state : State) (buys sells trades : List ℕ) : Type
 
 -- ---- the whole step: code 21 before all others, then the rules
 
-pub record Responded : Type 0 where
+-- after a command: its answer, and the memory that it leaves
+pub record AfterCommand : Type 0 where
   pub answer : Answer
   pub memory : Memory
 
@@ -220,13 +221,13 @@ abbrev pub written : Memory → List Exchange → Memory
 written m [] = m
 written m (x ∷ xs) = written (put m x) xs
 
-abbrev pub inMemory : Memory → Decision → Responded
+abbrev pub inMemory : Memory → Decision → AfterCommand
 inMemory m d = record { answer = d .answer; memory = written m (d .stages) }
 
 -- a well-formed state: what the rules decide, written into the memory
-unfoldable pub stepIn : Memory → Command → Responded
+unfoldable pub stepIn : Memory → Command → AfterCommand
 stepIn m command = inMemory m (decide (exchangeOf m) command)
 
 -- THE WHOLE STEP, on any state and any command
-unfoldable pub respond : Memory → Command → Responded
+unfoldable pub respond : Memory → Command → AfterCommand
 respond m command = pick (wellFormedMemory m) (stepIn m command) (inMemory m (refused 21))

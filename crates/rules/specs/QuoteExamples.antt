@@ -274,8 +274,8 @@ lying =
     record {
       contracts = contract 1 1_000 continuous ∷ [];
       accounts = account 1 1_000_000 0 0 ∷ account 0 1_000_000 0 0 ∷ [];
-      buys = 2 ∷ [];
-      sells = 0 ∷ [];
+      buycounts = 2 ∷ [];
+      sellcounts = 0 ∷ [];
       contractcount = 1;
       accountcount = 2;
       tradecount = 0;
@@ -291,7 +291,7 @@ left place = sumOf (λ i. getD (stepIn lying (Quote 1 1 2 90 98) .memory .buys) 
 
 pub places : List Row
 places =
-    (getD (stepIn lying (Quote 1 1 2 90 98) .memory .state .buys) 0 9 gives 1)
+    (getD (stepIn lying (Quote 1 1 2 90 98) .memory .state .buycounts) 0 9 gives 1)
     -- the buy: 90, number 3, place 0, 2 lots, time stamp 3, marked
     ∷ (left 0 gives 99)
     ∷ (left 1 gives 0)

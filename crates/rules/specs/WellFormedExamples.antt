@@ -123,8 +123,8 @@ counted orders =
     record {
       contracts = contract continuous 110 ∷ [];
       accounts = account (pos 0) 0 0 0 0 ∷ account (pos 0) 0 0 0 0 ∷ [];
-      buys = 0 ∷ [];
-      sells = orders ∷ [];
+      buycounts = 0 ∷ [];
+      sellcounts = orders ∷ [];
       contractcount = 1;
       accountcount = 2;
       tradecount = 0;

@@ -123,8 +123,8 @@ pub struct Trade {
 pub struct State {
     pub contracts: [Contract; MAX_CONTRACTS],
     pub accounts: [Account; MAX_ACCOUNTS],
-    pub buys: [usize; MAX_CONTRACTS],
-    pub sells: [usize; MAX_CONTRACTS],
+    pub buycounts: [usize; MAX_CONTRACTS],
+    pub sellcounts: [usize; MAX_CONTRACTS],
     pub contractcount: usize,
     pub accountcount: usize,
     pub tradecount: usize,

@@ -141,8 +141,8 @@ module _ (file : List ℕ) (k : ℕ) {s₀ : State} {buys₀ sells₀ trades₀ 
         omega (arith, v .ends)
 
     pub room-played : length after - at < commandMost → PlayedIs file k m out₀ (record { state = s; next = i; end = at }) m′ after
-    room-played d = ways-out (λ (o : k < commandsIn file). go (eqb k i) refl)
+    room-played d = ways-out (λ (o : k < commandsIn file). by-none-played (eqb k i) refl)
       where
-        go : (b : Bool) → eqb k i ≡ b → k < i
-        go true q = absurd (omega (arith, d, none-yet (eqb-true k i q), v .kept, p .room))
-        go false q = omega (arith, h, eqb-false k i q)
+        by-none-played : (b : Bool) → eqb k i ≡ b → k < i
+        by-none-played true q = absurd (omega (arith, d, none-yet (eqb-true k i q), v .kept, p .room))
+        by-none-played false q = omega (arith, h, eqb-false k i q)

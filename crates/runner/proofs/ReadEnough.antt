@@ -14,22 +14,22 @@ use Rattle.dayfile.proofs.Places.{sound-layout}
 use Rattle.runner.specs.Reading.{Enough, ReadIs}
 
 too-long : (file : List ℕ) → 48_348 < length file → sound file ≡ false
-too-long file h = by (sound file) refl
+too-long file h = by-sound (sound file) refl
   where
-    by : (t : Bool) → sound file ≡ t → sound file ≡ false
-    by true e = let l = sound-layout file e in absurd (omega arith)
-    by false e = e
+    by-sound : (t : Bool) → sound file ≡ t → sound file ≡ false
+    by-sound true e = let l = sound-layout file e in absurd (omega arith)
+    by-sound false e = e
 
 broken-prints : (file : List ℕ) → sound file ≡ false → output file ≡ brokenLine
 unfolding output
 broken-prints file e = rw e
 
 pub enough : (room : ℕ) → 48_348 < room → Enough room
-enough room h input = by (leb (length input) room) refl
+enough room h input = by-length (leb (length input) room) refl
   where
-    by : (t : Bool) → leb (length input) room ≡ t → output (take room input) ≡ output input
-    by true e = ap output (take-all room input (leb-true (length input) room e))
-    by false e =
+    by-length : (t : Bool) → leb (length input) room ≡ t → output (take room input) ≡ output input
+    by-length true e = ap output (take-all room input (leb-true (length input) room e))
+    by-length false e =
         let l = leb-false (length input) room e in
         broken-prints (take room input) (too-long (take room input) (omega (arith, length-take-le room input (omega arith))))
         ∙ sym (broken-prints input (too-long input (omega arith)))

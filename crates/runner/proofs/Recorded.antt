@@ -48,8 +48,8 @@ module _ (area : List ℕ) where
 
     -- past the last of them
     pub trades-done : (i count : ℕ) → first ≤ i → count ≤ i → i ≤ max first count → drop first (recordedTrades area i) ≡ drop first (recordedTrades area count)
-    trades-done i count h k m = go (leb first count) refl
+    trades-done i count h k m = by-recorded (leb first count) refl
       where
-        go : (b : Bool) → leb first count ≡ b → drop first (recordedTrades area i) ≡ drop first (recordedTrades area count)
-        go true q = ap (λ (n : ℕ). drop first (recordedTrades area n)) (omega (arith, leb-true first count q))
-        go false q = none-past i (omega (arith, leb-false first count q)) ∙ sym (none-past count (omega (arith, leb-false first count q)))
+        by-recorded : (b : Bool) → leb first count ≡ b → drop first (recordedTrades area i) ≡ drop first (recordedTrades area count)
+        by-recorded true q = ap (λ (n : ℕ). drop first (recordedTrades area n)) (omega (arith, leb-true first count q))
+        by-recorded false q = none-past i (omega (arith, leb-false first count q)) ∙ sym (none-past count (omega (arith, leb-false first count q)))

@@ -199,7 +199,7 @@ module _ {s : State} {buys sells trades : List ℕ} (w : WellFormedState s buys 
 
   report-lines : (command : Command) → ResponseIs m command r buys′ sells′ trades′ → reportRows command r ≡ settlementLines x command
   unfolding reportRows settlementLines
-  report-lines command is = by (isSettle command) (eqb (codeOf x command) 0) refl refl
+  report-lines command is = by-settle-and-acceptance (isSettle command) (eqb (codeOf x command) 0) refl refl
     where
       code-is : eqb (r .answer .code) 0 ≡ eqb (codeOf x command) 0
       code-is = ap (λ (a : Answer). eqb (a .code) 0) (answer-is command is) ∙ decided-code x command
@@ -210,12 +210,12 @@ module _ {s : State} {buys sells trades : List ℕ} (w : WellFormedState s buys 
           subst⁻¹ (λ (d : Command). settlementRows (r .state) (r .report) ≡ priceLines x (length (x .listings)) ++ accountLines x (step x d) (length (x .accounts))) e
           (settlement-rows (subst (λ (d : Command). ResponseIs m d r buys′ sells′ trades′) e is) (subst (λ (d : Command). eqb (codeOf x d) 0 ≡ true) e q))
 
-      by : (settles accepted : Bool) → isSettle command ≡ settles → eqb (codeOf x command) 0 ≡ accepted
+      by-settle-and-acceptance : (settles accepted : Bool) → isSettle command ≡ settles → eqb (codeOf x command) 0 ≡ accepted
           → pick (isSettle command && eqb (r .answer .code) 0) (settlementRows (r .state) (r .report)) []
           ≡ pick (isSettle command && eqb (codeOf x command) 0) (priceLines x (length (x .listings)) ++ accountLines x (step x command) (length (x .accounts))) []
-      by false accepted e q = rw e
-      by true true e q = rw (e, code-is, q) (made (settle-is command e) q)
-      by true false e q = rw (e, code-is, q)
+      by-settle-and-acceptance false accepted e q = rw e
+      by-settle-and-acceptance true true e q = rw (e, code-is, q) (made (settle-is command e) q)
+      by-settle-and-acceptance true false e q = rw (e, code-is, q)
 
   pub response-lines : (k : ℕ) (command : Command) → ResponseIs m command r buys′ sells′ trades′
       → responseRows k command (s .tradecount) trades′ r ≡ stepLines k x command

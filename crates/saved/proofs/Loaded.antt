@@ -65,13 +65,13 @@ module _ (m : Memory) (d : Declared (m .state)) (x : Exchange) (s : Loadable x) 
       let p = passed (eqb (n .contract .phase) preOpen) (eqb (length (n .buys)) 0 ∷ eqb (length (n .sells)) 0 ∷ []) (allOf-at asleep (x .listings) c noListing (s .asleep-all) l) in
       record { buys = nothing-in (n .buys) (p .1 .0); sells = nothing-in (n .sells) (p .1 .1) }
 
-  buy-count : (c : ℕ) → c < length (x .listings) → getD (put .state .buys) c 0 ≡ 0
+  buy-count : (c : ℕ) → c < length (x .listings) → getD (put .state .buycounts) c 0 ≡ 0
   unfolding loadedState putState listingAt
-  buy-count c l = put-first-at (λ n. length (n .buys)) (x .listings) (m .state .buys) c l ∙ ap length (still c l .buys)
+  buy-count c l = put-first-at (λ n. length (n .buys)) (x .listings) (m .state .buycounts) c l ∙ ap length (still c l .buys)
 
-  sell-count : (c : ℕ) → c < length (x .listings) → getD (put .state .sells) c 0 ≡ 0
+  sell-count : (c : ℕ) → c < length (x .listings) → getD (put .state .sellcounts) c 0 ≡ 0
   unfolding loadedState putState listingAt
-  sell-count c l = put-first-at (λ n. length (n .sells)) (x .listings) (m .state .sells) c l ∙ ap length (still c l .sells)
+  sell-count c l = put-first-at (λ n. length (n .sells)) (x .listings) (m .state .sellcounts) c l ∙ ap length (still c l .sells)
 
   contract-here : (c : ℕ) → c < length (x .listings) → getD (put .state .contracts) c noContract ≡ listingAt x c .contract
   unfolding loadedState putState listingAt
@@ -80,8 +80,8 @@ module _ (m : Memory) (d : Declared (m .state)) (x : Exchange) (s : Loadable x) 
   listing-here : (c : ℕ) → c < length (x .listings) → listingIn put c ≡ listingAt x c
   unfolding listingIn
   listing-here c l =
-      let b : queueIn (m .buys) c (getD (put .state .buys) c 0) ≡ listingAt x c .buys = no-queue (m .buys) c _ (buy-count c l) ∙ sym (still c l .buys) in
-      let a : queueIn (m .sells) c (getD (put .state .sells) c 0) ≡ listingAt x c .sells = no-queue (m .sells) c _ (sell-count c l) ∙ sym (still c l .sells) in
+      let b : queueIn (m .buys) c (getD (put .state .buycounts) c 0) ≡ listingAt x c .buys = no-queue (m .buys) c _ (buy-count c l) ∙ sym (still c l .buys) in
+      let a : queueIn (m .sells) c (getD (put .state .sellcounts) c 0) ≡ listingAt x c .sells = no-queue (m .sells) c _ (sell-count c l) ∙ sym (still c l .sells) in
       let k = contract-here c l in
       λ i. record { contract = k i; buys = b i; sells = a i }
 

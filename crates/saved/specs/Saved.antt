@@ -171,8 +171,8 @@ loadedState s x =
     record {
       contracts = putState s x .contracts;
       accounts = putState s x .accounts;
-      buys = putState s x .buys;
-      sells = putState s x .sells;
+      buycounts = putState s x .buycounts;
+      sellcounts = putState s x .sellcounts;
       contractcount = length (x .listings);
       accountcount = length (x .accounts);
       tradecount = length (x .trades);

@@ -111,8 +111,8 @@ stateOf phase short next =
     record {
       contracts = terms phase ∷ noContract ∷ [];
       accounts = holders short;
-      buys = 0 ∷ 7 ∷ [];
-      sells = 0 ∷ 7 ∷ [];
+      buycounts = 0 ∷ 7 ∷ [];
+      sellcounts = 0 ∷ 7 ∷ [];
       contractcount = 1;
       accountcount = 2;
       tradecount = 0;

@@ -59,10 +59,10 @@ module _ (s : State) (c : ℕ) where
   phase = getD (s .contracts) c noContract .phase
 
   abbrev buys : ℕ
-  buys = getD (s .buys) c 0
+  buys = getD (s .buycounts) c 0
 
   abbrev sells : ℕ
-  sells = getD (s .sells) c 0
+  sells = getD (s .sellcounts) c 0
 
   pub not-pre-open : (phase ≡ 0 → ⊥) → asleepAt s c ≡ false
   not-pre-open d = false-both (eqb phase 0 && eqb buys 0) (eqb sells 0) (false-both (eqb phase 0) (eqb buys 0) (ne-eqb phase 0 d))

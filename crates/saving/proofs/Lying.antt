@@ -129,7 +129,7 @@ module _ (m : Memory) (d : Declared (m .state)) (w : wellFormedMemory m ≡ true
   unfolding listingAt listingIn asleep
   asleep-at i l =
       ap asleep (listing-in-use m i l)
-      ∙ rw (length-queue (m .buys) i (getD (m .state .buys) i 0), length-queue (m .sells) i (getD (m .state .sells) i 0))
+      ∙ rw (length-queue (m .buys) i (getD (m .state .buycounts) i 0), length-queue (m .sells) i (getD (m .state .sellcounts) i 0))
 
   asleep-is : allOf asleep (exchangeOf m .listings) ≡ all (asleepAt (m .state)) c
   asleep-is =

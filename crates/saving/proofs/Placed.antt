@@ -111,12 +111,12 @@ module _ (s : State) (bs : List ℕ) (c a : ℕ) (l : Laid bs c a) where
   module _ {terms : List Contract} {holders : List Account} {buys sells : List ℕ} {settlements : ℕ} where
     pub state-made : a ≤ length (s .accounts) → terms ≡ written (λ i. savedContract bs (contractPlace i)) (s .contracts) c
         → holders ≡ written (λ i. putAccount (loadedAccount bs i) (getD (s .accounts) i noAccount)) (s .accounts) a
-        → buys ≡ putFirst (tabulate c (λ i. 0)) (s .buys) → sells ≡ putFirst (tabulate c (λ i. 0)) (s .sells) → settlements ≡ u32At bs (length bs - 4)
+        → buys ≡ putFirst (tabulate c (λ i. 0)) (s .buycounts) → sells ≡ putFirst (tabulate c (λ i. 0)) (s .sellcounts) → settlements ≡ u32At bs (length bs - 4)
         → record {
           contracts = terms;
           accounts = holders;
-          buys = buys;
-          sells = sells;
+          buycounts = buys;
+          sellcounts = sells;
           contractcount = c;
           accountcount = a;
           tradecount = 0;
@@ -128,16 +128,16 @@ module _ (s : State) (bs : List ℕ) (c a : ℕ) (l : Laid bs c a) where
     state-made h t o b e n =
         let t′ = t ∙ sym contracts-over in
         let o′ = o ∙ sym (accounts-over h) in
-        let b′ = b ∙ sym (no-buys (s .buys)) in
-        let e′ = e ∙ sym (no-sells (s .sells)) in
+        let b′ = b ∙ sym (no-buys (s .buycounts)) in
+        let e′ = e ∙ sym (no-sells (s .sellcounts)) in
         let n′ = n ∙ sym settlements-at in
         let c′ = sym contract-count in
         let a′ = sym account-count in
         λ i. record {
           contracts = t′ i;
           accounts = o′ i;
-          buys = b′ i;
-          sells = e′ i;
+          buycounts = b′ i;
+          sellcounts = e′ i;
           contractcount = c′ i;
           accountcount = a′ i;
           tradecount = 0;

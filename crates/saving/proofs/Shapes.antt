@@ -39,11 +39,11 @@ lengths bs h =
     }
 
 pub misshapen : (bs : List ℕ) → (Lengths bs → ⊥) → shaped bs ≡ false
-misshapen bs f = go (shaped bs) refl
+misshapen bs f = by-shape (shaped bs) refl
   where
-    go : (t : Bool) → shaped bs ≡ t → shaped bs ≡ false
-    go true e = absurd (f (lengths bs e))
-    go false e = e
+    by-shape : (t : Bool) → shaped bs ≡ t → shaped bs ≡ false
+    by-shape true e = absurd (f (lengths bs e))
+    by-shape false e = e
 
 -- counts and length as they should be leave it to the counts of the last two sections
 pub counts-decide : (bs : List ℕ) → Lengths bs → shaped bs ≡ countsRight bs

@@ -57,7 +57,7 @@ pub record Fitting (s : State) (out : List ℕ) : Type 0 where
 -- ---- whether it may be written
 
 abbrev pub asleepAt : State → ℕ → Bool
-asleepAt s c = eqb (getD (s .contracts) c noContract .phase) preOpen && eqb (getD (s .buys) c 0) 0 && eqb (getD (s .sells) c 0) 0
+asleepAt s c = eqb (getD (s .contracts) c noContract .phase) preOpen && eqb (getD (s .buycounts) c 0) 0 && eqb (getD (s .sellcounts) c 0) 0
 
 unfoldable pub stateWritable : State → Bool
 stateWritable s =

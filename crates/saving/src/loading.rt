@@ -134,8 +134,8 @@ pub fn loaded_state(file: &[u8], contracts: usize, accounts: usize, state: State
 {
     let old_terms = state.contracts;
     let old_holders = state.accounts;
-    let old_buys = state.buys;
-    let old_sells = state.sells;
+    let old_buys = state.buycounts;
+    let old_sells = state.sellcounts;
     let terms = contracts_over(file, contracts, old_terms);
     let holders = accounts_over(file, contracts, accounts, old_holders);
     let buys = no_orders(old_buys, contracts);
@@ -144,8 +144,8 @@ pub fn loaded_state(file: &[u8], contracts: usize, accounts: usize, state: State
     State {
         contracts: terms,
         accounts: holders,
-        buys,
-        sells,
+        buycounts: buys,
+        sellcounts: sells,
         contractcount: contracts,
         accountcount: accounts,
         tradecount: 0,

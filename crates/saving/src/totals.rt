@@ -56,8 +56,8 @@ fn all_asleep(state: State) -> bool
     let mut c: usize = 0;
     while c < contracts {
         let terms = state.contracts[c];
-        let bids = state.buys[c];
-        let asks = state.sells[c];
+        let bids = state.buycounts[c];
+        let asks = state.sellcounts[c];
         if terms.phase != rules::PRE_OPEN {
             return false;
         }

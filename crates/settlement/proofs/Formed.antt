@@ -78,7 +78,7 @@ module _ (m : Memory) (room : m .state .accountcount ≤ length (m .state .accou
     pub charge-terms : ChargeTerms (contractIn s c)
     charge-terms = record { multiplier = contract-at .multiplier-high; reference = contract-at .reference .high; rate = contract-at .rate-high }
 
-    pub quotes : Quotes (m .buys) (getD (s .buys) c 0) (m .sells) (getD (s .sells) c 0) c
+    pub quotes : Quotes (m .buys) (getD (s .buycounts) c 0) (m .sells) (getD (s .sellcounts) c 0) c
     quotes =
         record {
           buyroom = omega (arith, its .counts .buys c lc, its .room .buys);
@@ -99,7 +99,7 @@ module _ (m : Memory) (room : m .state .accountcount ≤ length (m .state .accou
       unfolding listingIn
       holding-starts = (omega (arith, its-holding .startlong, contract-at .limit-high), omega (arith, its-holding .startshort, contract-at .limit-high))
 
-      pub chargeable-in : ChargeableIn (contractIn s c) (m .buys) (getD (s .buys) c 0) (m .sells) (getD (s .sells) c 0) c a (holdingIn s a c)
+      pub chargeable-in : ChargeableIn (contractIn s c) (m .buys) (getD (s .buycounts) c 0) (m .sells) (getD (s .sellcounts) c 0) c a (holdingIn s a c)
       unfolding listingIn
       chargeable-in =
           record {
@@ -149,7 +149,7 @@ module _ (m : Memory) (room : m .state .accountcount ≤ length (m .state .accou
       }
 
   pub priceable : (c : ℕ) → c < s .contractcount
-      → Priceable (contractIn s c) (m .buys) (getD (s .buys) c 0) (m .sells) (getD (s .sells) c 0) (m .trades) (s .tradecount) c
+      → Priceable (contractIn s c) (m .buys) (getD (s .buycounts) c 0) (m .sells) (getD (s .sellcounts) c 0) (m .trades) (s .tradecount) c
   priceable c lc = record { tick = contract-at c lc .tick-low; place = omega (arith, contracts-four); trades = sized-trades; quotes = quotes c lc }
 
   pub balance-within : (a : ℕ) → a < s .accountcount → Within (2 * 10 ^ 18) (accountIn s a .balance)

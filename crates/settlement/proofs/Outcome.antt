@@ -41,11 +41,11 @@ use Rattle.settlement.proofs.Places.{written-accounts}
 
 pub next-day-is : (s : State) (accounts : List Account) (prices : List ℕ) (cs : List Contract) (bids offers : List ℕ)
     → cs ≡ putFirst (tabulate (s .contractcount) (λ c. settledContract (contractIn s c) (getD prices c 0))) (s .contracts)
-    → bids ≡ putFirst (tabulate (s .contractcount) (λ c. 0)) (s .buys) → offers ≡ putFirst (tabulate (s .contractcount) (λ c. 0)) (s .sells)
-    → record { contracts = cs; accounts = accounts; buys = bids; sells = offers; contractcount = s .contractcount; accountcount = s .accountcount; tradecount = 0; next = 1; nextstamp = 1; settlements = s .settlements + 1 }
+    → bids ≡ putFirst (tabulate (s .contractcount) (λ c. 0)) (s .buycounts) → offers ≡ putFirst (tabulate (s .contractcount) (λ c. 0)) (s .sellcounts)
+    → record { contracts = cs; accounts = accounts; buycounts = bids; sellcounts = offers; contractcount = s .contractcount; accountcount = s .accountcount; tradecount = 0; next = 1; nextstamp = 1; settlements = s .settlements + 1 }
     ≡ nextDay s accounts prices
 next-day-is s accounts prices cs bids offers e f g =
-    λ i. record { contracts = e i; accounts = accounts; buys = f i; sells = g i; contractcount = s .contractcount; accountcount = s .accountcount; tradecount = 0; next = 1; nextstamp = 1; settlements = s .settlements + 1 }
+    λ i. record { contracts = e i; accounts = accounts; buycounts = f i; sellcounts = g i; contractcount = s .contractcount; accountcount = s .accountcount; tradecount = 0; next = 1; nextstamp = 1; settlements = s .settlements + 1 }
 
 -- ---- an account's day, by what stands at its places
 
@@ -216,16 +216,16 @@ module _ (s : State) (buys sells trades : List ℕ) (g : Settleable s buys sells
       state-is =
           let cs : putFirst (tabulate (s .contractcount) (λ c. settledContract (contractIn s c) (getD prices c 0))) (s .contracts) ≡ putFirst (map (λ l. l .contract) (settled x .listings)) (s .contracts) =
           ap (λ (l : List Contract). putFirst l (s .contracts)) (listed (λ c. settledContract (contractIn s c) (getD prices c 0)) (λ l. l .contract) contract-is) in
-          let bs : putFirst (tabulate (s .contractcount) (λ c. 0)) (s .buys) ≡ putFirst (map (λ l. length (l .buys)) (settled x .listings)) (s .buys) =
-          ap (λ (l : List ℕ). putFirst l (s .buys)) (listed (λ c. 0) (λ l. length (l .buys)) no-bids) in
-          let os : putFirst (tabulate (s .contractcount) (λ c. 0)) (s .sells) ≡ putFirst (map (λ l. length (l .sells)) (settled x .listings)) (s .sells) =
-          ap (λ (l : List ℕ). putFirst l (s .sells)) (listed (λ c. 0) (λ l. length (l .sells)) no-offers) in
+          let bs : putFirst (tabulate (s .contractcount) (λ c. 0)) (s .buycounts) ≡ putFirst (map (λ l. length (l .buys)) (settled x .listings)) (s .buycounts) =
+          ap (λ (l : List ℕ). putFirst l (s .buycounts)) (listed (λ c. 0) (λ l. length (l .buys)) no-bids) in
+          let os : putFirst (tabulate (s .contractcount) (λ c. 0)) (s .sellcounts) ≡ putFirst (map (λ l. length (l .sells)) (settled x .listings)) (s .sellcounts) =
+          ap (λ (l : List ℕ). putFirst l (s .sellcounts)) (listed (λ c. 0) (λ l. length (l .sells)) no-offers) in
           let as′ : accounts ≡ putAccounts (settled x .accounts) (s .accounts) = f ∙ accounts-is in
           λ i. record {
             contracts = cs i;
             accounts = as′ i;
-            buys = bs i;
-            sells = os i;
+            buycounts = bs i;
+            sellcounts = os i;
             contractcount = s .contractcount;
             accountcount = s .accountcount;
             tradecount = no-trade i;
@@ -238,10 +238,10 @@ module _ (s : State) (buys sells trades : List ℕ) (g : Settleable s buys sells
         memory-is : memory (nextDay s accounts prices) buys′ sells′ trades′ ≡ put m (settled x)
         unfolding put
         memory-is =
-            let b : buys′ ≡ putQueues buys (s .buys) (λ c. listingAt (settled x) c .buys) (s .contractcount) =
-            h .buys ∙ put-queues-ext buys (s .buys) (λ c. []) (λ c. listingAt (settled x) c .buys) (s .contractcount) (λ c lc. sym (no-queue c lc .0)) in
-            let o : sells′ ≡ putQueues sells (s .sells) (λ c. listingAt (settled x) c .sells) (s .contractcount) =
-            h .sells ∙ put-queues-ext sells (s .sells) (λ c. []) (λ c. listingAt (settled x) c .sells) (s .contractcount) (λ c lc. sym (no-queue c lc .1)) in
+            let b : buys′ ≡ putQueues buys (s .buycounts) (λ c. listingAt (settled x) c .buys) (s .contractcount) =
+            h .buys ∙ put-queues-ext buys (s .buycounts) (λ c. []) (λ c. listingAt (settled x) c .buys) (s .contractcount) (λ c lc. sym (no-queue c lc .0)) in
+            let o : sells′ ≡ putQueues sells (s .sellcounts) (λ c. listingAt (settled x) c .sells) (s .contractcount) =
+            h .sells ∙ put-queues-ext sells (s .sellcounts) (λ c. []) (λ c. listingAt (settled x) c .sells) (s .contractcount) (λ c lc. sym (no-queue c lc .1)) in
             let t : trades′ ≡ putTrades trades (s .tradecount) (settled x .trades) = h .trades ∙ cleared in
             let n = state-is in
             λ i. record { state = n i; buys = b i; sells = o i; trades = t i }

@@ -28,7 +28,7 @@ price-of x l c e = sym (ap (λ k. priceFrom (k .contract .tick) (k .contract .re
 -- the price by what stands in the state is the rules' price
 pub price-in-use : (m : Memory) (c : ℕ) → c < m .state .contractcount → (r : ℕ)
     → r ≡ priceFrom (contractIn (m .state) c .tick) (contractIn (m .state) c .reference) (tradesIn c (recordedTrades (m .trades) (m .state .tradecount)))
-    (queueIn (m .buys) c (getD (m .state .buys) c 0)) (queueIn (m .sells) c (getD (m .state .sells) c 0))
+    (queueIn (m .buys) c (getD (m .state .buycounts) c 0)) (queueIn (m .sells) c (getD (m .state .sellcounts) c 0))
     → r ≡ settlementPrice (exchangeOf m) c
 unfolding exchangeOf listingIn
 price-in-use m c lc r e = e ∙ price-of (exchangeOf m) (listingIn m c) c (listing-in-use m c lc)

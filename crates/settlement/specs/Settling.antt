@@ -132,15 +132,15 @@ pub record Clearable (area cs : List ℕ) (n : ℕ) : Type 0 where
   pub room : queueStride * n ≤ length area
 
 pub record AllClearable (s : State) (bids offers day : List ℕ) : Type 0 where
-  pub buys : Clearable bids (s .buys) (s .contractcount)
-  pub sells : Clearable offers (s .sells) (s .contractcount)
+  pub buys : Clearable bids (s .buycounts) (s .contractcount)
+  pub sells : Clearable offers (s .sellcounts) (s .contractcount)
   pub few : s .tradecount ≤ maxTrades
   pub trades : tradeStride * s .tradecount ≤ length day
 
 -- no order and no trade left
 pub record ClearedAre (s : State) (bids offers day bids′ offers′ day′ : List ℕ) : Type 0 where
-  pub buys : bids′ ≡ putQueues bids (s .buys) (λ c. []) (s .contractcount)
-  pub sells : offers′ ≡ putQueues offers (s .sells) (λ c. []) (s .contractcount)
+  pub buys : bids′ ≡ putQueues bids (s .buycounts) (λ c. []) (s .contractcount)
+  pub sells : offers′ ≡ putQueues offers (s .sellcounts) (λ c. []) (s .contractcount)
   pub trades : day′ ≡ putTrades day (s .tradecount) []
 
 -- every account in use can be charged
@@ -157,8 +157,8 @@ nextDay s accounts prices =
     record {
       contracts = putFirst (tabulate (s .contractcount) (λ c. settledContract (contractIn s c) (getD prices c 0))) (s .contracts);
       accounts = accounts;
-      buys = putFirst (tabulate (s .contractcount) (λ c. 0)) (s .buys);
-      sells = putFirst (tabulate (s .contractcount) (λ c. 0)) (s .sells);
+      buycounts = putFirst (tabulate (s .contractcount) (λ c. 0)) (s .buycounts);
+      sellcounts = putFirst (tabulate (s .contractcount) (λ c. 0)) (s .sellcounts);
       contractcount = s .contractcount;
       accountcount = s .accountcount;
       tradecount = 0;

@@ -39,8 +39,8 @@ fn prices<'a>(
     let mut c: usize = 0;
     while c < contracts {
         let contract = state.contracts[c];
-        let buycount = state.buys[c];
-        let sellcount = state.sells[c];
+        let buycount = state.buycounts[c];
+        let sellcount = state.sellcounts[c];
         prices[c] = price::settlement_price(
             contract,
             buys,
@@ -64,8 +64,8 @@ fn charges<'a>(state: State, buys: &'a [u32], sells: &'a [u32]) -> [u64; rules::
     let accounts = state.accountcount;
     let holders = state.accounts;
     let terms = state.contracts;
-    let bids = state.buys;
-    let offers = state.sells;
+    let bids = state.buycounts;
+    let offers = state.sellcounts;
     let mut charged: [u64; rules::MAX_ACCOUNTS] = [0; rules::MAX_ACCOUNTS];
     let mut a: usize = 0;
     while a < accounts {
@@ -98,16 +98,16 @@ fn next_day(
 {
     let contracts = state.contractcount;
     let terms = state.contracts;
-    let bids = state.buys;
-    let offers = state.sells;
+    let bids = state.buycounts;
+    let offers = state.sellcounts;
     let reopened = reopen::all_reopened(terms, contracts, prices);
     let nobids = reopen::no_orders(bids, contracts);
     let nooffers = reopen::no_orders(offers, contracts);
     State {
         contracts: reopened,
         accounts,
-        buys: nobids,
-        sells: nooffers,
+        buycounts: nobids,
+        sellcounts: nooffers,
         contractcount: contracts,
         accountcount: state.accountcount,
         tradecount: 0,

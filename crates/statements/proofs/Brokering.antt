@@ -38,11 +38,11 @@ use Rattle.clients.proofs.Rows.{total-at}
 
 place-bound : (clients : ℕ) (postings : List ℕ) (number : ℕ) → clients ≤ 16 → clientPlace clients postings number < 17
 unfolding clientPlace
-place-bound clients postings number few = by (isPosted clients postings number) refl
+place-bound clients postings number few = by-posted (isPosted clients postings number) refl
   where
-    by : (p : Bool) → isPosted clients postings number ≡ p → clientPlace clients postings number < 17
-    by true e = omega (arith, posted-place clients postings number e)
-    by false e = rw e (omega arith)
+    by-posted : (p : Bool) → isPosted clients postings number ≡ p → clientPlace clients postings number < 17
+    by-posted true e = omega (arith, posted-place clients postings number e)
+    by-posted false e = rw e (omega arith)
 
 leg-bound : (whose : Bool) (place : ℕ) → place < 17 → pick whose place 16 < 17
 leg-bound true place h = h
@@ -79,16 +79,16 @@ module _ (clients : ℕ) (starts : List ℕ) (few : clients ≤ 16) where
     lots-bound : (k : ℕ) → k < 17
         → (holdingAt (tabulate 17 (clientAccount (clientsWith clients starts))) k c .startlong ≤ 100_000)
         × (holdingAt (tabulate 17 (clientAccount (clientsWith clients starts))) k c .startshort ≤ 100_000)
-    lots-bound k lk = by (ltb k clients) refl
+    lots-bound k lk = by-client (ltb k clients) refl
       where
-        by : (b : Bool) → ltb k clients ≡ b
+        by-client : (b : Bool) → ltb k clients ≡ b
             → (holdingAt (tabulate 17 (clientAccount (clientsWith clients starts))) k c .startlong ≤ 100_000)
             × (holdingAt (tabulate 17 (clientAccount (clientsWith clients starts))) k c .startshort ≤ 100_000)
-        by true e =
+        by-client true e =
             let l = ltb-true k clients e in
             rw (client-holding (clientsWith clients starts) k c l lk lc)
             (omega (arith, total-at (λ k. startLong starts k c) k clients l), omega (arith, total-at (λ k. startShort starts k c) k clients l))
-        by false e = rw (no-lots k c (ltb-false k clients e) lk lc) (omega arith, omega arith)
+        by-client false e = rw (no-lots k c (ltb-false k clients e) lk lc) (omega arith, omega arith)
 
 -- ---- the state
 

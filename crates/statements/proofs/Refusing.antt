@@ -9,12 +9,11 @@ use lib.Dec.{eqb, ltb}
 use lib.ListN.{length, getD}
 use Rattle.laws.specs.Choice.{all, all-ext, either-false, true-either, either-true}
 use Rattle.rules.specs.Answers.{firstOf}
-use Rattle.rules.specs.Exchange.{Exchange, absent, noAccount, noHolding, placeOf}
+use Rattle.rules.specs.Exchange.{Exchange, absent, noAccount, noHolding, placeOf, isAbsent}
 use Rattle.rules.specs.Memory.{Memory, exchangeOf, wellFormedMemory, WellFormedState, memory}
 use Rattle.rules.specs.declared.Holding.{Holding}
 use Rattle.rules.specs.declared.State.{State}
 use Rattle.rules.proofs.InUse.{contracts-in-use, holding-in-use}
-use Rattle.engine.specs.Outcome.{isAbsent}
 use Rattle.engine.proofs.Formed.{formed, no-account}
 use Rattle.statements.specs.Parts.{AnswerIs, Postable, PostedIs, broker, refusedWith}
 use Rattle.clients.specs.Clients.{Clients, clientExchange, startLong, startShort, startsAddUp, total}

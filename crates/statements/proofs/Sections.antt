@@ -85,25 +85,25 @@ length-leg t place sell close order = refl
 -- sixteen bytes for each leg of a client
 pub length-trade : (t : Trade) → length (tradeBytes t) ≡ 16 * legsIn t
 unfolding tradeBytes legsIn legBytes four two
-length-trade t = by (isClient (t .buyer)) (isClient (t .seller))
+length-trade t = by-parties (isClient (t .buyer)) (isClient (t .seller))
   where
-    by : (buys sells : Bool)
+    by-parties : (buys sells : Bool)
         → length (pick buys (legBytes t (t .buyer) 0 (t .buyclose) (t .buyorder)) [] ++ pick sells (legBytes t (t .seller) 1 (t .sellclose) (t .sellorder)) [])
         ≡ 16 * (pick buys 1 0 + pick sells 1 0)
-    by true true = refl
-    by true false = refl
-    by false true = refl
-    by false false = refl
+    by-parties true true = refl
+    by-parties true false = refl
+    by-parties false true = refl
+    by-parties false false = refl
 
 pub two-legs : (t : Trade) → legsIn t ≤ 2
 unfolding legsIn
-two-legs t = by (isClient (t .buyer)) (isClient (t .seller))
+two-legs t = by-parties (isClient (t .buyer)) (isClient (t .seller))
   where
-    by : (buys sells : Bool) → pick buys 1 0 + pick sells 1 0 ≤ 2
-    by true true = omega arith
-    by true false = omega arith
-    by false true = omega arith
-    by false false = omega arith
+    by-parties : (buys sells : Bool) → pick buys 1 0 + pick sells 1 0 ≤ 2
+    by-parties true true = omega arith
+    by-parties true false = omega arith
+    by-parties false true = omega arith
+    by-parties false false = omega arith
 
 module _ (t : Trade) (place sell close order : ℕ) where
   abbrev sideBytes : List ℕ
@@ -172,27 +172,27 @@ length-profit closing holding = refl
 -- a signed number, from its size
 module _ (x : ℤ) (n : ℕ) (f : SFits w64 x) (e : n ≡ natAbs x) where
   pub some-below : ltZ x (pos 0) ≡ true → (1 ≤ n) × (n ≤ 2 ^ 63)
-  some-below t = go x f e t
+  some-below t = by-sign x f e t
     where
-      go : (x : ℤ) → SFits w64 x → n ≡ natAbs x → ltZ x (pos 0) ≡ true → (1 ≤ n) × (n ≤ 2 ^ 63)
-      go (pos k) f e t = absurd (not-suc-le-zero (ltb-true k 0 t))
-      go (negsuc k) f e t = (omega arith, omega (arith, f .sfits))
+      by-sign : (x : ℤ) → SFits w64 x → n ≡ natAbs x → ltZ x (pos 0) ≡ true → (1 ≤ n) × (n ≤ 2 ^ 63)
+      by-sign (pos k) f e t = absurd (not-suc-le-zero (ltb-true k 0 t))
+      by-sign (negsuc k) f e t = (omega arith, omega (arith, f .sfits))
 
   pub unsigned-below : ltZ x (pos 0) ≡ true → 18_446_744_073_709_551_615 - n + 1 ≡ unsigned x
   unfolding unsigned
-  unsigned-below t = go x f e t
+  unsigned-below t = by-sign x f e t
     where
-      go : (x : ℤ) → SFits w64 x → n ≡ natAbs x → ltZ x (pos 0) ≡ true → 18_446_744_073_709_551_615 - n + 1 ≡ unsigned x
-      go (pos k) f e t = absurd (not-suc-le-zero (ltb-true k 0 t))
-      go (negsuc k) f e t = omega (arith, f .sfits)
+      by-sign : (x : ℤ) → SFits w64 x → n ≡ natAbs x → ltZ x (pos 0) ≡ true → 18_446_744_073_709_551_615 - n + 1 ≡ unsigned x
+      by-sign (pos k) f e t = absurd (not-suc-le-zero (ltb-true k 0 t))
+      by-sign (negsuc k) f e t = omega (arith, f .sfits)
 
   pub unsigned-above : ltZ x (pos 0) ≡ false → n ≡ unsigned x
   unfolding unsigned
-  unsigned-above t = go x e t
+  unsigned-above t = by-sign x e t
     where
-      go : (x : ℤ) → n ≡ natAbs x → ltZ x (pos 0) ≡ false → n ≡ unsigned x
-      go (pos k) e t = e
-      go (negsuc k) e t = absurd (true≢false t)
+      by-sign : (x : ℤ) → n ≡ natAbs x → ltZ x (pos 0) ≡ false → n ≡ unsigned x
+      by-sign (pos k) e t = e
+      by-sign (negsuc k) e t = absurd (true≢false t)
 
 -- ---- the three sections, each after its count
 

@@ -33,7 +33,7 @@ pricesDue s buys sells area = padded 4 0 (tabulate (s .contractcount) (settlemen
 pub record Profitable (s : State) (buys sells area : List ℕ) : Type 0 where
   pub few : s .contractcount ≤ 4
   pub priceable : (c : ℕ) → c < s .contractcount
-      → Priceable (contractIn s c) buys (getD (s .buys) c 0) sells (getD (s .sells) c 0) area (s .tradecount) c
+      → Priceable (contractIn s c) buys (getD (s .buycounts) c 0) sells (getD (s .sellcounts) c 0) area (s .tradecount) c
   pub payable : AllPayable s area (pricesDue s buys sells area)
 
 -- ---- the statement's bytes, from what the code has worked out
@@ -74,8 +74,8 @@ clientState s accounts clients =
     record {
       contracts = s .contracts;
       accounts = accounts;
-      buys = s .buys;
-      sells = s .sells;
+      buycounts = s .buycounts;
+      sellcounts = s .sellcounts;
       contractcount = s .contractcount;
       accountcount = clients;
       tradecount = s .tradecount;
@@ -124,7 +124,7 @@ pub record Brokered (s : State) (buys sells area starts : List ℕ) (clients leg
   pub legs-are : legs ≡ legCount (recordedTrades area (s .tradecount))
   pub terms : (c : ℕ) → c < s .contractcount → (contractIn s c .multiplier ≤ 1_000) × (contractIn s c .reference ≤ 1_000_000)
   pub priceable : (c : ℕ) → c < s .contractcount
-      → Priceable (contractIn s c) buys (getD (s .buys) c 0) sells (getD (s .sells) c 0) area (s .tradecount) c
+      → Priceable (contractIn s c) buys (getD (s .buycounts) c 0) sells (getD (s .sellcounts) c 0) area (s .tradecount) c
   pub prices : (c : ℕ) → c < s .contractcount → settlementPrice (clientsDay s buys sells area starts clients) c ≤ 1_000_000
 
 -- the account exists, there are few enough clients, and their starting lots add up

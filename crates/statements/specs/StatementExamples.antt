@@ -241,7 +241,7 @@ codes = refl
 unfoldable pub nowhere : Memory
 nowhere =
     record {
-      state = record { contracts = []; accounts = []; buys = []; sells = []; contractcount = 0; accountcount = 0; tradecount = 0; next = 1; nextstamp = 1; settlements = 0 };
+      state = record { contracts = []; accounts = []; buycounts = []; sellcounts = []; contractcount = 0; accountcount = 0; tradecount = 0; next = 1; nextstamp = 1; settlements = 0 };
       buys = [];
       sells = [];
       trades = [];

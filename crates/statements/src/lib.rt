@@ -49,7 +49,7 @@ pub fn client_statement<'a>(
     if 16 < clients {
         return refused(25);
     }
-    let place = laws::wide(account) - 1;
+    let place = laws::place_of(account);
     let holders = state.accounts;
     let holder = holders[place];
     let holdings = holder.holdings;

@@ -24,8 +24,8 @@ fn prices_due<'a>(
     let mut c: usize = 0;
     while c < contracts {
         let terms = state.contracts[c];
-        let bids = state.buys[c];
-        let offers = state.sells[c];
+        let bids = state.buycounts[c];
+        let offers = state.sellcounts[c];
         prices[c] = price::settlement_price(terms, buys, bids, sells, offers, area, count, c);
         c += 1;
     }

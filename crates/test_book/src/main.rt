@@ -140,8 +140,8 @@ fn print(word: &[u8], n: u64) {
 }
 
 fn print_lots(lots: u32, price: u32) {
-    print(b" ", laws::wide32(lots));
-    print(b" at ", laws::wide32(price));
+    print(b" ", laws::wide64(lots));
+    print(b" at ", laws::wide64(price));
 }
 
 fn print_entry(e: Entry, sell: bool, lots: u32, price: u32) {
@@ -151,9 +151,9 @@ fn print_entry(e: Entry, sell: bool, lots: u32, price: u32) {
         io::write_all(1, b"buy");
     }
     print_lots(lots, price);
-    print(b": traded ", laws::wide32(e.traded));
-    print(b", rested ", laws::wide32(e.rested));
-    print(b", last price ", laws::wide32(e.last));
+    print(b": traded ", laws::wide64(e.traded));
+    print(b", rested ", laws::wide64(e.rested));
+    print(b", last price ", laws::wide64(e.last));
     io::write_all(1, b"\n");
 }
 

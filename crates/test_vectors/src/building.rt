@@ -79,8 +79,8 @@ fn filling() -> State {
     State {
         contracts: [contract; 4],
         accounts: [account; 32],
-        buys: [9223372039633872293; 4],
-        sells: [9223372039633872293; 4],
+        buycounts: [9223372039633872293; 4],
+        sellcounts: [9223372039633872293; 4],
         contractcount: 0,
         accountcount: 0,
         tradecount: 0,
@@ -151,8 +151,8 @@ fn with_queues(state: State, v: [u64; 16]) -> State {
     let place = reading::size(v[0]);
     let mut s = state;
     if place < 4 {
-        s.buys[place] = reading::size(v[1]);
-        s.sells[place] = reading::size(v[2]);
+        s.buycounts[place] = reading::size(v[1]);
+        s.sellcounts[place] = reading::size(v[2]);
     }
     s
 }

@@ -213,6 +213,24 @@ fn side<'a>(
     }
 }
 
+// The bytes that a vector tells: how many, and whether an area holds them, behind which it is as it was filled.
+struct Told {
+    length: usize,
+    next: usize,
+    same: bool,
+}
+
+fn told_bytes(file: &[u8], at: usize, area: &[u8]) -> Told {
+    let mut wanted = [0u8; 50000];
+    reading::fill_bytes(&mut wanted);
+    let told = reading::bytes(file, at, &mut wanted);
+    Told {
+        length: told.length,
+        next: told.next,
+        same: comparing::same_bytes(area, reading::first_bytes(&wanted, area.len())),
+    }
+}
+
 // The statement's area, cut to its length; the code and the length that came out.
 fn stated<'a>(
     state: State,
@@ -260,9 +278,6 @@ fn statement<'a>(
     let w = asked.values;
     let mut out = [0u8; 2100];
     reading::fill_bytes(&mut out);
-    let mut wanted = [0u8; 2100];
-    reading::fill_bytes(&mut wanted);
-    let told = reading::bytes(file, asked.next, &mut wanted);
     let found = stated(
         state,
         buys,
@@ -275,10 +290,9 @@ fn statement<'a>(
         &mut out,
         reading::size(w[0]),
     );
+    let told = told_bytes(file, asked.next, &out);
     Checked {
-        same: found.code == reading::word(w[1])
-            && found.length == told.length
-            && comparing::same_bytes(&out, &wanted),
+        same: found.code == reading::word(w[1]) && found.length == told.length && told.same,
         next: told.next,
     }
 }
@@ -318,12 +332,6 @@ fn mend_file(file: &[u8], at: usize) -> Checked {
     reading::fill_bytes(&mut out);
     let mut list = [0u8; 1000];
     reading::fill_bytes(&mut list);
-    let mut wanted = [0u8; 50000];
-    reading::fill_bytes(&mut wanted);
-    let told = reading::bytes(file, asked.next, &mut wanted);
-    let mut wanted_list = [0u8; 1000];
-    reading::fill_bytes(&mut wanted_list);
-    let listed = reading::bytes(file, told.next, &mut wanted_list);
     let found = mended(
         reading::first_bytes(&source, given.length),
         &mut out,
@@ -331,12 +339,14 @@ fn mend_file(file: &[u8], at: usize) -> Checked {
         &mut list,
         reading::size(v[1]),
     );
+    let told = told_bytes(file, asked.next, &out);
+    let listed = told_bytes(file, told.next, &list);
     Checked {
         same: found.code == reading::word(v[2])
             && found.length == told.length
             && found.listed == listed.length
-            && comparing::same_bytes(&out, &wanted)
-            && comparing::same_bytes(&list, &wanted_list),
+            && told.same
+            && listed.same,
         next: listed.next,
     }
 }
@@ -369,14 +379,10 @@ fn save_state(
     let v = asked.values;
     let mut out = [0u8; 2100];
     reading::fill_bytes(&mut out);
-    let mut wanted = [0u8; 2100];
-    reading::fill_bytes(&mut wanted);
-    let told = reading::bytes(file, asked.next, &mut wanted);
     let found = saved(state, buys, sells, trades, &mut out, reading::size(v[0]));
+    let told = told_bytes(file, asked.next, &out);
     Checked {
-        same: found.code == reading::word(v[1])
-            && found.length == told.length
-            && comparing::same_bytes(&out, &wanted),
+        same: found.code == reading::word(v[1]) && found.length == told.length && told.same,
         next: told.next,
     }
 }

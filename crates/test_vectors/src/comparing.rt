@@ -73,12 +73,12 @@ fn same_counts(a: [usize; 4], b: [usize; 4]) -> bool {
 pub fn same_state(a: State, b: State) -> bool {
     let contracts = a.contracts;
     let accounts = a.accounts;
-    let buys = a.buys;
-    let sells = a.sells;
+    let buys = a.buycounts;
+    let sells = a.sellcounts;
     let other_contracts = b.contracts;
     let other_accounts = b.accounts;
-    let other_buys = b.buys;
-    let other_sells = b.sells;
+    let other_buys = b.buycounts;
+    let other_sells = b.sellcounts;
     same_contracts(contracts, other_contracts)
         && same_accounts(accounts, other_accounts)
         && same_counts(buys, other_buys)

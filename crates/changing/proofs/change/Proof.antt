@@ -1,6 +1,5 @@
 -- `changing::change` meets its contract: each return by its law in Changing.antt. Assumes nothing.
 use mathlib.Core.Path.{sym, _∙_}
-use native.Mathlib.Omega.{arith}
 use Rattle.changing.proofs.Changing.{account-low, can-lessen, can-take-out, changeable, contract-fits, contract-low, equal-changed, few-contracts, fewer-changed, order-refused, refused-early, rooms, taken-out, terms-ok, zero-changed}
 use borrow.Author.Needs.{needs}
 use Rattle.changing.proofs.change.Statement.{statement}
@@ -19,13 +18,10 @@ returns c =
     let start = c .before .before .before .before .before .before in
     refused-early (start .pre) (start .args .account) (start .args .contract) (start .args .number) (start .args .lots) (start .args .price) (c .before .before .state-code .ensures) (c .before .if1 .taken) (c .refused .ensures)
 
-wide-requires : tie.Need-wide-requires
-wide-requires c κs = search needs
-
-sub-c : tie.Need-sub-c
-sub-c c =
-    let start = c .before .before .before .before .before .before in
-    omega (arith, c .wide .ensures, contract-low (start .pre) (start .args .account) (start .args .contract) (start .args .number) (start .args .lots) (start .args .price) (sym (c .before .before .state-code .ensures) ∙ c .before .if1 .left))
+place-of-requires : tie.Need-place-of-requires
+place-of-requires c κs =
+    let start = c .before .before .before .before .before in
+    contract-low (start .pre) (start .args .account) (start .args .contract) (start .args .number) (start .args .lots) (start .args .price) (sym (c .before .state-code .ensures) ∙ c .if1 .left)
 
 mul-terms : tie.Need-mul-terms
 mul-terms c = search needs
@@ -33,22 +29,22 @@ mul-terms c = search needs
 array-copy-out-terms : tie.Need-array-copy-out-terms
 array-copy-out-terms c =
     let start = c .before .before .before .before .before .before .before in
-    contract-fits (start .pre) (start .args .account) (start .args .contract) (start .args .number) (start .args .lots) (start .args .price) (sym (c .before .before .before .state-code .ensures) ∙ c .before .before .if1 .left) (c .before .wide .ensures)
+    contract-fits (start .pre) (start .args .account) (start .args .contract) (start .args .number) (start .args .lots) (start .args .price) (sym (c .before .before .before .state-code .ensures) ∙ c .before .before .if1 .left) (c .before .place-of .ensures)
 
 side-count-requires : tie.Need-side-count-requires
 side-count-requires c κs =
     let start = c .before .before .before .before .before .before .before .before in
-    contract-fits (start .pre) (start .args .account) (start .args .contract) (start .args .number) (start .args .lots) (start .args .price) (sym (c .before .before .before .before .state-code .ensures) ∙ c .before .before .before .if1 .left) (c .before .before .wide .ensures)
+    contract-fits (start .pre) (start .args .account) (start .args .contract) (start .args .number) (start .args .lots) (start .args .price) (sym (c .before .before .before .before .state-code .ensures) ∙ c .before .before .before .if1 .left) (c .before .before .place-of .ensures)
 
 side-count-requires-2 : tie.Need-side-count-requires-2
 side-count-requires-2 c κs =
     let start = c .before .before .before .before .before .before .before .before .before in
-    contract-fits (start .pre) (start .args .account) (start .args .contract) (start .args .number) (start .args .lots) (start .args .price) (sym (c .before .before .before .before .before .state-code .ensures) ∙ c .before .before .before .before .if1 .left) (c .before .before .before .wide .ensures)
+    contract-fits (start .pre) (start .args .account) (start .args .contract) (start .args .number) (start .args .lots) (start .args .price) (sym (c .before .before .before .before .before .state-code .ensures) ∙ c .before .before .before .before .if1 .left) (c .before .before .before .place-of .ensures)
 
 resting-order-requires : tie.Need-resting-order-requires
 resting-order-requires c κs =
     let start = c .before .before .before .before .before .before .before .before .before .before .before .before in
-    rooms (start .pre) (start .args .account) (start .args .contract) (start .args .number) (start .args .lots) (start .args .price) (sym (c .before .before .before .before .before .before .before .before .state-code .ensures) ∙ c .before .before .before .before .before .before .before .if1 .left) (c .before .before .before .before .before .before .wide .ensures) (c .before .before .before .side-count .ensures) (c .before .before .side-count2 .ensures)
+    rooms (start .pre) (start .args .account) (start .args .contract) (start .args .number) (start .args .lots) (start .args .price) (sym (c .before .before .before .before .before .before .before .before .state-code .ensures) ∙ c .before .before .before .before .before .before .before .if1 .left) (c .before .before .before .before .before .before .place-of .ensures) (c .before .before .before .side-count .ensures) (c .before .before .side-count2 .ensures)
 
 sub-order-code : tie.Need-sub-order-code
 sub-order-code c =
@@ -58,7 +54,7 @@ sub-order-code c =
 order-code-requires : tie.Need-order-code-requires
 order-code-requires c κs =
     let start = c .before .before .before .before .before .before .before .before .before .before .before .before .before in
-    terms-ok (start .pre) (start .args .account) (start .args .contract) (start .args .number) (start .args .lots) (start .args .price) (sym (c .before .before .before .before .before .before .before .before .before .state-code .ensures) ∙ c .before .before .before .before .before .before .before .before .if1 .left) (c .before .before .before .before .before .before .before .wide .ensures)
+    terms-ok (start .pre) (start .args .account) (start .args .contract) (start .args .number) (start .args .lots) (start .args .price) (sym (c .before .before .before .before .before .before .before .before .before .state-code .ensures) ∙ c .before .before .before .before .before .before .before .before .if1 .left) (c .before .before .before .before .before .before .before .place-of .ensures)
 
 refused-requires-2 : tie.Need-refused-requires-2
 refused-requires-2 c κs = search needs
@@ -72,12 +68,12 @@ same-length-2 c = search needs
 returns-2 : tie.Need-returns-2
 returns-2 c =
     let start = c .before .before .before .before .before .before .before .before .before .before .before .before .before .before .before .before in
-    order-refused (start .pre) (start .args .account) (start .args .contract) (start .args .number) (start .args .lots) (start .args .price) (sym (c .before .before .before .before .before .before .before .before .before .before .before .before .state-code .ensures) ∙ c .before .before .before .before .before .before .before .before .before .before .before .if1 .left) (c .before .before .before .before .before .before .before .before .before .before .wide .ensures) (c .before .before .before .before .before .before .before .side-count .ensures) (c .before .before .before .before .before .before .side-count2 .ensures) (c .before .before .before .resting-order .ensures) (c .before .before .order-code .ensures) (c .before .if2 .taken) (c .refused2 .ensures)
+    order-refused (start .pre) (start .args .account) (start .args .contract) (start .args .number) (start .args .lots) (start .args .price) (sym (c .before .before .before .before .before .before .before .before .before .before .before .before .state-code .ensures) ∙ c .before .before .before .before .before .before .before .before .before .before .before .if1 .left) (c .before .before .before .before .before .before .before .before .before .before .place-of .ensures) (c .before .before .before .before .before .before .before .side-count .ensures) (c .before .before .before .before .before .before .side-count2 .ensures) (c .before .before .before .resting-order .ensures) (c .before .before .order-code .ensures) (c .before .if2 .taken) (c .refused2 .ensures)
 
 take-out-requires : tie.Need-take-out-requires
 take-out-requires c κs =
     let start = c .before .before .before .before .before .before .before .before .before .before .before .before .before .before .before .before .before .before .before in
-    can-take-out (start .pre) (start .args .account) (start .args .contract) (start .args .number) (start .args .lots) (start .args .price) (changeable (start .pre) (start .args .account) (start .args .contract) (start .args .number) (start .args .lots) (start .args .price) (sym (c .before .before .before .before .before .before .before .before .before .before .before .before .before .before .before .state-code .ensures) ∙ c .before .before .before .before .before .before .before .before .before .before .before .before .before .before .if1 .left) (c .before .before .before .before .before .before .before .before .before .before .before .before .before .wide .ensures) (c .before .before .before .before .before .before .before .before .before .before .side-count .ensures) (c .before .before .before .before .before .before .before .before .before .side-count2 .ensures) (c .before .before .before .before .before .before .resting-order .ensures) (c .before .before .before .before .before .order-code .ensures) (c .before .before .before .before .if2 .left)) (c .before .before .before .before .before .before .before .before .before .before .before .before .before .wide .ensures)
+    can-take-out (start .pre) (start .args .account) (start .args .contract) (start .args .number) (start .args .lots) (start .args .price) (changeable (start .pre) (start .args .account) (start .args .contract) (start .args .number) (start .args .lots) (start .args .price) (sym (c .before .before .before .before .before .before .before .before .before .before .before .before .before .before .before .state-code .ensures) ∙ c .before .before .before .before .before .before .before .before .before .before .before .before .before .before .if1 .left) (c .before .before .before .before .before .before .before .before .before .before .before .before .before .place-of .ensures) (c .before .before .before .before .before .before .before .before .before .before .side-count .ensures) (c .before .before .before .before .before .before .before .before .before .side-count2 .ensures) (c .before .before .before .before .before .before .resting-order .ensures) (c .before .before .before .before .before .order-code .ensures) (c .before .before .before .before .if2 .left)) (c .before .before .before .before .before .before .before .before .before .before .before .before .before .place-of .ensures)
 
 accepted-requires : tie.Need-accepted-requires
 accepted-requires c κs = search needs
@@ -91,7 +87,7 @@ same-length-4 c = search needs
 returns-3 : tie.Need-returns-3
 returns-3 c =
     let start = c .before .before .before .before .before .before .before .before .before .before .before .before .before .before .before .before .before .before .before .before .before .before .before .before .before in
-    rw (c .accepted .ensures) (zero-changed (start .pre) (start .args .account) (start .args .contract) (start .args .number) (start .args .lots) (start .args .price) (changeable (start .pre) (start .args .account) (start .args .contract) (start .args .number) (start .args .lots) (start .args .price) (sym (c .before .before .before .before .before .before .before .before .before .before .before .before .before .before .before .before .before .before .before .before .before .state-code .ensures) ∙ c .before .before .before .before .before .before .before .before .before .before .before .before .before .before .before .before .before .before .before .before .if1 .left) (c .before .before .before .before .before .before .before .before .before .before .before .before .before .before .before .before .before .before .before .wide .ensures) (c .before .before .before .before .before .before .before .before .before .before .before .before .before .before .before .before .side-count .ensures) (c .before .before .before .before .before .before .before .before .before .before .before .before .before .before .before .side-count2 .ensures) (c .before .before .before .before .before .before .before .before .before .before .before .before .resting-order .ensures) (c .before .before .before .before .before .before .before .before .before .before .before .order-code .ensures) (c .before .before .before .before .before .before .before .before .before .before .if2 .left)) (c .before .before .before .before .before .before .before .before .if3 .taken) (taken-out (start .pre) (start .args .account) (start .args .contract) (start .args .number) (start .args .lots) (start .args .price) (changeable (start .pre) (start .args .account) (start .args .contract) (start .args .number) (start .args .lots) (start .args .price) (sym (c .before .before .before .before .before .before .before .before .before .before .before .before .before .before .before .before .before .before .before .before .before .state-code .ensures) ∙ c .before .before .before .before .before .before .before .before .before .before .before .before .before .before .before .before .before .before .before .before .if1 .left) (c .before .before .before .before .before .before .before .before .before .before .before .before .before .before .before .before .before .before .before .wide .ensures) (c .before .before .before .before .before .before .before .before .before .before .before .before .before .before .before .before .side-count .ensures) (c .before .before .before .before .before .before .before .before .before .before .before .before .before .before .before .side-count2 .ensures) (c .before .before .before .before .before .before .before .before .before .before .before .before .resting-order .ensures) (c .before .before .before .before .before .before .before .before .before .before .before .order-code .ensures) (c .before .before .before .before .before .before .before .before .before .before .if2 .left)) (c .before .before .before .before .before .before .before .before .before .before .before .before .before .before .before .before .before .before .before .wide .ensures) (c .before .before .before .before .before .take-out .ensures .0) (c .before .before .before .before .before .take-out .ensures .1 .0) (c .before .before .before .before .before .take-out .ensures .1 .1)))
+    rw (c .accepted .ensures) (zero-changed (start .pre) (start .args .account) (start .args .contract) (start .args .number) (start .args .lots) (start .args .price) (changeable (start .pre) (start .args .account) (start .args .contract) (start .args .number) (start .args .lots) (start .args .price) (sym (c .before .before .before .before .before .before .before .before .before .before .before .before .before .before .before .before .before .before .before .before .before .state-code .ensures) ∙ c .before .before .before .before .before .before .before .before .before .before .before .before .before .before .before .before .before .before .before .before .if1 .left) (c .before .before .before .before .before .before .before .before .before .before .before .before .before .before .before .before .before .before .before .place-of .ensures) (c .before .before .before .before .before .before .before .before .before .before .before .before .before .before .before .before .side-count .ensures) (c .before .before .before .before .before .before .before .before .before .before .before .before .before .before .before .side-count2 .ensures) (c .before .before .before .before .before .before .before .before .before .before .before .before .resting-order .ensures) (c .before .before .before .before .before .before .before .before .before .before .before .order-code .ensures) (c .before .before .before .before .before .before .before .before .before .before .if2 .left)) (c .before .before .before .before .before .before .before .before .if3 .taken) (taken-out (start .pre) (start .args .account) (start .args .contract) (start .args .number) (start .args .lots) (start .args .price) (changeable (start .pre) (start .args .account) (start .args .contract) (start .args .number) (start .args .lots) (start .args .price) (sym (c .before .before .before .before .before .before .before .before .before .before .before .before .before .before .before .before .before .before .before .before .before .state-code .ensures) ∙ c .before .before .before .before .before .before .before .before .before .before .before .before .before .before .before .before .before .before .before .before .if1 .left) (c .before .before .before .before .before .before .before .before .before .before .before .before .before .before .before .before .before .before .before .place-of .ensures) (c .before .before .before .before .before .before .before .before .before .before .before .before .before .before .before .before .side-count .ensures) (c .before .before .before .before .before .before .before .before .before .before .before .before .before .before .before .side-count2 .ensures) (c .before .before .before .before .before .before .before .before .before .before .before .before .resting-order .ensures) (c .before .before .before .before .before .before .before .before .before .before .before .order-code .ensures) (c .before .before .before .before .before .before .before .before .before .before .if2 .left)) (c .before .before .before .before .before .before .before .before .before .before .before .before .before .before .before .before .before .before .before .place-of .ensures) (c .before .before .before .before .before .take-out .ensures .0) (c .before .before .before .before .before .take-out .ensures .1 .0) (c .before .before .before .before .before .take-out .ensures .1 .1)))
 
 loses-place-requires : tie.Need-loses-place-requires
 loses-place-requires c κs = search needs
@@ -99,7 +95,7 @@ loses-place-requires c κs = search needs
 lose-place-requires : tie.Need-lose-place-requires
 lose-place-requires c κs =
     let start = c .before .before .before .before .before .before .before .before .before .before .before .before .before .before .before .before .before .before .before .before .before .before in
-    (start .pre, (changeable (start .pre) (start .args .account) (start .args .contract) (start .args .number) (start .args .lots) (start .args .price) (sym (c .before .before .before .before .before .before .before .before .before .before .before .before .before .before .before .before .before .before .state-code .ensures) ∙ c .before .before .before .before .before .before .before .before .before .before .before .before .before .before .before .before .before .if1 .left) (c .before .before .before .before .before .before .before .before .before .before .before .before .before .before .before .before .wide .ensures) (c .before .before .before .before .before .before .before .before .before .before .before .before .before .side-count .ensures) (c .before .before .before .before .before .before .before .before .before .before .before .before .side-count2 .ensures) (c .before .before .before .before .before .before .before .before .before .resting-order .ensures) (c .before .before .before .before .before .before .before .before .order-code .ensures) (c .before .before .before .before .before .before .before .if2 .left)), c .before .before .before .before .before .if3 .left, sym (c .before .before .before .before .loses-place .ensures) ∙ c .before .before .before .if4 .taken)
+    (start .pre, (changeable (start .pre) (start .args .account) (start .args .contract) (start .args .number) (start .args .lots) (start .args .price) (sym (c .before .before .before .before .before .before .before .before .before .before .before .before .before .before .before .before .before .before .state-code .ensures) ∙ c .before .before .before .before .before .before .before .before .before .before .before .before .before .before .before .before .before .if1 .left) (c .before .before .before .before .before .before .before .before .before .before .before .before .before .before .before .before .place-of .ensures) (c .before .before .before .before .before .before .before .before .before .before .before .before .before .side-count .ensures) (c .before .before .before .before .before .before .before .before .before .before .before .before .side-count2 .ensures) (c .before .before .before .before .before .before .before .before .before .resting-order .ensures) (c .before .before .before .before .before .before .before .before .order-code .ensures) (c .before .before .before .before .before .before .before .if2 .left)), c .before .before .before .before .before .if3 .left, sym (c .before .before .before .before .loses-place .ensures) ∙ c .before .before .before .if4 .taken)
 
 same-length-5 : tie.Need-same-length-5
 same-length-5 c = search needs
@@ -125,17 +121,17 @@ same-length-9 c = search needs
 returns-5 : tie.Need-returns-5
 returns-5 c =
     let start = c .before .before .before .before .before .before .before .before .before .before .before .before .before .before .before .before .before .before .before .before .before .before in
-    equal-changed (start .pre) (start .args .account) (start .args .contract) (start .args .number) (start .args .lots) (start .args .price) (changeable (start .pre) (start .args .account) (start .args .contract) (start .args .number) (start .args .lots) (start .args .price) (sym (c .before .before .before .before .before .before .before .before .before .before .before .before .before .before .before .before .before .before .state-code .ensures) ∙ c .before .before .before .before .before .before .before .before .before .before .before .before .before .before .before .before .before .if1 .left) (c .before .before .before .before .before .before .before .before .before .before .before .before .before .before .before .before .wide .ensures) (c .before .before .before .before .before .before .before .before .before .before .before .before .before .side-count .ensures) (c .before .before .before .before .before .before .before .before .before .before .before .before .side-count2 .ensures) (c .before .before .before .before .before .before .before .before .before .resting-order .ensures) (c .before .before .before .before .before .before .before .before .order-code .ensures) (c .before .before .before .before .before .before .before .if2 .left)) (c .before .before .before .before .before .if3 .left) (sym (c .before .before .before .before .loses-place .ensures) ∙ c .before .before .before .if4 .left) (c .before .if5 .taken) (c .accepted2 .ensures)
+    equal-changed (start .pre) (start .args .account) (start .args .contract) (start .args .number) (start .args .lots) (start .args .price) (changeable (start .pre) (start .args .account) (start .args .contract) (start .args .number) (start .args .lots) (start .args .price) (sym (c .before .before .before .before .before .before .before .before .before .before .before .before .before .before .before .before .before .before .state-code .ensures) ∙ c .before .before .before .before .before .before .before .before .before .before .before .before .before .before .before .before .before .if1 .left) (c .before .before .before .before .before .before .before .before .before .before .before .before .before .before .before .before .place-of .ensures) (c .before .before .before .before .before .before .before .before .before .before .before .before .before .side-count .ensures) (c .before .before .before .before .before .before .before .before .before .before .before .before .side-count2 .ensures) (c .before .before .before .before .before .before .before .before .before .resting-order .ensures) (c .before .before .before .before .before .before .before .before .order-code .ensures) (c .before .before .before .before .before .before .before .if2 .left)) (c .before .before .before .before .before .if3 .left) (sym (c .before .before .before .before .loses-place .ensures) ∙ c .before .before .before .if4 .left) (c .before .if5 .taken) (c .accepted2 .ensures)
 
 side-count-requires-3 : tie.Need-side-count-requires-3
 side-count-requires-3 c κs =
     let start = c .before .before .before .before .before .before .before .before .before .before .before .before .before .before .before .before .before .before .before .before .before in
-    contract-fits (start .pre) (start .args .account) (start .args .contract) (start .args .number) (start .args .lots) (start .args .price) (sym (c .before .before .before .before .before .before .before .before .before .before .before .before .before .before .before .before .before .state-code .ensures) ∙ c .before .before .before .before .before .before .before .before .before .before .before .before .before .before .before .before .if1 .left) (c .before .before .before .before .before .before .before .before .before .before .before .before .before .before .before .wide .ensures)
+    contract-fits (start .pre) (start .args .account) (start .args .contract) (start .args .number) (start .args .lots) (start .args .price) (sym (c .before .before .before .before .before .before .before .before .before .before .before .before .before .before .before .before .before .state-code .ensures) ∙ c .before .before .before .before .before .before .before .before .before .before .before .before .before .before .before .before .if1 .left) (c .before .before .before .before .before .before .before .before .before .before .before .before .before .before .before .place-of .ensures)
 
 lessen-requires : tie.Need-lessen-requires
 lessen-requires c κs =
     let start = c .before .before .before .before .before .before .before .before .before .before .before .before .before .before .before .before .before .before .before .before .before .before .before .before in
-    can-lessen (start .pre) (start .args .account) (start .args .contract) (start .args .number) (start .args .lots) (start .args .price) (changeable (start .pre) (start .args .account) (start .args .contract) (start .args .number) (start .args .lots) (start .args .price) (sym (c .before .before .before .before .before .before .before .before .before .before .before .before .before .before .before .before .before .before .before .before .state-code .ensures) ∙ c .before .before .before .before .before .before .before .before .before .before .before .before .before .before .before .before .before .before .before .if1 .left) (c .before .before .before .before .before .before .before .before .before .before .before .before .before .before .before .before .before .before .wide .ensures) (c .before .before .before .before .before .before .before .before .before .before .before .before .before .before .before .side-count .ensures) (c .before .before .before .before .before .before .before .before .before .before .before .before .before .before .side-count2 .ensures) (c .before .before .before .before .before .before .before .before .before .before .before .resting-order .ensures) (c .before .before .before .before .before .before .before .before .before .before .order-code .ensures) (c .before .before .before .before .before .before .before .before .before .if2 .left)) (c .before .before .before .before .before .before .before .if3 .left) (sym (c .before .before .before .before .before .before .loses-place .ensures) ∙ c .before .before .before .before .before .if4 .left) (c .before .before .before .before .before .before .before .before .before .before .before .before .before .before .before .before .before .before .wide .ensures) (c .before .before .side-count3 .ensures)
+    can-lessen (start .pre) (start .args .account) (start .args .contract) (start .args .number) (start .args .lots) (start .args .price) (changeable (start .pre) (start .args .account) (start .args .contract) (start .args .number) (start .args .lots) (start .args .price) (sym (c .before .before .before .before .before .before .before .before .before .before .before .before .before .before .before .before .before .before .before .before .state-code .ensures) ∙ c .before .before .before .before .before .before .before .before .before .before .before .before .before .before .before .before .before .before .before .if1 .left) (c .before .before .before .before .before .before .before .before .before .before .before .before .before .before .before .before .before .before .place-of .ensures) (c .before .before .before .before .before .before .before .before .before .before .before .before .before .before .before .side-count .ensures) (c .before .before .before .before .before .before .before .before .before .before .before .before .before .before .side-count2 .ensures) (c .before .before .before .before .before .before .before .before .before .before .before .resting-order .ensures) (c .before .before .before .before .before .before .before .before .before .before .order-code .ensures) (c .before .before .before .before .before .before .before .before .before .if2 .left)) (c .before .before .before .before .before .before .before .if3 .left) (sym (c .before .before .before .before .before .before .loses-place .ensures) ∙ c .before .before .before .before .before .if4 .left) (c .before .before .before .before .before .before .before .before .before .before .before .before .before .before .before .before .before .before .place-of .ensures) (c .before .before .side-count3 .ensures)
 
 accepted-requires-3 : tie.Need-accepted-requires-3
 accepted-requires-3 c κs = search needs
@@ -149,7 +145,7 @@ same-length-11 c = search needs
 returns-6 : tie.Need-returns-6
 returns-6 c =
     let start = c .before .before .before .before .before .before .before .before .before .before .before .before .before .before .before .before .before .before .before .before .before .before .before .before .before .before .before .before .before .before in
-    fewer-changed (start .pre) (start .args .account) (start .args .contract) (start .args .number) (start .args .lots) (start .args .price) (changeable (start .pre) (start .args .account) (start .args .contract) (start .args .number) (start .args .lots) (start .args .price) (sym (c .before .before .before .before .before .before .before .before .before .before .before .before .before .before .before .before .before .before .before .before .before .before .before .before .before .before .state-code .ensures) ∙ c .before .before .before .before .before .before .before .before .before .before .before .before .before .before .before .before .before .before .before .before .before .before .before .before .before .if1 .left) (c .before .before .before .before .before .before .before .before .before .before .before .before .before .before .before .before .before .before .before .before .before .before .before .before .wide .ensures) (c .before .before .before .before .before .before .before .before .before .before .before .before .before .before .before .before .before .before .before .before .before .side-count .ensures) (c .before .before .before .before .before .before .before .before .before .before .before .before .before .before .before .before .before .before .before .before .side-count2 .ensures) (c .before .before .before .before .before .before .before .before .before .before .before .before .before .before .before .before .before .resting-order .ensures) (c .before .before .before .before .before .before .before .before .before .before .before .before .before .before .before .before .order-code .ensures) (c .before .before .before .before .before .before .before .before .before .before .before .before .before .before .before .if2 .left)) (c .before .before .before .before .before .before .before .before .before .before .before .before .before .if3 .left) (sym (c .before .before .before .before .before .before .before .before .before .before .before .before .loses-place .ensures) ∙ c .before .before .before .before .before .before .before .before .before .before .before .if4 .left) (c .before .before .before .before .before .before .before .before .before .if5 .left) (c .before .before .before .before .before .before .before .before .before .before .before .before .before .before .before .before .before .before .before .before .before .before .before .before .wide .ensures) (c .before .before .before .before .before .before .before .before .side-count3 .ensures) (c .before .before .before .before .before .lessen .ensures .0) (c .before .before .before .before .before .lessen .ensures .1) (c .accepted3 .ensures)
+    fewer-changed (start .pre) (start .args .account) (start .args .contract) (start .args .number) (start .args .lots) (start .args .price) (changeable (start .pre) (start .args .account) (start .args .contract) (start .args .number) (start .args .lots) (start .args .price) (sym (c .before .before .before .before .before .before .before .before .before .before .before .before .before .before .before .before .before .before .before .before .before .before .before .before .before .before .state-code .ensures) ∙ c .before .before .before .before .before .before .before .before .before .before .before .before .before .before .before .before .before .before .before .before .before .before .before .before .before .if1 .left) (c .before .before .before .before .before .before .before .before .before .before .before .before .before .before .before .before .before .before .before .before .before .before .before .before .place-of .ensures) (c .before .before .before .before .before .before .before .before .before .before .before .before .before .before .before .before .before .before .before .before .before .side-count .ensures) (c .before .before .before .before .before .before .before .before .before .before .before .before .before .before .before .before .before .before .before .before .side-count2 .ensures) (c .before .before .before .before .before .before .before .before .before .before .before .before .before .before .before .before .before .resting-order .ensures) (c .before .before .before .before .before .before .before .before .before .before .before .before .before .before .before .before .order-code .ensures) (c .before .before .before .before .before .before .before .before .before .before .before .before .before .before .before .if2 .left)) (c .before .before .before .before .before .before .before .before .before .before .before .before .before .if3 .left) (sym (c .before .before .before .before .before .before .before .before .before .before .before .before .loses-place .ensures) ∙ c .before .before .before .before .before .before .before .before .before .before .before .if4 .left) (c .before .before .before .before .before .before .before .before .before .if5 .left) (c .before .before .before .before .before .before .before .before .before .before .before .before .before .before .before .before .before .before .before .before .before .before .before .before .place-of .ensures) (c .before .before .before .before .before .before .before .before .side-count3 .ensures) (c .before .before .before .before .before .lessen .ensures .0) (c .before .before .before .before .before .lessen .ensures .1) (c .accepted3 .ensures)
 
 pub change-spec : {M : Type 1} → statement M
 change-spec =
@@ -158,8 +154,7 @@ change-spec =
     state-code-requires
     refused-requires
     returns
-    wide-requires
-    sub-c
+    place-of-requires
     mul-terms
     array-copy-out-terms
     side-count-requires

@@ -23,13 +23,10 @@ unfolding firstOf
 returns-2 c =
     rw ((sym (c .before .before .before .is-absent .ensures) ∙ c .before .before .if1 .left), sym (c .before .is-absent2 .ensures) ∙ c .if2 .taken)
 
-wide-requires : tie.Need-wide-requires
-wide-requires c κs = search needs
-
-sub-place : tie.Need-sub-place
-sub-place c =
-    let start = c .before .before .before .before .before in
-    omega (arith, c .wide .ensures, (place-below (start .args .contract) (start .args .state .contractcount) (sym (c .before .before .is-absent2 .ensures) ∙ c .before .if2 .left)) .0)
+place-of-requires : tie.Need-place-of-requires
+place-of-requires c κs =
+    let start = c .before .before .before .before in
+    place-below (start .args .contract) (start .args .state .contractcount) (sym (c .before .is-absent2 .ensures) ∙ c .if2 .left) .0
 
 mul-terms : tie.Need-mul-terms
 mul-terms c = search needs
@@ -37,17 +34,17 @@ mul-terms c = search needs
 array-copy-out-terms : tie.Need-array-copy-out-terms
 array-copy-out-terms c =
     let start = c .before .before .before .before .before .before in
-    omega (arith, c .before .wide .ensures, (place-below (start .args .contract) (start .args .state .contractcount) (sym (c .before .before .before .is-absent2 .ensures) ∙ c .before .before .if2 .left)) .1, start .pre)
+    omega (arith, c .before .place-of .ensures, (place-below (start .args .contract) (start .args .state .contractcount) (sym (c .before .before .before .is-absent2 .ensures) ∙ c .before .before .if2 .left)) .1, start .pre)
 
 returns-3 : tie.Need-returns-3
 unfolding firstOf
 returns-3 c =
-    rw ((sym (c .before .before .before .before .before .before .before .before .is-absent .ensures) ∙ c .before .before .before .before .before .before .before .if1 .left), (sym (c .before .before .before .before .before .before .is-absent2 .ensures) ∙ c .before .before .before .before .before .if2 .left), ne-eqb _ _ (rw (c .before .before .before .before .wide .ensures) at (c .if3 .taken)))
+    rw ((sym (c .before .before .before .before .before .before .before .before .is-absent .ensures) ∙ c .before .before .before .before .before .before .before .if1 .left), (sym (c .before .before .before .before .before .before .is-absent2 .ensures) ∙ c .before .before .before .before .before .if2 .left), ne-eqb _ _ (rw (c .before .before .before .before .place-of .ensures) at (c .if3 .taken)))
 
 returns-4 : tie.Need-returns-4
 unfolding firstOf
 returns-4 c =
-    rw ((sym (c .before .before .before .before .before .before .before .before .is-absent .ensures) ∙ c .before .before .before .before .before .before .before .if1 .left), (sym (c .before .before .before .before .before .before .is-absent2 .ensures) ∙ c .before .before .before .before .before .if2 .left), eq-eqb _ _ (rw (c .before .before .before .before .wide .ensures) at (c .if3 .left)))
+    rw ((sym (c .before .before .before .before .before .before .before .before .is-absent .ensures) ∙ c .before .before .before .before .before .before .before .if1 .left), (sym (c .before .before .before .before .before .before .is-absent2 .ensures) ∙ c .before .before .before .before .before .if2 .left), eq-eqb _ _ (rw (c .before .before .before .before .place-of .ensures) at (c .if3 .left)))
 
 pub state-code-spec : {M : Type 1} → statement M
 state-code-spec =
@@ -57,8 +54,7 @@ state-code-spec =
     returns
     is-absent-requires-2
     returns-2
-    wide-requires
-    sub-place
+    place-of-requires
     mul-terms
     array-copy-out-terms
     returns-3

@@ -3,11 +3,8 @@ use borrow.Author.Needs.{needs}
 use Rattle.insertion.proofs.arrival_of.Statement.{statement}
 use Rattle.insertion.proofs.arrival_of.Tie as tie
 
-wide-requires : tie.Need-wide-requires
-wide-requires c κs = search needs
-
-sub-place : tie.Need-sub-place
-sub-place c = search needs
+place-of-requires : tie.Need-place-of-requires
+place-of-requires c κs = search needs
 
 mul-terms : tie.Need-mul-terms
 mul-terms c = search needs
@@ -28,14 +25,13 @@ array-read-t20 : tie.Need-array-read-t20
 array-read-t20 c = search needs
 
 returns : tie.Need-returns
-returns c = rw (c .before .before .before .before .wide .ensures)
+returns c = rw (c .before .before .before .before .place-of .ensures)
 
 pub arrival-of-spec : {M : Type 1} → statement M
 arrival-of-spec =
     tie.close
     (tie.spec
-    wide-requires
-    sub-place
+    place-of-requires
     mul-terms
     array-copy-out-terms
     mul-t10

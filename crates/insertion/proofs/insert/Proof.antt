@@ -20,13 +20,10 @@ returns c =
     let start = c .before .before .before .before .before .before in
     refusal _ _ _ _ _ _ (omega arith) (sym (code-account (start .pre) (start .args .o) (sym (c .before .before .is-absent .ensures) ∙ c .before .if1 .taken))) (c .refused .ensures)
 
-wide-requires : tie.Need-wide-requires
-wide-requires c κs = search needs
-
-sub-a : tie.Need-sub-a
-sub-a c =
-    let start = c .before .before .before .before .before .before in
-    holder-low (start .pre) (start .args .o) (sym (c .before .before .is-absent .ensures) ∙ c .before .if1 .left) (c .wide .ensures)
+place-of-requires : tie.Need-place-of-requires
+place-of-requires c κs =
+    let start = c .before .before .before .before .before in
+    holder-low (start .pre) (start .args .o) (sym (c .before .is-absent .ensures) ∙ c .if1 .left)
 
 mul-who : tie.Need-mul-who
 mul-who c = search needs
@@ -34,12 +31,12 @@ mul-who c = search needs
 element-copy-out-who : tie.Need-element-copy-out-who
 element-copy-out-who c =
     let start = c .before .before .before .before .before .before in
-    holder-fits (start .pre) (start .args .o) (sym (c .before .before .is-absent .ensures) ∙ c .before .if1 .left) (c .wide .ensures)
+    holder-fits (start .pre) (start .args .o) (sym (c .before .before .is-absent .ensures) ∙ c .before .if1 .left) (c .place-of .ensures)
 
 code-of-requires : tie.Need-code-of-requires
 code-of-requires c κs =
     let start = c .before .before .before .before .before .before .before .before .before .before in
-    (start .pre, record { in-use = (sym (c .before .before .before .before .before .before .is-absent .ensures) ∙ c .before .before .before .before .before .if1 .left); owner = rw (c .before .before .before .before .wide .ensures) })
+    (start .pre, record { in-use = (sym (c .before .before .before .before .before .before .is-absent .ensures) ∙ c .before .before .before .before .before .if1 .left); owner = rw (c .before .before .before .before .place-of .ensures) })
 
 refused-requires-2 : tie.Need-refused-requires-2
 refused-requires-2 c κs = search needs
@@ -102,8 +99,7 @@ insert-spec =
     is-absent-requires
     refused-requires
     returns
-    wide-requires
-    sub-a
+    place-of-requires
     mul-who
     element-copy-out-who
     code-of-requires

@@ -1,9 +1,8 @@
 -- `query::reading_of` meets its contract: the refusals in their order, then the queue read. Assumes nothing.
 use mathlib.Core.Bool.{false}
 use mathlib.Core.Path.{_≡_, sym, _∙_}
-use native.Mathlib.Omega.{arith}
 use borrow.Author.Needs.{needs}
-use Rattle.engine.specs.Outcome.{isAbsent}
+use Rattle.rules.specs.Exchange.{isAbsent}
 use Rattle.refusals.specs.Insertion.{Present}
 use Rattle.refusals.proofs.Inserting.{present, place-fits, terms-in-range}
 use Rattle.query.proofs.Asking.{answered, facing, no-such-account, no-such-contract, refused-fields, room}
@@ -41,43 +40,40 @@ refused-requires-2 c κs = search needs
 returns-2 : tie.Need-returns-2
 returns-2 c = c .refused2 .ensures ∙ no-such-contract (c .before .before .before .before .before .before .before .before .pre) (c .before .before .before .before .before .before .before .before .args .o) (account-there (c .before .before .before)) (sym (c .before .before .is-absent2 .ensures) ∙ c .before .if2 .taken)
 
-wide-requires : tie.Need-wide-requires
-wide-requires c κs = search needs
-
-sub-c : tie.Need-sub-c
-sub-c c = omega (arith, c .wide .ensures, here (c .before) .contract-low)
+place-of-requires : tie.Need-place-of-requires
+place-of-requires c κs = here (c) .contract-low
 
 mul-terms : tie.Need-mul-terms
 mul-terms c = search needs
 
 array-copy-out-terms : tie.Need-array-copy-out-terms
-array-copy-out-terms c = place-fits (c .before .before .before .before .before .before .before .before .before .pre) (c .before .before .before .before .before .before .before .before .before .args .o) (here (c .before .before)) (c .before .wide .ensures)
+array-copy-out-terms c = place-fits (c .before .before .before .before .before .before .before .before .before .pre) (c .before .before .before .before .before .before .before .before .before .args .o) (here (c .before .before)) (c .before .place-of .ensures)
 
 fields-code-requires : tie.Need-fields-code-requires
-fields-code-requires c κs = terms-in-range (c .before .before .before .before .before .before .before .before .before .before .pre) (c .before .before .before .before .before .before .before .before .before .before .args .o) (here (c .before .before .before)) (c .before .before .wide .ensures)
+fields-code-requires c κs = terms-in-range (c .before .before .before .before .before .before .before .before .before .before .pre) (c .before .before .before .before .before .before .before .before .before .before .args .o) (here (c .before .before .before)) (c .before .before .place-of .ensures)
 
 refused-requires-3 : tie.Need-refused-requires-3
 refused-requires-3 c κs = search needs
 
 returns-3 : tie.Need-returns-3
-returns-3 c = c .refused3 .ensures ∙ refused-fields (c .before .before .before .before .before .before .before .before .before .before .before .before .before .pre) (c .before .before .before .before .before .before .before .before .before .before .before .before .before .args .o) (account-there (c .before .before .before .before .before .before .before .before)) (contract-there (c .before .before .before .before .before .before)) (here (c .before .before .before .before .before .before)) (c .before .before .before .before .before .wide .ensures) (c .before .before .fields-code .ensures) (c .before .if3 .taken)
+returns-3 c = c .refused3 .ensures ∙ refused-fields (c .before .before .before .before .before .before .before .before .before .before .before .before .before .pre) (c .before .before .before .before .before .before .before .before .before .before .before .before .before .args .o) (account-there (c .before .before .before .before .before .before .before .before)) (contract-there (c .before .before .before .before .before .before)) (here (c .before .before .before .before .before .before)) (c .before .before .before .before .before .place-of .ensures) (c .before .before .fields-code .ensures) (c .before .if3 .taken)
 
 side-area-requires : tie.Need-side-area-requires
 side-area-requires c κs = search needs
 
 side-count-requires : tie.Need-side-count-requires
-side-count-requires c κs = place-fits (c .before .before .before .before .before .before .before .before .before .before .before .before .before .before .before .pre) (c .before .before .before .before .before .before .before .before .before .before .before .before .before .before .before .args .o) (here (c .before .before .before .before .before .before .before .before)) (c .before .before .before .before .before .before .before .wide .ensures)
+side-count-requires c κs = place-fits (c .before .before .before .before .before .before .before .before .before .before .before .before .before .before .before .pre) (c .before .before .before .before .before .before .before .before .before .before .before .before .before .before .before .args .o) (here (c .before .before .before .before .before .before .before .before)) (c .before .before .before .before .before .before .before .place-of .ensures)
 
 taker-of-requires : tie.Need-taker-of-requires
 taker-of-requires c κs =
     let p = here (c .before .before .before .before .before .before .before .before .before) in
-    (p .account-low, p .contract-low, room (c .before .before .before .before .before .before .before .before .before .before .before .before .before .before .before .before .pre) (c .before .before .before .before .before .before .before .before .before .before .before .before .before .before .before .before .args .o) (account-there (c .before .before .before .before .before .before .before .before .before .before .before)) (contract-there (c .before .before .before .before .before .before .before .before .before)) (here (c .before .before .before .before .before .before .before .before .before)) (c .before .before .before .before .before .before .before .before .wide .ensures) (c .before .before .before .before .before .fields-code .ensures) (c .before .before .side-area .ensures) (c .side-count .ensures))
+    (p .account-low, p .contract-low, room (c .before .before .before .before .before .before .before .before .before .before .before .before .before .before .before .before .pre) (c .before .before .before .before .before .before .before .before .before .before .before .before .before .before .before .before .args .o) (account-there (c .before .before .before .before .before .before .before .before .before .before .before)) (contract-there (c .before .before .before .before .before .before .before .before .before)) (here (c .before .before .before .before .before .before .before .before .before)) (c .before .before .before .before .before .before .before .before .place-of .ensures) (c .before .before .before .before .before .fields-code .ensures) (c .before .before .side-area .ensures) (c .side-count .ensures))
 
 gather-requires : tie.Need-gather-requires
-gather-requires c κs = facing (c .before .before .before .before .before .before .before .before .before .before .before .before .before .before .before .before .before .pre) (c .before .before .before .before .before .before .before .before .before .before .before .before .before .before .before .before .before .args .o) (account-there (c .before .before .before .before .before .before .before .before .before .before .before .before)) (contract-there (c .before .before .before .before .before .before .before .before .before .before)) (here (c .before .before .before .before .before .before .before .before .before .before)) (c .before .before .before .before .before .before .before .before .before .wide .ensures) (c .before .before .before .before .before .before .fields-code .ensures) (c .before .before .before .side-area .ensures) (c .before .side-count .ensures) (c .taker-of .ensures)
+gather-requires c κs = facing (c .before .before .before .before .before .before .before .before .before .before .before .before .before .before .before .before .before .pre) (c .before .before .before .before .before .before .before .before .before .before .before .before .before .before .before .before .before .args .o) (account-there (c .before .before .before .before .before .before .before .before .before .before .before .before)) (contract-there (c .before .before .before .before .before .before .before .before .before .before)) (here (c .before .before .before .before .before .before .before .before .before .before)) (c .before .before .before .before .before .before .before .before .before .place-of .ensures) (c .before .before .before .before .before .before .fields-code .ensures) (c .before .before .before .side-area .ensures) (c .before .side-count .ensures) (c .taker-of .ensures)
 
 returns-4 : tie.Need-returns-4
-returns-4 c = answered (c .before .before .before .before .before .before .before .before .before .before .before .before .before .before .before .before .before .before .pre) (c .before .before .before .before .before .before .before .before .before .before .before .before .before .before .before .before .before .before .args .o) (account-there (c .before .before .before .before .before .before .before .before .before .before .before .before .before)) (contract-there (c .before .before .before .before .before .before .before .before .before .before .before)) (here (c .before .before .before .before .before .before .before .before .before .before .before)) (c .before .before .before .before .before .before .before .before .before .before .wide .ensures) (c .before .before .before .before .before .before .before .fields-code .ensures) (c .before .before .before .before .side-area .ensures) (c .before .before .side-count .ensures) (c .before .taker-of .ensures) (c .before .before .before .before .before .before .if3 .left) (c .gather .ensures)
+returns-4 c = answered (c .before .before .before .before .before .before .before .before .before .before .before .before .before .before .before .before .before .before .pre) (c .before .before .before .before .before .before .before .before .before .before .before .before .before .before .before .before .before .before .args .o) (account-there (c .before .before .before .before .before .before .before .before .before .before .before .before .before)) (contract-there (c .before .before .before .before .before .before .before .before .before .before .before)) (here (c .before .before .before .before .before .before .before .before .before .before .before)) (c .before .before .before .before .before .before .before .before .before .before .place-of .ensures) (c .before .before .before .before .before .before .before .fields-code .ensures) (c .before .before .before .before .side-area .ensures) (c .before .before .side-count .ensures) (c .before .taker-of .ensures) (c .before .before .before .before .before .before .if3 .left) (c .gather .ensures)
 
 pub reading-of-spec : {M : Type 1} → statement M
 reading-of-spec =
@@ -89,8 +85,7 @@ reading-of-spec =
     is-absent-requires-2
     refused-requires-2
     returns-2
-    wide-requires
-    sub-c
+    place-of-requires
     mul-terms
     array-copy-out-terms
     fields-code-requires

@@ -22,13 +22,10 @@ returns-2 : tie.Need-returns-2
 unfolding firstOf
 returns-2 c = rw ((sym (c .before .before .before .is-absent .ensures) ∙ c .before .before .if1 .left), sym (c .before .is-absent2 .ensures) ∙ c .if2 .taken)
 
-wide-requires : tie.Need-wide-requires
-wide-requires c κs = search needs
-
-sub-c : tie.Need-sub-c
-sub-c c =
-    let start = c .before .before .before .before .before in
-    omega (arith, c .wide .ensures, (place-below (start .args .contract) (start .args .t1 .contractcount) (sym (c .before .before .is-absent2 .ensures) ∙ c .before .if2 .left)) .0)
+place-of-requires : tie.Need-place-of-requires
+place-of-requires c κs =
+    let start = c .before .before .before .before in
+    place-below (start .args .contract) (start .args .t1 .contractcount) (sym (c .before .is-absent2 .ensures) ∙ c .if2 .left) .0
 
 mul-terms : tie.Need-mul-terms
 mul-terms c = search needs
@@ -36,19 +33,16 @@ mul-terms c = search needs
 array-copy-out-terms : tie.Need-array-copy-out-terms
 array-copy-out-terms c =
     let start = c .before .before .before .before .before .before in
-    omega (arith, c .before .wide .ensures, (place-below (start .args .contract) (start .args .t1 .contractcount) (sym (c .before .before .before .is-absent2 .ensures) ∙ c .before .before .if2 .left)) .1, start .pre .0)
+    omega (arith, c .before .place-of .ensures, (place-below (start .args .contract) (start .args .t1 .contractcount) (sym (c .before .before .before .is-absent2 .ensures) ∙ c .before .before .if2 .left)) .1, start .pre .0)
 
 returns-3 : tie.Need-returns-3
 unfolding firstOf
-returns-3 c = rw ((sym (c .before .before .before .before .before .before .before .before .is-absent .ensures) ∙ c .before .before .before .before .before .before .before .if1 .left), (sym (c .before .before .before .before .before .before .is-absent2 .ensures) ∙ c .before .before .before .before .before .if2 .left), ne-eqb _ _ (rw (c .before .before .before .before .wide .ensures) at (c .if3 .taken)))
+returns-3 c = rw ((sym (c .before .before .before .before .before .before .before .before .is-absent .ensures) ∙ c .before .before .before .before .before .before .before .if1 .left), (sym (c .before .before .before .before .before .before .is-absent2 .ensures) ∙ c .before .before .before .before .before .if2 .left), ne-eqb _ _ (rw (c .before .before .before .before .place-of .ensures) at (c .if3 .taken)))
 
-wide-requires-2 : tie.Need-wide-requires-2
-wide-requires-2 c κs = search needs
-
-sub-a : tie.Need-sub-a
-sub-a c =
-    let start = c .before .before .before .before .before .before .before .before .before .before in
-    omega (arith, c .wide2 .ensures, (place-below (start .args .account) (start .args .t1 .accountcount) (sym (c .before .before .before .before .before .before .before .before .before .is-absent .ensures) ∙ c .before .before .before .before .before .before .before .before .if1 .left)) .0)
+place-of-requires-2 : tie.Need-place-of-requires-2
+place-of-requires-2 c κs =
+    let start = c .before .before .before .before .before .before .before .before .before in
+    place-below (start .args .account) (start .args .t1 .accountcount) (sym (c .before .before .before .before .before .before .before .before .is-absent .ensures) ∙ c .before .before .before .before .before .before .before .if1 .left) .0
 
 mul-who : tie.Need-mul-who
 mul-who c = search needs
@@ -56,19 +50,19 @@ mul-who c = search needs
 element-copy-out-who : tie.Need-element-copy-out-who
 element-copy-out-who c =
     let start = c .before .before .before .before .before .before .before .before .before .before in
-    omega (arith, c .wide2 .ensures, (place-below (start .args .account) (start .args .t1 .accountcount) (sym (c .before .before .before .before .before .before .before .before .before .is-absent .ensures) ∙ c .before .before .before .before .before .before .before .before .if1 .left)) .1, start .pre .1)
+    omega (arith, c .place-of2 .ensures, (place-below (start .args .account) (start .args .t1 .accountcount) (sym (c .before .before .before .before .before .before .before .before .before .is-absent .ensures) ∙ c .before .before .before .before .before .before .before .before .if1 .left)) .1, start .pre .1)
 
 returns-4 : tie.Need-returns-4
 unfolding firstOf
-returns-4 c = rw ((sym (c .before .before .before .before .before .before .before .before .before .before .before .before .is-absent .ensures) ∙ c .before .before .before .before .before .before .before .before .before .before .before .if1 .left), (sym (c .before .before .before .before .before .before .before .before .before .before .is-absent2 .ensures) ∙ c .before .before .before .before .before .before .before .before .before .if2 .left), eq-eqb _ _ (rw (c .before .before .before .before .before .before .before .before .wide .ensures) at (c .before .before .before .before .if3 .left)), ne-eqb _ _ (rw (c .before .before .before .wide2 .ensures) at (c .if4 .taken)))
+returns-4 c = rw ((sym (c .before .before .before .before .before .before .before .before .before .before .before .before .is-absent .ensures) ∙ c .before .before .before .before .before .before .before .before .before .before .before .if1 .left), (sym (c .before .before .before .before .before .before .before .before .before .before .is-absent2 .ensures) ∙ c .before .before .before .before .before .before .before .before .before .if2 .left), eq-eqb _ _ (rw (c .before .before .before .before .before .before .before .before .place-of .ensures) at (c .before .before .before .before .if3 .left)), ne-eqb _ _ (rw (c .before .before .before .place-of2 .ensures) at (c .if4 .taken)))
 
 returns-5 : tie.Need-returns-5
 unfolding firstOf
-returns-5 c = rw ((sym (c .before .before .before .before .before .before .before .before .before .before .before .before .before .is-absent .ensures) ∙ c .before .before .before .before .before .before .before .before .before .before .before .before .if1 .left), (sym (c .before .before .before .before .before .before .before .before .before .before .before .is-absent2 .ensures) ∙ c .before .before .before .before .before .before .before .before .before .before .if2 .left), eq-eqb _ _ (rw (c .before .before .before .before .before .before .before .before .before .wide .ensures) at (c .before .before .before .before .before .if3 .left)), (eq-eqb _ _ (rw (c .before .before .before .before .wide2 .ensures) at (c .before .if4 .left))), le-ltb _ _ (c .if5 .taken))
+returns-5 c = rw ((sym (c .before .before .before .before .before .before .before .before .before .before .before .before .before .is-absent .ensures) ∙ c .before .before .before .before .before .before .before .before .before .before .before .before .if1 .left), (sym (c .before .before .before .before .before .before .before .before .before .before .before .is-absent2 .ensures) ∙ c .before .before .before .before .before .before .before .before .before .before .if2 .left), eq-eqb _ _ (rw (c .before .before .before .before .before .before .before .before .before .place-of .ensures) at (c .before .before .before .before .before .if3 .left)), (eq-eqb _ _ (rw (c .before .before .before .before .place-of2 .ensures) at (c .before .if4 .left))), le-ltb _ _ (c .if5 .taken))
 
 returns-6 : tie.Need-returns-6
 unfolding firstOf
-returns-6 c = rw ((sym (c .before .before .before .before .before .before .before .before .before .before .before .before .before .is-absent .ensures) ∙ c .before .before .before .before .before .before .before .before .before .before .before .before .if1 .left), (sym (c .before .before .before .before .before .before .before .before .before .before .before .is-absent2 .ensures) ∙ c .before .before .before .before .before .before .before .before .before .before .if2 .left), eq-eqb _ _ (rw (c .before .before .before .before .before .before .before .before .before .wide .ensures) at (c .before .before .before .before .before .if3 .left)), (eq-eqb _ _ (rw (c .before .before .before .before .wide2 .ensures) at (c .before .if4 .left))), lt-ltb _ _ (c .if5 .left))
+returns-6 c = rw ((sym (c .before .before .before .before .before .before .before .before .before .before .before .before .before .is-absent .ensures) ∙ c .before .before .before .before .before .before .before .before .before .before .before .before .if1 .left), (sym (c .before .before .before .before .before .before .before .before .before .before .before .is-absent2 .ensures) ∙ c .before .before .before .before .before .before .before .before .before .before .if2 .left), eq-eqb _ _ (rw (c .before .before .before .before .before .before .before .before .before .place-of .ensures) at (c .before .before .before .before .before .if3 .left)), (eq-eqb _ _ (rw (c .before .before .before .before .place-of2 .ensures) at (c .before .if4 .left))), lt-ltb _ _ (c .if5 .left))
 
 pub early-code-spec : {M : Type 1} → statement M
 early-code-spec =
@@ -78,13 +72,11 @@ early-code-spec =
     returns
     is-absent-requires-2
     returns-2
-    wide-requires
-    sub-c
+    place-of-requires
     mul-terms
     array-copy-out-terms
     returns-3
-    wide-requires-2
-    sub-a
+    place-of-requires-2
     mul-who
     element-copy-out-who
     returns-4

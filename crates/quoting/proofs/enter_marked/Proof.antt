@@ -6,13 +6,10 @@ use borrow.Author.Needs.{needs}
 use Rattle.quoting.proofs.enter_marked.Statement.{statement}
 use Rattle.quoting.proofs.enter_marked.Tie as tie
 
-wide-requires : tie.Need-wide-requires
-wide-requires c κs = search needs
-
-sub-a : tie.Need-sub-a
-sub-a c =
-    let start = c .before .before .before .before in
-    marked-low (start .pre .0) (start .args .o) (start .pre .1) (c .wide .ensures)
+place-of-requires : tie.Need-place-of-requires
+place-of-requires c κs =
+    let start = c .before .before .before in
+    marked-low (start .pre .0) (start .args .o) (start .pre .1)
 
 mul-who : tie.Need-mul-who
 mul-who c = search needs
@@ -20,12 +17,12 @@ mul-who c = search needs
 element-copy-out-who : tie.Need-element-copy-out-who
 element-copy-out-who c =
     let start = c .before .before .before .before in
-    marked-fits (start .pre .0) (start .args .o) (start .pre .1) (c .wide .ensures)
+    marked-fits (start .pre .0) (start .args .o) (start .pre .1) (c .place-of .ensures)
 
 order-code-requires : tie.Need-order-code-requires
 order-code-requires c κs =
     let start = c .before .before .before .before .before .before .before .before in
-    (start .pre .0, start .pre .1 .present, rw (c .before .before .before .before .wide .ensures))
+    (start .pre .0, start .pre .1 .present, rw (c .before .before .before .before .place-of .ensures))
 
 refused-requires : tie.Need-refused-requires
 refused-requires c κs = search needs
@@ -86,8 +83,7 @@ pub enter-marked-spec : {M : Type 1} → statement M
 enter-marked-spec =
     tie.close
     (tie.spec
-    wide-requires
-    sub-a
+    place-of-requires
     mul-who
     element-copy-out-who
     order-code-requires

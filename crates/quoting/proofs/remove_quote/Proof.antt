@@ -6,13 +6,10 @@ use borrow.Author.Needs.{needs}
 use Rattle.quoting.proofs.remove_quote.Statement.{statement}
 use Rattle.quoting.proofs.remove_quote.Tie as tie
 
-wide-requires : tie.Need-wide-requires
-wide-requires c κs = search needs
-
-sub-c : tie.Need-sub-c
-sub-c c =
-    let start = c .before .before .before .before in
-    contract-low (start .pre .0) _ _ _ (start .pre .1) (c .wide .ensures)
+place-of-requires : tie.Need-place-of-requires
+place-of-requires c κs =
+    let start = c .before .before .before in
+    contract-low (start .pre .0) _ _ _ (start .pre .1)
 
 mul-bought : tie.Need-mul-bought
 mul-bought c = search needs
@@ -20,7 +17,7 @@ mul-bought c = search needs
 array-read-bought : tie.Need-array-read-bought
 array-read-bought c =
     let start = c .before .before .before .before .before .before in
-    contract-fits (start .pre .0) _ _ _ (start .pre .1) (c .before .before .wide .ensures)
+    contract-fits (start .pre .0) _ _ _ (start .pre .1) (c .before .before .place-of .ensures)
 
 mul-sold : tie.Need-mul-sold
 mul-sold c = search needs
@@ -28,7 +25,7 @@ mul-sold c = search needs
 array-read-sold : tie.Need-array-read-sold
 array-read-sold c =
     let start = c .before .before .before .before .before .before in
-    contract-fits (start .pre .0) _ _ _ (start .pre .1) (c .before .before .wide .ensures)
+    contract-fits (start .pre .0) _ _ _ (start .pre .1) (c .before .before .place-of .ensures)
 
 sub-pull : tie.Need-sub-pull
 sub-pull c =
@@ -38,7 +35,7 @@ sub-pull c =
 pull-requires : tie.Need-pull-requires
 pull-requires c κs =
     let start = c .before .before .before .before .before .before .before in
-    (side-few (start .pre .0) _ _ _ (start .pre .1) (c .before .before .before .wide .ensures) false, side-room (start .pre .0) _ _ _ (start .pre .1) (c .before .before .before .wide .ensures) false)
+    (side-few (start .pre .0) _ _ _ (start .pre .1) (c .before .before .before .place-of .ensures) false, side-room (start .pre .0) _ _ _ (start .pre .1) (c .before .before .before .place-of .ensures) false)
 
 sub-pull-2 : tie.Need-sub-pull-2
 sub-pull-2 c =
@@ -48,12 +45,12 @@ sub-pull-2 c =
 pull-requires-2 : tie.Need-pull-requires-2
 pull-requires-2 c κs =
     let start = c .before .before .before .before .before .before .before .before .before .before .before in
-    (side-few (start .pre .0) _ _ _ (start .pre .1) (c .before .before .before .before .before .before .before .wide .ensures) true, side-room (start .pre .0) _ _ _ (start .pre .1) (c .before .before .before .before .before .before .before .wide .ensures) true)
+    (side-few (start .pre .0) _ _ _ (start .pre .1) (c .before .before .before .before .before .before .before .place-of .ensures) true, side-room (start .pre .0) _ _ _ (start .pre .1) (c .before .before .before .before .before .before .before .place-of .ensures) true)
 
 with-counts-requires : tie.Need-with-counts-requires
 with-counts-requires c κs =
     let start = c .before .before .before .before .before .before .before .before .before .before .before .before .before .before in
-    contract-fits (start .pre .0) _ _ _ (start .pre .1) (c .before .before .before .before .before .before .before .before .before .before .wide .ensures)
+    contract-fits (start .pre .0) _ _ _ (start .pre .1) (c .before .before .before .before .before .before .before .before .before .before .place-of .ensures)
 
 same-length : tie.Need-same-length
 same-length c = search needs
@@ -64,14 +61,13 @@ same-length-2 c = search needs
 returns : tie.Need-returns
 returns c =
     let start = c .before .before .before .before .before .before .before .before .before .before .before .before .before .before .before in
-    gone-written (start .pre .0) _ _ (start .pre .1) (c .before .before .before .before .before .before .before .before .before .before .before .wide .ensures) (c .before .before .before .before .before .before .before .pull .ensures) (c .before .before .before .pull2 .ensures) (c .with-counts .ensures)
+    gone-written (start .pre .0) _ _ (start .pre .1) (c .before .before .before .before .before .before .before .before .before .before .before .place-of .ensures) (c .before .before .before .before .before .before .before .pull .ensures) (c .before .before .before .pull2 .ensures) (c .with-counts .ensures)
 
 pub remove-quote-spec : {M : Type 1} → statement M
 remove-quote-spec =
     tie.close
     (tie.spec
-    wide-requires
-    sub-c
+    place-of-requires
     mul-bought
     array-read-bought
     mul-sold

@@ -5,35 +5,35 @@ use Rattle.audit.proofs.Limits.{balance-high, balance-low, balance-with
 use Rattle.audit.proofs.accounts.balance_in_range.Statement.{statement}
 use Rattle.audit.proofs.accounts.balance_in_range.Tie as tie
 
-wide32-requires : tie.Need-wide32-requires
-wide32-requires c κs = search needs
+wide64-requires : tie.Need-wide64-requires
+wide64-requires c κs = search needs
 
 mul-most : tie.Need-mul-most
-mul-most c = omega (arith, c .wide32 .ensures)
+mul-most c = omega (arith, c .wide64 .ensures)
 
 add-most : tie.Need-add-most
-add-most c = omega (arith, c .wide32 .ensures)
+add-most c = omega (arith, c .wide64 .ensures)
 
 cast-limit : tie.Need-cast-limit
-cast-limit c = omega (arith, c .wide32 .ensures)
+cast-limit c = omega (arith, c .wide64 .ensures)
 
 returns : tie.Need-returns
 returns c =
-    balance-high (c .before .before .before .args .settlements) (c .before .before .wide32 .ensures) (c .before .before .before .pre) (c .before .before .before .args .a) (record { sfits = c .before .struct-told .given .0 .1 }) (c .if1 .taken)
+    balance-high (c .before .before .before .args .settlements) (c .before .before .wide64 .ensures) (c .before .before .before .pre) (c .before .before .before .args .a) (record { sfits = c .before .struct-told .given .0 .1 }) (c .if1 .taken)
 
 sub-if2 : tie.Need-sub-if2
 sub-if2 c =
-    low-fits (c .before .before .before .args .settlements) (c .before .before .wide32 .ensures) (c .before .before .before .pre) (c .before .before .before .args .a) (record { sfits = c .before .struct-told .given .0 .1 })
+    low-fits (c .before .before .before .args .settlements) (c .before .before .wide64 .ensures) (c .before .before .before .pre) (c .before .before .before .args .a) (record { sfits = c .before .struct-told .given .0 .1 })
 
 returns-2 : tie.Need-returns-2
 returns-2 c =
-    balance-low (c .before .before .before .before .args .settlements) (c .before .before .before .wide32 .ensures) (c .before .before .before .before .pre) (c .before .before .before .before .args .a) (record { sfits = c .before .before .struct-told .given .0 .1 }) (c .if2 .taken)
+    balance-low (c .before .before .before .before .args .settlements) (c .before .before .before .wide64 .ensures) (c .before .before .before .before .pre) (c .before .before .before .before .args .a) (record { sfits = c .before .before .struct-told .given .0 .1 }) (c .if2 .taken)
 
 returns-3 : tie.Need-returns-3
 returns-3 c =
-    balance-within (c .before .before .before .before .args .settlements) (c .before .before .before .wide32 .ensures) (c .before .before .before .before .pre) (c .before .before .before .before .args .a) (record { sfits = c .before .before .struct-told .given .0 .1 }) (c .before .if1 .left) (c .if2 .left)
+    balance-within (c .before .before .before .before .args .settlements) (c .before .before .before .wide64 .ensures) (c .before .before .before .before .pre) (c .before .before .before .before .args .a) (record { sfits = c .before .before .struct-told .given .0 .1 }) (c .before .if1 .left) (c .if2 .left)
 
 pub balance-in-range-spec : {M : Type 1} → statement M
 balance-in-range-spec =
     tie.close
-    (tie.spec wide32-requires mul-most add-most cast-limit returns sub-if2 returns-2 returns-3)
+    (tie.spec wide64-requires mul-most add-most cast-limit returns sub-if2 returns-2 returns-3)

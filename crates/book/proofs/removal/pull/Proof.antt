@@ -27,8 +27,8 @@ add-i c = omega arith
 is-pulled-requires : tie.Need-is-pulled-requires Inv-loop μ-loop
 is-pulled-requires c κs = search needs
 
-wide32-requires : tie.Need-wide32-requires Inv-loop μ-loop
-wide32-requires c κs = search needs
+wide64-requires : tie.Need-wide64-requires Inv-loop μ-loop
+wide64-requires c κs = search needs
 
 add-lots : tie.Need-add-lots Inv-loop μ-loop
 add-lots c = omega arith
@@ -40,7 +40,7 @@ loop-again : tie.Need-loop-again Inv-loop μ-loop
 loop-again c =
     let read = c .before .before .before in
     let at = read .before .before .before in
-    pull-out _ _ _ _ (at .before .before .pre .1) _ _ _ _ (at .loop .inv) _ (read .before .before .loop-test .taken) (read .order-at .ensures) _ (c .wide32 .ensures) (omega arith) (sym (c .before .before .is-pulled .ensures) ∙ c .before .if1 .taken)
+    pull-out _ _ _ _ (at .before .before .pre .1) _ _ _ _ (at .loop .inv) _ (read .before .before .loop-test .taken) (read .order-at .ensures) _ (c .wide64 .ensures) (omega arith) (sym (c .before .before .is-pulled .ensures) ∙ c .before .if1 .taken)
 
 mul-at : tie.Need-mul-at Inv-loop μ-loop
 mul-at c = omega arith
@@ -131,7 +131,7 @@ pull-spec =
     order-at-requires
     add-i
     is-pulled-requires
-    wide32-requires
+    wide64-requires
     add-lots
     loop-less
     loop-again

@@ -36,8 +36,8 @@ returns c =
     let at = read .before .before in
     tally-stop (fillableFront _) _ _ _ _ _ _ (at .loop .inv .1 .1) _ (read .before .loop-test .taken) (read .order-at .ensures) (λ os. front-unmet _ _ os (test-failed _ _ (c .before .meets .ensures) (c .if1 .taken)))
 
-wide32-requires : tie.Need-wide32-requires Inv-loop μ-loop
-wide32-requires c κs = search needs
+wide64-requires : tie.Need-wide64-requires Inv-loop μ-loop
+wide64-requires c κs = search needs
 
 add-lots : tie.Need-add-lots Inv-loop μ-loop
 add-lots c = omega arith
@@ -52,7 +52,7 @@ loop-again : tie.Need-loop-again Inv-loop μ-loop
 loop-again c =
     let read = c .before .before .before in
     let at = read .before .before in
-    (omega arith, (omega arith, tally-on (fillableFront _) _ _ _ _ _ _ (at .loop .inv .1 .1) _ (read .before .loop-test .taken) (read .order-at .ensures) (fillableFront _) _ (fillable-on _ _ _ (c .wide32 .ensures) (test-passed _ _ (c .before .before .meets .ensures) (c .before .if1 .left)))))
+    (omega arith, (omega arith, tally-on (fillableFront _) _ _ _ _ _ _ (at .loop .inv .1 .1) _ (read .before .loop-test .taken) (read .order-at .ensures) (fillableFront _) _ (fillable-on _ _ _ (c .wide64 .ensures) (test-passed _ _ (c .before .before .meets .ensures) (c .before .if1 .left)))))
 
 returns-2 : tie.Need-returns-2 Inv-loop μ-loop
 returns-2 c = tally-end (fillableFront _) _ _ _ _ _ _ (c .before .loop .inv .1 .1) (c .loop-test .left) (front-end _)
@@ -67,7 +67,7 @@ fillable-spec =
     order-at-requires
     meets-requires
     returns
-    wide32-requires
+    wide64-requires
     add-lots
     add-i
     loop-less

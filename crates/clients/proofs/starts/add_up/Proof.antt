@@ -8,7 +8,7 @@ use Rattle.clients.proofs.starts.add_up.Statement.{statement}
 use Rattle.clients.proofs.starts.add_up.Tie as tie
 use Rattle.clients.proofs.starts.add_up.Reads as reads
 use Rattle.clients.proofs.starts.add_up.Lts as lts
-use Rattle.laws.proofs.wide32.Reads as wide32-reads
+use Rattle.laws.proofs.wide64.Reads as wide64-reads
 use Rattle.clients.proofs.starts.sum.Reads as sum-reads
 
 abbrev Inv-loop : tie.InvT-loop
@@ -26,11 +26,11 @@ mul-h c = omega arith
 array-copy-out-h : tie.Need-array-copy-out-h Inv-loop μ-loop
 array-copy-out-h c = omega arith
 
-wide32-requires : tie.Need-wide32-requires Inv-loop μ-loop
-wide32-requires c κs = search needs
+wide64-requires : tie.Need-wide64-requires Inv-loop μ-loop
+wide64-requires c κs = search needs
 
-wide32-requires-2 : tie.Need-wide32-requires-2 Inv-loop μ-loop
-wide32-requires-2 c κs = search needs
+wide64-requires-2 : tie.Need-wide64-requires-2 Inv-loop μ-loop
+wide64-requires-2 c κs = search needs
 
 mul-sum : tie.Need-mul-sum Inv-loop μ-loop
 mul-sum c = omega arith
@@ -39,7 +39,7 @@ sum-requires : tie.Need-sum-requires Inv-loop μ-loop
 sum-requires c κs = (omega arith, c .before .before .before .before .before .before .pre .0)
 
 returns : tie.Need-returns Inv-loop μ-loop
-returns c = long-differs _ _ _ _ _ (c .before .before .before .before .before .before .loop .inv) (c .before .before .before .before .before .loop-test .taken) _ refl _ _ (c .before .sum .ensures) (c .before .before .before .wide32 .ensures) (c .if1 .taken)
+returns c = long-differs _ _ _ _ _ (c .before .before .before .before .before .before .loop .inv) (c .before .before .before .before .before .loop-test .taken) _ refl _ _ (c .before .sum .ensures) (c .before .before .before .wide64 .ensures) (c .if1 .taken)
 
 mul-sum-2 : tie.Need-mul-sum-2 Inv-loop μ-loop
 mul-sum-2 c = omega arith
@@ -51,7 +51,7 @@ sum-requires-2 : tie.Need-sum-requires-2 Inv-loop μ-loop
 sum-requires-2 c κs = (omega arith, c .before .before .before .before .before .before .before .before .pre .0)
 
 returns-2 : tie.Need-returns-2 Inv-loop μ-loop
-returns-2 c = short-differs _ _ _ _ _ (c .before .before .before .before .before .before .before .before .loop .inv) (c .before .before .before .before .before .before .before .loop-test .taken) _ refl _ _ (c .before .before .before .sum .ensures) (c .before .before .before .before .before .wide32 .ensures) (c .before .before .if1 .left) _ _ (c .before .sum2 .ensures) (c .before .before .before .before .wide322 .ensures) (c .if2 .taken)
+returns-2 c = short-differs _ _ _ _ _ (c .before .before .before .before .before .before .before .before .loop .inv) (c .before .before .before .before .before .before .before .loop-test .taken) _ refl _ _ (c .before .before .before .sum .ensures) (c .before .before .before .before .before .wide64 .ensures) (c .before .before .if1 .left) _ _ (c .before .sum2 .ensures) (c .before .before .before .before .wide642 .ensures) (c .if2 .taken)
 
 add-c : tie.Need-add-c Inv-loop μ-loop
 add-c c = omega arith
@@ -60,7 +60,7 @@ loop-less : tie.Need-loop-less Inv-loop μ-loop
 loop-less c = omega arith
 
 loop-again : tie.Need-loop-again Inv-loop μ-loop
-loop-again c = tested-more _ _ _ _ _ (c .before .before .before .before .before .before .before .before .loop .inv) (c .before .before .before .before .before .before .before .loop-test .taken) _ refl _ _ (c .before .before .before .sum .ensures) (c .before .before .before .before .before .wide32 .ensures) (c .before .before .if1 .left) _ _ (c .before .sum2 .ensures) (c .before .before .before .before .wide322 .ensures) (c .if2 .left)
+loop-again c = tested-more _ _ _ _ _ (c .before .before .before .before .before .before .before .before .loop .inv) (c .before .before .before .before .before .before .before .loop-test .taken) _ refl _ _ (c .before .before .before .sum .ensures) (c .before .before .before .before .before .wide64 .ensures) (c .before .before .if1 .left) _ _ (c .before .sum2 .ensures) (c .before .before .before .before .wide642 .ensures) (c .if2 .left)
 
 returns-3 : tie.Need-returns-3 Inv-loop μ-loop
 returns-3 c = tested-done _ _ _ _ _ (c .loop-test .left) (c .before .loop .inv)
@@ -74,8 +74,8 @@ add-up-spec =
     loop-holds
     mul-h
     array-copy-out-h
-    wide32-requires
-    wide32-requires-2
+    wide64-requires
+    wide64-requires-2
     mul-sum
     sum-requires
     returns

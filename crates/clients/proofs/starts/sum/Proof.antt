@@ -9,7 +9,7 @@ use Rattle.clients.proofs.starts.sum.Statement.{statement}
 use Rattle.clients.proofs.starts.sum.Tie as tie
 use Rattle.clients.proofs.starts.sum.Reads as reads
 use Rattle.clients.proofs.starts.sum.Lts as lts
-use Rattle.laws.proofs.wide32.Reads as wide32-reads
+use Rattle.laws.proofs.wide64.Reads as wide64-reads
 use Rattle.clients.proofs.starts.word_at.Reads as word-at-reads
 
 abbrev Inv-loop : tie.InvT-loop
@@ -30,11 +30,11 @@ add-word-at c = omega arith
 word-at-requires : tie.Need-word-at-requires Inv-loop μ-loop
 word-at-requires c κs = omega arith
 
-wide32-requires : tie.Need-wide32-requires Inv-loop μ-loop
-wide32-requires c κs = omega arith
+wide64-requires : tie.Need-wide64-requires Inv-loop μ-loop
+wide64-requires c κs = omega arith
 
 add-lots : tie.Need-add-lots Inv-loop μ-loop
-add-lots c = omega (arith, c .wide32 .ensures, c .before .word-at .ok, c .before .before .before .loop .inv .small, c .before .before .before .loop .inv .within)
+add-lots c = omega (arith, c .wide64 .ensures, c .before .word-at .ok, c .before .before .before .loop .inv .small, c .before .before .before .loop .inv .within)
 
 add-k : tie.Need-add-k Inv-loop μ-loop
 add-k c = omega arith
@@ -43,7 +43,7 @@ loop-less : tie.Need-loop-less Inv-loop μ-loop
 loop-less c = omega arith
 
 loop-again : tie.Need-loop-again Inv-loop μ-loop
-loop-again c = adding-more _ _ _ _ _ (c .before .before .loop-test .taken) (c .wide32 .ensures ∙ c .before .word-at .ensures) (omega (arith, c .wide32 .ensures, c .before .word-at .ok)) (c .before .before .before .loop .inv)
+loop-again c = adding-more _ _ _ _ _ (c .before .before .loop-test .taken) (c .wide64 .ensures ∙ c .before .word-at .ensures) (omega (arith, c .wide64 .ensures, c .before .word-at .ok)) (c .before .before .before .loop .inv)
 
 returns : tie.Need-returns Inv-loop μ-loop
 returns c = adding-done _ _ _ _ (c .loop-test .left) (c .before .loop .inv)
@@ -58,7 +58,7 @@ sum-spec =
     mul-word-at
     add-word-at
     word-at-requires
-    wide32-requires
+    wide64-requires
     add-lots
     add-k
     loop-less

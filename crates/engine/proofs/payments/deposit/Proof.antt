@@ -1,7 +1,7 @@
 -- `payments::deposit` meets its contract: each return by its law in Paying.antt. Assumes nothing.
 use mathlib.Core.Bool.{false}
 use mathlib.Core.Path.{_≡_, sym, _∙_}
-use Prim.Native.Nat.{_-_, _*_, _^_}
+use Prim.Native.Nat.{_*_, _^_}
 use native.Mathlib.Omega.{arith}
 use borrow.Author.Needs.{needs}
 use lib.IntN.{pos, _+ℤ_}
@@ -10,10 +10,10 @@ use lib.Signed.{ltZ}
 use Rattle.laws.specs.Bound.{Within, within-fits, within-pos}
 use Rattle.laws.proofs.Signed.{add-fits, add-back, back}
 use Rattle.rules.specs.Answers.{amountRefused}
-use Rattle.rules.specs.Exchange.{noAccount}
-use Rattle.engine.specs.Outcome.{isAbsent}
-use Rattle.engine.proofs.Formed.{account-low, account-fits}
+use Rattle.rules.specs.Exchange.{noAccount, isAbsent}
+use Rattle.engine.proofs.Formed.{account-fits}
 use Rattle.engine.proofs.Paying.{amount-high, balance-fits, deposit-absent, deposit-amount, deposit-high, deposit-accepted}
+use Rattle.engine.proofs.Tests.{place-below}
 use Rattle.engine.proofs.payments.deposit.Statement.{statement}
 use Rattle.engine.proofs.payments.deposit.Tie as tie
 
@@ -28,11 +28,11 @@ right c = sym (c .before .amount-refused .ensures) ∙ c .if2 .left
 small : (c : tie.Else2) → Within (10 ^ 15) (pos (c .before .before .before .before .before .before .before .args .amount))
 small c = within-pos (amount-high _ (right c))
 
-balance : (c : tie.After-wide) → Within (2 * 10 ^ 18) (getD (c .before .before .before .before .before .before .before .before .args .t1 .accounts) (c .wide .result - 1) noAccount .balance)
-balance c = balance-fits (c .before .before .before .before .before .before .before .before .pre) _ (present (c .before .before .before)) (c .wide .ensures)
+balance : (c : tie.After-place-of) → Within (2 * 10 ^ 18) (getD (c .before .before .before .before .before .before .before .before .args .t1 .accounts) (c .place-of .result) noAccount .balance)
+balance c = balance-fits (c .before .before .before .before .before .before .before .before .pre) _ (present (c .before .before .before)) (c .place-of .ensures)
 
 high : (c : tie.After-lifts-too-high)
-    → c .lifts-too-high .result ≡ ltZ (pos (10 ^ 18)) (getD (c .before .before .before .before .before .before .before .before .before .before .before .args .t1 .accounts) (c .before .before .before .wide .result - 1) noAccount .balance +ℤ pos (c .before .before .before .before .before .before .before .before .before .before .before .args .amount))
+    → c .lifts-too-high .result ≡ ltZ (pos (10 ^ 18)) (getD (c .before .before .before .before .before .before .before .before .before .before .before .args .t1 .accounts) (c .before .before .before .place-of .result) noAccount .balance +ℤ pos (c .before .before .before .before .before .before .before .before .before .before .before .args .amount))
 high c = c .lifts-too-high .ensures ∙ rw (back (2 * 10 ^ 18) (omega arith) (balance (c .before .before .before)))
 
 -- ---- the needs
@@ -57,17 +57,14 @@ returns-2 c =
     deposit-amount (c .before .before .before .before .before .before .before .before .pre) _ _ (present (c .before .before .before)) (sym (c .before .before .amount-refused .ensures) ∙ c .before .if2 .taken)
     (c .refused2 .ensures)
 
-wide-requires : tie.Need-wide-requires
-wide-requires c κs = search needs
-
-sub-place : tie.Need-sub-place
-sub-place c = account-low (c .before .before .before .before .before .before .before .before .pre) _ (c .wide .ensures) (present (c .before .before .before))
+place-of-requires : tie.Need-place-of-requires
+place-of-requires c κs = place-below _ _ (present (c .before .before)) .0
 
 mul-who : tie.Need-mul-who
 mul-who c = search needs
 
 element-copy-out-who : tie.Need-element-copy-out-who
-element-copy-out-who c = account-fits (c .before .before .before .before .before .before .before .before .pre) _ (c .wide .ensures) (present (c .before .before .before))
+element-copy-out-who c = account-fits (c .before .before .before .before .before .before .before .before .pre) _ (c .place-of .ensures) (present (c .before .before .before))
 
 lifts-too-high-requires : tie.Need-lifts-too-high-requires
 lifts-too-high-requires c κs = (rw (back (2 * 10 ^ 18) (omega arith) (balance (c .before .before))) (balance (c .before .before)), amount-high _ (right (c .before .before .before)))
@@ -77,7 +74,7 @@ refused-requires-3 c κs = search needs
 
 returns-3 : tie.Need-returns-3
 returns-3 c =
-    deposit-high (c .before .before .before .before .before .before .before .before .before .before .before .before .before .pre) _ _ (present (c .before .before .before .before .before .before .before .before)) (right (c .before .before .before .before .before .before)) (c .before .before .before .before .before .wide .ensures)
+    deposit-high (c .before .before .before .before .before .before .before .before .before .before .before .before .before .pre) _ _ (present (c .before .before .before .before .before .before .before .before)) (right (c .before .before .before .before .before .before)) (c .before .before .before .before .before .place-of .ensures)
     (sym (high (c .before .before)) ∙ c .before .if3 .taken) (c .refused3 .ensures)
 
 cast-with-balance : tie.Need-cast-with-balance
@@ -87,14 +84,14 @@ add-with-balance : tie.Need-add-with-balance
 add-with-balance c = add-fits (balance (c .before .before .before .before)) (small (c .before .before .before .before .before)) (omega arith)
 
 with-balance-requires : tie.Need-with-balance-requires
-with-balance-requires c κs = account-fits (c .before .before .before .before .before .before .before .before .before .before .before .before .pre) _ (c .before .before .before .before .wide .ensures) (present (c .before .before .before .before .before .before .before))
+with-balance-requires c κs = account-fits (c .before .before .before .before .before .before .before .before .before .before .before .before .pre) _ (c .before .before .before .before .place-of .ensures) (present (c .before .before .before .before .before .before .before))
 
 accepted-requires : tie.Need-accepted-requires
 accepted-requires c κs = search needs
 
 returns-4 : tie.Need-returns-4
 returns-4 c =
-    deposit-accepted (c .before .before .before .before .before .before .before .before .before .before .before .before .before .before .pre) _ _ (present (c .before .before .before .before .before .before .before .before .before)) (right (c .before .before .before .before .before .before .before)) (c .before .before .before .before .before .before .wide .ensures)
+    deposit-accepted (c .before .before .before .before .before .before .before .before .before .before .before .before .before .before .pre) _ _ (present (c .before .before .before .before .before .before .before .before .before)) (right (c .before .before .before .before .before .before .before)) (c .before .before .before .before .before .before .place-of .ensures)
     (sym (high (c .before .before .before)) ∙ c .before .before .if3 .left)
     (c .before .with-balance .ensures ∙ rw (add-back (balance (c .before .before .before .before .before .before)) (small (c .before .before .before .before .before .before .before)) (omega arith)))
     (c .accepted .ensures)
@@ -109,8 +106,7 @@ deposit-spec =
     amount-refused-requires
     refused-requires-2
     returns-2
-    wide-requires
-    sub-place
+    place-of-requires
     mul-who
     element-copy-out-who
     lifts-too-high-requires

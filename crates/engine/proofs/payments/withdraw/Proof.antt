@@ -1,7 +1,7 @@
 -- `payments::withdraw` meets its contract: each return by its law in Paying.antt. Assumes nothing.
 use mathlib.Core.Bool.{false}
 use mathlib.Core.Path.{_≡_, sym, _∙_}
-use Prim.Native.Nat.{_-_, _*_, _^_}
+use Prim.Native.Nat.{_*_, _^_}
 use native.Mathlib.Omega.{arith}
 use borrow.Author.Needs.{needs}
 use lib.IntN.{pos, _-ℤ_}
@@ -10,10 +10,10 @@ use lib.Signed.{ltZ}
 use Rattle.laws.specs.Bound.{Within, within-fits, within-pos}
 use Rattle.laws.proofs.Signed.{sub-fits, sub-back, back}
 use Rattle.rules.specs.Answers.{amountRefused}
-use Rattle.rules.specs.Exchange.{noAccount}
-use Rattle.engine.specs.Outcome.{isAbsent}
-use Rattle.engine.proofs.Formed.{account-low, account-fits}
+use Rattle.rules.specs.Exchange.{noAccount, isAbsent}
+use Rattle.engine.proofs.Formed.{account-fits}
 use Rattle.engine.proofs.Paying.{amount-high, balance-fits, account-chargeable, withdraw-absent, withdraw-amount, withdraw-short, withdraw-accepted}
+use Rattle.engine.proofs.Tests.{place-below}
 use Rattle.engine.proofs.payments.withdraw.Statement.{statement}
 use Rattle.engine.proofs.payments.withdraw.Tie as tie
 
@@ -28,11 +28,11 @@ right c = sym (c .before .amount-refused .ensures) ∙ c .if2 .left
 small : (c : tie.Else2) → Within (10 ^ 15) (pos (c .before .before .before .before .before .before .before .args .amount))
 small c = within-pos (amount-high _ (right c))
 
-balance : (c : tie.After-wide) → Within (2 * 10 ^ 18) (getD (c .before .before .before .before .before .before .before .before .args .t1 .accounts) (c .wide .result - 1) noAccount .balance)
-balance c = balance-fits (c .before .before .before .before .before .before .before .before .pre) _ (present (c .before .before .before)) (c .wide .ensures)
+balance : (c : tie.After-place-of) → Within (2 * 10 ^ 18) (getD (c .before .before .before .before .before .before .before .before .args .t1 .accounts) (c .place-of .result) noAccount .balance)
+balance c = balance-fits (c .before .before .before .before .before .before .before .before .pre) _ (present (c .before .before .before)) (c .place-of .ensures)
 
 -- the code's difference is the rules'
-left-is : (c : tie.After-too-little) → c .too-little .result ≡ ltZ (getD (c .before .before .before .before .before .before .before .before .before .before .before .before .before .before .before .before .before .args .t1 .accounts) (c .before .before .before .before .before .before .before .before .before .wide .result - 1) noAccount .balance -ℤ pos (c .before .before .before .before .before .before .before .before .before .before .before .before .before .before .before .before .before .args .amount)) (pos (c .before .charged .result))
+left-is : (c : tie.After-too-little) → c .too-little .result ≡ ltZ (getD (c .before .before .before .before .before .before .before .before .before .before .before .before .before .before .before .before .before .args .t1 .accounts) (c .before .before .before .before .before .before .before .before .before .place-of .result) noAccount .balance -ℤ pos (c .before .before .before .before .before .before .before .before .before .before .before .before .before .before .before .before .before .args .amount)) (pos (c .before .charged .result))
 left-is c = c .too-little .ensures ∙ rw (sub-back (balance (c .before .before .before .before .before .before .before .before .before)) (small (c .before .before .before .before .before .before .before .before .before .before)) (omega arith))
 
 -- ---- the needs
@@ -55,17 +55,14 @@ refused-requires-2 c κs = search needs
 returns-2 : tie.Need-returns-2
 returns-2 c = withdraw-amount (c .before .before .before .before .before .before .before .before .pre) _ _ (present (c .before .before .before)) (sym (c .before .before .amount-refused .ensures) ∙ c .before .if2 .taken) (c .refused2 .ensures)
 
-wide-requires : tie.Need-wide-requires
-wide-requires c κs = search needs
-
-sub-place : tie.Need-sub-place
-sub-place c = account-low (c .before .before .before .before .before .before .before .before .pre) _ (c .wide .ensures) (present (c .before .before .before))
+place-of-requires : tie.Need-place-of-requires
+place-of-requires c κs = place-below _ _ (present (c .before .before)) .0
 
 mul-who : tie.Need-mul-who
 mul-who c = search needs
 
 element-copy-out-who : tie.Need-element-copy-out-who
-element-copy-out-who c = account-fits (c .before .before .before .before .before .before .before .before .pre) _ (c .wide .ensures) (present (c .before .before .before))
+element-copy-out-who c = account-fits (c .before .before .before .before .before .before .before .before .pre) _ (c .place-of .ensures) (present (c .before .before .before))
 
 cast-left : tie.Need-cast-left
 cast-left c = within-fits (10 ^ 15) (omega arith) (small (c .before .before))
@@ -74,7 +71,7 @@ sub-left : tie.Need-sub-left
 sub-left c = sub-fits (balance (c .before .before .before)) (small (c .before .before .before .before)) (omega arith)
 
 charged-requires : tie.Need-charged-requires
-charged-requires c κs = account-chargeable (c .before .before .before .before .before .before .before .before .before .before .before .before .before .before .before .pre) _ (present (c .before .before .before .before .before .before .before .before .before .before)) (c .before .before .before .before .before .before .before .wide .ensures)
+charged-requires c κs = account-chargeable (c .before .before .before .before .before .before .before .before .before .before .before .before .before .before .before .pre) _ (present (c .before .before .before .before .before .before .before .before .before .before)) (c .before .before .before .before .before .before .before .place-of .ensures)
 
 too-little-requires : tie.Need-too-little-requires
 too-little-requires c κs = search needs
@@ -83,17 +80,17 @@ refused-requires-3 : tie.Need-refused-requires-3
 refused-requires-3 c κs = search needs
 
 returns-3 : tie.Need-returns-3
-returns-3 c = withdraw-short (c .before .before .before .before .before .before .before .before .before .before .before .before .before .before .before .before .before .before .before .pre) _ _ (present (c .before .before .before .before .before .before .before .before .before .before .before .before .before .before)) (right (c .before .before .before .before .before .before .before .before .before .before .before .before)) (c .before .before .before .before .before .before .before .before .before .before .before .wide .ensures) (c .before .before .before .charged .ensures)
+returns-3 c = withdraw-short (c .before .before .before .before .before .before .before .before .before .before .before .before .before .before .before .before .before .before .before .pre) _ _ (present (c .before .before .before .before .before .before .before .before .before .before .before .before .before .before)) (right (c .before .before .before .before .before .before .before .before .before .before .before .before)) (c .before .before .before .before .before .before .before .before .before .before .before .place-of .ensures) (c .before .before .before .charged .ensures)
     (sym (left-is (c .before .before)) ∙ c .before .if3 .taken) (c .refused3 .ensures)
 
 with-balance-requires : tie.Need-with-balance-requires
-with-balance-requires c κs = account-fits (c .before .before .before .before .before .before .before .before .before .before .before .before .before .before .before .before .before .before .pre) _ (c .before .before .before .before .before .before .before .before .before .before .wide .ensures) (present (c .before .before .before .before .before .before .before .before .before .before .before .before .before))
+with-balance-requires c κs = account-fits (c .before .before .before .before .before .before .before .before .before .before .before .before .before .before .before .before .before .before .pre) _ (c .before .before .before .before .before .before .before .before .before .before .place-of .ensures) (present (c .before .before .before .before .before .before .before .before .before .before .before .before .before))
 
 accepted-requires : tie.Need-accepted-requires
 accepted-requires c κs = search needs
 
 returns-4 : tie.Need-returns-4
-returns-4 c = withdraw-accepted (c .before .before .before .before .before .before .before .before .before .before .before .before .before .before .before .before .before .before .before .before .pre) _ _ (present (c .before .before .before .before .before .before .before .before .before .before .before .before .before .before .before)) (right (c .before .before .before .before .before .before .before .before .before .before .before .before .before)) (c .before .before .before .before .before .before .before .before .before .before .before .before .wide .ensures) (c .before .before .before .before .charged .ensures)
+returns-4 c = withdraw-accepted (c .before .before .before .before .before .before .before .before .before .before .before .before .before .before .before .before .before .before .before .before .pre) _ _ (present (c .before .before .before .before .before .before .before .before .before .before .before .before .before .before .before)) (right (c .before .before .before .before .before .before .before .before .before .before .before .before .before)) (c .before .before .before .before .before .before .before .before .before .before .before .before .place-of .ensures) (c .before .before .before .before .charged .ensures)
     (sym (left-is (c .before .before .before)) ∙ c .before .before .if3 .left)
     (c .before .with-balance .ensures ∙ rw (sub-back (balance (c .before .before .before .before .before .before .before .before .before .before .before .before)) (small (c .before .before .before .before .before .before .before .before .before .before .before .before .before)) (omega arith)))
     (c .accepted .ensures)
@@ -108,8 +105,7 @@ withdraw-spec =
     amount-refused-requires
     refused-requires-2
     returns-2
-    wide-requires
-    sub-place
+    place-of-requires
     mul-who
     element-copy-out-who
     cast-left

@@ -3,10 +3,11 @@ use mathlib.Core.Bool.{true, false}
 use mathlib.Core.Path.{_≡_, sym, _∙_}
 use borrow.Author.Needs.{needs}
 use borrow.Author.Tests.{not-true, not-false}
+use Rattle.rules.specs.Exchange.{isAbsent}
 use Rattle.rules.specs.Command.{phaseKnown}
-use Rattle.engine.specs.Outcome.{isAbsent}
 use Rattle.engine.proofs.Changes.{phase-unknown, phase-absent, phase-unlisted, phase-accepted}
-use Rattle.engine.proofs.Formed.{contract-low, contract-fits}
+use Rattle.engine.proofs.Formed.{contract-fits}
+use Rattle.engine.proofs.Tests.{place-below}
 use Rattle.engine.proofs.phases.change.Statement.{statement}
 use Rattle.engine.proofs.phases.change.Tie as tie
 
@@ -34,17 +35,14 @@ refused-requires-2 c κs = search needs
 returns-2 : tie.Need-returns-2
 returns-2 c = phase-absent (c .before .before .before .before .before .before .before .before .pre .0) _ _ (known (c .before .before .before)) (sym (c .before .before .is-absent .ensures) ∙ c .before .if2 .taken) (c .refused2 .ensures)
 
-wide-requires : tie.Need-wide-requires
-wide-requires c κs = search needs
-
-sub-place : tie.Need-sub-place
-sub-place c = contract-low (c .before .before .before .before .before .before .before .before .pre .0) _ (c .wide .ensures) (present (c .before))
+place-of-requires : tie.Need-place-of-requires
+place-of-requires c κs = place-below _ _ (present c) .0
 
 mul-terms : tie.Need-mul-terms
 mul-terms c = search needs
 
 array-copy-out-terms : tie.Need-array-copy-out-terms
-array-copy-out-terms c = contract-fits (c .before .before .before .before .before .before .before .before .before .pre .0) _ (c .before .wide .ensures) (present (c .before .before))
+array-copy-out-terms c = contract-fits (c .before .before .before .before .before .before .before .before .before .pre .0) _ (c .before .place-of .ensures) (present (c .before .before))
 
 is-listed-requires : tie.Need-is-listed-requires
 is-listed-requires c κs = search needs
@@ -54,11 +52,11 @@ refused-requires-3 c κs = search needs
 
 returns-3 : tie.Need-returns-3
 returns-3 c =
-    phase-unlisted (c .before .before .before .before .before .before .before .before .before .before .before .before .before .pre .0) _ _ (known (c .before .before .before .before .before .before .before .before)) (present (c .before .before .before .before .before .before)) (c .before .before .before .before .before .wide .ensures)
+    phase-unlisted (c .before .before .before .before .before .before .before .before .before .before .before .before .before .pre .0) _ _ (known (c .before .before .before .before .before .before .before .before)) (present (c .before .before .before .before .before .before)) (c .before .before .before .before .before .place-of .ensures)
     (sym (c .before .before .is-listed .ensures) ∙ not-true _ (c .before .if3 .taken)) (c .refused3 .ensures)
 
 with-phase-requires : tie.Need-with-phase-requires
-with-phase-requires c κs = contract-fits (c .before .before .before .before .before .before .before .before .before .before .before .before .pre .0) _ (c .before .before .before .before .wide .ensures) (present (c .before .before .before .before .before))
+with-phase-requires c κs = contract-fits (c .before .before .before .before .before .before .before .before .before .before .before .before .pre .0) _ (c .before .before .before .before .place-of .ensures) (present (c .before .before .before .before .before))
 
 accepted-requires : tie.Need-accepted-requires
 accepted-requires c κs = search needs
@@ -66,7 +64,7 @@ accepted-requires c κs = search needs
 returns-4 : tie.Need-returns-4
 returns-4 c =
     let start = c .before .before .before .before .before .before .before .before .before .before .before .before .before .before in
-    phase-accepted (start .pre .0) _ _ (known (c .before .before .before .before .before .before .before .before .before)) (present (c .before .before .before .before .before .before .before)) (c .before .before .before .before .before .before .wide .ensures)
+    phase-accepted (start .pre .0) _ _ (known (c .before .before .before .before .before .before .before .before .before)) (present (c .before .before .before .before .before .before .before)) (c .before .before .before .before .before .before .place-of .ensures)
     (sym (c .before .before .before .is-listed .ensures) ∙ not-false _ (c .before .before .if3 .left)) (start .pre .1) (c .before .with-phase .ensures) (c .accepted .ensures)
 
 pub change-spec : {M : Type 1} → statement M
@@ -79,8 +77,7 @@ change-spec =
     is-absent-requires
     refused-requires-2
     returns-2
-    wide-requires
-    sub-place
+    place-of-requires
     mul-terms
     array-copy-out-terms
     is-listed-requires

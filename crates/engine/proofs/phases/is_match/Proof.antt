@@ -1,10 +1,10 @@
 -- `phases::is_match` meets its contract: one case for each test. Assumes nothing.
 use mathlib.Core.Bool.{false}
 use mathlib.Core.Path.{_≡_, sym, _∙_}
-use Prim.Native.Nat.{_-_, _≤_, _<_}
+use Prim.Native.Nat.{_<_}
 use native.Mathlib.Omega.{arith}
 use borrow.Author.Needs.{needs}
-use Rattle.engine.specs.Outcome.{isAbsent}
+use Rattle.rules.specs.Exchange.{isAbsent}
 use Rattle.engine.proofs.Changes.{other-phase, no-such-contract, match-by-phase}
 use Rattle.engine.proofs.Tests.{place-below}
 use Rattle.engine.proofs.phases.is_match.Statement.{statement}
@@ -13,8 +13,8 @@ use Rattle.engine.proofs.phases.is_match.Tie as tie
 present : (c : tie.Else2) → isAbsent (c .before .before .before .args .contract) (c .before .before .before .args .state .contractcount) ≡ false
 present c = sym (c .before .is-absent .ensures) ∙ c .if2 .left
 
-place : (c : tie.After-wide) → (1 ≤ c .wide .result) × (c .wide .result - 1 < c .before .before .before .before .args .state .contractcount)
-place c = rw (c .wide .ensures) (place-below (c .before .before .before .before .args .contract) (c .before .before .before .before .args .state .contractcount) (present (c .before)))
+place : (c : tie.After-place-of) → c .place-of .result < c .before .before .before .before .args .state .contractcount
+place c = rw (c .place-of .ensures) (place-below (c .before .before .before .before .args .contract) (c .before .before .before .before .args .state .contractcount) (present (c .before)) .1)
 
 returns : tie.Need-returns
 returns c = other-phase _ _ _ (c .if1 .taken)
@@ -25,20 +25,17 @@ is-absent-requires c κs = search needs
 returns-2 : tie.Need-returns-2
 returns-2 c = no-such-contract _ _ _ (c .before .before .if1 .left) (sym (c .before .is-absent .ensures) ∙ c .if2 .taken)
 
-wide-requires : tie.Need-wide-requires
-wide-requires c κs = search needs
-
-sub-place : tie.Need-sub-place
-sub-place c = place c .0
+place-of-requires : tie.Need-place-of-requires
+place-of-requires c κs = place-below _ _ (present c) .0
 
 mul-terms : tie.Need-mul-terms
 mul-terms c = search needs
 
 array-copy-out-terms : tie.Need-array-copy-out-terms
-array-copy-out-terms c = omega (arith, place (c .before) .1, c .before .before .before .before .before .pre)
+array-copy-out-terms c = omega (arith, place (c .before), c .before .before .before .before .before .pre)
 
 returns-3 : tie.Need-returns-3
-returns-3 c = match-by-phase _ _ _ (c .before .before .before .before .before .before .if1 .left) (present (c .before .before .before .before)) (c .before .before .before .wide .ensures)
+returns-3 c = match-by-phase _ _ _ (c .before .before .before .before .before .before .if1 .left) (present (c .before .before .before .before)) (c .before .before .before .place-of .ensures)
 
 pub is-match-spec : {M : Type 1} → statement M
 is-match-spec =
@@ -47,8 +44,7 @@ is-match-spec =
     returns
     is-absent-requires
     returns-2
-    wide-requires
-    sub-place
+    place-of-requires
     mul-terms
     array-copy-out-terms
     returns-3)

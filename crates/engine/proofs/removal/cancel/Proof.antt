@@ -1,7 +1,7 @@
 -- `removal::cancel` meets its contract: each return by its law in Removals.antt. Assumes nothing.
 use mathlib.Core.Bool.{true, false}
 use mathlib.Core.Path.{_≡_, sym, _∙_}
-use Prim.Native.Nat.{_-_, _<_}
+use Prim.Native.Nat.{_<_}
 use borrow.Author.Needs.{needs}
 use Rattle.engine.specs.Removal.{removalCode}
 use Rattle.engine.proofs.Removals.{few-contracts, account-low, contract-low, contract-fits, side-room, side-once, cancel-refused, bid-done, bid-another, offer-refused, offer-done}
@@ -13,8 +13,8 @@ use Rattle.engine.proofs.removal.cancel.Tie as tie
 none : (c : tie.Else1) → removalCode (c .before .before .before .before .before .args .state) (c .before .before .before .before .before .args .account) (c .before .before .before .before .before .args .contract) (c .before .before .before .before .before .args .operator) ≡ 0
 none c = sym (c .before .refusal .ensures) ∙ c .if1 .left
 
-place : (c : tie.After-wide) → c .wide .result - 1 < 4
-place c = contract-fits (c .before .before .before .before .before .before .pre) _ _ _ (none (c .before)) (c .wide .ensures)
+place : (c : tie.After-place-of) → c .place-of .result < 4
+place c = contract-fits (c .before .before .before .before .before .before .pre) _ _ _ (none (c .before)) (c .place-of .ensures)
 
 -- ---- the needs
 
@@ -27,11 +27,8 @@ refused-requires c κs = search needs
 returns : tie.Need-returns
 returns c = cancel-refused (c .before .before .before .before .before .before .pre) _ _ _ _ (c .before .before .refusal .ensures) (c .before .if1 .taken) (c .refused .ensures)
 
-wide-requires : tie.Need-wide-requires
-wide-requires c κs = search needs
-
-sub-c : tie.Need-sub-c
-sub-c c = contract-low (c .before .before .before .before .before .before .pre) _ _ _ (none (c .before)) (c .wide .ensures)
+place-of-requires : tie.Need-place-of-requires
+place-of-requires c κs = contract-low (c .before .before .before .before .before .pre) _ _ _ (none c)
 
 mul-bought : tie.Need-mul-bought
 mul-bought c = search needs
@@ -50,7 +47,7 @@ sub-cancel-in c = account-low (c .before .before .before .before .before .before
 
 cancel-in-requires : tie.Need-cancel-in-requires
 cancel-in-requires c κs =
-    (side-room (c .before .before .before .before .before .before .before .before .before .pre) _ _ _ (none (c .before .before .before .before)) (c .before .before .before .wide .ensures) false, side-once (c .before .before .before .before .before .before .before .before .before .pre) _ _ _ (none (c .before .before .before .before)) (c .before .before .before .wide .ensures) false)
+    (side-room (c .before .before .before .before .before .before .before .before .before .pre) _ _ _ (none (c .before .before .before .before)) (c .before .before .before .place-of .ensures) false, side-once (c .before .before .before .before .before .before .before .before .before .pre) _ _ _ (none (c .before .before .before .before)) (c .before .before .before .place-of .ensures) false)
 
 with-counts-requires : tie.Need-with-counts-requires
 with-counts-requires c κs = place (c .before .before .before .before .before .before .before .before)
@@ -63,7 +60,7 @@ same-length c = search needs
 
 returns-2 : tie.Need-returns-2
 returns-2 c =
-    bid-done (c .before .before .before .before .before .before .before .before .before .before .before .before .before .before .before .before .pre) _ _ _ (none (c .before .before .before .before .before .before .before .before .before .before .before)) (c .before .before .before .before .before .before .before .before .before .before .wide .ensures) _ (c .before .before .before .before .before .before .cancel-in .ensures) (c .before .before .if2 .taken)
+    bid-done (c .before .before .before .before .before .before .before .before .before .before .before .before .before .before .before .before .pre) _ _ _ (none (c .before .before .before .before .before .before .before .before .before .before .before)) (c .before .before .before .before .before .before .before .before .before .before .place-of .ensures) _ (c .before .before .before .before .before .before .cancel-in .ensures) (c .before .before .if2 .taken)
     (c .before .with-counts .ensures) (c .accepted .ensures)
 
 refused-requires-2 : tie.Need-refused-requires-2
@@ -74,14 +71,14 @@ same-length-2 c = search needs
 
 returns-3 : tie.Need-returns-3
 returns-3 c =
-    bid-another (c .before .before .before .before .before .before .before .before .before .before .before .before .before .before .before .before .before .pre) _ _ _ (none (c .before .before .before .before .before .before .before .before .before .before .before .before)) (c .before .before .before .before .before .before .before .before .before .before .before .wide .ensures) _ (c .before .before .before .before .before .before .before .cancel-in .ensures) (c .before .if3 .taken) (c .refused2 .ensures)
+    bid-another (c .before .before .before .before .before .before .before .before .before .before .before .before .before .before .before .before .before .pre) _ _ _ (none (c .before .before .before .before .before .before .before .before .before .before .before .before)) (c .before .before .before .before .before .before .before .before .before .before .before .place-of .ensures) _ (c .before .before .before .before .before .before .before .cancel-in .ensures) (c .before .if3 .taken) (c .refused2 .ensures)
 
 sub-cancel-in-2 : tie.Need-sub-cancel-in-2
 sub-cancel-in-2 c = account-low (c .before .before .before .before .before .before .before .before .before .before .before .before .before .before .before .before .before .pre) _ _ _ (none (c .before .before .before .before .before .before .before .before .before .before .before .before))
 
 cancel-in-requires-2 : tie.Need-cancel-in-requires-2
 cancel-in-requires-2 c κs =
-    (side-room (c .before .before .before .before .before .before .before .before .before .before .before .before .before .before .before .before .before .pre) _ _ _ (none (c .before .before .before .before .before .before .before .before .before .before .before .before)) (c .before .before .before .before .before .before .before .before .before .before .before .wide .ensures) true, side-once (c .before .before .before .before .before .before .before .before .before .before .before .before .before .before .before .before .before .pre) _ _ _ (none (c .before .before .before .before .before .before .before .before .before .before .before .before)) (c .before .before .before .before .before .before .before .before .before .before .before .wide .ensures) true)
+    (side-room (c .before .before .before .before .before .before .before .before .before .before .before .before .before .before .before .before .before .pre) _ _ _ (none (c .before .before .before .before .before .before .before .before .before .before .before .before)) (c .before .before .before .before .before .before .before .before .before .before .before .place-of .ensures) true, side-once (c .before .before .before .before .before .before .before .before .before .before .before .before .before .before .before .before .before .pre) _ _ _ (none (c .before .before .before .before .before .before .before .before .before .before .before .before)) (c .before .before .before .before .before .before .before .before .before .before .before .place-of .ensures) true)
 
 refused-requires-3 : tie.Need-refused-requires-3
 refused-requires-3 c κs = search needs
@@ -94,7 +91,7 @@ same-length-4 c = search needs
 
 returns-4 : tie.Need-returns-4
 returns-4 c =
-    offer-refused (c .before .before .before .before .before .before .before .before .before .before .before .before .before .before .before .before .before .before .before .before .before .before .before .pre) _ _ _ (none (c .before .before .before .before .before .before .before .before .before .before .before .before .before .before .before .before .before .before)) (c .before .before .before .before .before .before .before .before .before .before .before .before .before .before .before .before .before .wide .ensures) _ (c .before .before .before .before .before .before .before .before .before .before .before .before .before .cancel-in .ensures) (c .before .before .before .before .before .before .before .before .before .if2 .left) (c .before .before .before .before .before .before .before .if3 .left)
+    offer-refused (c .before .before .before .before .before .before .before .before .before .before .before .before .before .before .before .before .before .before .before .before .before .before .before .pre) _ _ _ (none (c .before .before .before .before .before .before .before .before .before .before .before .before .before .before .before .before .before .before)) (c .before .before .before .before .before .before .before .before .before .before .before .before .before .before .before .before .before .place-of .ensures) _ (c .before .before .before .before .before .before .before .before .before .before .before .before .before .cancel-in .ensures) (c .before .before .before .before .before .before .before .before .before .if2 .left) (c .before .before .before .before .before .before .before .if3 .left)
     (c .before .before .before .before .before .cancel-in2 .ensures) (c .before .if4 .taken) (c .refused3 .ensures)
 
 with-counts-requires-2 : tie.Need-with-counts-requires-2
@@ -111,7 +108,7 @@ same-length-6 c = search needs
 
 returns-5 : tie.Need-returns-5
 returns-5 c =
-    offer-done (c .before .before .before .before .before .before .before .before .before .before .before .before .before .before .before .before .before .before .before .before .before .before .before .before .pre) _ _ _ (none (c .before .before .before .before .before .before .before .before .before .before .before .before .before .before .before .before .before .before .before)) (c .before .before .before .before .before .before .before .before .before .before .before .before .before .before .before .before .before .before .wide .ensures) _ (c .before .before .before .before .before .before .before .before .before .before .before .before .before .before .cancel-in .ensures) (c .before .before .before .before .before .before .before .before .before .before .if2 .left) (c .before .before .before .before .before .before .before .before .if3 .left)
+    offer-done (c .before .before .before .before .before .before .before .before .before .before .before .before .before .before .before .before .before .before .before .before .before .before .before .before .pre) _ _ _ (none (c .before .before .before .before .before .before .before .before .before .before .before .before .before .before .before .before .before .before .before)) (c .before .before .before .before .before .before .before .before .before .before .before .before .before .before .before .before .before .before .place-of .ensures) _ (c .before .before .before .before .before .before .before .before .before .before .before .before .before .before .cancel-in .ensures) (c .before .before .before .before .before .before .before .before .before .before .if2 .left) (c .before .before .before .before .before .before .before .before .if3 .left)
     (c .before .before .before .before .before .before .cancel-in2 .ensures) (c .before .before .if4 .left) (c .before .with-counts2 .ensures) (c .accepted2 .ensures)
 
 pub cancel-spec : {M : Type 1} → statement M
@@ -121,8 +118,7 @@ cancel-spec =
     refusal-requires
     refused-requires
     returns
-    wide-requires
-    sub-c
+    place-of-requires
     mul-bought
     array-read-bought
     mul-sold

@@ -1,7 +1,7 @@
 -- `removal::pull` meets its contract: each return by its law in Removals.antt. Assumes nothing.
 use mathlib.Core.Bool.{true, false}
 use mathlib.Core.Path.{_≡_, refl, sym, _∙_}
-use Prim.Native.Nat.{_+_, _-_, _<_, _≤_}
+use Prim.Native.Nat.{_+_, _<_, _≤_}
 use native.Mathlib.Omega.{arith}
 use borrow.Author.Needs.{needs}
 use Rattle.engine.specs.Removal.{removalCode}
@@ -14,13 +14,13 @@ use Rattle.engine.proofs.removal.pull.Tie as tie
 none : (c : tie.Else1) → removalCode (c .before .before .before .before .before .args .state) (c .before .before .before .before .before .args .account) (c .before .before .before .before .before .args .contract) (c .before .before .before .before .before .args .operator) ≡ 0
 none c = sym (c .before .refusal .ensures) ∙ c .if1 .left
 
-place : (c : tie.After-wide) → c .wide .result - 1 < 4
-place c = contract-fits (c .before .before .before .before .before .before .pre) _ _ _ (none (c .before)) (c .wide .ensures)
+place : (c : tie.After-place-of) → c .place-of .result < 4
+place c = contract-fits (c .before .before .before .before .before .before .pre) _ _ _ (none (c .before)) (c .place-of .ensures)
 
 few : (c : tie.After-struct-known2) → c .before .before .before .before .before .before .before .before .pull .result .lots + c .before .before .before .before .pull2 .result .lots ≤ 128_000
 few c =
-    let b = pulled-high (c .before .before .before .before .before .before .before .before .before .before .before .before .before .before .before .before .before .before .pre) _ _ _ (none (c .before .before .before .before .before .before .before .before .before .before .before .before .before)) (c .before .before .before .before .before .before .before .before .before .before .before .before .wide .ensures) false (c .before .before .before .before .before .before .before .before .pull .ensures) in
-    let o = pulled-high (c .before .before .before .before .before .before .before .before .before .before .before .before .before .before .before .before .before .before .pre) _ _ _ (none (c .before .before .before .before .before .before .before .before .before .before .before .before .before)) (c .before .before .before .before .before .before .before .before .before .before .before .before .wide .ensures) true (c .before .before .before .before .pull2 .ensures) in
+    let b = pulled-high (c .before .before .before .before .before .before .before .before .before .before .before .before .before .before .before .before .before .before .pre) _ _ _ (none (c .before .before .before .before .before .before .before .before .before .before .before .before .before)) (c .before .before .before .before .before .before .before .before .before .before .before .before .place-of .ensures) false (c .before .before .before .before .before .before .before .before .pull .ensures) in
+    let o = pulled-high (c .before .before .before .before .before .before .before .before .before .before .before .before .before .before .before .before .before .before .pre) _ _ _ (none (c .before .before .before .before .before .before .before .before .before .before .before .before .before)) (c .before .before .before .before .before .before .before .before .before .before .before .before .place-of .ensures) true (c .before .before .before .before .pull2 .ensures) in
     omega arith
 
 -- ---- the needs
@@ -34,11 +34,8 @@ refused-requires c κs = search needs
 returns : tie.Need-returns
 returns c = pull-refused (c .before .before .before .before .before .before .pre) _ _ _ (c .before .before .refusal .ensures) (c .before .if1 .taken) (c .refused .ensures)
 
-wide-requires : tie.Need-wide-requires
-wide-requires c κs = search needs
-
-sub-c : tie.Need-sub-c
-sub-c c = contract-low (c .before .before .before .before .before .before .pre) _ _ _ (none (c .before)) (c .wide .ensures)
+place-of-requires : tie.Need-place-of-requires
+place-of-requires c κs = contract-low (c .before .before .before .before .before .pre) _ _ _ (none c)
 
 mul-bought : tie.Need-mul-bought
 mul-bought c = search needs
@@ -57,14 +54,14 @@ sub-pull c = account-low (c .before .before .before .before .before .before .bef
 
 pull-requires : tie.Need-pull-requires
 pull-requires c κs =
-    (side-few (c .before .before .before .before .before .before .before .before .before .pre) _ _ _ (none (c .before .before .before .before)) (c .before .before .before .wide .ensures) false, side-room (c .before .before .before .before .before .before .before .before .before .pre) _ _ _ (none (c .before .before .before .before)) (c .before .before .before .wide .ensures) false)
+    (side-few (c .before .before .before .before .before .before .before .before .before .pre) _ _ _ (none (c .before .before .before .before)) (c .before .before .before .place-of .ensures) false, side-room (c .before .before .before .before .before .before .before .before .before .pre) _ _ _ (none (c .before .before .before .before)) (c .before .before .before .place-of .ensures) false)
 
 sub-pull-2 : tie.Need-sub-pull-2
 sub-pull-2 c = account-low (c .before .before .before .before .before .before .before .before .before .before .before .before .before .pre) _ _ _ (none (c .before .before .before .before .before .before .before .before))
 
 pull-requires-2 : tie.Need-pull-requires-2
 pull-requires-2 c κs =
-    (side-few (c .before .before .before .before .before .before .before .before .before .before .before .before .before .pre) _ _ _ (none (c .before .before .before .before .before .before .before .before)) (c .before .before .before .before .before .before .before .wide .ensures) true, side-room (c .before .before .before .before .before .before .before .before .before .before .before .before .before .pre) _ _ _ (none (c .before .before .before .before .before .before .before .before)) (c .before .before .before .before .before .before .before .wide .ensures) true)
+    (side-few (c .before .before .before .before .before .before .before .before .before .before .before .before .before .pre) _ _ _ (none (c .before .before .before .before .before .before .before .before)) (c .before .before .before .before .before .before .before .place-of .ensures) true, side-room (c .before .before .before .before .before .before .before .before .before .before .before .before .before .pre) _ _ _ (none (c .before .before .before .before .before .before .before .before)) (c .before .before .before .before .before .before .before .place-of .ensures) true)
 
 add-lots : tie.Need-add-lots
 add-lots c = omega (arith, few c)
@@ -86,7 +83,7 @@ same-length-2 c = search needs
 
 returns-2 : tie.Need-returns-2
 returns-2 c =
-    pull-accepted (c .before .before .before .before .before .before .before .before .before .before .before .before .before .before .before .before .before .before .before .before .pre) _ _ _ (none (c .before .before .before .before .before .before .before .before .before .before .before .before .before .before .before)) (c .before .before .before .before .before .before .before .before .before .before .before .before .before .before .wide .ensures) (c .before .before .before .before .before .before .before .before .before .before .pull .ensures) (c .before .before .before .before .before .before .pull2 .ensures) (c .before .with-counts .ensures) refl
+    pull-accepted (c .before .before .before .before .before .before .before .before .before .before .before .before .before .before .before .before .before .before .before .before .pre) _ _ _ (none (c .before .before .before .before .before .before .before .before .before .before .before .before .before .before .before)) (c .before .before .before .before .before .before .before .before .before .before .before .before .before .before .place-of .ensures) (c .before .before .before .before .before .before .before .before .before .before .pull .ensures) (c .before .before .before .before .before .before .pull2 .ensures) (c .before .with-counts .ensures) refl
     (c .accepted .ensures)
 
 pub pull-spec : {M : Type 1} → statement M
@@ -96,8 +93,7 @@ pull-spec =
     refusal-requires
     refused-requires
     returns
-    wide-requires
-    sub-c
+    place-of-requires
     mul-bought
     array-read-bought
     mul-sold

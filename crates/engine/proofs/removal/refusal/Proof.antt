@@ -1,13 +1,12 @@
 -- `removal::refusal` meets its contract: the three tests in their order. Assumes nothing.
 use mathlib.Core.Bool.{false}
 use mathlib.Core.Path.{_≡_, sym, _∙_}
-use Prim.Native.Nat.{_-_, _≤_, _<_}
+use Prim.Native.Nat.{_-_, _<_}
 use native.Mathlib.Omega.{arith}
 use borrow.Author.Needs.{needs}
 use lib.ListN.{getD}
 use Rattle.rules.specs.Answers.{firstOf, removalRefused}
-use Rattle.rules.specs.Exchange.{noContract}
-use Rattle.engine.specs.Outcome.{isAbsent}
+use Rattle.rules.specs.Exchange.{noContract, isAbsent}
 use Rattle.engine.specs.Removal.{removalCode}
 use Rattle.engine.proofs.Tests.{place-below}
 use Rattle.engine.proofs.removal.refusal.Statement.{statement}
@@ -19,12 +18,12 @@ account c = sym (c .before .is-absent .ensures) ∙ c .if1 .left
 contract : (c : tie.Else2) → isAbsent (c .before .before .before .before .args .contract) (c .before .before .before .before .args .state .contractcount) ≡ false
 contract c = sym (c .before .is-absent2 .ensures) ∙ c .if2 .left
 
-place : (c : tie.After-wide) → (1 ≤ c .wide .result) × (c .wide .result - 1 < c .before .before .before .before .before .args .state .contractcount)
-place c = rw (c .wide .ensures) (place-below (c .before .before .before .before .before .args .contract) (c .before .before .before .before .before .args .state .contractcount) (contract (c .before)))
+place : (c : tie.After-place-of) → c .place-of .result < c .before .before .before .before .before .args .state .contractcount
+place c = rw (c .place-of .ensures) (place-below (c .before .before .before .before .before .args .contract) (c .before .before .before .before .before .args .state .contractcount) (contract (c .before)) .1)
 
 phase : (c : tie.After-is-refused)
     → c .is-refused .result ≡ removalRefused (getD (c .before .before .before .before .before .before .before .before .args .state .contracts) (c .before .before .before .before .before .before .before .before .args .contract - 1) noContract) (c .before .before .before .before .before .before .before .before .args .operator)
-phase c = c .is-refused .ensures ∙ rw (c .before .before .before .wide .ensures)
+phase c = c .is-refused .ensures ∙ rw (c .before .before .before .place-of .ensures)
 
 is-absent-requires : tie.Need-is-absent-requires
 is-absent-requires c κs = search needs
@@ -40,17 +39,14 @@ returns-2 : tie.Need-returns-2
 unfolding removalCode firstOf
 returns-2 c = rw (account (c .before .before), sym (c .before .is-absent2 .ensures) ∙ c .if2 .taken)
 
-wide-requires : tie.Need-wide-requires
-wide-requires c κs = search needs
-
-sub-place : tie.Need-sub-place
-sub-place c = place c .0
+place-of-requires : tie.Need-place-of-requires
+place-of-requires c κs = place-below _ _ (contract c) .0
 
 mul-terms : tie.Need-mul-terms
 mul-terms c = search needs
 
 array-copy-out-terms : tie.Need-array-copy-out-terms
-array-copy-out-terms c = omega (arith, place (c .before) .1, c .before .before .before .before .before .before .pre)
+array-copy-out-terms c = omega (arith, place (c .before), c .before .before .before .before .before .before .pre)
 
 is-refused-requires : tie.Need-is-refused-requires
 is-refused-requires c κs = search needs
@@ -71,8 +67,7 @@ refusal-spec =
     returns
     is-absent-requires-2
     returns-2
-    wide-requires
-    sub-place
+    place-of-requires
     mul-terms
     array-copy-out-terms
     is-refused-requires

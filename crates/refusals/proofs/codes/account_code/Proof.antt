@@ -4,11 +4,8 @@ use borrow.Author.Needs.{needs}
 use Rattle.refusals.proofs.codes.account_code.Statement.{statement}
 use Rattle.refusals.proofs.codes.account_code.Tie as tie
 
-wide-requires : tie.Need-wide-requires
-wide-requires c κs = search needs
-
-sub-c : tie.Need-sub-c
-sub-c c = search needs
+place-of-requires : tie.Need-place-of-requires
+place-of-requires c κs = search needs
 
 mul-terms : tie.Need-mul-terms
 mul-terms c = search needs
@@ -16,7 +13,7 @@ mul-terms c = search needs
 array-copy-out-terms : tie.Need-array-copy-out-terms
 array-copy-out-terms c =
     let start = c .before .before .before .before .before in
-    place-fits (start .pre .0) (start .args .o) (start .pre .1) (c .before .wide .ensures)
+    place-fits (start .pre .0) (start .args .o) (start .pre .1) (c .before .place-of .ensures)
 
 mul-h : tie.Need-mul-h
 mul-h c = search needs
@@ -24,7 +21,7 @@ mul-h c = search needs
 element-copy-out-h : tie.Need-element-copy-out-h
 element-copy-out-h c =
     let start = c .before .before .before .before .before .before in
-    place-fits (start .pre .0) (start .args .o) (start .pre .1) (c .before .before .wide .ensures)
+    place-fits (start .pre .0) (start .args .o) (start .pre .1) (c .before .before .place-of .ensures)
 
 side-area-requires : tie.Need-side-area-requires
 side-area-requires c κs = search needs
@@ -32,7 +29,7 @@ side-area-requires c κs = search needs
 side-count-requires : tie.Need-side-count-requires
 side-count-requires c κs =
     let start = c .before .before .before .before .before .before .before .before in
-    place-fits (start .pre .0) (start .args .o) (start .pre .1) (c .before .before .before .before .wide .ensures)
+    place-fits (start .pre .0) (start .args .o) (start .pre .1) (c .before .before .before .before .place-of .ensures)
 
 sub-resting : tie.Need-sub-resting
 sub-resting c = search needs
@@ -43,17 +40,17 @@ mark-requires c κs = search needs
 resting-requires : tie.Need-resting-requires
 resting-requires c κs =
     let start = c .before .before .before .before .before .before .before .before .before .before .before in
-    own-room (start .pre .0) (start .args .o) (start .pre .1) (c .before .before .before .before .before .before .before .wide .ensures) (c .before .before .before .side-area .ensures) (c .before .before .side-count .ensures)
+    own-room (start .pre .0) (start .args .o) (start .pre .1) (c .before .before .before .before .before .before .before .place-of .ensures) (c .before .before .before .side-area .ensures) (c .before .before .side-count .ensures)
 
 lots-refused-requires : tie.Need-lots-refused-requires
 lots-refused-requires c κs =
     let start = c .before .before .before .before .before .before .before .before .before .before .before .before in
-    rested-low (start .pre .0) (start .args .o) (start .pre .1) (c .before .before .before .before .before .before .before .before .wide .ensures) (c .before .before .before .before .side-area .ensures) (c .before .before .before .side-count .ensures) (c .before .mark .ensures) (c .resting .ensures)
+    rested-low (start .pre .0) (start .args .o) (start .pre .1) (c .before .before .before .before .before .before .before .before .place-of .ensures) (c .before .before .before .before .side-area .ensures) (c .before .before .before .side-count .ensures) (c .before .mark .ensures) (c .resting .ensures)
 
 returns : tie.Need-returns
 returns c =
     let start = c .before .before .before .before .before .before .before .before .before .before .before .before .before .before in
-    account-lots (start .pre .0) (start .args .o) (start .pre .1) (c .before .before .before .before .before .before .before .before .before .before .wide .ensures) (c .before .before .before .before .before .before .side-area .ensures) (c .before .before .before .before .before .side-count .ensures) (c .before .before .before .mark .ensures) (c .before .before .resting .ensures) (start .pre .3) (c .before .lots-refused .ensures) (c .if1 .taken)
+    account-lots (start .pre .0) (start .args .o) (start .pre .1) (c .before .before .before .before .before .before .before .before .before .before .place-of .ensures) (c .before .before .before .before .before .before .side-area .ensures) (c .before .before .before .before .before .side-count .ensures) (c .before .before .before .mark .ensures) (c .before .before .resting .ensures) (start .pre .3) (c .before .lots-refused .ensures) (c .if1 .taken)
 
 money-refused-requires : tie.Need-money-refused-requires
 money-refused-requires c κs = search needs
@@ -61,21 +58,20 @@ money-refused-requires c κs = search needs
 returns-2 : tie.Need-returns-2
 returns-2 c =
     let start = c .before .before .before .before .before .before .before .before .before .before .before .before .before .before .before .before in
-    account-money (start .pre .0) (start .args .o) (start .pre .1) (c .before .before .before .before .before .before .before .before .before .before .before .before .wide .ensures) (c .before .before .before .before .before .before .before .before .side-area .ensures) (c .before .before .before .before .before .before .before .side-count .ensures) (c .before .before .before .before .before .mark .ensures) (c .before .before .before .before .resting .ensures) (start .pre .3) (c .before .before .before .lots-refused .ensures) (c .before .before .if1 .left)
+    account-money (start .pre .0) (start .args .o) (start .pre .1) (c .before .before .before .before .before .before .before .before .before .before .before .before .place-of .ensures) (c .before .before .before .before .before .before .before .before .side-area .ensures) (c .before .before .before .before .before .before .before .side-count .ensures) (c .before .before .before .before .before .mark .ensures) (c .before .before .before .before .resting .ensures) (start .pre .3) (c .before .before .before .lots-refused .ensures) (c .before .before .if1 .left)
     (c .before .money-refused .ensures) (c .if2 .taken)
 
 returns-3 : tie.Need-returns-3
 returns-3 c =
     let start = c .before .before .before .before .before .before .before .before .before .before .before .before .before .before .before .before in
-    account-clear (start .pre .0) (start .args .o) (start .pre .1) (c .before .before .before .before .before .before .before .before .before .before .before .before .wide .ensures) (c .before .before .before .before .before .before .before .before .side-area .ensures) (c .before .before .before .before .before .before .before .side-count .ensures) (c .before .before .before .before .before .mark .ensures) (c .before .before .before .before .resting .ensures) (start .pre .3) (c .before .before .before .lots-refused .ensures) (c .before .before .if1 .left)
+    account-clear (start .pre .0) (start .args .o) (start .pre .1) (c .before .before .before .before .before .before .before .before .before .before .before .before .place-of .ensures) (c .before .before .before .before .before .before .before .before .side-area .ensures) (c .before .before .before .before .before .before .before .side-count .ensures) (c .before .before .before .before .before .mark .ensures) (c .before .before .before .before .resting .ensures) (start .pre .3) (c .before .before .before .lots-refused .ensures) (c .before .before .if1 .left)
     (c .before .money-refused .ensures) (c .if2 .left)
 
 pub account-code-spec : {M : Type 1} → statement M
 account-code-spec =
     tie.close
     (tie.spec
-    wide-requires
-    sub-c
+    place-of-requires
     mul-terms
     array-copy-out-terms
     mul-h

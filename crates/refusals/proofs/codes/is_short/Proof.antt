@@ -7,11 +7,11 @@ use Rattle.refusals.proofs.codes.is_short.Tie as tie
 fillable-requires : tie.Need-fillable-requires
 fillable-requires c κs = (c .before .pre .queue .few, c .before .pre .queue .room)
 
-wide32-requires : tie.Need-wide32-requires
-wide32-requires c κs = search needs
+wide64-requires : tie.Need-wide64-requires
+wide64-requires c κs = search needs
 
 returns : tie.Need-returns
-returns c = rw (c .wide32 .ensures, c .before .fillable .ensures, facing-fillable (c .before .before .before .pre))
+returns c = rw (c .wide64 .ensures, c .before .fillable .ensures, facing-fillable (c .before .before .before .pre))
 
 pub is-short-spec : {M : Type 1} → statement M
-is-short-spec = tie.close (tie.spec fillable-requires wide32-requires returns)
+is-short-spec = tie.close (tie.spec fillable-requires wide64-requires returns)

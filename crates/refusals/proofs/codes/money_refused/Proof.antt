@@ -12,40 +12,32 @@ use Rattle.refusals.proofs.codes.money_refused.Tie as tie
 returns : tie.Need-returns
 returns c = close-free (c .before .before .before .before .pre .0) (c .before .before .before .before .args .o) (c .before .before .before .before .pre .1) (c .if1 .taken)
 
-wide-requires : tie.Need-wide-requires
-wide-requires c κs = search needs
+place-of-requires : tie.Need-place-of-requires
+place-of-requires c κs = search needs
 
-sub-c : tie.Need-sub-c
-sub-c c = search needs
-
-wide-requires-2 : tie.Need-wide-requires-2
-wide-requires-2 c κs = search needs
-
-sub-a : tie.Need-sub-a
-sub-a c = search needs
+place-of-requires-2 : tie.Need-place-of-requires-2
+place-of-requires-2 c κs = search needs
 
 book-leg-requires : tie.Need-book-leg-requires
-book-leg-requires c κs = (place-fits (c .before .before .before .before .before .before .pre .0) (c .before .before .before .before .before .before .args .o) (c .before .before .before .before .before .before .pre .1) (c .before .wide .ensures), c .before .before .before .before .before .before .pre .2, can-hold (c .before .before .before .before .before .before .pre .0) (c .before .before .before .before .before .before .args .o) (c .before .before .before .before .before .before .pre .1) (c .before .before .before .before .before .before .pre .2) (c .before .wide .ensures) (c .wide2 .ensures) (c .before .before .before .before .before .before .pre .3))
+book-leg-requires c κs = (place-fits (c .before .before .before .before .before .before .pre .0) (c .before .before .before .before .before .before .args .o) (c .before .before .before .before .before .before .pre .1) (c .before .place-of .ensures), c .before .before .before .before .before .before .pre .2, can-hold (c .before .before .before .before .before .before .pre .0) (c .before .before .before .before .before .before .args .o) (c .before .before .before .before .before .before .pre .1) (c .before .before .before .before .before .before .pre .2) (c .before .place-of .ensures) (c .place-of2 .ensures) (c .before .before .before .before .before .before .pre .3))
 
 charged-requires : tie.Need-charged-requires
-charged-requires c κs = can-charge (c .before .before .before .before .before .before .before .before .before .before .before .before .pre .0) (c .before .before .before .before .before .before .before .before .before .before .before .before .args .o) (c .before .before .before .before .before .before .before .before .before .before .before .before .pre .1) (c .before .before .before .before .before .before .before .before .before .before .before .before .pre .2) (c .before .before .before .before .before .before .before .wide .ensures) (c .before .before .before .before .before .before .wide2 .ensures) (c .before .before .before .before .before .before .before .before .before .before .before .before .pre .3) (c .before .before .before .before .before .book-leg .ensures)
+charged-requires c κs = can-charge (c .before .before .before .before .before .before .before .before .before .before .before .before .pre .0) (c .before .before .before .before .before .before .before .before .before .before .before .before .args .o) (c .before .before .before .before .before .before .before .before .before .before .before .before .pre .1) (c .before .before .before .before .before .before .before .before .before .before .before .before .pre .2) (c .before .before .before .before .before .before .before .place-of .ensures) (c .before .before .before .before .before .before .place-of2 .ensures) (c .before .before .before .before .before .before .before .before .before .before .before .before .pre .3) (c .before .before .before .before .before .book-leg .ensures)
 
 too-little-requires : tie.Need-too-little-requires
 too-little-requires c κs = search needs
 
 returns-2 : tie.Need-returns-2
-returns-2 c = money-is (c .before .before .before .before .before .before .before .before .before .before .before .before .before .before .pre .0) (c .before .before .before .before .before .before .before .before .before .before .before .before .before .before .args .o) (c .before .before .before .before .before .before .before .before .before .before .before .before .before .before .pre .1) (c .before .before .before .before .before .before .before .before .before .before .before .before .before .before .pre .2) (c .before .before .before .before .before .before .before .before .before .wide .ensures) (c .before .before .before .before .before .before .before .before .wide2 .ensures) (c .before .before .before .before .before .before .before .before .before .before .before .before .before .before .pre .3) (c .before .before .before .before .before .before .before .book-leg .ensures) (c .before .charged .ensures) (c .before .before .before .before .before .before .before .before .before .before .if1 .left)
-    (c .too-little .ensures ∙ rw (back (2 * 10 ^ 18) (omega arith) (balance-fits (c .before .before .before .before .before .before .before .before .before .before .before .before .before .before .pre .0) (c .before .before .before .before .before .before .before .before .before .before .before .before .before .before .args .o) (c .before .before .before .before .before .before .before .before .before .before .before .before .before .before .pre .1) (c .before .before .before .before .before .before .before .before .before .before .before .before .before .before .pre .2) (c .before .before .before .before .before .before .before .before .before .wide .ensures) (c .before .before .before .before .before .before .before .before .wide2 .ensures) (c .before .before .before .before .before .before .before .before .before .before .before .before .before .before .pre .3))))
+returns-2 c = money-is (c .before .before .before .before .before .before .before .before .before .before .before .before .before .before .pre .0) (c .before .before .before .before .before .before .before .before .before .before .before .before .before .before .args .o) (c .before .before .before .before .before .before .before .before .before .before .before .before .before .before .pre .1) (c .before .before .before .before .before .before .before .before .before .before .before .before .before .before .pre .2) (c .before .before .before .before .before .before .before .before .before .place-of .ensures) (c .before .before .before .before .before .before .before .before .place-of2 .ensures) (c .before .before .before .before .before .before .before .before .before .before .before .before .before .before .pre .3) (c .before .before .before .before .before .before .before .book-leg .ensures) (c .before .charged .ensures) (c .before .before .before .before .before .before .before .before .before .before .if1 .left)
+    (c .too-little .ensures ∙ rw (back (2 * 10 ^ 18) (omega arith) (balance-fits (c .before .before .before .before .before .before .before .before .before .before .before .before .before .before .pre .0) (c .before .before .before .before .before .before .before .before .before .before .before .before .before .before .args .o) (c .before .before .before .before .before .before .before .before .before .before .before .before .before .before .pre .1) (c .before .before .before .before .before .before .before .before .before .before .before .before .before .before .pre .2) (c .before .before .before .before .before .before .before .before .before .place-of .ensures) (c .before .before .before .before .before .before .before .before .place-of2 .ensures) (c .before .before .before .before .before .before .before .before .before .before .before .before .before .before .pre .3))))
 
 pub money-refused-spec : {M : Type 1} → statement M
 money-refused-spec =
     tie.close
     (tie.spec
     returns
-    wide-requires
-    sub-c
-    wide-requires-2
-    sub-a
+    place-of-requires
+    place-of-requires-2
     book-leg-requires
     charged-requires
     too-little-requires

@@ -1,15 +1,11 @@
 -- `codes::order_code` meets its contract: the parts of the list one after the other. Assumes nothing.
-use native.Mathlib.Omega.{arith}
 use borrow.Author.Needs.{needs}
 use Rattle.refusals.proofs.Inserting.{place-fits, terms-in-range, code-fields, lots-few, code-lots-or-money, code-book, opposite-room, facing, recorded-few}
 use Rattle.refusals.proofs.codes.order_code.Statement.{statement}
 use Rattle.refusals.proofs.codes.order_code.Tie as tie
 
-wide-requires : tie.Need-wide-requires
-wide-requires c κs = search needs
-
-sub-c : tie.Need-sub-c
-sub-c c = omega (arith, c .wide .ensures, c .before .before .before .before .pre .1 .contract-low)
+place-of-requires : tie.Need-place-of-requires
+place-of-requires c κs = c .before .before .before .pre .1 .contract-low
 
 mul-terms : tie.Need-mul-terms
 mul-terms c = search needs
@@ -17,7 +13,7 @@ mul-terms c = search needs
 array-copy-out-terms : tie.Need-array-copy-out-terms
 array-copy-out-terms c =
     let start = c .before .before .before .before .before in
-    place-fits (start .pre .0) (start .args .o) (start .pre .1) (c .before .wide .ensures)
+    place-fits (start .pre .0) (start .args .o) (start .pre .1) (c .before .place-of .ensures)
 
 conditions-refused-requires : tie.Need-conditions-refused-requires
 conditions-refused-requires c κs = search needs
@@ -25,32 +21,32 @@ conditions-refused-requires c κs = search needs
 fields-code-requires : tie.Need-fields-code-requires
 fields-code-requires c κs =
     let start = c .before .before .before .before .before .before .before in
-    terms-in-range (start .pre .0) (start .args .o) (start .pre .1) (c .before .before .before .wide .ensures)
+    terms-in-range (start .pre .0) (start .args .o) (start .pre .1) (c .before .before .before .place-of .ensures)
 
 returns : tie.Need-returns
 returns c =
     let start = c .before .before .before .before .before .before .before .before .before in
-    code-fields (start .pre .0) (start .args .o) (start .pre .1) (c .before .before .before .before .before .wide .ensures) (c .before .before .conditions-refused .ensures) (c .before .fields-code .ensures) (c .if1 .taken)
+    code-fields (start .pre .0) (start .args .o) (start .pre .1) (c .before .before .before .before .before .place-of .ensures) (c .before .before .conditions-refused .ensures) (c .before .fields-code .ensures) (c .if1 .taken)
 
 side-count-requires : tie.Need-side-count-requires
 side-count-requires c κs =
     let start = c .before .before .before .before .before .before .before .before .before in
-    place-fits (start .pre .0) (start .args .o) (start .pre .1) (c .before .before .before .before .before .wide .ensures)
+    place-fits (start .pre .0) (start .args .o) (start .pre .1) (c .before .before .before .before .before .place-of .ensures)
 
 side-count-requires-2 : tie.Need-side-count-requires-2
 side-count-requires-2 c κs =
     let start = c .before .before .before .before .before .before .before .before .before .before .before in
-    place-fits (start .pre .0) (start .args .o) (start .pre .1) (c .before .before .before .before .before .before .before .wide .ensures)
+    place-fits (start .pre .0) (start .args .o) (start .pre .1) (c .before .before .before .before .before .before .before .place-of .ensures)
 
 account-code-requires : tie.Need-account-code-requires
 account-code-requires c κs =
     let start = c .before .before .before .before .before .before .before .before .before .before .before .before in
-    (start .pre .0, start .pre .1, lots-few (start .pre .0) (start .args .o) (start .pre .1) (c .before .before .before .before .before .before .before .before .wide .ensures) (c .before .before .before .before .before .conditions-refused .ensures) (c .before .before .before .before .fields-code .ensures) (c .before .before .before .if1 .left), start .pre .2)
+    (start .pre .0, start .pre .1, lots-few (start .pre .0) (start .args .o) (start .pre .1) (c .before .before .before .before .before .before .before .before .place-of .ensures) (c .before .before .before .before .before .conditions-refused .ensures) (c .before .before .before .before .fields-code .ensures) (c .before .before .before .if1 .left), start .pre .2)
 
 returns-2 : tie.Need-returns-2
 returns-2 c =
     let start = c .before .before .before .before .before .before .before .before .before .before .before .before .before .before in
-    code-lots-or-money (start .pre .0) (start .args .o) (start .pre .1) (c .before .before .before .before .before .before .before .before .before .before .wide .ensures) (c .before .before .before .before .before .before .before .conditions-refused .ensures) (c .before .before .before .before .before .before .fields-code .ensures) (c .before .before .before .before .before .if1 .left) (c .before .account-code .ensures) (c .if2 .taken)
+    code-lots-or-money (start .pre .0) (start .args .o) (start .pre .1) (c .before .before .before .before .before .before .before .before .before .before .place-of .ensures) (c .before .before .before .before .before .before .before .conditions-refused .ensures) (c .before .before .before .before .before .before .fields-code .ensures) (c .before .before .before .before .before .if1 .left) (c .before .account-code .ensures) (c .if2 .taken)
 
 side-area-requires : tie.Need-side-area-requires
 side-area-requires c κs = search needs
@@ -58,26 +54,25 @@ side-area-requires c κs = search needs
 taker-of-requires : tie.Need-taker-of-requires
 taker-of-requires c κs =
     let start = c .before .before .before .before .before .before .before .before .before .before .before .before .before .before .before .before in
-    (start .pre .1 .account-low, start .pre .1 .contract-low, opposite-room (start .pre .0) (start .args .o) (start .pre .1) (c .before .before .before .before .before .before .before .before .before .before .before .before .wide .ensures) (c .before .before .before .before .before .before .before .before .before .conditions-refused .ensures) (c .before .before .before .before .before .before .before .before .fields-code .ensures) (c .before .before .before .before .before .before .before .if1 .left) (c .before .before .before .account-code .ensures) (c .before .before .if2 .left) (c .before .before .before .before .before .before .side-count .ensures) (c .side-area .ensures) (c .before .before .before .before .side-count2 .ensures))
+    (start .pre .1 .account-low, start .pre .1 .contract-low, opposite-room (start .pre .0) (start .args .o) (start .pre .1) (c .before .before .before .before .before .before .before .before .before .before .before .before .place-of .ensures) (c .before .before .before .before .before .before .before .before .before .conditions-refused .ensures) (c .before .before .before .before .before .before .before .before .fields-code .ensures) (c .before .before .before .before .before .before .before .if1 .left) (c .before .before .before .account-code .ensures) (c .before .before .if2 .left) (c .before .before .before .before .before .before .side-count .ensures) (c .side-area .ensures) (c .before .before .before .before .side-count2 .ensures))
 
 book-code-requires : tie.Need-book-code-requires
 book-code-requires c κs =
     let start = c .before .before .before .before .before .before .before .before .before .before .before .before .before .before .before .before .before in (
-      facing (start .pre .0) (start .args .o) (start .pre .1) (c .before .before .before .before .before .before .before .before .before .before .before .before .before .wide .ensures) (c .before .before .before .before .before .before .before .before .before .before .conditions-refused .ensures) (c .before .before .before .before .before .before .before .before .before .fields-code .ensures) (c .before .before .before .before .before .before .before .before .if1 .left) (c .before .before .before .before .account-code .ensures) (c .before .before .before .if2 .left) (c .before .before .before .before .before .before .before .side-count .ensures) (c .before .side-area .ensures) (c .before .before .before .before .before .side-count2 .ensures) (c .taker-of .ensures),
-      recorded-few (start .pre .0) (start .args .o) (start .pre .1) (c .before .before .before .before .before .before .before .before .before .before .before .before .before .wide .ensures) (c .before .before .before .before .before .before .before .before .before .before .conditions-refused .ensures) (c .before .before .before .before .before .before .before .before .before .fields-code .ensures) (c .before .before .before .before .before .before .before .before .if1 .left) (c .before .before .before .before .account-code .ensures) (c .before .before .before .if2 .left) (c .before .before .before .before .before .before .before .side-count .ensures) (c .before .side-area .ensures) (c .before .before .before .before .before .side-count2 .ensures) (c .taker-of .ensures),
+      facing (start .pre .0) (start .args .o) (start .pre .1) (c .before .before .before .before .before .before .before .before .before .before .before .before .before .place-of .ensures) (c .before .before .before .before .before .before .before .before .before .before .conditions-refused .ensures) (c .before .before .before .before .before .before .before .before .before .fields-code .ensures) (c .before .before .before .before .before .before .before .before .if1 .left) (c .before .before .before .before .account-code .ensures) (c .before .before .before .if2 .left) (c .before .before .before .before .before .before .before .side-count .ensures) (c .before .side-area .ensures) (c .before .before .before .before .before .side-count2 .ensures) (c .taker-of .ensures),
+      recorded-few (start .pre .0) (start .args .o) (start .pre .1) (c .before .before .before .before .before .before .before .before .before .before .before .before .before .place-of .ensures) (c .before .before .before .before .before .before .before .before .before .before .conditions-refused .ensures) (c .before .before .before .before .before .before .before .before .before .fields-code .ensures) (c .before .before .before .before .before .before .before .before .if1 .left) (c .before .before .before .before .account-code .ensures) (c .before .before .before .if2 .left) (c .before .before .before .before .before .before .before .side-count .ensures) (c .before .side-area .ensures) (c .before .before .before .before .before .side-count2 .ensures) (c .taker-of .ensures),
     )
 
 returns-3 : tie.Need-returns-3
 returns-3 c =
     let start = c .before .before .before .before .before .before .before .before .before .before .before .before .before .before .before .before .before .before in
-    code-book (start .pre .0) (start .args .o) (start .pre .1) (c .before .before .before .before .before .before .before .before .before .before .before .before .before .before .wide .ensures) (c .before .before .before .before .before .before .before .before .before .before .before .conditions-refused .ensures) (c .before .before .before .before .before .before .before .before .before .before .fields-code .ensures) (c .before .before .before .before .before .before .before .before .before .if1 .left) (c .before .before .before .before .before .account-code .ensures) (c .before .before .before .before .if2 .left) (c .before .before .before .before .before .before .before .before .side-count .ensures) (c .before .before .side-area .ensures) (c .before .before .before .before .before .before .side-count2 .ensures) (c .before .taker-of .ensures) (c .book-code .ensures)
+    code-book (start .pre .0) (start .args .o) (start .pre .1) (c .before .before .before .before .before .before .before .before .before .before .before .before .before .before .place-of .ensures) (c .before .before .before .before .before .before .before .before .before .before .before .conditions-refused .ensures) (c .before .before .before .before .before .before .before .before .before .before .fields-code .ensures) (c .before .before .before .before .before .before .before .before .before .if1 .left) (c .before .before .before .before .before .account-code .ensures) (c .before .before .before .before .if2 .left) (c .before .before .before .before .before .before .before .before .side-count .ensures) (c .before .before .side-area .ensures) (c .before .before .before .before .before .before .side-count2 .ensures) (c .before .taker-of .ensures) (c .book-code .ensures)
 
 pub order-code-spec : {M : Type 1} → statement M
 order-code-spec =
     tie.close
     (tie.spec
-    wide-requires
-    sub-c
+    place-of-requires
     mul-terms
     array-copy-out-terms
     conditions-refused-requires
