@@ -38,6 +38,6 @@ int main(int count, char **words) {
     for (int k = 0; k < COMMANDS; k++)
         printf("command %d: code %u, order %u, traded %u, rested %u\n", k + 1, answers[k].code, answers[k].number,
                answers[k].traded, answers[k].lots);
-    printf("resting: %zu buys, %zu sells\n", r.state.buys[0], r.state.sells[0]);
+    printf("resting: %zu buys, %zu sells\n", r.state.buycounts[0], r.state.sellcounts[0]);
     return 0;
 }

@@ -42,4 +42,4 @@ if r.code != zelvorm.CODE_ACCEPTED:
 for k in range(len(morning)):
     code, number, traded, lots = answers[4 * k : 4 * k + 4]
     print(f"command {k + 1}: code {code}, order {number}, traded {traded}, rested {lots}")
-print(f"resting: {r.state.buys[0]} buys, {r.state.sells[0]} sells")
+print(f"resting: {r.state.buycounts[0]} buys, {r.state.sellcounts[0]} sells")

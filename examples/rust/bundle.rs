@@ -50,5 +50,5 @@ fn main() {
         let [code, number, traded, lots] = answer[..] else { unreachable!() };
         println!("command {}: code {code}, order {number}, traded {traded}, rested {lots}", k + 1);
     }
-    println!("resting: {} buys, {} sells", r.state.buys[0], r.state.sells[0]);
+    println!("resting: {} buys, {} sells", r.state.buycounts[0], r.state.sellcounts[0]);
 }

@@ -101,8 +101,8 @@ def state_record(state):
     made = zelvorm.State()
     for place in range(MOST_CONTRACTS):
         made.contracts[place] = zelvorm.Contract(*state.contracts[place])
-        made.buys[place] = state.order_counts["buy"][place]
-        made.sells[place] = state.order_counts["sell"][place]
+        made.buycounts[place] = state.order_counts["buy"][place]
+        made.sellcounts[place] = state.order_counts["sell"][place]
     for place in range(MOST_ACCOUNTS):
         account = made.accounts[place]
         account.balance = state.balances[place]
@@ -122,8 +122,8 @@ def model_state(made, state):
     """Puts what the library's record has into a state of the model, whatever it is."""
     for place in range(MOST_CONTRACTS):
         state.contracts[place] = memory.Contract(*values(made.contracts[place]))
-        state.order_counts["buy"][place] = made.buys[place]
-        state.order_counts["sell"][place] = made.sells[place]
+        state.order_counts["buy"][place] = made.buycounts[place]
+        state.order_counts["sell"][place] = made.sellcounts[place]
     for place in range(MOST_ACCOUNTS):
         account = made.accounts[place]
         state.balances[place] = account.balance
