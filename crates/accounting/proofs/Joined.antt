@@ -9,7 +9,7 @@ use lib.IntN.{ℤ, pos, _+ℤ_, _-ℤ_, _*ℤ_, +ℤ-assoc}
 use lib.ListN.{length}
 use Rattle.laws.specs.Ring.{split, d-eq, ring}
 use Rattle.laws.specs.Sums.{sumOf, sumOf-append, sumTo, sumTo-ext, sumTo-add}
-use Rattle.rules.specs.Condition3.{run, isAccepted, movesOf, inTo, outOf, paidIn, paidOut, made, madeBy, tradesMade, netHolding, balanceIn, accountsOf, contractsOf, netIn, multiplierIn, loaded, loadedWorth, Loaded, worth, EndsSettled, Condition3}
+use Rattle.rules.specs.Condition3.{run, isAccepted, movesOf, inTo, outOf, paidIn, paidOut, made, tradesMade, netHolding, balanceIn, accountsOf, contractsOf, netIn, multiplierIn, loaded, loadedWorth, Loaded, worth, EndsSettled, Condition3}
 use Rattle.rules.specs.Exchange.{Exchange, accountAt, holdingAt}
 use Rattle.rules.specs.Kinds.{Move, step}
 use Rattle.rules.specs.Memory.{Memory, exchangeOf, Declared, wellFormedMemory, respond}

@@ -10,7 +10,7 @@ use lib.Dec.{eqb, ltb}
 use lib.IntN.{ℤ, pos, _+ℤ_, +ℤ-idl, +ℤ-idr}
 use lib.ListN.{length, getD, replicate}
 use Rattle.laws.specs.Choice.{pick, both, all, all-true}
-use Rattle.laws.specs.Ring.{split, d-eq, d-inj, ring}
+use Rattle.laws.specs.Ring.{split, d-eq, ring}
 use Rattle.laws.specs.Sums.{sumOf, sumOf-append, sumOf-replicate, sumTo, sumTo-ext, sumTo-add, sumTo-at, sumTo-first}
 use Rattle.rules.specs.Settlement.{Leg, leg, Day, dayStart, afterDayLeg}
 use Rattle.accounting.specs.Article32.{lotsOf, Covered, AllCovered}

@@ -1,8 +1,7 @@
 -- The match at the chosen price, with volume and without it. Assumes nothing.
-use mathlib.Core.Bool.{true, false}
 use mathlib.Core.List.{List, []}
 use mathlib.Core.Path.{_≡_, refl, sym, ap, _∙_}
-use Prim.Native.Nat.{ℕ, _+_, _-_, _*_, _<_, _≤_}
+use Prim.Native.Nat.{ℕ, _-_}
 use native.Mathlib.Omega.{arith}
 use borrow.Author.Tests.{le-ltb, lt-ltb}
 use lib.ListN.{length, drop}
@@ -13,9 +12,8 @@ use Rattle.rules.specs.declared.Order.{Order}
 use Rattle.rules.proofs.Codecs.{length-queue, put-queue}
 use Rattle.book.proofs.Trading.{all-booked}
 use Rattle.auction.specs.Matched.{FilledIs, MatchReady, MatchedIs, levelMatch}
-use Rattle.auction.specs.Price.{QueuesRoom, chosenLevel}
+use Rattle.auction.specs.Price.{chosenLevel}
 use Rattle.auction.specs.declared.matched.Filled.{Filled}
-use Rattle.auction.specs.declared.matched.Match.{Match}
 use Rattle.auction.specs.declared.price.Level.{Level}
 
 module _ (c : ℕ) (level : Level) (buys sells : List Order) where

@@ -1,14 +1,14 @@
 -- The loop that counts the trades of a match: those so far, with those of what is left of the two queues, are the answer.
 -- Assumes nothing.
-use mathlib.Core.Bool.{Bool, true, false, _&&_}
+use mathlib.Core.Bool.{true, false, _&&_}
 use mathlib.Core.List.{List, [], _∷_}
 use mathlib.Core.Path.{_≡_, refl, sym, ap, _∙_}
-use Prim.Native.Nat.{ℕ, _+_, _-_, _*_, _≤_, _<_, min}
+use Prim.Native.Nat.{ℕ, _+_, _-_, _≤_, _<_, min}
 use native.Mathlib.Nat.{sub-zero}
 use native.Mathlib.Omega.{arith}
 use lib.ListN.{length, getD, drop}
 use Rattle.laws.specs.Choice.{both-true}
-use Rattle.rules.specs.Auction.{lessFirst, matchAt, paired, reaches}
+use Rattle.rules.specs.Auction.{lessFirst, matchAt, reaches}
 use Rattle.rules.specs.Exchange.{noOrder}
 use Rattle.rules.specs.Matching.{withLots}
 use Rattle.rules.specs.Memory.{orderFrom, queueIn, firstWord}

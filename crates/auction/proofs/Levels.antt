@@ -2,18 +2,16 @@
 use mathlib.Core.Bool.{Bool, true, false}
 use mathlib.Core.List.{List, [], _∷_, _++_}
 use mathlib.Core.Path.{_≡_, refl, sym, ap, _∙_}
-use Prim.Native.Nat.{ℕ, zero, suc, _+_, _-_, _*_, _≤_, _<_, min}
+use Prim.Native.Nat.{ℕ, _+_, _-_, _≤_, _<_, min}
 use native.Mathlib.Omega.{arith}
 use borrow.Author.Tests.{eq-eqb, ne-eqb}
-use lib.Dec.{eqb, ltb}
-use lib.ListN.{length, getD, drop}
+use lib.Dec.{ltb}
+use lib.ListN.{drop}
 use Rattle.laws.specs.Choice.{pick, pick-same}
 use Rattle.rules.specs.Auction.{apart, bestFrom, bestOf, better, chosenPrice, lotsReaching, prices, reaches, restingPrices, smaller, surplus, volume}
-use Rattle.rules.specs.Exchange.{noOrder}
 use Rattle.rules.specs.Memory.{orderFrom, queueIn, firstWord}
 use Rattle.rules.specs.declared.Order.{Order}
 use Rattle.rules.proofs.AuctionTaken.{reaching-nil, reaching-met, reaching-unmet}
-use Rattle.rules.proofs.Codecs.{length-queue, order-at}
 use Rattle.rules.proofs.Queue.{lots-append}
 use Rattle.book.proofs.Queues.{next-order, no-more}
 use Rattle.auction.specs.Price.{bestLevel, chosenLevel, firstOf, firstPrice, levelAt, preferred}

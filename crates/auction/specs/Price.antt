@@ -1,8 +1,7 @@
 -- A price with its volume and surplus, as the code carries them; what the search among the resting prices gives. Assumes nothing.
 use mathlib.Core.Bool.{Bool}
 use mathlib.Core.List.{List, [], _∷_}
-use mathlib.Core.Path.{_≡_}
-use Prim.Native.Nat.{ℕ, _+_, _*_, _≤_}
+use Prim.Native.Nat.{ℕ, _≤_}
 use lib.Dec.{ltb}
 use lib.ListN.{length}
 use Rattle.rules.specs.Auction.{apart, bestFrom, better, chosenPrice, larger, prices, restingPrices, smaller, surplus, volume}

@@ -2,21 +2,18 @@
 use mathlib.Core.Bool.{Bool, true, false}
 use mathlib.Core.List.{List, [], _∷_, _++_, map, append-nil, append-assoc}
 use mathlib.Core.Path.{_≡_, refl, sym, ap, ap₂, _∙_}
-use Prim.Native.Nat.{ℕ, zero, suc, _+_, _<_, _≤_}
+use Prim.Native.Nat.{ℕ, suc, _+_, _<_, _≤_}
 use native.Mathlib.Numerals.{add-one}
 use native.Mathlib.Omega.{arith}
 use borrow.Author.Tests.{eq-eqb, ne-eqb}
-use lib.Dec.{leb, eqb}
-use lib.ListN.{length, getD, set, take, drop, length-map, length-take, drop-of-length-le, List·getD-map}
+use lib.ListN.{length, getD, set, take, drop, length-map, length-take, drop-of-length-le}
 use lib.Seq.{getD-at, set-at, take-suc, take-all, drop-cons, length-take-le, drop-length}
-use Rattle.laws.specs.Choice.{pick}
-use Rattle.rules.specs.Exchange.{accountAt, holdingAt, noAccount, noHolding}
-use Rattle.rules.specs.Holdings.{afterLeg, bookLeg, legCovered, sameHoldings, sameLots, startAccount, startHolding, startOfDay, withHolding}
+use Rattle.rules.specs.Exchange.{accountAt, noAccount, noHolding}
+use Rattle.rules.specs.Holdings.{sameHoldings, sameLots, startAccount, startHolding, startOfDay}
 use Rattle.rules.specs.Memory.{inUse, used}
 use Rattle.rules.specs.declared.Account.{Account}
 use Rattle.rules.specs.declared.Holding.{Holding}
-use Rattle.laws.specs.Lists.{take-map}
-use Rattle.rules.proofs.InUse.{length-used, used-at, used-holding, used-leg}
+use Rattle.rules.proofs.InUse.{length-used, used-at}
 use Rattle.audit.proofs.Walks.{next-in, next-of, none-in}
 
 -- ---- the start of the day

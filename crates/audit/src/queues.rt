@@ -2,7 +2,7 @@
 // a contract whose terms are within their ranges.
 ghost use mathlib.Core.Bool.{true, _||_};
 ghost use mathlib.Core.Path.{_≡_};
-ghost use Prim.Native.Nat.{_+_, _*_, _≤_, _<_};
+ghost use Prim.Native.Nat.{_+_, _≤_, _<_};
 ghost use lib.ListN.{length};
 ghost use Rattle.laws.specs.Choice.{all, allOf};
 ghost use Rattle.rules.specs.Bounds.{inAuction, termsInRange};

@@ -1,7 +1,7 @@
 -- One order entered again and again: what a turn of the loop does to the book between two orders. Assumes nothing.
 use mathlib.Core.List.{List}
 use mathlib.Core.Path.{_≡_, sym, ap, subst, _∙_}
-use Prim.Native.Nat.{ℕ, suc, _+_}
+use Prim.Native.Nat.{ℕ, _+_}
 use native.Mathlib.Numerals.{add-one}
 use Rattle.matching.specs.Entry.{EntryReady, EntryIs}
 use Rattle.matching.specs.declared.entry.Entry.{Entry}

@@ -1,5 +1,4 @@
 -- What the benchmark's calls ask for and what they give, in terms of the rules. Assumes nothing.
-use mathlib.Core.Bool.{false}
 use mathlib.Core.List.{List}
 use mathlib.Core.Path.{_≡_}
 use Prim.Native.Nat.{ℕ, zero, suc, _+_, _*_, _<_}

@@ -1,7 +1,7 @@
 // The order book's calls for the benchmark, which is written in Rust. For the benchmark alone: each asks for what the book's own
 // function asks.
 ghost use mathlib.Core.Path.{_≡_};
-ghost use Prim.Native.Nat.{_+_, _*_, _≤_};
+ghost use Prim.Native.Nat.{_+_, _≤_};
 ghost use lib.ListN.{length};
 ghost use Rattle.areas.specs.Lists.{removeAt};
 ghost use Rattle.rules.specs.Command.{priceCondition};

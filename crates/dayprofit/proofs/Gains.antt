@@ -5,26 +5,25 @@ use mathlib.Core.Path.{_≡_, refl, sym, ap, subst, _∙_}
 use Prim.Native.Nat.{ℕ, _+_, _-_, _*_, _<_, _≤_, min}
 use native.Mathlib.Nat.{mul-le-mul-left, mul-le-mul-right, le-trans}
 use native.Mathlib.Omega.{arith}
-use lib.IntN.{ℤ, pos, _-ℤ_}
-use lib.ListN.{length, getD}
+use lib.IntN.{ℤ}
+use lib.ListN.{getD}
 use mir.Facts.{fits-below, toZ-ofZ}
 use mir.Syntax.{w64}
 use mir.Val.{Fits, SFits, toZ, ofZ}
 use Rattle.laws.specs.Bound.{within-diff}
 use Rattle.laws.specs.Sums.{sumOf}
 use Rattle.rules.specs.Memory.{recordedTrades}
-use Rattle.rules.specs.Settlement.{Leg, Batch, dayStart, afterLegs, legs, firstLots, otherLots, holdingGain}
+use Rattle.rules.specs.Settlement.{Leg, Batch, legs, firstLots, otherLots, holdingGain}
 use Rattle.rules.specs.declared.Holding.{Holding}
 use Rattle.rules.specs.declared.Trade.{Trade}
-use Rattle.accounting.specs.Article32.{lotsOf, AllCovered}
+use Rattle.accounting.specs.Article32.{lotsOf}
 use Rattle.accounting.proofs.DayProfit.{lots-other}
-use Rattle.dayprofit.specs.Day.{SizedTrades}
 use Rattle.dayprofit.specs.Sides.{closedLots, closedValue, openedToday, everOpen, cost, dayOver, Profitable, sideFrom, closingFrom, holdingFrom, SumsSmall, SideSmall, ProfitFrom}
 use Rattle.dayprofit.specs.Slots.{slotOf, SumsAre, UsedAre, Rooms, sumsAt, DaySmall}
 use Rattle.dayprofit.specs.declared.profit.Profit.{Profit}
 use Rattle.dayprofit.specs.declared.profit.Side.{Side}
 use Rattle.dayprofit.specs.declared.profit.Sums.{Sums}
-use Rattle.dayprofit.proofs.FirstIn.{OneSide, SideIs, day-sides, closing-by-sides, holding-by-sides, first-other}
+use Rattle.dayprofit.proofs.FirstIn.{SideIs, day-sides, closing-by-sides, holding-by-sides, first-other}
 use Rattle.dayprofit.proofs.Legs.{batches-lots, batches-cost}
 use Rattle.dayprofit.proofs.Passes.{lots-reach, value-reach}
 

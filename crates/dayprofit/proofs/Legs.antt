@@ -3,8 +3,8 @@
 use mathlib.Core.Bool.{Bool, true, false, not, _&&_}
 use mathlib.Core.List.{List, [], _∷_, _++_, append-nil, append-assoc}
 use mathlib.Core.Path.{_≡_, refl, sym, ap, _∙_}
-use Prim.Native.Nat.{ℕ, suc, _+_, _*_, _≤_}
-use native.Mathlib.Nat.{mul-add, mul-le-mul-left, mul-le-mul-right, le-trans, mul-suc}
+use Prim.Native.Nat.{ℕ, _+_, _*_, _≤_}
+use native.Mathlib.Nat.{mul-add, mul-le-mul-left, mul-le-mul-right, le-trans}
 use native.Mathlib.Omega.{arith}
 use lib.Dec.{eqb}
 use lib.ListN.{length, getD}
@@ -13,7 +13,7 @@ use mir.Syntax.{w32, w64}
 use mir.Val.{Fits}
 use Rattle.laws.specs.Choice.{pick, pick-same}
 use Rattle.laws.specs.Sums.{sumOf, sumOf-append}
-use Rattle.rules.specs.Settlement.{Leg, leg, Batch, only, legs, buyLeg, sellLeg}
+use Rattle.rules.specs.Settlement.{Leg, leg, only, legs, buyLeg, sellLeg}
 use Rattle.rules.specs.declared.Trade.{Trade}
 use Rattle.accounting.specs.Article32.{lotsOf}
 use Rattle.accounting.proofs.Trades.{legs-append}

@@ -2,16 +2,15 @@
 -- sums reach. Assumes nothing.
 use mathlib.Core.Bool.{Bool, true, false, _&&_}
 use mathlib.Core.List.{List, [], _∷_, _++_, append-nil}
-use mathlib.Core.Path.{_≡_, refl, sym, ap, _∙_}
+use mathlib.Core.Path.{_≡_, ap, _∙_}
 use Prim.Native.Nat.{ℕ, _+_, _-_, _*_, _<_, _≤_, min}
-use native.Mathlib.Nat.{add-zero}
 use native.Mathlib.Omega.{arith}
 use lib.Dec.{eqb}
-use lib.ListN.{length, getD, set, drop, replicate, getD-replicate, length-replicate}
+use lib.ListN.{length, getD, drop, replicate, getD-replicate, length-replicate}
 use Rattle.laws.specs.Choice.{pick}
 use Rattle.laws.specs.Sums.{sumOf, sumOf-append}
 use Rattle.rules.specs.Memory.{recordedTrades, tradeFrom, tradeStride}
-use Rattle.rules.specs.Settlement.{Leg, leg, Batch, only, legs, firstLots}
+use Rattle.rules.specs.Settlement.{Leg, leg, Batch, only, firstLots}
 use Rattle.rules.specs.declared.Trade.{Trade}
 use Rattle.rules.proofs.Codecs.{length-trades, trade-at}
 use Rattle.accounting.specs.Article32.{lotsOf}

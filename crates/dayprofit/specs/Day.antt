@@ -2,7 +2,7 @@
 -- back. Assumes nothing.
 use mathlib.Core.List.{List, [], _∷_}
 use mathlib.Core.Path.{_≡_}
-use Prim.Native.Nat.{ℕ, _+_, _*_, _<_, _≤_}
+use Prim.Native.Nat.{ℕ, _*_, _<_, _≤_}
 use lib.ListN.{length}
 use Rattle.rules.specs.Bounds.{maxPrice, maxLots, maxTrades}
 use Rattle.rules.specs.Matching.{tradedLots}

@@ -3,7 +3,6 @@
 ghost use mathlib.Core.Path.{_≡_};
 ghost use mathlib.Core.List.{[], _∷_};
 ghost use Prim.Native.Nat.{_+_, _*_, _/_, _<_, _≤_};
-ghost use lib.ListN.{length};
 ghost use Rattle.rules.specs.Memory.{queueIn, recordedTrades};
 ghost use Rattle.rules.specs.Settlement.{quotedPrice, priceFrom, tradesIn};
 ghost use Rattle.dayprofit.specs.Day.{Sized, SizedTrades, TurnoverIs, Quotes, Priceable};

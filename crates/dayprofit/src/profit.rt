@@ -1,7 +1,7 @@
 // Profit by Article 32 of document 002, of one account in one contract, before the multiplier: from what its legs came to. Closes take
 // start-of-day lots first, then today's in trade order. For our own crates: each function asks for sums in the reach of a well-formed
 // state's trades.
-ghost use mathlib.Core.Bool.{true, false, not};
+ghost use mathlib.Core.Bool.{true, false};
 ghost use mathlib.Core.Path.{_≡_};
 ghost use Prim.Native.Nat.{_<_, _≤_};
 ghost use lib.IntN.{pos, _-ℤ_};

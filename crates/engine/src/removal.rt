@@ -1,7 +1,7 @@
 // Cancel and pull. For our own crates: each asks for a well-formed state.
 ghost use mathlib.Core.Bool.{true};
 ghost use mathlib.Core.Path.{_≡_};
-ghost use Prim.Native.Nat.{_+_, _*_, _<_, _≤_};
+ghost use Prim.Native.Nat.{_+_, _<_, _≤_};
 ghost use lib.ListN.{length, set};
 ghost use Rattle.rules.specs.Answers.{removalRefused};
 ghost use Rattle.rules.specs.Memory.{queueIn, stepIn, memory, WellFormedState, firstWord};

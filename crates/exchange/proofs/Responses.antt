@@ -1,6 +1,6 @@
 -- From an outcome of one kind to the public response: what is not a settlement reports nothing; a settlement's codes, its state
 -- and its report. Assumes nothing.
-use mathlib.Core.Bool.{true, false, not}
+use mathlib.Core.Bool.{true, false}
 use mathlib.Core.List.{List}
 use mathlib.Core.Path.{_≡_, refl, ap, _∙_, subst, subst⁻¹}
 use Prim.Native.Nat.{ℕ, zero, suc, _<_, _≤_}

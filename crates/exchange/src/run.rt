@@ -1,5 +1,4 @@
 // A list of commands, each getting the state that the last one left. A call for users: it answers on anything.
-ghost use mathlib.Core.Path.{_≡_};
 ghost use Rattle.rules.specs.Memory.{memory};
 ghost use Rattle.exchange.specs.Run.{RanIs, wholeCommands};
 use crate::step;

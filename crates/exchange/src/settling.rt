@@ -6,7 +6,7 @@ ghost use lib.ListN.{getD};
 ghost use Rattle.laws.specs.Choice.{all};
 ghost use Rattle.rules.specs.Kinds.{codeOf};
 ghost use Rattle.rules.specs.Exchange.{noContract};
-ghost use Rattle.rules.specs.Memory.{exchangeOf, stepIn, memory, WellFormedState};
+ghost use Rattle.rules.specs.Memory.{exchangeOf, memory, WellFormedState};
 ghost use Rattle.rules.specs.declared.Command.the-variants.{Settle};
 ghost use Rattle.exchange.specs.Response.{ResponseIs, noReport, withReport};
 use engine::answers;

@@ -1,5 +1,4 @@
 // One command on a well-formed state, as such and as 24 bytes. For our own crates.
-ghost use mathlib.Core.Path.{_≡_};
 ghost use Prim.Native.Nat.{_+_, _≤_};
 ghost use lib.ListN.{length};
 ghost use Rattle.rules.specs.DayFile.{commandFrom};

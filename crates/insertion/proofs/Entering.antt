@@ -3,7 +3,7 @@
 use mathlib.Core.Bool.{Bool, true, false, not}
 use mathlib.Core.List.{List}
 use mathlib.Core.Path.{_≡_, refl, sym, ap, _∙_}
-use Prim.Native.Nat.{ℕ, _+_, _-_, _*_, _<_, _≤_}
+use Prim.Native.Nat.{ℕ, _+_, _-_, _<_, _≤_}
 use native.Mathlib.Omega.{arith}
 use borrow.Author.Tests.{le-ltb, ltb-false}
 use lib.ListN.{length, getD}
@@ -13,7 +13,7 @@ use Rattle.rules.specs.Bounds.{inAuction, maxResting, maxTrades}
 use Rattle.rules.specs.Exchange.{Exchange, Listing, opposite, own, placeOf, withQueues}
 use Rattle.rules.specs.Kinds.{codeOf, decide, kindOf}
 use Rattle.rules.specs.Matching.{Entered, enter, sweep}
-use Rattle.rules.specs.Memory.{Memory, WellFormedState, exchangeOf, memory, put, putQueue, queueIn, stepIn, tradeStride}
+use Rattle.rules.specs.Memory.{Memory, WellFormedState, exchangeOf, memory, put, putQueue, queueIn, stepIn}
 use Rattle.rules.specs.Step.{enteredOf, exchangeAfter, inserted, listingAfter, withTrades}
 use Rattle.rules.specs.declared.Command.the-variants.{Insert}
 use Rattle.rules.specs.declared.Contract.{Contract}

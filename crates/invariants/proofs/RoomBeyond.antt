@@ -13,7 +13,6 @@ use Rattle.rules.specs.Exchange.{Exchange, Listing, listingAt}
 use Rattle.rules.specs.Kinds.{decide, step}
 use Rattle.rules.specs.Memory.{Memory, countsInRange, exchangeOf, hasRoom, inMemory, listingIn, put, putState, respond, stepIn, wellFormedMemory, written}
 use Rattle.rules.specs.Step.{answerOf}
-use Rattle.rules.specs.declared.Answer.{Answer}
 use Rattle.rules.specs.declared.Command.{Command}
 use Rattle.rules.specs.declared.Order.{Order}
 use Rattle.rules.proofs.Codecs.{length-queue, length-trades}

@@ -1,7 +1,7 @@
 // An order entered into the book: it trades, filled orders leave, a good-for-day remainder rests. For our own crates: it
 // asks for the room of what it writes and for values within their ranges.
 ghost use mathlib.Core.Path.{_≡_};
-ghost use Prim.Native.Nat.{_+_, _-_, _*_, _≤_};
+ghost use Prim.Native.Nat.{_+_, _-_, _≤_};
 ghost use lib.ListN.{length};
 ghost use Rattle.laws.specs.Choice.{pick};
 ghost use Rattle.rules.specs.Matching as matching;

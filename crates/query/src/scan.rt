@@ -1,5 +1,4 @@
 // The queue read for an order that is only asked about. For our own crates: it asks for the queue's room and order.
-ghost use mathlib.Core.Path.{_≡_};
 ghost use Rattle.rules.specs.Memory.{queueIn};
 ghost use Rattle.refusals.specs.Insertion.{Facing};
 ghost use Rattle.query.specs.Gettable.{GatheredIs};

@@ -1,6 +1,6 @@
 -- A quote as the code places it: the tests on the state alone, the old quote gone, an order of it entered or refused, and what has to
 -- be put back where it is refused. Assumes nothing.
-use mathlib.Core.Bool.{Bool, true, false, not}
+use mathlib.Core.Bool.{Bool, false, not}
 use mathlib.Core.List.{List, [], _∷_}
 use mathlib.Core.Path.{_≡_}
 use Prim.Native.Nat.{ℕ, _+_, _-_, _*_}

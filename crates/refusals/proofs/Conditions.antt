@@ -2,7 +2,6 @@
 use mathlib.Core.Bool.{Bool, true, false, not, _&&_, _||_}
 use mathlib.Core.Path.{_≡_, refl, sym, _∙_}
 use borrow.Author.Tests.{ne-eqb}
-use lib.Dec.{eqb}
 use Rattle.rules.specs.Answers.{conditionsRefused, dayWithoutLimit, isGoodForDay, isLimit, takesOrders}
 use Rattle.rules.specs.Bounds.{inAuction}
 use Rattle.rules.specs.declared.Contract.{Contract}

@@ -1,15 +1,14 @@
 -- Recorded trades read in turn from their area. Assumes nothing.
 use mathlib.Core.List.{List, [], _∷_}
-use mathlib.Core.Path.{_≡_, sym, subst, ap, _∙_}
+use mathlib.Core.Path.{_≡_, sym, ap, _∙_}
 use Prim.Native.Nat.{ℕ, _+_, _*_, _<_, _≤_}
 use native.Mathlib.Numerals.{add-one}
-use lib.ListN.{length, getD, drop, drop-of-length-le}
+use lib.ListN.{drop, drop-of-length-le}
 use lib.Seq.{drop-cons}
 use Rattle.rules.specs.Exchange.{noTrade}
 use Rattle.rules.specs.Memory.{tradeFrom, recordedTrades, tradeStride}
 use Rattle.rules.specs.declared.Trade.{Trade}
 use Rattle.rules.proofs.Codecs.{length-trades, trade-at}
-use Rattle.replaying.specs.Parts.{Booked}
 
 module _ (area : List ℕ) (n i : ℕ) where
   pub next-trade : {t : Trade} → i < n → t ≡ tradeFrom (drop (tradeStride * i) area) → drop i (recordedTrades area n) ≡ t ∷ drop (i + 1) (recordedTrades area n)

@@ -1,17 +1,14 @@
 -- How many lots a sweep trades, and that behind the first order of a sorted queue that is no counterpart there is none. Assumes
 -- nothing.
-use mathlib.Core.Bool.{Bool, true, false, not, _&&_, true≢false}
+use mathlib.Core.Bool.{Bool, true, false, not, true≢false}
 use mathlib.Core.List.{List, [], _∷_}
-use mathlib.Core.Logic.{_⊎_, inl, inr, ⊎-elim}
-use mathlib.Core.Path.{_≡_, refl, sym, _∙_}
-use Prim.Native.Nat.{ℕ, _+_, _-_, _<_, _≤_, min}
+use mathlib.Core.Logic.{_⊎_, ⊎-elim}
+use mathlib.Core.Path.{_≡_, refl, _∙_}
+use Prim.Native.Nat.{ℕ, _+_, _-_, _≤_, min}
 use native.Mathlib.Omega.{arith}
-use borrow.Author.Tests.{leb-false, lt-leb, eqb-false, ne-eqb, lt-ltb}
-use lib.Dec.{ltb}
-use lib.ListN.{length}
-use Rattle.laws.specs.Choice.{pick-true, pick-false, true-both, both-false}
+use borrow.Author.Tests.{leb-false, lt-leb, eqb-false, ne-eqb}
 use Rattle.laws.specs.Sums.{sumOf}
-use Rattle.rules.specs.Exchange.{lotsWhere, bestPrice}
+use Rattle.rules.specs.Exchange.{bestPrice}
 use Rattle.rules.specs.Matching.{meets, counterpart, fillable, tradeWith, sweep, tradedLots}
 use Rattle.rules.specs.WellFormed.{sorted}
 use Rattle.rules.specs.declared.Order.{Order}

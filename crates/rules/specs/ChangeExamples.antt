@@ -1,6 +1,6 @@
 -- Changes of a resting order worked out by hand (document 02, ticket 8): the code at the ends of each range and where two refusals
 -- hold at once, who keeps the place and who loses it, and what is answered. Two tables, a statement each. Assumes nothing.
-use mathlib.Core.Bool.{true, false}
+use mathlib.Core.Bool.{true}
 use mathlib.Core.List.{List, [], _∷_}
 use mathlib.Core.Path.{_≡_, refl}
 use Prim.Native.Nat.{ℕ, _+_}

@@ -1,6 +1,6 @@
 -- Condition 3's own figures worked out by hand, on document 01's day and from a state loaded with holdings. One table, one statement,
 -- as in Examples.antt. Assumes nothing.
-use mathlib.Core.Bool.{true, false}
+use mathlib.Core.Bool.{true}
 use mathlib.Core.List.{List, [], _∷_}
 use mathlib.Core.Path.{_≡_, refl}
 use Prim.Native.Nat.{ℕ}

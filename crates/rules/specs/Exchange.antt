@@ -1,6 +1,6 @@
 -- "The state": what the rules work on. Every list here has just the places in use, so room beyond a count can affect no
 -- answer; Memory.antt says where these lists lie. Assumes nothing.
-use mathlib.Core.Bool.{Bool, false, _&&_, _||_}
+use mathlib.Core.Bool.{Bool, _&&_, _||_}
 use mathlib.Core.List.{List, [], _∷_}
 use Prim.Native.Nat.{ℕ, _-_}
 use lib.Dec.{ltb, eqb}

@@ -4,7 +4,7 @@ use mathlib.Core.Bool.{Bool, true, false}
 use mathlib.Core.List.{List, [], _∷_}
 use mathlib.Core.Path.{_≡_, refl}
 use Prim.Native.Nat.{ℕ}
-use lib.ListN.{getD, length}
+use lib.ListN.{getD}
 use Rattle.rules.specs.Answers.{mark}
 use Rattle.rules.specs.Bounds.{continuous, onTick, termsInRange, tickMultiple}
 use Rattle.rules.specs.DayFile.{contractFrom, contractPlace, contractSound, u16At, u32At, u8At}

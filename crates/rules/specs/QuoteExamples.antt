@@ -1,7 +1,7 @@
 -- Quotes worked out by hand (document 02, ticket 7): the code of the buy and of the sell at the ends of each range and where two refusals
 -- hold at once, what the two orders do and what is answered, and a place that is in use only between the steps. Four
 -- tables, a statement each. Assumes nothing.
-use mathlib.Core.Bool.{Bool, true, false}
+use mathlib.Core.Bool.{true}
 use mathlib.Core.List.{List, [], _∷_, _++_}
 use mathlib.Core.Path.{_≡_, refl}
 use Prim.Native.Nat.{ℕ, _+_, _*_, _^_}

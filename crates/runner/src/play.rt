@@ -1,5 +1,4 @@
 // A part of a day: commands played in turn, their lines printed into a lent buffer. For our own crates.
-ghost use mathlib.Core.Path.{_≡_};
 ghost use Rattle.rules.specs.Memory.{memory};
 ghost use Rattle.runner.specs.Parts.{Playable, PlayedIs};
 use crate::turn::play_record;

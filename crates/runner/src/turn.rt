@@ -1,6 +1,5 @@
 // One command of a day: its step, and its lines printed into a lent buffer. For our own crates: each asks for room for the
 // longest lines that it can print, and `play_record` for a well-formed state.
-ghost use mathlib.Core.Path.{_≡_};
 ghost use Prim.Native.Nat.{_+_, _≤_};
 ghost use lib.ListN.{length};
 ghost use Rattle.rules.specs.Command.{commandOf};

@@ -3,7 +3,7 @@
 -- lot bought at 103 (order 5) is closed in the same trade (order 6). The settlement price due is 719 / 7, rounded down: 102.
 -- Client 1 holds 7 and gains 3 x 2 x 10 on what it holds; client 2 holds nothing and gained 2 x 4 x 10 by closing. By the account's own
 -- order the parts are 110 and 30. Assumes nothing.
-use mathlib.Core.Bool.{Bool, true, false}
+use mathlib.Core.Bool.{Bool, true}
 use mathlib.Core.List.{List, [], _∷_, _++_}
 use mathlib.Core.Path.{_≡_, refl}
 use Prim.Native.Nat.{ℕ}

@@ -5,8 +5,6 @@ use Rattle.margin.proofs.Charging.{value-small, rated-small}
 use borrow.Author.Needs.{needs}
 use Rattle.margin.proofs.charge.Statement.{statement}
 use Rattle.margin.proofs.charge.Tie as tie
-use Rattle.margin.proofs.charge.Reads as reads
-use Rattle.margin.proofs.charge.Lts as lts
 
 cast-multiplier : tie.Need-cast-multiplier
 cast-multiplier c = search needs

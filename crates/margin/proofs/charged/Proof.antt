@@ -4,9 +4,6 @@ use Rattle.margin.proofs.Charging.{Charging, charging-none, total-fits,
 use native.Mathlib.Omega.{arith}
 use Rattle.margin.proofs.charged.Statement.{statement}
 use Rattle.margin.proofs.charged.Tie as tie
-use Rattle.margin.proofs.charged.Reads as reads
-use Rattle.margin.proofs.charged.Lts as lts
-use Rattle.margin.proofs.charged_in.Reads as charged-in-reads
 
 abbrev Inv-loop : tie.InvT-loop
 Inv-loop contracts buys sells a holdings terms bids offers account total₀ c₀ total c = Charging holdings terms buys bids sells offers a contracts total c

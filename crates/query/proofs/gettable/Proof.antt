@@ -3,10 +3,6 @@ use borrow.Author.Needs.{needs}
 use Rattle.query.proofs.Asking.{asked-as}
 use Rattle.query.proofs.gettable.Statement.{statement}
 use Rattle.query.proofs.gettable.Tie as tie
-use Rattle.query.proofs.gettable.Reads as reads
-use Rattle.query.proofs.gettable.Lts as lts
-use Rattle.endian.proofs.reading.record_at.Reads as record-at-reads
-use Rattle.query.proofs.gettable_record.Reads as gettable-record-reads
 
 slice-aggregate-record-at : tie.Need-slice-aggregate-record-at
 slice-aggregate-record-at c = search needs

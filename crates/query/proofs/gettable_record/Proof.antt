@@ -12,12 +12,6 @@ use Rattle.engine.proofs.Declared.{declared}
 use Rattle.query.proofs.Asking.{an-insert, no-insert, not-formed}
 use Rattle.query.proofs.gettable_record.Statement.{statement}
 use Rattle.query.proofs.gettable_record.Tie as tie
-use Rattle.query.proofs.gettable_record.Reads as reads
-use Rattle.query.proofs.gettable_record.Lts as lts
-use Rattle.audit.proofs.well_formed.Reads as well-formed-reads
-use Rattle.commands.proofs.command_of.Reads as command-of-reads
-use Rattle.query.proofs.reading_of.Reads as reading-of-reads
-use Rattle.query.proofs.refused.Reads as refused-reads
 
 -- the test passed
 sound : (c : tie.Else1) → wellFormedMemory (memory (c .before .before .before .before .before .args .state) (now (c .before .before .before .before .before .args .buys)) (now (c .before .before .before .before .before .args .sells)) (now (c .before .before .before .before .before .args .trades))) ≡ true

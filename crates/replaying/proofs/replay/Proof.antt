@@ -1,6 +1,5 @@
 -- `replaying::replay` meets its contract. What the loop keeps is `Going`: what the trades from i on make of the holdings decides the
 -- answer. The measure is the number of trades not yet replayed. Assumes nothing.
-use mathlib.Core.Path.{refl}
 use Prim.Native.Nat.{_-_, _<_}
 use native.Mathlib.Omega.{arith}
 use borrow.Author.Needs.{needs}

@@ -6,16 +6,6 @@ use Rattle.saving.proofs.Shapes.{count-ready, shaped-laid, shaped-long}
 use borrow.Author.Needs.{needs}
 use Rattle.saving.proofs.read_state.Statement.{statement}
 use Rattle.saving.proofs.read_state.Tie as tie
-use Rattle.saving.proofs.read_state.Reads as reads
-use Rattle.saving.proofs.read_state.Lts as lts
-use Rattle.audit.proofs.well_formed.Reads as well-formed-reads
-use Rattle.dayfile.proofs.head.contract_count.Reads as contract-count-reads
-use Rattle.saving.proofs.is_formed.Reads as is-formed-reads
-use Rattle.saving.proofs.loading.loaded_state.Reads as loaded-state-reads
-use Rattle.saving.proofs.shape.account_count.Reads as account-count-reads
-use Rattle.saving.proofs.shape.is_shaped.Reads as is-shaped-reads
-use Rattle.saving.proofs.shape.marks_sound.Reads as marks-sound-reads
-use Rattle.saving.proofs.totals.all_equal.Reads as all-equal-reads
 
 is-shaped-requires : tie.Need-is-shaped-requires
 is-shaped-requires c κs = search needs

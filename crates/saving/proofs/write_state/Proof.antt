@@ -5,12 +5,6 @@ use Rattle.saving.proofs.Writes.{by-0, by-21, by-28, by-29, few, fittin
 use borrow.Author.Needs.{needs}
 use Rattle.saving.proofs.write_state.Statement.{statement}
 use Rattle.saving.proofs.write_state.Tie as tie
-use Rattle.saving.proofs.write_state.Reads as reads
-use Rattle.saving.proofs.write_state.Lts as lts
-use Rattle.audit.proofs.well_formed.Reads as well-formed-reads
-use Rattle.saving.proofs.shape.file_length.Reads as file-length-reads
-use Rattle.saving.proofs.totals.is_writable.Reads as is-writable-reads
-use Rattle.saving.proofs.writing.put_state.Reads as put-state-reads
 
 well-formed-requires : tie.Need-well-formed-requires
 well-formed-requires c κs = search needs

@@ -9,15 +9,6 @@ use Rattle.statements.proofs.Refusing.{by-21, no-such-account, account-
 use borrow.Author.Needs.{needs}
 use Rattle.statements.proofs.client_statement.Statement.{statement}
 use Rattle.statements.proofs.client_statement.Tie as tie
-use Rattle.statements.proofs.client_statement.Reads as reads
-use Rattle.statements.proofs.client_statement.Lts as lts
-use Rattle.audit.proofs.well_formed.Reads as well-formed-reads
-use Rattle.engine.proofs.answers.is_absent.Reads as is-absent-reads
-use Rattle.laws.proofs.place_of.Reads as place-of-reads
-use Rattle.laws.proofs.wide.Reads as wide-reads
-use Rattle.statements.proofs.broker.posted_statement.Reads as posted-statement-reads
-use Rattle.statements.proofs.refused.Reads as refused-reads
-use Rattle.clients.proofs.starts.add_up.Reads as add-up-reads
 
 well-formed-requires : tie.Need-well-formed-requires
 well-formed-requires c κs = search needs

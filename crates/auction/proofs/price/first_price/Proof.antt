@@ -1,5 +1,4 @@
 -- `auction::price::first_price` meets its contract: the first order of the first queue that has one. Assumes nothing.
-use native.Mathlib.Omega.{arith}
 use borrow.Author.Needs.{needs}
 use Rattle.auction.proofs.Levels.{first-buy, first-sell, first-none}
 use Rattle.auction.proofs.price.first_price.Statement.{statement}

@@ -1,5 +1,4 @@
 -- `auction::price::is_better` meets its contract: one law for each step that decides. Assumes nothing.
-use mathlib.Core.Path.{sym}
 use borrow.Author.Needs.{needs}
 use Rattle.auction.proofs.Levels.{by-volume, by-surplus, by-distance, by-price}
 use Rattle.auction.proofs.price.is_better.Statement.{statement}

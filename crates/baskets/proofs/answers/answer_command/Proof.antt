@@ -3,10 +3,6 @@ use borrow.Author.Needs.{needs}
 use Rattle.baskets.proofs.Answering.{put-as}
 use Rattle.baskets.proofs.answers.answer_command.Statement.{statement}
 use Rattle.baskets.proofs.answers.answer_command.Tie as tie
-use Rattle.baskets.proofs.answers.answer_command.Reads as reads
-use Rattle.baskets.proofs.answers.answer_command.Lts as lts
-use Rattle.baskets.proofs.answers.put_answer.Reads as put-answer-reads
-use Rattle.exchange.proofs.execute.respond.Reads as respond-reads
 
 respond-requires : tie.Need-respond-requires
 respond-requires c κs = search needs

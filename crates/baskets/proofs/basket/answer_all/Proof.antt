@@ -12,9 +12,6 @@ use Rattle.rules.specs.Memory.{memory}
 use Rattle.baskets.proofs.Answering.{all-answered, answered, none-answered, none-ran, one-answered, one-ran, still-known}
 use Rattle.baskets.proofs.basket.answer_all.Statement.{statement}
 use Rattle.baskets.proofs.basket.answer_all.Tie as tie
-use Rattle.baskets.proofs.basket.answer_all.Reads as reads
-use Rattle.baskets.proofs.basket.answer_all.Lts as lts
-use Rattle.baskets.proofs.answers.answer_command.Reads as answer-command-reads
 
 abbrev Inv-loop : tie.InvT-loop
 Inv-loop buys₀ sells₀ trades₀ count answers₀ commands current₀ k₀ buys sells trades answers current k =

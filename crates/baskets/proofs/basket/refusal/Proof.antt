@@ -9,9 +9,6 @@ use Rattle.rules.specs.Memory.{wellFormedMemory, memory}
 use Rattle.baskets.proofs.Bundles.{no-refusal, not-well-formed, over-many, too-short}
 use Rattle.baskets.proofs.basket.refusal.Statement.{statement}
 use Rattle.baskets.proofs.basket.refusal.Tie as tie
-use Rattle.baskets.proofs.basket.refusal.Reads as reads
-use Rattle.baskets.proofs.basket.refusal.Lts as lts
-use Rattle.audit.proofs.well_formed.Reads as well-formed-reads
 
 -- the test passed
 sound : (c : tie.Else1) → wellFormedMemory (memory (c .before .before .before .before .before .args .state) (now (c .before .before .before .before .before .args .buys)) (now (c .before .before .before .before .before .args .sells)) (now (c .before .before .before .before .before .args .trades))) ≡ true

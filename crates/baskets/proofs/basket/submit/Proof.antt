@@ -5,10 +5,6 @@ use Rattle.engine.proofs.Declared.{declared}
 use Rattle.baskets.proofs.Bundles.{all-carried, not-refused, refused}
 use Rattle.baskets.proofs.basket.submit.Statement.{statement}
 use Rattle.baskets.proofs.basket.submit.Tie as tie
-use Rattle.baskets.proofs.basket.submit.Reads as reads
-use Rattle.baskets.proofs.basket.submit.Lts as lts
-use Rattle.baskets.proofs.basket.answer_all.Reads as answer-all-reads
-use Rattle.baskets.proofs.basket.refusal.Reads as refusal-reads
 
 refusal-requires : tie.Need-refusal-requires
 refusal-requires c κs = search needs

@@ -9,10 +9,6 @@ use Rattle.engine.proofs.Declared.{declared}
 use Rattle.baskets.proofs.Bundles.{not-refused, refused, whole-carried}
 use Rattle.baskets.proofs.basket.submit_bytes.Statement.{statement}
 use Rattle.baskets.proofs.basket.submit_bytes.Tie as tie
-use Rattle.baskets.proofs.basket.submit_bytes.Reads as reads
-use Rattle.baskets.proofs.basket.submit_bytes.Lts as lts
-use Rattle.baskets.proofs.basket.refusal.Reads as refusal-reads
-use Rattle.baskets.proofs.list.answer_records.Reads as answer-records-reads
 
 refusal-requires : tie.Need-refusal-requires
 refusal-requires c κs = search needs

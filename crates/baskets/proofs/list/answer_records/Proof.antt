@@ -12,11 +12,6 @@ use Rattle.exchange.specs.Run.{firstCommands}
 use Rattle.baskets.proofs.Answering.{all-first, answered, command-at, length-first, none-answered, none-ran, one-answered, one-ran, still-known}
 use Rattle.baskets.proofs.list.answer_records.Statement.{statement}
 use Rattle.baskets.proofs.list.answer_records.Tie as tie
-use Rattle.baskets.proofs.list.answer_records.Reads as reads
-use Rattle.baskets.proofs.list.answer_records.Lts as lts
-use Rattle.baskets.proofs.answers.answer_command.Reads as answer-command-reads
-use Rattle.commands.proofs.command_of.Reads as command-of-reads
-use Rattle.endian.proofs.reading.record_at.Reads as record-at-reads
 
 abbrev Inv-loop : tie.InvT-loop
 Inv-loop formed buys₀ sells₀ trades₀ bytes count answers₀ current₀ k₀ buys sells trades answers current k =

@@ -5,11 +5,6 @@ use Rattle.engine.proofs.Declared.{declared}
 use Rattle.baskets.proofs.Bundles.{list-answered}
 use Rattle.baskets.proofs.list.run.Statement.{statement}
 use Rattle.baskets.proofs.list.run.Tie as tie
-use Rattle.baskets.proofs.list.run.Reads as reads
-use Rattle.baskets.proofs.list.run.Lts as lts
-use Rattle.audit.proofs.well_formed.Reads as well-formed-reads
-use Rattle.baskets.proofs.list.answer_records.Reads as answer-records-reads
-use Rattle.baskets.proofs.list.fewer.Reads as fewer-reads
 
 well-formed-requires : tie.Need-well-formed-requires
 well-formed-requires c κs = search needs

@@ -6,7 +6,6 @@ use Rattle.book.proofs.Queues.{dropped-orders, removed-front}
 use borrow.Author.Needs.{needs}
 use Rattle.book.proofs.queue.drop_front.Statement.{statement}
 use Rattle.book.proofs.queue.drop_front.Tie as tie
-use Rattle.areas.proofs.close_up.Reads as close-up-reads
 
 -- no order
 returns : tie.Need-returns

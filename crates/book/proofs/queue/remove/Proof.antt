@@ -4,7 +4,6 @@ use Rattle.book.proofs.Queues.{removed-order}
 use borrow.Author.Needs.{needs}
 use Rattle.book.proofs.queue.remove.Statement.{statement}
 use Rattle.book.proofs.queue.remove.Tie as tie
-use Rattle.book.proofs.queue.close_up.Reads as close-up-reads
 
 mul-a : tie.Need-mul-a
 mul-a c = search needs

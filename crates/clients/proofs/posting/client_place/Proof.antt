@@ -4,8 +4,6 @@ use native.Mathlib.Omega.{arith}
 use Rattle.clients.proofs.Postings.{Met, met-none, met-other, met-more, place-times, place-zero, place-past, place-known}
 use Rattle.clients.proofs.posting.client_place.Statement.{statement}
 use Rattle.clients.proofs.posting.client_place.Tie as tie
-use Rattle.clients.proofs.posting.client_place.Reads as reads
-use Rattle.clients.proofs.posting.client_place.Lts as lts
 
 abbrev Inv-loop : tie.InvT-loop
 Inv-loop postings number clients n times₀ client₀ i₀ times client i = Met postings number i times client

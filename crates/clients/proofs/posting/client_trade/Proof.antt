@@ -3,10 +3,6 @@ use borrow.Author.Needs.{needs}
 use Rattle.clients.proofs.Postings.{as-clients}
 use Rattle.clients.proofs.posting.client_trade.Statement.{statement}
 use Rattle.clients.proofs.posting.client_trade.Tie as tie
-use Rattle.clients.proofs.posting.client_trade.Reads as reads
-use Rattle.clients.proofs.posting.client_trade.Lts as lts
-use Rattle.clients.proofs.posting.leg_mark.Reads as leg-mark-reads
-use Rattle.clients.proofs.posting.leg_place.Reads as leg-place-reads
 
 leg-place-requires : tie.Need-leg-place-requires
 leg-place-requires c κs = search needs

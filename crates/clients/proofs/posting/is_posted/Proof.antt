@@ -3,9 +3,6 @@ use borrow.Author.Needs.{needs}
 use Rattle.laws.specs.Tests.{passed, refused}
 use Rattle.clients.proofs.posting.is_posted.Statement.{statement}
 use Rattle.clients.proofs.posting.is_posted.Tie as tie
-use Rattle.clients.proofs.posting.is_posted.Reads as reads
-use Rattle.clients.proofs.posting.is_posted.Lts as lts
-use Rattle.clients.proofs.posting.has_client.Reads as has-client-reads
 
 has-client-requires : tie.Need-has-client-requires
 has-client-requires c κs = search needs

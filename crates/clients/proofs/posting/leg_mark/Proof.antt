@@ -2,8 +2,6 @@
 use borrow.Author.Tests.{eq-eqb, ne-eqb}
 use Rattle.clients.proofs.posting.leg_mark.Statement.{statement}
 use Rattle.clients.proofs.posting.leg_mark.Tie as tie
-use Rattle.clients.proofs.posting.leg_mark.Reads as reads
-use Rattle.clients.proofs.posting.leg_mark.Lts as lts
 
 returns : tie.Need-returns
 returns c = rw (ne-eqb _ _ (c .if1 .taken))

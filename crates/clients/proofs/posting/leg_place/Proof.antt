@@ -3,9 +3,6 @@ use borrow.Author.Needs.{needs}
 use borrow.Author.Tests.{eq-eqb, ne-eqb}
 use Rattle.clients.proofs.posting.leg_place.Statement.{statement}
 use Rattle.clients.proofs.posting.leg_place.Tie as tie
-use Rattle.clients.proofs.posting.leg_place.Reads as reads
-use Rattle.clients.proofs.posting.leg_place.Lts as lts
-use Rattle.clients.proofs.posting.client_place.Reads as client-place-reads
 
 returns : tie.Need-returns
 returns c = rw (ne-eqb _ _ (c .if1 .taken))

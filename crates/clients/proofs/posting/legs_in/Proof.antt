@@ -5,8 +5,6 @@ use native.Mathlib.Omega.{arith}
 use Rattle.clients.proofs.Postings.{legs-counted}
 use Rattle.clients.proofs.posting.legs_in.Statement.{statement}
 use Rattle.clients.proofs.posting.legs_in.Tie as tie
-use Rattle.clients.proofs.posting.legs_in.Reads as reads
-use Rattle.clients.proofs.posting.legs_in.Lts as lts
 
 returns : tie.Need-returns
 returns c = (legs-counted _ true true (lt-ltb _ _ (c .before .before .if1 .taken)) (lt-ltb _ _ (c .if2 .taken)), omega arith)

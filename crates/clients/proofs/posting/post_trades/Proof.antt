@@ -7,13 +7,6 @@ use Rattle.laws.specs.Tests.{passed, refused}
 use Rattle.clients.proofs.PostedTrades.{Going, going-first, going-more, not-posted, trade-posted, all-posted}
 use Rattle.clients.proofs.posting.post_trades.Statement.{statement}
 use Rattle.clients.proofs.posting.post_trades.Tie as tie
-use Rattle.clients.proofs.posting.post_trades.Reads as reads
-use Rattle.clients.proofs.posting.post_trades.Lts as lts
-use Rattle.book.proofs.trades.put_trade.Reads as put-trade-reads
-use Rattle.book.proofs.trades.trade_at.Reads as trade-at-reads
-use Rattle.clients.proofs.posting.client_trade.Reads as client-trade-reads
-use Rattle.clients.proofs.posting.is_posted.Reads as is-posted-reads
-use Rattle.clients.proofs.posting.legs_in.Reads as legs-in-reads
 
 abbrev Inv-loop : tie.InvT-loop
 Inv-loop trades count a postings clients area₀ legs₀ i₀ area legs i = Going a clients postings trades count area₀ i legs area

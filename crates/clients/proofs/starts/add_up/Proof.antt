@@ -6,10 +6,6 @@ use borrow.Author.Needs.{needs}
 use Rattle.clients.proofs.StartLots.{Tested, tested-none, tested-more, tested-done, long-differs, short-differs}
 use Rattle.clients.proofs.starts.add_up.Statement.{statement}
 use Rattle.clients.proofs.starts.add_up.Tie as tie
-use Rattle.clients.proofs.starts.add_up.Reads as reads
-use Rattle.clients.proofs.starts.add_up.Lts as lts
-use Rattle.laws.proofs.wide64.Reads as wide64-reads
-use Rattle.clients.proofs.starts.sum.Reads as sum-reads
 
 abbrev Inv-loop : tie.InvT-loop
 Inv-loop starts clients contracts holdings c₀ c = Tested starts clients holdings contracts c

@@ -3,9 +3,6 @@ use Rattle.clients.proofs.StartLots.{four-holdings}
 use borrow.Author.Needs.{needs}
 use Rattle.clients.proofs.starts.client_account.Statement.{statement}
 use Rattle.clients.proofs.starts.client_account.Tie as tie
-use Rattle.clients.proofs.starts.client_account.Reads as reads
-use Rattle.clients.proofs.starts.client_account.Lts as lts
-use Rattle.clients.proofs.starts.start_holding.Reads as start-holding-reads
 
 start-holding-requires : tie.Need-start-holding-requires
 start-holding-requires c κs = search needs

@@ -8,9 +8,6 @@ use Rattle.clients.specs.Clients.{clientAccount}
 use Rattle.clients.proofs.StartLots.{all-written}
 use Rattle.clients.proofs.starts.client_accounts.Statement.{statement}
 use Rattle.clients.proofs.starts.client_accounts.Tie as tie
-use Rattle.clients.proofs.starts.client_accounts.Reads as reads
-use Rattle.clients.proofs.starts.client_accounts.Lts as lts
-use Rattle.clients.proofs.starts.client_account.Reads as client-account-reads
 
 abbrev Inv-loop : tie.InvT-loop
 Inv-loop starts clients accounts₀ k₀ accounts k = Writing (clientAccount (clientsWith clients starts)) accounts₀ 32 k accounts

@@ -3,9 +3,6 @@ use Rattle.clients.proofs.StartLots.{no-client, client-starts}
 use borrow.Author.Needs.{needs}
 use Rattle.clients.proofs.starts.start_holding.Statement.{statement}
 use Rattle.clients.proofs.starts.start_holding.Tie as tie
-use Rattle.clients.proofs.starts.start_holding.Reads as reads
-use Rattle.clients.proofs.starts.start_holding.Lts as lts
-use Rattle.clients.proofs.starts.word_at.Reads as word-at-reads
 
 returns : tie.Need-returns
 returns c = no-client _ _ _ _ (c .if1 .taken)

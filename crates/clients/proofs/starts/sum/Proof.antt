@@ -7,10 +7,6 @@ use lib.ListN.{getD}
 use Rattle.clients.proofs.StartLots.{Adding, adding-none, adding-more, adding-done}
 use Rattle.clients.proofs.starts.sum.Statement.{statement}
 use Rattle.clients.proofs.starts.sum.Tie as tie
-use Rattle.clients.proofs.starts.sum.Reads as reads
-use Rattle.clients.proofs.starts.sum.Lts as lts
-use Rattle.laws.proofs.wide64.Reads as wide64-reads
-use Rattle.clients.proofs.starts.word_at.Reads as word-at-reads
 
 abbrev Inv-loop : tie.InvT-loop
 Inv-loop starts first clients lots₀ k₀ lots k = Adding (λ k. getD starts (8 * k + first) 0) clients k lots

@@ -4,8 +4,6 @@ use lib.ListN.{List·getD-eq-default}
 use borrow.Author.Needs.{needs}
 use Rattle.clients.proofs.starts.word_at.Statement.{statement}
 use Rattle.clients.proofs.starts.word_at.Tie as tie
-use Rattle.clients.proofs.starts.word_at.Reads as reads
-use Rattle.clients.proofs.starts.word_at.Lts as lts
 
 mul-result : tie.Need-mul-result
 mul-result c = search needs

@@ -5,10 +5,6 @@ use Rattle.dayfile.proofs.Places.{refused, length-decides}
 use borrow.Author.Needs.{needs}
 use Rattle.dayfile.proofs.head.head_whole.Statement.{statement}
 use Rattle.dayfile.proofs.head.head_whole.Tie as tie
-use Rattle.dayfile.proofs.head.head_whole.Reads as reads
-use Rattle.dayfile.proofs.head.head_whole.Lts as lts
-use Rattle.dayfile.proofs.head.account_count.Reads as account-count-reads
-use Rattle.dayfile.proofs.head.contract_count.Reads as contract-count-reads
 
 returns : tie.Need-returns
 returns c = sym (refused _ (λ l. omega arith))

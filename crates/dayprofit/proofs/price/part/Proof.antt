@@ -3,8 +3,6 @@ use Rattle.dayprofit.proofs.Trading.{part-none, part-all, part-fits}
 use borrow.Author.Needs.{needs}
 use Rattle.dayprofit.proofs.price.part.Statement.{statement}
 use Rattle.dayprofit.proofs.price.part.Tie as tie
-use Rattle.dayprofit.proofs.price.part.Reads as reads
-use Rattle.dayprofit.proofs.price.part.Lts as lts
 
 returns : tie.Need-returns
 returns c = part-none _ _ (c .if1 .taken)

@@ -3,10 +3,6 @@ use Rattle.dayprofit.proofs.Quoting.{no-bid, no-offer, both-quoted}
 use borrow.Author.Needs.{needs}
 use Rattle.dayprofit.proofs.price.quoted.Statement.{statement}
 use Rattle.dayprofit.proofs.price.quoted.Tie as tie
-use Rattle.dayprofit.proofs.price.quoted.Reads as reads
-use Rattle.dayprofit.proofs.price.quoted.Lts as lts
-use Rattle.prices.proofs.middle.Reads as middle-reads
-use Rattle.book.proofs.queue.order_at.Reads as order-at-reads
 
 returns : tie.Need-returns
 returns c = no-bid _ _ _ _ _ _ (c .if1 .taken)

@@ -4,11 +4,6 @@ use Rattle.dayprofit.proofs.Trading.{contract-sized}
 use Rattle.dayprofit.proofs.Quoting.{price-quoted, price-weighted, turnover-low}
 use Rattle.dayprofit.proofs.price.settlement_price.Statement.{statement}
 use Rattle.dayprofit.proofs.price.settlement_price.Tie as tie
-use Rattle.dayprofit.proofs.price.settlement_price.Reads as reads
-use Rattle.dayprofit.proofs.price.settlement_price.Lts as lts
-use Rattle.dayprofit.proofs.price.quoted.Reads as quoted-reads
-use Rattle.dayprofit.proofs.price.traded.Reads as traded-reads
-use Rattle.dayprofit.proofs.price.weighted.Reads as weighted-reads
 
 cast-traded : tie.Need-cast-traded
 cast-traded c = omega arith

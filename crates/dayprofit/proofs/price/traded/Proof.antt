@@ -4,10 +4,6 @@ use native.Mathlib.Omega.{arith}
 use Rattle.dayprofit.proofs.Trading.{Trading, trading-none, trading-more, value-fits, lots-fits, trading-done, sized-at}
 use Rattle.dayprofit.proofs.price.traded.Statement.{statement}
 use Rattle.dayprofit.proofs.price.traded.Tie as tie
-use Rattle.dayprofit.proofs.price.traded.Reads as reads
-use Rattle.dayprofit.proofs.price.traded.Lts as lts
-use Rattle.book.proofs.trades.trade_at.Reads as trade-at-reads
-use Rattle.dayprofit.proofs.price.part.Reads as part-reads
 
 abbrev Inv-loop : tie.InvT-loop
 Inv-loop area count contract value₀ lots₀ i₀ value lots i = Trading area count contract value lots i

@@ -3,8 +3,6 @@ use Rattle.dayprofit.proofs.Quoting.{weighted-fits, weighted-narrow}
 use borrow.Author.Needs.{needs}
 use Rattle.dayprofit.proofs.price.weighted.Statement.{statement}
 use Rattle.dayprofit.proofs.price.weighted.Tie as tie
-use Rattle.dayprofit.proofs.price.weighted.Reads as reads
-use Rattle.dayprofit.proofs.price.weighted.Lts as lts
 
 div-average : tie.Need-div-average
 div-average c = search needs

@@ -5,8 +5,6 @@ use Rattle.laws.proofs.Signed.{sub-fits, sub-back}
 use borrow.Author.Needs.{needs}
 use Rattle.dayprofit.proofs.profit.difference.Statement.{statement}
 use Rattle.dayprofit.proofs.profit.difference.Tie as tie
-use Rattle.dayprofit.proofs.profit.difference.Reads as reads
-use Rattle.dayprofit.proofs.profit.difference.Lts as lts
 
 cast-result : tie.Need-cast-result
 cast-result c = search needs

@@ -2,11 +2,6 @@ use Rattle.dayprofit.proofs.Gains.{sums-small, side-known, side-from, p
 use borrow.Author.Needs.{needs}
 use Rattle.dayprofit.proofs.profit.profit_at.Statement.{statement}
 use Rattle.dayprofit.proofs.profit.profit_at.Tie as tie
-use Rattle.dayprofit.proofs.profit.profit_at.Reads as reads
-use Rattle.dayprofit.proofs.profit.profit_at.Lts as lts
-use Rattle.dayprofit.proofs.profit.profit_of.Reads as profit-of-reads
-use Rattle.dayprofit.proofs.profit.side_of.Reads as side-of-reads
-use Rattle.dayprofit.proofs.profit.sums_at.Reads as sums-at-reads
 
 sums-at-requires : tie.Need-sums-at-requires
 sums-at-requires c κs = search needs

@@ -2,9 +2,6 @@ use Rattle.dayprofit.proofs.Gains.{marked-fits, gains-small, losses-sma
 use borrow.Author.Needs.{needs}
 use Rattle.dayprofit.proofs.profit.profit_of.Statement.{statement}
 use Rattle.dayprofit.proofs.profit.profit_of.Tie as tie
-use Rattle.dayprofit.proofs.profit.profit_of.Reads as reads
-use Rattle.dayprofit.proofs.profit.profit_of.Lts as lts
-use Rattle.dayprofit.proofs.profit.difference.Reads as difference-reads
 
 cast-longvalue : tie.Need-cast-longvalue
 cast-longvalue c = search needs

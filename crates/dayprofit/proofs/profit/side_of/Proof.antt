@@ -2,9 +2,6 @@ use Rattle.dayprofit.proofs.Gains.{first-fits, closed-fits, start-fits,
 use borrow.Author.Needs.{needs}
 use Rattle.dayprofit.proofs.profit.side_of.Statement.{statement}
 use Rattle.dayprofit.proofs.profit.side_of.Tie as tie
-use Rattle.dayprofit.proofs.profit.side_of.Reads as reads
-use Rattle.dayprofit.proofs.profit.side_of.Lts as lts
-use Rattle.laws.proofs.smaller.Reads as smaller-reads
 
 smaller-requires : tie.Need-smaller-requires
 smaller-requires c κs = search needs

@@ -1,9 +1,6 @@
 use borrow.Author.Needs.{needs}
 use Rattle.dayprofit.proofs.profit.sums_at.Statement.{statement}
 use Rattle.dayprofit.proofs.profit.sums_at.Tie as tie
-use Rattle.dayprofit.proofs.profit.sums_at.Reads as reads
-use Rattle.dayprofit.proofs.profit.sums_at.Lts as lts
-use Rattle.dayprofit.proofs.sums.slot.Reads as slot-reads
 
 slot-requires : tie.Need-slot-requires
 slot-requires c κs = search needs

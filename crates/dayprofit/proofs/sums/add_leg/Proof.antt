@@ -3,10 +3,6 @@ use Rattle.dayprofit.proofs.Legs.{is-so, is-not-so, leg-lots-fit, leg-p
 use borrow.Author.Needs.{needs}
 use Rattle.dayprofit.proofs.sums.add_leg.Statement.{statement}
 use Rattle.dayprofit.proofs.sums.add_leg.Tie as tie
-use Rattle.dayprofit.proofs.sums.add_leg.Reads as reads
-use Rattle.dayprofit.proofs.sums.add_leg.Lts as lts
-use Rattle.dayprofit.proofs.sums.is_kind.Reads as is-kind-reads
-use Rattle.dayprofit.proofs.sums.leg_slot.Reads as leg-slot-reads
 
 is-kind-requires : tie.Need-is-kind-requires
 is-kind-requires c κs = search needs

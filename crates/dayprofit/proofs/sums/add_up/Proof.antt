@@ -5,8 +5,6 @@ use lib.ListN.{length}
 use Rattle.dayprofit.proofs.Passes.{Passing, adding, Added, adding-none, buy-addable, bought, sell-addable, passing-more, adding-done, buy-lots, sell-lots}
 use Rattle.dayprofit.proofs.sums.add_up.Statement.{statement}
 use Rattle.dayprofit.proofs.sums.add_up.Tie as tie
-use Rattle.dayprofit.proofs.sums.add_up.Reads as reads
-use Rattle.dayprofit.proofs.sums.add_up.Lts as lts
 
 abbrev Inv-loop : tie.InvT-loop
 Inv-loop area count close lots₀ value₀ i₀ lots value i = Passing (Added close) area count lots value i

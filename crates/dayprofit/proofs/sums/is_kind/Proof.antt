@@ -2,9 +2,6 @@ use Rattle.dayprofit.proofs.Legs.{says-open}
 use borrow.Author.Needs.{needs}
 use Rattle.dayprofit.proofs.sums.is_kind.Statement.{statement}
 use Rattle.dayprofit.proofs.sums.is_kind.Tie as tie
-use Rattle.dayprofit.proofs.sums.is_kind.Reads as reads
-use Rattle.dayprofit.proofs.sums.is_kind.Lts as lts
-use Rattle.dayprofit.proofs.sums.mark.Reads as mark-reads
 
 mark-requires : tie.Need-mark-requires
 mark-requires c κs = search needs

@@ -2,11 +2,6 @@ use Rattle.dayprofit.proofs.Slots.{party-small}
 use borrow.Author.Needs.{needs}
 use Rattle.dayprofit.proofs.sums.leg_slot.Statement.{statement}
 use Rattle.dayprofit.proofs.sums.leg_slot.Tie as tie
-use Rattle.dayprofit.proofs.sums.leg_slot.Reads as reads
-use Rattle.dayprofit.proofs.sums.leg_slot.Lts as lts
-use Rattle.dayprofit.proofs.sums.party.Reads as party-reads
-use Rattle.dayprofit.proofs.sums.slot.Reads as slot-reads
-use Rattle.laws.proofs.wide.Reads as wide-reads
 
 party-requires : tie.Need-party-requires
 party-requires c κs = search needs

@@ -2,10 +2,6 @@ use Rattle.dayprofit.proofs.Slots.{due-is}
 use borrow.Author.Needs.{needs}
 use Rattle.dayprofit.proofs.sums.put_due.Statement.{statement}
 use Rattle.dayprofit.proofs.sums.put_due.Tie as tie
-use Rattle.dayprofit.proofs.sums.put_due.Reads as reads
-use Rattle.dayprofit.proofs.sums.put_due.Lts as lts
-use Rattle.dayprofit.proofs.sums.slot.Reads as slot-reads
-use Rattle.laws.proofs.smaller.Reads as smaller-reads
 
 slot-requires : tie.Need-slot-requires
 slot-requires c κs = search needs

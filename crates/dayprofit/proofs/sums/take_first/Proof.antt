@@ -5,8 +5,6 @@ use lib.ListN.{length}
 use Rattle.dayprofit.proofs.Passes.{Passing, taking, Taken, taking-none, buy-addable, sell-addable, passing-more, taking-done}
 use Rattle.dayprofit.proofs.sums.take_first.Statement.{statement}
 use Rattle.dayprofit.proofs.sums.take_first.Tie as tie
-use Rattle.dayprofit.proofs.sums.take_first.Reads as reads
-use Rattle.dayprofit.proofs.sums.take_first.Lts as lts
 
 abbrev Inv-loop : tie.InvT-loop
 Inv-loop area count left₀ used₀ i₀ left used i = Passing (Taken left₀) area count left used i

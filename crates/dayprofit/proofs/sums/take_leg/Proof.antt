@@ -3,11 +3,6 @@ use Rattle.dayprofit.proofs.Legs.{is-so, is-not-so, leg-product-fits, l
 use borrow.Author.Needs.{needs}
 use Rattle.dayprofit.proofs.sums.take_leg.Statement.{statement}
 use Rattle.dayprofit.proofs.sums.take_leg.Tie as tie
-use Rattle.dayprofit.proofs.sums.take_leg.Reads as reads
-use Rattle.dayprofit.proofs.sums.take_leg.Lts as lts
-use Rattle.dayprofit.proofs.sums.is_kind.Reads as is-kind-reads
-use Rattle.dayprofit.proofs.sums.leg_slot.Reads as leg-slot-reads
-use Rattle.laws.proofs.smaller.Reads as smaller-reads
 
 is-kind-requires : tie.Need-is-kind-requires
 is-kind-requires c κs = search needs

@@ -7,9 +7,6 @@ use Rattle.endian.specs.Written.{Written}
 use Rattle.endian.proofs.Writes.{no-byte, length-part, part-turn}
 use Rattle.endian.proofs.writing.put_part.Statement.{statement}
 use Rattle.endian.proofs.writing.put_part.Tie as tie
-use Rattle.endian.proofs.writing.put_part.Reads as reads
-use Rattle.endian.proofs.writing.put_part.Lts as lts
-use Rattle.endian.proofs.writing.put_byte.Reads as put-byte-reads
 
 abbrev Inv-loop : tie.InvT-loop
 Inv-loop out₀ at file from n next₀ i₀ out next i = (i ≤ n) × Written i out₀ at (take i (drop from file)) out next

@@ -3,9 +3,6 @@ use Rattle.endian.proofs.Writes.{two-bytes}
 use borrow.Author.Needs.{needs}
 use Rattle.endian.proofs.writing.put_u16.Statement.{statement}
 use Rattle.endian.proofs.writing.put_u16.Tie as tie
-use Rattle.endian.proofs.writing.put_u16.Reads as reads
-use Rattle.endian.proofs.writing.put_u16.Lts as lts
-use Rattle.endian.proofs.writing.put_byte.Reads as put-byte-reads
 
 cast-put-byte : tie.Need-cast-put-byte
 cast-put-byte c = search needs

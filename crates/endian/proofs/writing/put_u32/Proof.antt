@@ -3,9 +3,6 @@ use Rattle.endian.proofs.Writes.{four-bytes}
 use borrow.Author.Needs.{needs}
 use Rattle.endian.proofs.writing.put_u32.Statement.{statement}
 use Rattle.endian.proofs.writing.put_u32.Tie as tie
-use Rattle.endian.proofs.writing.put_u32.Reads as reads
-use Rattle.endian.proofs.writing.put_u32.Lts as lts
-use Rattle.endian.proofs.writing.put_u16.Reads as put-u16-reads
 
 cast-put-u16 : tie.Need-cast-put-u16
 cast-put-u16 c = search needs

@@ -3,9 +3,6 @@ use Rattle.endian.proofs.Writes.{eight-bytes}
 use borrow.Author.Needs.{needs}
 use Rattle.endian.proofs.writing.put_u64.Statement.{statement}
 use Rattle.endian.proofs.writing.put_u64.Tie as tie
-use Rattle.endian.proofs.writing.put_u64.Reads as reads
-use Rattle.endian.proofs.writing.put_u64.Lts as lts
-use Rattle.endian.proofs.writing.put_u32.Reads as put-u32-reads
 
 cast-put-u32 : tie.Need-cast-put-u32
 cast-put-u32 c = search needs

@@ -8,7 +8,7 @@ use lib.IntN.{pos, _-ℤ_}
 use lib.ListN.{getD}
 use lib.Signed.{ltZ}
 use Rattle.laws.specs.Bound.{Within, within-fits, within-pos}
-use Rattle.laws.proofs.Signed.{sub-fits, sub-back, back}
+use Rattle.laws.proofs.Signed.{sub-fits, sub-back}
 use Rattle.rules.specs.Answers.{amountRefused}
 use Rattle.rules.specs.Exchange.{noAccount, isAbsent}
 use Rattle.engine.proofs.Formed.{account-fits}

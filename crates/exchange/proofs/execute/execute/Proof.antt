@@ -5,10 +5,6 @@ use Rattle.rules.specs.Command.{commandOf}
 use Rattle.exchange.proofs.Responses.{executed-as}
 use Rattle.exchange.proofs.execute.execute.Statement.{statement}
 use Rattle.exchange.proofs.execute.execute.Tie as tie
-use Rattle.exchange.proofs.execute.execute.Reads as reads
-use Rattle.exchange.proofs.execute.execute.Lts as lts
-use Rattle.endian.proofs.reading.record_at.Reads as record-at-reads
-use Rattle.exchange.proofs.execute.execute_record.Reads as execute-record-reads
 
 slice-aggregate-record-at : tie.Need-slice-aggregate-record-at
 slice-aggregate-record-at c = search needs

@@ -3,11 +3,6 @@ use borrow.Author.Needs.{needs}
 use Rattle.exchange.proofs.Responses.{executed-as}
 use Rattle.exchange.proofs.execute.execute_record.Statement.{statement}
 use Rattle.exchange.proofs.execute.execute_record.Tie as tie
-use Rattle.exchange.proofs.execute.execute_record.Reads as reads
-use Rattle.exchange.proofs.execute.execute_record.Lts as lts
-use Rattle.audit.proofs.well_formed.Reads as well-formed-reads
-use Rattle.commands.proofs.command_of.Reads as command-of-reads
-use Rattle.exchange.proofs.execute.respond.Reads as respond-reads
 
 well-formed-requires : tie.Need-well-formed-requires
 well-formed-requires c κs = search needs

@@ -6,11 +6,6 @@ use Rattle.engine.proofs.Declared.{declared}
 use Rattle.exchange.proofs.Responses.{executed, executed-refused}
 use Rattle.exchange.proofs.execute.respond.Statement.{statement}
 use Rattle.exchange.proofs.execute.respond.Tie as tie
-use Rattle.exchange.proofs.execute.respond.Reads as reads
-use Rattle.exchange.proofs.execute.respond.Lts as lts
-use Rattle.engine.proofs.answers.refused.Reads as refused-reads
-use Rattle.exchange.proofs.settling.plain.Reads as plain-reads
-use Rattle.exchange.proofs.step.step.Reads as step-reads
 
 refused-requires : tie.Need-refused-requires
 refused-requires c κs = search needs

@@ -16,10 +16,6 @@ use Rattle.exchange.specs.Run.{firstCommands}
 use Rattle.exchange.proofs.Runs.{refused-ran, running, one-turn, all-ran, none-ran}
 use Rattle.exchange.proofs.run.run.Statement.{statement}
 use Rattle.exchange.proofs.run.run.Tie as tie
-use Rattle.exchange.proofs.run.run.Reads as reads
-use Rattle.exchange.proofs.run.run.Lts as lts
-use Rattle.audit.proofs.well_formed.Reads as well-formed-reads
-use Rattle.exchange.proofs.step.step_at.Reads as step-at-reads
 
 abbrev Inv-loop : tie.InvT-loop
 Inv-loop buys₀ sells₀ trades₀ bytes n current₀ k₀ buys sells trades current k =

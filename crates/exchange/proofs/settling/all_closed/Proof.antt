@@ -1,6 +1,6 @@
 -- `settling::all_closed` meets its contract: the contracts below c are closed. Assumes nothing.
-use mathlib.Core.Bool.{true, false}
-use mathlib.Core.Path.{_≡_, sym, _∙_}
+use mathlib.Core.Bool.{true}
+use mathlib.Core.Path.{_≡_, sym}
 use Prim.Native.Nat.{_≤_, _-_}
 use native.Mathlib.Omega.{arith}
 use borrow.Author.Tests.{eq-eqb, ne-eqb}
@@ -11,8 +11,6 @@ use Rattle.laws.specs.Choice.{all, all-none, all-more, all-stop}
 use Rattle.rules.specs.Exchange.{noContract}
 use Rattle.exchange.proofs.settling.all_closed.Statement.{statement}
 use Rattle.exchange.proofs.settling.all_closed.Tie as tie
-use Rattle.exchange.proofs.settling.all_closed.Reads as reads
-use Rattle.exchange.proofs.settling.all_closed.Lts as lts
 
 abbrev Inv-loop : tie.InvT-loop
 Inv-loop n contracts c₀ c = (c ≤ n) × (all (λ k. eqb (getD contracts k noContract .phase) 3) c ≡ true)

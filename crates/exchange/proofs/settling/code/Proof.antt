@@ -5,9 +5,6 @@ use Rattle.engine.proofs.Formed.{formed}
 use Rattle.exchange.proofs.Responses.{settle-open, settle-many, settle-none}
 use Rattle.exchange.proofs.settling.code.Statement.{statement}
 use Rattle.exchange.proofs.settling.code.Tie as tie
-use Rattle.exchange.proofs.settling.code.Reads as reads
-use Rattle.exchange.proofs.settling.code.Lts as lts
-use Rattle.exchange.proofs.settling.all_closed.Reads as all-closed-reads
 
 all-closed-requires : tie.Need-all-closed-requires
 all-closed-requires c κs = formed (c .before .before .before .before .pre) .contracts-high

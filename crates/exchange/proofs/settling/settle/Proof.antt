@@ -4,12 +4,6 @@ use Rattle.exchange.proofs.Responses.{settle-refused, settle-made}
 use borrow.Author.Needs.{needs}
 use Rattle.exchange.proofs.settling.settle.Statement.{statement}
 use Rattle.exchange.proofs.settling.settle.Tie as tie
-use Rattle.exchange.proofs.settling.settle.Reads as reads
-use Rattle.exchange.proofs.settling.settle.Lts as lts
-use Rattle.engine.proofs.answers.refused.Reads as refused-reads
-use Rattle.exchange.proofs.settling.code.Reads as code-reads
-use Rattle.exchange.proofs.settling.plain.Reads as plain-reads
-use Rattle.settlement.proofs.settle.settle.Reads as settle-reads
 
 code-requires : tie.Need-code-requires
 code-requires c κs = search needs

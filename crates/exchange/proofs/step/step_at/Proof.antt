@@ -5,11 +5,6 @@ use Rattle.rules.specs.Command.{commandOf}
 use Rattle.exchange.proofs.Responses.{response-as}
 use Rattle.exchange.proofs.step.step_at.Statement.{statement}
 use Rattle.exchange.proofs.step.step_at.Tie as tie
-use Rattle.exchange.proofs.step.step_at.Reads as reads
-use Rattle.exchange.proofs.step.step_at.Lts as lts
-use Rattle.commands.proofs.command_of.Reads as command-of-reads
-use Rattle.endian.proofs.reading.record_at.Reads as record-at-reads
-use Rattle.exchange.proofs.step.step.Reads as step-reads
 
 record-at-requires : tie.Need-record-at-requires
 record-at-requires c κs = search needs

@@ -5,13 +5,6 @@ use borrow.Author.Needs.{needs}
 use Rattle.exports.proofs.Opened.{opened-broken, opened-sound}
 use Rattle.exports.proofs.day.open_day.Statement.{statement}
 use Rattle.exports.proofs.day.open_day.Tie as tie
-use Rattle.exports.proofs.day.open_day.Reads as reads
-use Rattle.exports.proofs.day.open_day.Lts as lts
-use Rattle.dayfile.proofs.file.commands_in.Reads as commands-in-reads
-use Rattle.dayfile.proofs.file.first_command.Reads as first-command-reads
-use Rattle.dayfile.proofs.file.sound.Reads as sound-reads
-use Rattle.dayfile.proofs.opening.opening_state.Reads as opening-state-reads
-use Rattle.exports.proofs.day.no_state.Reads as no-state-reads
 
 sound-requires : tie.Need-sound-requires
 sound-requires c κs = search needs

@@ -4,8 +4,6 @@ use borrow.Author.Needs.{needs}
 use Rattle.exports.proofs.Parts.{count-of-buys, count-of-sells, no-number, no-place}
 use Rattle.exports.proofs.side.count_of.Statement.{statement}
 use Rattle.exports.proofs.side.count_of.Tie as tie
-use Rattle.exports.proofs.side.count_of.Reads as reads
-use Rattle.exports.proofs.side.count_of.Lts as lts
 
 returns : tie.Need-returns
 returns c = no-number _ _ _ (c .if1 .taken)

@@ -4,16 +4,11 @@ use Prim.Native.Nat.{ℕ, _≤_}
 use native.Mathlib.Omega.{arith}
 use borrow.Author.Needs.{needs}
 use denote.Ref.{now}
-use lib.ListN.{length}
 use Rattle.rules.specs.Side.{sideWords}
 use Rattle.exports.specs.Calls.{askedWords}
 use Rattle.exports.proofs.Parts.{empty-part, placed, whole-part}
 use Rattle.exports.proofs.side.side_part.Statement.{statement}
 use Rattle.exports.proofs.side.side_part.Tie as tie
-use Rattle.exports.proofs.side.side_part.Reads as reads
-use Rattle.exports.proofs.side.side_part.Lts as lts
-use Rattle.book.proofs.side.side.Reads as side-reads
-use Rattle.exports.proofs.side.count_of.Reads as count-of-reads
 
 -- the queue is the one asked for
 asked : (c : tie.After-side) → now (c .side .result) ≡ askedWords (c .before .before .before .before .args .state) (now (c .before .before .before .before .args .buys)) (now (c .before .before .before .before .args .sells)) (c .before .before .before .before .args .sell) (c .before .before .before .before .args .contract)

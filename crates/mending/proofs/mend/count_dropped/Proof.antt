@@ -5,8 +5,6 @@ use Rattle.mending.proofs.Whole.{count-whole, count-partial}
 use borrow.Author.Needs.{needs}
 use Rattle.mending.proofs.mend.count_dropped.Statement.{statement}
 use Rattle.mending.proofs.mend.count_dropped.Tie as tie
-use Rattle.mending.proofs.mend.count_dropped.Reads as reads
-use Rattle.mending.proofs.mend.count_dropped.Lts as lts
 
 sub-rest : tie.Need-sub-rest
 sub-rest c = search needs

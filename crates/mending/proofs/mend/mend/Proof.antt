@@ -8,14 +8,6 @@ use Rattle.mending.proofs.Whole.{dropped-at, dropped-most, head-broken,
 use borrow.Author.Needs.{needs}
 use Rattle.mending.proofs.mend.mend.Statement.{statement}
 use Rattle.mending.proofs.mend.mend.Tie as tie
-use Rattle.mending.proofs.mend.mend.Reads as reads
-use Rattle.mending.proofs.mend.mend.Lts as lts
-use Rattle.dayfile.proofs.head.head_end.Reads as head-end-reads
-use Rattle.dayfile.proofs.head.head_sound.Reads as head-sound-reads
-use Rattle.mending.proofs.mend.count_dropped.Reads as count-dropped-reads
-use Rattle.mending.proofs.mend.put_file.Reads as put-file-reads
-use Rattle.mending.proofs.mend.put_list.Reads as put-list-reads
-use Rattle.mending.proofs.verdict.count_kept.Reads as count-kept-reads
 
 head-sound-requires : tie.Need-head-sound-requires
 head-sound-requires c κs = search needs

@@ -6,11 +6,6 @@ use Rattle.endian.proofs.Writes.{length-four, length-part}
 use borrow.Author.Needs.{needs}
 use Rattle.mending.proofs.mend.put_file.Statement.{statement}
 use Rattle.mending.proofs.mend.put_file.Tie as tie
-use Rattle.mending.proofs.mend.put_file.Reads as reads
-use Rattle.mending.proofs.mend.put_file.Lts as lts
-use Rattle.endian.proofs.writing.put_part.Reads as put-part-reads
-use Rattle.endian.proofs.writing.put_u32.Reads as put-u32-reads
-use Rattle.mending.proofs.verdict.put_kept.Reads as put-kept-reads
 
 sub-put-part : tie.Need-sub-put-part
 sub-put-part c = omega (arith, place-least (c .before .before .before .args .file .now) (c .before .before .before .pre .0 .0), place-within (c .before .before .before .args .file .now) (c .before .before .before .pre .0 .0), c .before .before .before .pre .0 .1, file-room-all (c .before .before .before .args .file .now) (c .before .before .before .pre .0 .0) _ _ _ (c .before .before .before .pre .0 .1) (c .before .before .before .pre .1 .0 .0) (c .before .before .before .pre .1 .0 .1) (c .before .before .before .pre .1 .1))

@@ -6,11 +6,6 @@ use Rattle.endian.proofs.Writes.{length-eight}
 use borrow.Author.Needs.{needs}
 use Rattle.mending.proofs.mend.put_list.Statement.{statement}
 use Rattle.mending.proofs.mend.put_list.Tie as tie
-use Rattle.mending.proofs.mend.put_list.Reads as reads
-use Rattle.mending.proofs.mend.put_list.Lts as lts
-use Rattle.endian.proofs.writing.put_u64.Reads as put-u64-reads
-use Rattle.mending.proofs.verdict.put_dropped.Reads as put-dropped-reads
-use Rattle.mending.proofs.verdict.put_entry.Reads as put-entry-reads
 
 sub-rest : tie.Need-sub-rest
 sub-rest c = search needs

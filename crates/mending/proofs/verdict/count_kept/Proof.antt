@@ -6,9 +6,6 @@ use Rattle.mending.specs.Mend.{kept as Mend·kept}
 use Rattle.mending.proofs.Records.{kept-none, kept-most, count-keeps, count-drops}
 use Rattle.mending.proofs.verdict.count_kept.Statement.{statement}
 use Rattle.mending.proofs.verdict.count_kept.Tie as tie
-use Rattle.mending.proofs.verdict.count_kept.Reads as reads
-use Rattle.mending.proofs.verdict.count_kept.Lts as lts
-use Rattle.mending.proofs.verdict.reason.Reads as reason-reads
 
 abbrev Inv-loop : tie.InvT-loop
 Inv-loop file first n kept₀ k₀ kept k = (k ≤ n) × (kept ≡ Mend·kept file first k)

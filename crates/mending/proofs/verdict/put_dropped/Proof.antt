@@ -7,10 +7,6 @@ use Rattle.mending.specs.Mend.{kept as Mend·kept, dropped}
 use Rattle.mending.proofs.Records.{kept-none, kept-most, count-keeps, count-drops, none-dropped, list-keeps, list-drops, list-room}
 use Rattle.mending.proofs.verdict.put_dropped.Statement.{statement}
 use Rattle.mending.proofs.verdict.put_dropped.Tie as tie
-use Rattle.mending.proofs.verdict.put_dropped.Reads as reads
-use Rattle.mending.proofs.verdict.put_dropped.Lts as lts
-use Rattle.mending.proofs.verdict.put_entry.Reads as put-entry-reads
-use Rattle.mending.proofs.verdict.reason.Reads as reason-reads
 
 abbrev Inv-loop : tie.InvT-loop
 Inv-loop file first n list₀ at next₀ kept₀ k₀ list next kept k = (k ≤ n) × ((kept ≡ Mend·kept file first k) × Written (9 * k) list₀ at (dropped file first k) list next)

@@ -7,10 +7,6 @@ use Rattle.mending.specs.Mend.{kept as Mend·kept, keptBytes}
 use Rattle.mending.proofs.Records.{kept-none, kept-most, count-keeps, count-drops, none-kept, file-keeps, file-drops, file-room}
 use Rattle.mending.proofs.verdict.put_kept.Statement.{statement}
 use Rattle.mending.proofs.verdict.put_kept.Tie as tie
-use Rattle.mending.proofs.verdict.put_kept.Reads as reads
-use Rattle.mending.proofs.verdict.put_kept.Lts as lts
-use Rattle.endian.proofs.writing.put_part.Reads as put-part-reads
-use Rattle.mending.proofs.verdict.reason.Reads as reason-reads
 
 abbrev Inv-loop : tie.InvT-loop
 Inv-loop file first n out₀ at next₀ kept₀ k₀ out next kept k = (k ≤ n) × ((kept ≡ Mend·kept file first k) × Written (24 * k) out₀ at (keptBytes file first k) out next)

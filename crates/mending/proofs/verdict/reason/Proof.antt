@@ -4,11 +4,6 @@ use native.Mathlib.Omega.{arith}
 use borrow.Author.Needs.{needs}
 use Rattle.mending.proofs.verdict.reason.Statement.{statement}
 use Rattle.mending.proofs.verdict.reason.Tie as tie
-use Rattle.mending.proofs.verdict.reason.Reads as reads
-use Rattle.mending.proofs.verdict.reason.Lts as lts
-use Rattle.commands.proofs.command_of.Reads as command-of-reads
-use Rattle.endian.proofs.reading.record_at.Reads as record-at-reads
-use Rattle.commands.proofs.is_malformed.Reads as is-malformed-reads
 
 mul-record-at : tie.Need-mul-record-at
 mul-record-at c = search needs

@@ -1,5 +1,4 @@
 -- `codes::is_limit_day` meets its contract. Assumes nothing.
-use mathlib.Core.Path.{sym, _∙_}
 use borrow.Author.Needs.{needs}
 use borrow.Author.Tests.{not-true, not-false}
 use Rattle.refusals.proofs.codes.is_limit_day.Statement.{statement}

@@ -3,9 +3,6 @@ use borrow.Author.Needs.{needs}
 use Rattle.runner.proofs.ReadEnough.{read-is}
 use Rattle.runner.proofs.reading.read_file.Statement.{statement}
 use Rattle.runner.proofs.reading.read_file.Tie as tie
-use Rattle.runner.proofs.reading.read_file.Reads as reads
-use Rattle.runner.proofs.reading.read_file.Lts as lts
-use Rattle.io.proofs.read_full.Reads as read-full-reads
 
 read-full-requires : tie.Need-read-full-requires
 read-full-requires c κs = search needs

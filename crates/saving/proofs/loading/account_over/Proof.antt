@@ -7,12 +7,6 @@ use Rattle.saving.proofs.Placed.{account-made}
 use borrow.Author.Needs.{needs}
 use Rattle.saving.proofs.loading.account_over.Statement.{statement}
 use Rattle.saving.proofs.loading.account_over.Tie as tie
-use Rattle.saving.proofs.loading.account_over.Reads as reads
-use Rattle.saving.proofs.loading.account_over.Lts as lts
-use Rattle.endian.proofs.reading.u64_at.Reads as u64-at-reads
-use Rattle.endian.proofs.reading.u8_at.Reads as u8-at-reads
-use Rattle.saving.proofs.loading.holdings_over.Reads as holdings-over-reads
-use Rattle.saving.proofs.loading.signed.Reads as signed-reads
 
 u64-at-requires : tie.Need-u64-at-requires
 u64-at-requires c κs = search needs

@@ -12,9 +12,6 @@ use Rattle.saved.specs.Saved.{loadedAccount}
 use Rattle.saving.proofs.Placed.{account-over, inside}
 use Rattle.saving.proofs.loading.accounts_over.Statement.{statement}
 use Rattle.saving.proofs.loading.accounts_over.Tie as tie
-use Rattle.saving.proofs.loading.accounts_over.Reads as reads
-use Rattle.saving.proofs.loading.accounts_over.Lts as lts
-use Rattle.saving.proofs.loading.account_over.Reads as account-over-reads
 
 abbrev Inv-loop : tie.InvT-loop
 Inv-loop file contracts accounts places first rows wide list₀ a₀ list a = Writing (λ i. putAccount (loadedAccount file i) (getD places i noAccount)) places accounts a list

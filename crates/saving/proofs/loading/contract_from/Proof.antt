@@ -4,10 +4,6 @@ use Rattle.saved.specs.Saved.{savedContract}
 use borrow.Author.Needs.{needs}
 use Rattle.saving.proofs.loading.contract_from.Statement.{statement}
 use Rattle.saving.proofs.loading.contract_from.Tie as tie
-use Rattle.saving.proofs.loading.contract_from.Reads as reads
-use Rattle.saving.proofs.loading.contract_from.Lts as lts
-use Rattle.dayfile.proofs.bytes.contract_at.Reads as contract-at-reads
-use Rattle.endian.proofs.reading.u32_at.Reads as u32-at-reads
 
 contract-at-requires : tie.Need-contract-at-requires
 contract-at-requires c κs = search needs

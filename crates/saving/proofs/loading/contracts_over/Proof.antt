@@ -9,9 +9,6 @@ use Rattle.laws.specs.Written.{Writing, writing-none, writing-more, writing-don
 use Rattle.saved.specs.Saved.{contractPlace, savedContract}
 use Rattle.saving.proofs.loading.contracts_over.Statement.{statement}
 use Rattle.saving.proofs.loading.contracts_over.Tie as tie
-use Rattle.saving.proofs.loading.contracts_over.Reads as reads
-use Rattle.saving.proofs.loading.contracts_over.Lts as lts
-use Rattle.saving.proofs.loading.contract_from.Reads as contract-from-reads
 
 abbrev Inv-loop : tie.InvT-loop
 Inv-loop file n list₀ c₀ list c = Writing (λ i. savedContract file (contractPlace i)) list₀ n c list

@@ -4,9 +4,6 @@ use Rattle.saved.specs.Saved.{savedHolding}
 use borrow.Author.Needs.{needs}
 use Rattle.saving.proofs.loading.holding_from.Statement.{statement}
 use Rattle.saving.proofs.loading.holding_from.Tie as tie
-use Rattle.saving.proofs.loading.holding_from.Reads as reads
-use Rattle.saving.proofs.loading.holding_from.Lts as lts
-use Rattle.endian.proofs.reading.u32_at.Reads as u32-at-reads
 
 u32-at-requires : tie.Need-u32-at-requires
 u32-at-requires c κs = search needs

@@ -9,9 +9,6 @@ use Rattle.laws.specs.Written.{Writing, writing-none, writing-more, writing-don
 use Rattle.saved.specs.Saved.{savedHolding}
 use Rattle.saving.proofs.loading.holdings_over.Statement.{statement}
 use Rattle.saving.proofs.loading.holdings_over.Tie as tie
-use Rattle.saving.proofs.loading.holdings_over.Reads as reads
-use Rattle.saving.proofs.loading.holdings_over.Lts as lts
-use Rattle.saving.proofs.loading.holding_from.Reads as holding-from-reads
 
 abbrev Inv-loop : tie.InvT-loop
 Inv-loop file row n list₀ c₀ list c = Writing (λ i. savedHolding file (row + 8 * i)) list₀ n c list

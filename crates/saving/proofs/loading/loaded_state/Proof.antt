@@ -7,12 +7,6 @@ use Rattle.saving.proofs.Placed.{state-made}
 use borrow.Author.Needs.{needs}
 use Rattle.saving.proofs.loading.loaded_state.Statement.{statement}
 use Rattle.saving.proofs.loading.loaded_state.Tie as tie
-use Rattle.saving.proofs.loading.loaded_state.Reads as reads
-use Rattle.saving.proofs.loading.loaded_state.Lts as lts
-use Rattle.endian.proofs.reading.u32_at.Reads as u32-at-reads
-use Rattle.saving.proofs.loading.accounts_over.Reads as accounts-over-reads
-use Rattle.saving.proofs.loading.contracts_over.Reads as contracts-over-reads
-use Rattle.settlement.proofs.reopen.no_orders.Reads as no-orders-reads
 
 -- the array has its places
 holders : (c : tie.Start) → length (c .args .state .accounts) ≡ 32

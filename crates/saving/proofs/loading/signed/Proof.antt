@@ -3,8 +3,6 @@ use Rattle.saving.proofs.Signs.{as-it-is, below-fits, below-is, opposit
 use borrow.Author.Needs.{needs}
 use Rattle.saving.proofs.loading.signed.Statement.{statement}
 use Rattle.saving.proofs.loading.signed.Tie as tie
-use Rattle.saving.proofs.loading.signed.Reads as reads
-use Rattle.saving.proofs.loading.signed.Lts as lts
 
 cast-result : tie.Need-cast-result
 cast-result c = search needs

@@ -3,9 +3,6 @@ use Rattle.saved.specs.Saved.{accountsIn}
 use borrow.Author.Needs.{needs}
 use Rattle.saving.proofs.shape.account_count.Statement.{statement}
 use Rattle.saving.proofs.shape.account_count.Tie as tie
-use Rattle.saving.proofs.shape.account_count.Reads as reads
-use Rattle.saving.proofs.shape.account_count.Lts as lts
-use Rattle.endian.proofs.reading.u32_at.Reads as u32-at-reads
 
 mul-u32-at : tie.Need-mul-u32-at
 mul-u32-at c = search needs

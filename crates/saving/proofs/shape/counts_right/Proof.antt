@@ -4,10 +4,6 @@ use Rattle.saving.proofs.Shapes.{holdings-wrong, one-decides}
 use borrow.Author.Needs.{needs}
 use Rattle.saving.proofs.shape.counts_right.Statement.{statement}
 use Rattle.saving.proofs.shape.counts_right.Tie as tie
-use Rattle.saving.proofs.shape.counts_right.Reads as reads
-use Rattle.saving.proofs.shape.counts_right.Lts as lts
-use Rattle.endian.proofs.reading.u32_at.Reads as u32-at-reads
-use Rattle.laws.proofs.wide.Reads as wide-reads
 
 mul-u32-at : tie.Need-mul-u32-at
 mul-u32-at c = search needs

@@ -4,8 +4,6 @@ use Rattle.saving.proofs.Shapes.{few-bytes}
 use borrow.Author.Needs.{needs}
 use Rattle.saving.proofs.shape.file_length.Statement.{statement}
 use Rattle.saving.proofs.shape.file_length.Tie as tie
-use Rattle.saving.proofs.shape.file_length.Reads as reads
-use Rattle.saving.proofs.shape.file_length.Lts as lts
 
 mul-result : tie.Need-mul-result
 mul-result c = search needs

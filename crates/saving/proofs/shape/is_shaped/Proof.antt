@@ -5,12 +5,6 @@ use Rattle.saving.proofs.Shapes.{decided, laid, length-wrong, misshapen
 use borrow.Author.Needs.{needs}
 use Rattle.saving.proofs.shape.is_shaped.Statement.{statement}
 use Rattle.saving.proofs.shape.is_shaped.Tie as tie
-use Rattle.saving.proofs.shape.is_shaped.Reads as reads
-use Rattle.saving.proofs.shape.is_shaped.Lts as lts
-use Rattle.dayfile.proofs.head.contract_count.Reads as contract-count-reads
-use Rattle.saving.proofs.shape.account_count.Reads as account-count-reads
-use Rattle.saving.proofs.shape.counts_right.Reads as counts-right-reads
-use Rattle.saving.proofs.shape.file_length.Reads as file-length-reads
 
 returns : tie.Need-returns
 returns c = sym (misshapen _ (λ l. omega (arith, l .ends)))

@@ -9,9 +9,6 @@ use Rattle.saved.specs.Saved.{markSound}
 use Rattle.saving.proofs.Shapes.{mark-right, mark-wrong}
 use Rattle.saving.proofs.shape.marks_sound.Statement.{statement}
 use Rattle.saving.proofs.shape.marks_sound.Tie as tie
-use Rattle.saving.proofs.shape.marks_sound.Reads as reads
-use Rattle.saving.proofs.shape.marks_sound.Lts as lts
-use Rattle.endian.proofs.reading.u8_at.Reads as u8-at-reads
 
 abbrev Inv-loop : tie.InvT-loop
 Inv-loop file contracts accounts first a₀ a = (a ≤ accounts) × (all (markSound file) a ≡ true)

@@ -9,8 +9,6 @@ use Rattle.saving.specs.Parts.{asleepAt}
 use Rattle.saving.proofs.AddedUp.{is-asleep, not-pre-open, some-buys, some-sells}
 use Rattle.saving.proofs.totals.all_asleep.Statement.{statement}
 use Rattle.saving.proofs.totals.all_asleep.Tie as tie
-use Rattle.saving.proofs.totals.all_asleep.Reads as reads
-use Rattle.saving.proofs.totals.all_asleep.Lts as lts
 
 abbrev Inv-loop : tie.InvT-loop
 Inv-loop state contracts c₀ c = (c ≤ contracts) × (all (asleepAt state) c ≡ true)

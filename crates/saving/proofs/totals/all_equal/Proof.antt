@@ -10,9 +10,6 @@ use Rattle.audit.proofs.Walks.{all-end}
 use Rattle.saved.specs.Saved.{totalsEqual}
 use Rattle.saving.proofs.totals.all_equal.Statement.{statement}
 use Rattle.saving.proofs.totals.all_equal.Tie as tie
-use Rattle.saving.proofs.totals.all_equal.Reads as reads
-use Rattle.saving.proofs.totals.all_equal.Lts as lts
-use Rattle.saving.proofs.totals.totals_equal.Reads as totals-equal-reads
 
 abbrev Inv-loop : tie.InvT-loop
 Inv-loop list accounts contracts c₀ c = (c ≤ contracts) × (all (totalsEqual (take accounts list)) c ≡ true)

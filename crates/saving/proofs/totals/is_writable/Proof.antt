@@ -4,10 +4,6 @@ use Rattle.saving.proofs.AddedUp.{next-given, not-asleep, not-equal, so
 use borrow.Author.Needs.{needs}
 use Rattle.saving.proofs.totals.is_writable.Statement.{statement}
 use Rattle.saving.proofs.totals.is_writable.Tie as tie
-use Rattle.saving.proofs.totals.is_writable.Reads as reads
-use Rattle.saving.proofs.totals.is_writable.Lts as lts
-use Rattle.saving.proofs.totals.all_asleep.Reads as all-asleep-reads
-use Rattle.saving.proofs.totals.all_equal.Reads as all-equal-reads
 
 all-asleep-requires : tie.Need-all-asleep-requires
 all-asleep-requires c κs = search needs

@@ -8,9 +8,6 @@ use Rattle.laws.specs.Lists.{unmapped}
 use Rattle.saving.proofs.AddedUp.{Adding, adding-none, adding-more, adding-done}
 use Rattle.saving.proofs.totals.totals_equal.Statement.{statement}
 use Rattle.saving.proofs.totals.totals_equal.Tie as tie
-use Rattle.saving.proofs.totals.totals_equal.Reads as reads
-use Rattle.saving.proofs.totals.totals_equal.Lts as lts
-use Rattle.saving.proofs.totals.wide.Reads as wide-reads
 
 abbrev Inv-loop : tie.InvT-loop
 Inv-loop accounts c list long₀ short₀ a₀ long short a = Adding list accounts c long short a

@@ -8,11 +8,6 @@ use Rattle.saving.proofs.Sections.{account-written}
 use borrow.Author.Needs.{needs}
 use Rattle.saving.proofs.writing.put_account.Statement.{statement}
 use Rattle.saving.proofs.writing.put_account.Tie as tie
-use Rattle.saving.proofs.writing.put_account.Reads as reads
-use Rattle.saving.proofs.writing.put_account.Lts as lts
-use Rattle.endian.proofs.writing.put_byte.Reads as put-byte-reads
-use Rattle.endian.proofs.writing.put_u64.Reads as put-u64-reads
-use Rattle.statements.proofs.writing.unsigned.Reads as unsigned-reads
 
 unsigned-requires : tie.Need-unsigned-requires
 unsigned-requires c κs = search needs

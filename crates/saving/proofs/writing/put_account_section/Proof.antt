@@ -4,10 +4,6 @@ use Rattle.saving.proofs.Sections.{both-written, count-room, second-roo
 use borrow.Author.Needs.{needs}
 use Rattle.saving.proofs.writing.put_account_section.Statement.{statement}
 use Rattle.saving.proofs.writing.put_account_section.Tie as tie
-use Rattle.saving.proofs.writing.put_account_section.Reads as reads
-use Rattle.saving.proofs.writing.put_account_section.Lts as lts
-use Rattle.endian.proofs.writing.put_u32.Reads as put-u32-reads
-use Rattle.saving.proofs.writing.put_accounts.Reads as put-accounts-reads
 
 cast-put-u32 : tie.Need-cast-put-u32
 cast-put-u32 c = search needs

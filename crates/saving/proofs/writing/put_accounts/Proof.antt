@@ -8,9 +8,6 @@ use Rattle.saved.specs.Saved.{accountBytes}
 use Rattle.saving.proofs.Sections.{length-account}
 use Rattle.saving.proofs.writing.put_accounts.Statement.{statement}
 use Rattle.saving.proofs.writing.put_accounts.Tie as tie
-use Rattle.saving.proofs.writing.put_accounts.Reads as reads
-use Rattle.saving.proofs.writing.put_accounts.Lts as lts
-use Rattle.saving.proofs.writing.put_account.Reads as put-account-reads
 
 abbrev Inv-loop : tie.InvT-loop
 Inv-loop out₀ at n list next₀ i₀ out next i = Telling (λ k. accountBytes (getD list k noAccount)) n out₀ at i next out

@@ -3,10 +3,6 @@ use Rattle.saving.proofs.Sections.{contract-written, last-room}
 use borrow.Author.Needs.{needs}
 use Rattle.saving.proofs.writing.put_contract.Statement.{statement}
 use Rattle.saving.proofs.writing.put_contract.Tie as tie
-use Rattle.saving.proofs.writing.put_contract.Reads as reads
-use Rattle.saving.proofs.writing.put_contract.Lts as lts
-use Rattle.endian.proofs.writing.put_u16.Reads as put-u16-reads
-use Rattle.endian.proofs.writing.put_u32.Reads as put-u32-reads
 
 cast-put-u16 : tie.Need-cast-put-u16
 cast-put-u16 c = search needs

@@ -4,10 +4,6 @@ use Rattle.saving.proofs.Sections.{both-written, count-room, second-roo
 use borrow.Author.Needs.{needs}
 use Rattle.saving.proofs.writing.put_contract_section.Statement.{statement}
 use Rattle.saving.proofs.writing.put_contract_section.Tie as tie
-use Rattle.saving.proofs.writing.put_contract_section.Reads as reads
-use Rattle.saving.proofs.writing.put_contract_section.Lts as lts
-use Rattle.endian.proofs.writing.put_u32.Reads as put-u32-reads
-use Rattle.saving.proofs.writing.put_contracts.Reads as put-contracts-reads
 
 cast-put-u32 : tie.Need-cast-put-u32
 cast-put-u32 c = search needs

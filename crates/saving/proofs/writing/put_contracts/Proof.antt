@@ -8,9 +8,6 @@ use Rattle.saved.specs.Saved.{contractBytes}
 use Rattle.saving.proofs.Sections.{length-contract}
 use Rattle.saving.proofs.writing.put_contracts.Statement.{statement}
 use Rattle.saving.proofs.writing.put_contracts.Tie as tie
-use Rattle.saving.proofs.writing.put_contracts.Reads as reads
-use Rattle.saving.proofs.writing.put_contracts.Lts as lts
-use Rattle.saving.proofs.writing.put_contract.Reads as put-contract-reads
 
 abbrev Inv-loop : tie.InvT-loop
 Inv-loop out₀ at n list next₀ c₀ out next c = Telling (λ i. contractBytes (getD list i noContract)) n out₀ at c next out

@@ -6,10 +6,6 @@ use Rattle.saving.proofs.Sections.{both-written, count-room, few-entrie
 use borrow.Author.Needs.{needs}
 use Rattle.saving.proofs.writing.put_holding_section.Statement.{statement}
 use Rattle.saving.proofs.writing.put_holding_section.Tie as tie
-use Rattle.saving.proofs.writing.put_holding_section.Reads as reads
-use Rattle.saving.proofs.writing.put_holding_section.Lts as lts
-use Rattle.endian.proofs.writing.put_u32.Reads as put-u32-reads
-use Rattle.statements.proofs.writing.put_holdings.Reads as put-holdings-reads
 
 mul-entries : tie.Need-mul-entries
 mul-entries c = omega (arith, few-entries (c .before .pre .0) (c .before .pre .1))

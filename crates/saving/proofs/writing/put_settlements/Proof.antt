@@ -3,9 +3,6 @@ use Rattle.endian.proofs.Writes.{then}
 use borrow.Author.Needs.{needs}
 use Rattle.saving.proofs.writing.put_settlements.Statement.{statement}
 use Rattle.saving.proofs.writing.put_settlements.Tie as tie
-use Rattle.saving.proofs.writing.put_settlements.Reads as reads
-use Rattle.saving.proofs.writing.put_settlements.Lts as lts
-use Rattle.endian.proofs.writing.put_u32.Reads as put-u32-reads
 
 put-u32-requires : tie.Need-put-u32-requires
 put-u32-requires c κs = search needs

@@ -3,12 +3,6 @@ use Rattle.saving.proofs.Sections.{all-written, room-first, room-last, 
 use borrow.Author.Needs.{needs}
 use Rattle.saving.proofs.writing.put_state.Statement.{statement}
 use Rattle.saving.proofs.writing.put_state.Tie as tie
-use Rattle.saving.proofs.writing.put_state.Reads as reads
-use Rattle.saving.proofs.writing.put_state.Lts as lts
-use Rattle.saving.proofs.writing.put_account_section.Reads as put-account-section-reads
-use Rattle.saving.proofs.writing.put_contract_section.Reads as put-contract-section-reads
-use Rattle.saving.proofs.writing.put_holding_section.Reads as put-holding-section-reads
-use Rattle.saving.proofs.writing.put_settlements.Reads as put-settlements-reads
 
 put-contract-section-requires : tie.Need-put-contract-section-requires
 put-contract-section-requires c κs = ((c .before .before .before .before .pre .contracts, room-first (c .before .before .before .before .args .state) (c .before .before .before .before .args .out .now) (c .before .before .before .before .pre .room)), c .before .before .before .before .pre .short)

@@ -6,13 +6,6 @@ use Rattle.settlement.proofs.Carrying.{Paying, paying-none, closing-rea
 use Rattle.settlement.proofs.Totals.{totallable, total-is}
 use Rattle.settlement.proofs.balances.all_paid.Statement.{statement}
 use Rattle.settlement.proofs.balances.all_paid.Tie as tie
-use Rattle.settlement.proofs.balances.all_paid.Reads as reads
-use Rattle.settlement.proofs.balances.all_paid.Lts as lts
-use Rattle.dayprofit.proofs.sums.add_up.Reads as add-up-reads
-use Rattle.dayprofit.proofs.sums.take_first.Reads as take-first-reads
-use Rattle.settlement.proofs.balances.paid.Reads as paid-reads
-use Rattle.settlement.proofs.balances.put_all_due.Reads as put-all-due-reads
-use Rattle.settlement.proofs.balances.total.Reads as total-reads
 
 abbrev Inv-loop : tie.InvT-loop
 Inv-loop trades prices state closed closes opened opens used made contracts count accounts₀ closing₀ holding₀ a₀ accounts closing holding a =

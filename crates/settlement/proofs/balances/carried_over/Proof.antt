@@ -8,9 +8,6 @@ use Rattle.laws.specs.Lists.{unmapped}
 use Rattle.settlement.proofs.Carrying.{Carrying, carrying-none, carrying-more, carrying-done}
 use Rattle.settlement.proofs.balances.carried_over.Statement.{statement}
 use Rattle.settlement.proofs.balances.carried_over.Tie as tie
-use Rattle.settlement.proofs.balances.carried_over.Reads as reads
-use Rattle.settlement.proofs.balances.carried_over.Lts as lts
-use Rattle.settlement.proofs.balances.carried.Reads as carried-reads
 
 abbrev Inv-loop : tie.InvT-loop
 Inv-loop contracts account next₀ c₀ next c = Carrying account contracts c next

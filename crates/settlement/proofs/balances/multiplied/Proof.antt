@@ -6,8 +6,6 @@ use Rattle.laws.proofs.Signed.{mul-fits, mul-back}
 use borrow.Author.Needs.{needs}
 use Rattle.settlement.proofs.balances.multiplied.Statement.{statement}
 use Rattle.settlement.proofs.balances.multiplied.Tie as tie
-use Rattle.settlement.proofs.balances.multiplied.Reads as reads
-use Rattle.settlement.proofs.balances.multiplied.Lts as lts
 
 cast-result : tie.Need-cast-result
 cast-result c = search needs

@@ -3,10 +3,6 @@ use Rattle.settlement.proofs.Carrying.{carried-paid}
 use borrow.Author.Needs.{needs}
 use Rattle.settlement.proofs.balances.paid.Statement.{statement}
 use Rattle.settlement.proofs.balances.paid.Tie as tie
-use Rattle.settlement.proofs.balances.paid.Reads as reads
-use Rattle.settlement.proofs.balances.paid.Lts as lts
-use Rattle.settlement.proofs.balances.carried_over.Reads as carried-over-reads
-use Rattle.settlement.proofs.balances.with_profit.Reads as with-profit-reads
 
 with-profit-requires : tie.Need-with-profit-requires
 with-profit-requires c κs = search needs

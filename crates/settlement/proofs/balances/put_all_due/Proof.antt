@@ -4,9 +4,6 @@ use native.Mathlib.Omega.{arith}
 use Rattle.settlement.proofs.Dues.{Dues, contract-at, turn-at, account-at, dues-none, dues-more, dues-done}
 use Rattle.settlement.proofs.balances.put_all_due.Statement.{statement}
 use Rattle.settlement.proofs.balances.put_all_due.Tie as tie
-use Rattle.settlement.proofs.balances.put_all_due.Reads as reads
-use Rattle.settlement.proofs.balances.put_all_due.Lts as lts
-use Rattle.dayprofit.proofs.sums.put_due.Reads as put-due-reads
 
 abbrev Inv-loop : tie.InvT-loop
 Inv-loop lots left₀ state end k₀ left k = Dues state lots left k

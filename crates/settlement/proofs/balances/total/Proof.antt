@@ -4,10 +4,6 @@ use native.Mathlib.Omega.{arith}
 use Rattle.settlement.proofs.Totals.{Totalling, totalling-none, closing-bits, holding-bits, closing-fits, holding-fits, totalling-more, totalling-done}
 use Rattle.settlement.proofs.balances.total.Statement.{statement}
 use Rattle.settlement.proofs.balances.total.Tie as tie
-use Rattle.settlement.proofs.balances.total.Reads as reads
-use Rattle.settlement.proofs.balances.total.Lts as lts
-use Rattle.dayprofit.proofs.profit.profit_at.Reads as profit-at-reads
-use Rattle.settlement.proofs.balances.multiplied.Reads as multiplied-reads
 
 abbrev Inv-loop : tie.InvT-loop
 Inv-loop closed closes opened opens used a state prices holder contracts closing₀ holding₀ c₀ closing holding c = Totalling state closed closes opened opens used prices a closing holding c

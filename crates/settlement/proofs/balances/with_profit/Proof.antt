@@ -4,8 +4,6 @@ use Rattle.laws.proofs.Signed.{add-fits}
 use Rattle.settlement.proofs.Carrying.{balance-fits, balance-back}
 use Rattle.settlement.proofs.balances.with_profit.Statement.{statement}
 use Rattle.settlement.proofs.balances.with_profit.Tie as tie
-use Rattle.settlement.proofs.balances.with_profit.Reads as reads
-use Rattle.settlement.proofs.balances.with_profit.Lts as lts
 
 add-result : tie.Need-add-result
 add-result c = add-fits (c .pre .1) (c .pre .2) (omega arith)

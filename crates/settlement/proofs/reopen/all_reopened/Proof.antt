@@ -11,9 +11,6 @@ use Rattle.rules.specs.Settlement.{settledContract}
 use Rattle.settlement.proofs.Places.{written-first}
 use Rattle.settlement.proofs.reopen.all_reopened.Statement.{statement}
 use Rattle.settlement.proofs.reopen.all_reopened.Tie as tie
-use Rattle.settlement.proofs.reopen.all_reopened.Reads as reads
-use Rattle.settlement.proofs.reopen.all_reopened.Lts as lts
-use Rattle.settlement.proofs.reopen.reopened.Reads as reopened-reads
 
 abbrev Inv-loop : tie.InvT-loop
 Inv-loop count contracts prices next₀ c₀ next c = Writing (λ i. settledContract (getD contracts i noContract) (getD prices i 0)) contracts count c next

@@ -5,10 +5,6 @@ use Rattle.settlement.proofs.Clearing.{trades-cleared}
 use borrow.Author.Needs.{needs}
 use Rattle.settlement.proofs.reopen.clear_areas.Statement.{statement}
 use Rattle.settlement.proofs.reopen.clear_areas.Tie as tie
-use Rattle.settlement.proofs.reopen.clear_areas.Reads as reads
-use Rattle.settlement.proofs.reopen.clear_areas.Lts as lts
-use Rattle.areas.proofs.clear.Reads as clear-reads
-use Rattle.settlement.proofs.reopen.clear_queues.Reads as clear-queues-reads
 
 mul-e : tie.Need-mul-e
 mul-e c = search needs

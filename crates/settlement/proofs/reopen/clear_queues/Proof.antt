@@ -5,9 +5,6 @@ use borrow.Author.Needs.{needs}
 use Rattle.settlement.proofs.Clearing.{Clearing, clearing-none, clearing-more, clearing-done}
 use Rattle.settlement.proofs.reopen.clear_queues.Statement.{statement}
 use Rattle.settlement.proofs.reopen.clear_queues.Tie as tie
-use Rattle.settlement.proofs.reopen.clear_queues.Reads as reads
-use Rattle.settlement.proofs.reopen.clear_queues.Lts as lts
-use Rattle.areas.proofs.clear.Reads as clear-reads
 
 abbrev Inv-loop : tie.InvT-loop
 Inv-loop area₀ contracts counts c₀ area c = Clearing area₀ counts contracts c area

@@ -9,8 +9,6 @@ use Rattle.laws.specs.Written.{Writing, writing-none, writing-more, writing-don
 use Rattle.settlement.proofs.Places.{written-first}
 use Rattle.settlement.proofs.reopen.no_orders.Statement.{statement}
 use Rattle.settlement.proofs.reopen.no_orders.Tie as tie
-use Rattle.settlement.proofs.reopen.no_orders.Reads as reads
-use Rattle.settlement.proofs.reopen.no_orders.Lts as lts
 
 abbrev Inv-loop : tie.InvT-loop
 Inv-loop contracts next₀ c₀ next c = Writing (λ i. 0) next₀ contracts c next

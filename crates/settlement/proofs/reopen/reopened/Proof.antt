@@ -3,8 +3,6 @@ use borrow.Author.Needs.{needs}
 use Rattle.rules.specs.Settlement.{settledContract}
 use Rattle.settlement.proofs.reopen.reopened.Statement.{statement}
 use Rattle.settlement.proofs.reopen.reopened.Tie as tie
-use Rattle.settlement.proofs.reopen.reopened.Reads as reads
-use Rattle.settlement.proofs.reopen.reopened.Lts as lts
 
 returns : tie.Need-returns
 unfolding settledContract

@@ -4,9 +4,6 @@ use native.Mathlib.Omega.{arith}
 use Rattle.settlement.proofs.Report.{ChargesSoFar, charges-none, charges-more, charges-done}
 use Rattle.settlement.proofs.settle.charges.Statement.{statement}
 use Rattle.settlement.proofs.settle.charges.Tie as tie
-use Rattle.settlement.proofs.settle.charges.Reads as reads
-use Rattle.settlement.proofs.settle.charges.Lts as lts
-use Rattle.margin.proofs.charged.Reads as charged-reads
 
 abbrev Inv-loop : tie.InvT-loop
 Inv-loop state buys sells accounts holders terms bids offers charged₀ a₀ charged a = ChargesSoFar state buys sells a charged

@@ -3,10 +3,6 @@ use Rattle.settlement.proofs.Outcome.{next-day-is}
 use borrow.Author.Needs.{needs}
 use Rattle.settlement.proofs.settle.next_day.Statement.{statement}
 use Rattle.settlement.proofs.settle.next_day.Tie as tie
-use Rattle.settlement.proofs.settle.next_day.Reads as reads
-use Rattle.settlement.proofs.settle.next_day.Lts as lts
-use Rattle.settlement.proofs.reopen.all_reopened.Reads as all-reopened-reads
-use Rattle.settlement.proofs.reopen.no_orders.Reads as no-orders-reads
 
 all-reopened-requires : tie.Need-all-reopened-requires
 all-reopened-requires c κs = search needs

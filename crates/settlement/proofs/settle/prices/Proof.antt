@@ -7,9 +7,6 @@ use Rattle.settlement.proofs.Formed.{accounts-declared, contracts-four,
 use Rattle.settlement.proofs.Report.{PricesSoFar, price-in-use, prices-done}
 use Rattle.settlement.proofs.settle.prices.Statement.{statement}
 use Rattle.settlement.proofs.settle.prices.Tie as tie
-use Rattle.settlement.proofs.settle.prices.Reads as reads
-use Rattle.settlement.proofs.settle.prices.Lts as lts
-use Rattle.dayprofit.proofs.price.settlement_price.Reads as settlement-price-reads
 
 abbrev Inv-loop : tie.InvT-loop
 Inv-loop buys sells trades state contracts count prices₀ c₀ prices c = PricesSoFar (memory state buys sells trades) c prices

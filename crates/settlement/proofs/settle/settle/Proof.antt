@@ -3,13 +3,6 @@ use Rattle.settlement.proofs.Outcome.{settlements-left, few-contracts, 
 use borrow.Author.Needs.{needs}
 use Rattle.settlement.proofs.settle.settle.Statement.{statement}
 use Rattle.settlement.proofs.settle.settle.Tie as tie
-use Rattle.settlement.proofs.settle.settle.Reads as reads
-use Rattle.settlement.proofs.settle.settle.Lts as lts
-use Rattle.settlement.proofs.balances.all_paid.Reads as all-paid-reads
-use Rattle.settlement.proofs.reopen.clear_areas.Reads as clear-areas-reads
-use Rattle.settlement.proofs.settle.charges.Reads as charges-reads
-use Rattle.settlement.proofs.settle.next_day.Reads as next-day-reads
-use Rattle.settlement.proofs.settle.prices.Reads as prices-reads
 
 prices-requires : tie.Need-prices-requires
 prices-requires c κs = search needs

@@ -8,13 +8,7 @@ use Rattle.statements.proofs.Brokering.{few-trades, trade-room, brokere
 use borrow.Author.Needs.{needs}
 use Rattle.statements.proofs.broker.posted_statement.Statement.{statement}
 use Rattle.statements.proofs.broker.posted_statement.Tie as tie
-use Rattle.statements.proofs.broker.posted_statement.Reads as reads
-use Rattle.statements.proofs.broker.posted_statement.Lts as lts
-use Rattle.laws.proofs.wide.Reads as wide-reads
-use Rattle.statements.proofs.broker.tell.Reads as tell-reads
 use Rattle.clients.proofs.PostedTrades.{posted-content, posted-legs}
-use Rattle.clients.proofs.posting.post_trades.Reads as post-trades-reads
-use Rattle.statements.proofs.refused.Reads as refused-reads
 use Rattle.rules.specs.Bounds.{maxTrades}
 use Rattle.rules.specs.Memory.{tradeStride}
 

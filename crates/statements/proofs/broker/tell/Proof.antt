@@ -12,14 +12,6 @@ use Rattle.statements.proofs.Sections.{few-entries}
 use borrow.Author.Needs.{needs}
 use Rattle.statements.proofs.broker.tell.Statement.{statement}
 use Rattle.statements.proofs.broker.tell.Tie as tie
-use Rattle.statements.proofs.broker.tell.Reads as reads
-use Rattle.statements.proofs.broker.tell.Lts as lts
-use Rattle.statements.proofs.broker.with_clients.Reads as with-clients-reads
-use Rattle.statements.proofs.profits.books.Reads as books-reads
-use Rattle.statements.proofs.refused.Reads as refused-reads
-use Rattle.replaying.proofs.replay.Reads as replay-reads
-use Rattle.clients.proofs.starts.client_accounts.Reads as client-accounts-reads
-use Rattle.statements.proofs.writing.put_statement.Reads as put-statement-reads
 
 client-accounts-requires : tie.Need-client-accounts-requires
 client-accounts-requires c κs = search needs

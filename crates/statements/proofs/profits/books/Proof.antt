@@ -2,10 +2,6 @@
 use borrow.Author.Needs.{needs}
 use Rattle.statements.proofs.profits.books.Statement.{statement}
 use Rattle.statements.proofs.profits.books.Tie as tie
-use Rattle.statements.proofs.profits.books.Reads as reads
-use Rattle.statements.proofs.profits.books.Lts as lts
-use Rattle.settlement.proofs.balances.all_paid.Reads as all-paid-reads
-use Rattle.statements.proofs.profits.prices_due.Reads as prices-due-reads
 
 prices-due-requires : tie.Need-prices-due-requires
 prices-due-requires c κs = search needs

@@ -6,9 +6,6 @@ use Rattle.laws.specs.Written.{writing-none, writing-more}
 use Rattle.settlement.proofs.Report.{PricesSoFar, price-in-use, prices-done}
 use Rattle.statements.proofs.profits.prices_due.Statement.{statement}
 use Rattle.statements.proofs.profits.prices_due.Tie as tie
-use Rattle.statements.proofs.profits.prices_due.Reads as reads
-use Rattle.statements.proofs.profits.prices_due.Lts as lts
-use Rattle.dayprofit.proofs.price.settlement_price.Reads as settlement-price-reads
 
 abbrev Inv-loop : tie.InvT-loop
 Inv-loop buys sells area state contracts count prices₀ c₀ prices c = PricesSoFar (memory state buys sells area) c prices

@@ -2,8 +2,6 @@
 use borrow.Author.Tests.{eq-eqb, ne-eqb}
 use Rattle.statements.proofs.writing.mark.Statement.{statement}
 use Rattle.statements.proofs.writing.mark.Tie as tie
-use Rattle.statements.proofs.writing.mark.Reads as reads
-use Rattle.statements.proofs.writing.mark.Lts as lts
 
 returns : tie.Need-returns
 returns c = rw (eq-eqb _ _ (c .if1 .taken))

@@ -7,9 +7,6 @@ use Rattle.statements.specs.Statement.{holdingBytes}
 use Rattle.statements.proofs.Sections.{Telling, telling-none, telling-fits, telling-more, telling-done, length-holding}
 use Rattle.statements.proofs.writing.put_account.Statement.{statement}
 use Rattle.statements.proofs.writing.put_account.Tie as tie
-use Rattle.statements.proofs.writing.put_account.Reads as reads
-use Rattle.statements.proofs.writing.put_account.Lts as lts
-use Rattle.statements.proofs.writing.put_holding.Reads as put-holding-reads
 
 abbrev Inv-loop : tie.InvT-loop
 Inv-loop out₀ at contracts a next₀ c₀ out next c = Telling (λ i. holdingBytes (getD (a .holdings) i noHolding)) contracts out₀ at c next out

@@ -3,9 +3,6 @@ use Rattle.statements.proofs.Sections.{holding-written}
 use borrow.Author.Needs.{needs}
 use Rattle.statements.proofs.writing.put_holding.Statement.{statement}
 use Rattle.statements.proofs.writing.put_holding.Tie as tie
-use Rattle.statements.proofs.writing.put_holding.Reads as reads
-use Rattle.statements.proofs.writing.put_holding.Lts as lts
-use Rattle.endian.proofs.writing.put_u32.Reads as put-u32-reads
 
 put-u32-requires : tie.Need-put-u32-requires
 put-u32-requires c κs = search needs

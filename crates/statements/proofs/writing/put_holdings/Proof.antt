@@ -7,9 +7,6 @@ use Rattle.statements.specs.Parts.{accountBytes}
 use Rattle.statements.proofs.Sections.{Telling, telling-none, telling-room, telling-more, telling-done}
 use Rattle.statements.proofs.writing.put_holdings.Statement.{statement}
 use Rattle.statements.proofs.writing.put_holdings.Tie as tie
-use Rattle.statements.proofs.writing.put_holdings.Reads as reads
-use Rattle.statements.proofs.writing.put_holdings.Lts as lts
-use Rattle.statements.proofs.writing.put_account.Reads as put-account-reads
 
 abbrev Inv-loop : tie.InvT-loop
 Inv-loop out₀ at clients contracts accounts next₀ k₀ out next k = Telling (λ i. accountBytes (getD accounts i noAccount) contracts) clients out₀ at k next out

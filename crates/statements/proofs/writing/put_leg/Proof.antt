@@ -3,11 +3,6 @@ use Rattle.statements.proofs.Sections.{leg-written}
 use borrow.Author.Needs.{needs}
 use Rattle.statements.proofs.writing.put_leg.Statement.{statement}
 use Rattle.statements.proofs.writing.put_leg.Tie as tie
-use Rattle.statements.proofs.writing.put_leg.Reads as reads
-use Rattle.statements.proofs.writing.put_leg.Lts as lts
-use Rattle.endian.proofs.writing.put_byte.Reads as put-byte-reads
-use Rattle.endian.proofs.writing.put_u32.Reads as put-u32-reads
-use Rattle.statements.proofs.writing.mark.Reads as mark-reads
 
 add-client : tie.Need-add-client
 add-client c = search needs

@@ -6,10 +6,6 @@ use Rattle.statements.proofs.Sections.{profit-written}
 use borrow.Author.Needs.{needs}
 use Rattle.statements.proofs.writing.put_profit.Statement.{statement}
 use Rattle.statements.proofs.writing.put_profit.Tie as tie
-use Rattle.statements.proofs.writing.put_profit.Reads as reads
-use Rattle.statements.proofs.writing.put_profit.Lts as lts
-use Rattle.endian.proofs.writing.put_u64.Reads as put-u64-reads
-use Rattle.statements.proofs.writing.unsigned.Reads as unsigned-reads
 
 unsigned-requires : tie.Need-unsigned-requires
 unsigned-requires c κs = search needs

@@ -9,9 +9,6 @@ use Rattle.statements.specs.Statement.{profitBytes}
 use Rattle.statements.proofs.Sections.{Telling, telling-none, telling-fits, telling-more, telling-done, length-profit}
 use Rattle.statements.proofs.writing.put_profits.Statement.{statement}
 use Rattle.statements.proofs.writing.put_profits.Tie as tie
-use Rattle.statements.proofs.writing.put_profits.Reads as reads
-use Rattle.statements.proofs.writing.put_profits.Lts as lts
-use Rattle.statements.proofs.writing.put_profit.Reads as put-profit-reads
 
 abbrev Inv-loop : tie.InvT-loop
 Inv-loop out₀ at clients closing holding next₀ k₀ out next k = Telling (λ i. profitBytes (getD closing i (pos 0)) (getD holding i (pos 0))) clients out₀ at k next out

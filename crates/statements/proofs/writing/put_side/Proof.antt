@@ -3,9 +3,6 @@ use Rattle.statements.proofs.Sections.{side-none, side-room, side-one}
 use borrow.Author.Needs.{needs}
 use Rattle.statements.proofs.writing.put_side.Statement.{statement}
 use Rattle.statements.proofs.writing.put_side.Tie as tie
-use Rattle.statements.proofs.writing.put_side.Reads as reads
-use Rattle.statements.proofs.writing.put_side.Lts as lts
-use Rattle.statements.proofs.writing.put_leg.Reads as put-leg-reads
 
 returns : tie.Need-returns
 returns c = side-none _ _ _ _ _ _ _ (c .if1 .taken) (c .before .before .pre .0)

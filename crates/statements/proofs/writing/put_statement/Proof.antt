@@ -4,12 +4,6 @@ use Rattle.statements.proofs.Sections.{few-entries, room-first, room-se
 use borrow.Author.Needs.{needs}
 use Rattle.statements.proofs.writing.put_statement.Statement.{statement}
 use Rattle.statements.proofs.writing.put_statement.Tie as tie
-use Rattle.statements.proofs.writing.put_statement.Reads as reads
-use Rattle.statements.proofs.writing.put_statement.Lts as lts
-use Rattle.endian.proofs.writing.put_u32.Reads as put-u32-reads
-use Rattle.statements.proofs.writing.put_holdings.Reads as put-holdings-reads
-use Rattle.statements.proofs.writing.put_profits.Reads as put-profits-reads
-use Rattle.statements.proofs.writing.put_trades.Reads as put-trades-reads
 
 cast-put-u32 : tie.Need-cast-put-u32
 cast-put-u32 c = search needs

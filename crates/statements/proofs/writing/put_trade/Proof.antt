@@ -3,9 +3,6 @@ use Rattle.statements.proofs.Sections.{buyer-room, seller-room, trade-w
 use borrow.Author.Needs.{needs}
 use Rattle.statements.proofs.writing.put_trade.Statement.{statement}
 use Rattle.statements.proofs.writing.put_trade.Tie as tie
-use Rattle.statements.proofs.writing.put_trade.Reads as reads
-use Rattle.statements.proofs.writing.put_trade.Lts as lts
-use Rattle.statements.proofs.writing.put_side.Reads as put-side-reads
 
 put-side-requires : tie.Need-put-side-requires
 put-side-requires c κs = (buyer-room _ _ _ (c .before .before .pre .0), c .before .before .pre .1)

@@ -10,10 +10,6 @@ use Rattle.statements.specs.Statement.{tradeBytes}
 use Rattle.statements.proofs.Sections.{Telling, telling-none, telling-room, telling-more, telling-done, trades-row}
 use Rattle.statements.proofs.writing.put_trades.Statement.{statement}
 use Rattle.statements.proofs.writing.put_trades.Tie as tie
-use Rattle.statements.proofs.writing.put_trades.Reads as reads
-use Rattle.statements.proofs.writing.put_trades.Lts as lts
-use Rattle.book.proofs.trades.trade_at.Reads as trade-at-reads
-use Rattle.statements.proofs.writing.put_trade.Reads as put-trade-reads
 
 abbrev Inv-loop : tie.InvT-loop
 Inv-loop area count out₀ at next₀ i₀ out next i = Telling (λ j. tradeBytes (getD (recordedTrades area count) j noTrade)) count out₀ at i next out

@@ -5,9 +5,6 @@ use Rattle.statements.proofs.Sections.{some-below, unsigned-below, unsi
 use borrow.Author.Needs.{needs}
 use Rattle.statements.proofs.writing.unsigned.Statement.{statement}
 use Rattle.statements.proofs.writing.unsigned.Tie as tie
-use Rattle.statements.proofs.writing.unsigned.Reads as reads
-use Rattle.statements.proofs.writing.unsigned.Lts as lts
-use Rattle.lines.proofs.number.magnitude.Reads as magnitude-reads
 
 magnitude-requires : tie.Need-magnitude-requires
 magnitude-requires c κs = search needs
