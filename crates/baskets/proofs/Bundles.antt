@@ -15,8 +15,8 @@ use Rattle.rules.specs.Answers.{firstOf, _when_}
 use Rattle.rules.specs.Condition3.{MoneyKept, run}
 use Rattle.rules.specs.Memory.{Declared, Memory, respond, wellFormedMemory}
 use Rattle.rules.specs.declared.Command.{Command}
+use Rattle.rules.proofs.Refusals.{failed}
 use Rattle.accounting.proofs.Runs.{run-append}
-use Rattle.invariants.proofs.Accepted.{failed}
 use Rattle.invariants.proofs.Condition3.{money-left}
 use Rattle.exchange.specs.Run.{firstCommands, wholeCommands}
 use Rattle.baskets.specs.Answered.{AnsweredIs, playedCommands, playedOf}

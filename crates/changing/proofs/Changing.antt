@@ -34,7 +34,7 @@ use Rattle.rules.proofs.Lessened.{less-length}
 use Rattle.rules.proofs.Queue.{length-without}
 use Rattle.book.proofs.Places.{lots-number, numbered-append-found, numbered-append-none, numbered-found, without-none, without-number}
 use Rattle.rules.proofs.Stages.{Each}
-use Rattle.invariants.proofs.Accepted.{Failed, failed}
+use Rattle.rules.proofs.Refusals.{Failed, failed, first-append}
 use Rattle.invariants.proofs.ChangeKeeps.{change-counted, change-keeps}
 use Rattle.invariants.proofs.Clauses.{Counted, WellFormed, well-formed-test}
 use Rattle.invariants.proofs.MemoryKeeps.{sound, step-in-keeps, step-in-read}
@@ -44,7 +44,6 @@ use Rattle.engine.specs.declared.answers.Outcome.{Outcome}
 use Rattle.engine.proofs.Formed.{Formed, formed, listing-at, no-account, no-contract}
 use Rattle.engine.proofs.Outcomes.{acceptance, refusal}
 use Rattle.engine.proofs.Puts.{put-queues}
-use Rattle.engine.proofs.Refusals.{first-append}
 use Rattle.engine.proofs.Removals.{apart, in-continuous, removal-accepted, removed-none, side-few, side-once, side-room}
 use Rattle.engine.proofs.Tests.{place-below}
 use Rattle.engine.proofs.Traded.{few-after}

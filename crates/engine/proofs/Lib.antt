@@ -6,7 +6,6 @@ pub mod Margins
 pub mod Outcomes
 pub mod Paying
 pub mod Puts
-pub mod Refusals
 pub mod Removals
 pub mod Tests
 pub mod Traded

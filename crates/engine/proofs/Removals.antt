@@ -29,10 +29,10 @@ use Rattle.rules.specs.declared.Order.{Order}
 use Rattle.rules.specs.declared.State.{State}
 use Rattle.rules.proofs.Codecs.{length-queue, order-at, put-queue}
 use Rattle.rules.proofs.Queue.{length-without, once-append}
+use Rattle.rules.proofs.Refusals.{failed, first-append}
 use Rattle.book.proofs.Places.{index-apart, index-notIn, first-within, lots-none, lots-number, numbered-found, numbered-none, numbered-append-found, numbered-append-none, without-none, without-number}
 use Rattle.book.specs.Removal.{PulledIs}
 use Rattle.book.specs.declared.removal.Pulled.{Pulled}
-use Rattle.invariants.proofs.Accepted.{failed}
 use Rattle.invariants.proofs.Clauses.{ListingOk, OrderOk, order-ok}
 use Rattle.engine.specs.Outcome.{OutcomeIs, refusedWith, acceptedWith, withCountsIn}
 use Rattle.engine.specs.Removal.{removalCode, cancelCode, RemovedIs, CancelledIs}
@@ -41,7 +41,6 @@ use Rattle.engine.specs.declared.removal.Cancelled.{Cancelled}
 use Rattle.engine.proofs.Formed.{Formed, formed, contracts-count, listing-at, no-account, no-contract}
 use Rattle.engine.proofs.Outcomes.{refusal, acceptance}
 use Rattle.engine.proofs.Puts.{put-queues}
-use Rattle.engine.proofs.Refusals.{first-append}
 use Rattle.engine.proofs.Tests.{place-below}
 
 -- ---- 4, by the contract's state

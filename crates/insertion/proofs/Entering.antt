@@ -22,11 +22,11 @@ use Rattle.rules.specs.declared.Order.{Order}
 use Rattle.rules.specs.declared.State.{State}
 use Rattle.rules.proofs.AuctionSteps.{trades-needed as trades-entered}
 use Rattle.rules.proofs.Terms.{terms}
+use Rattle.rules.proofs.Refusals.{failed}
 use Rattle.prices.proofs.Methods.{method-has-tick}
 use Rattle.matching.specs.Entry.{EntryIs}
 use Rattle.matching.specs.Sweep.{SweepReady}
 use Rattle.matching.specs.declared.entry.Entry.{Entry}
-use Rattle.invariants.proofs.Accepted.{failed}
 use Rattle.invariants.proofs.Clauses.{Counted, WellFormed, well-formed, well-formed-test}
 use Rattle.invariants.proofs.Insert.{entered-counted, entered-keeps}
 use Rattle.invariants.proofs.InsertAccepted.{Given, Passes, next-given, numbered, passes}

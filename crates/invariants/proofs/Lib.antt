@@ -1,5 +1,4 @@
 pub mod Clauses
-pub mod Accepted
 pub mod Replay
 pub mod Carry
 pub mod Marks

@@ -32,12 +32,12 @@ use Rattle.rules.proofs.Fillable.{swept-at-most, traded-nil}
 use Rattle.book.proofs.EarlyStop.{trades-counted}
 use Rattle.rules.proofs.Queue.{length-without}
 use Rattle.rules.proofs.Stages.{Each}
+use Rattle.rules.proofs.Refusals.{Failed, failed, first-append}
 use Rattle.book.specs.Removal.{PulledIs}
 use Rattle.book.specs.declared.removal.Pulled.{Pulled}
 use Rattle.accounting.proofs.Declared.{stage-declared}
 use Rattle.accounting.proofs.QuoteMoves.{quoted-shape}
 use Rattle.accounting.proofs.StepShape.{SameShape, shape-sym, shape-trans}
-use Rattle.invariants.proofs.Accepted.{Failed, failed}
 use Rattle.invariants.proofs.Clauses.{Counted, WellFormed}
 use Rattle.invariants.proofs.MemoryKeeps.{sound, stage-keeps, stage-read}
 use Rattle.invariants.proofs.QuoteKeeps.{buy-counted, buy-keeps, buy-passes, buy-sells, gone-accounts, gone-counted, gone-keeps, none-marked, sells-unmarked, still-maker}
@@ -47,7 +47,6 @@ use Rattle.engine.specs.declared.answers.Outcome.{Outcome}
 use Rattle.engine.proofs.Formed.{Formed, account-at, accounts-count, contracts-count, formed, listing-at, no-account, no-contract}
 use Rattle.engine.proofs.Outcomes.{acceptance, refusal}
 use Rattle.engine.proofs.Puts.{put-queues, trades-count}
-use Rattle.engine.proofs.Refusals.{first-append}
 use Rattle.engine.proofs.Removals.{in-continuous, lies}
 use Rattle.engine.proofs.Tests.{place-below}
 use Rattle.engine.proofs.Traded.{few-after, put-traded}

@@ -21,12 +21,11 @@ use Rattle.rules.specs.declared.Order.{Order}
 use Rattle.rules.specs.declared.State.{State}
 use Rattle.rules.specs.declared.Taker.{Taker}
 use Rattle.rules.proofs.Codecs.{length-queue}
+use Rattle.rules.proofs.Refusals.{failed, first-append}
 use Rattle.book.proofs.EarlyStop.{trades-counted}
-use Rattle.invariants.proofs.Accepted.{failed}
 use Rattle.refusals.specs.Insertion.{Facing, Present, QueueRoom, bookTests, lotsRefused, sideArea, sideCount}
 use Rattle.engine.proofs.Formed.{Formed, formed, holding-at, no-account, no-contract}
 use Rattle.engine.proofs.Puts.{trades-count}
-use Rattle.engine.proofs.Refusals.{first-append}
 use Rattle.refusals.proofs.Sides.{contract-is, contract-terms, opposite-facing, opposite-is, resting-low, side-is, side-room}
 use Rattle.engine.proofs.Tests.{place-below}
 

@@ -16,11 +16,11 @@ use Rattle.rules.specs.Memory.{Memory, exchangeOf, queueIn, memory, WellFormedS
 use Rattle.rules.specs.declared.NewOrder.{NewOrder}
 use Rattle.rules.specs.declared.State.{State}
 use Rattle.rules.specs.declared.Taker.{Taker}
+use Rattle.rules.proofs.Refusals.{first-append}
 use Rattle.book.proofs.EarlyStop.{trades-counted}
 use Rattle.refusals.specs.Insertion.{Present, QueueRoom, reentryRefusals, sideArea, sideCount, tradesRefused}
 use Rattle.engine.proofs.Formed.{Formed, formed}
 use Rattle.engine.proofs.Puts.{trades-count}
-use Rattle.engine.proofs.Refusals.{first-append}
 use Rattle.refusals.proofs.Sides.{contract-is, opposite-is, side-room}
 
 module _ {s : State} {buys sells trades : List ℕ} (w : WellFormedState s buys sells trades) (o : NewOrder) (number : ℕ) (p : Present s o) where

@@ -11,6 +11,7 @@ pub mod Rest
 pub mod InUse
 pub mod Terms
 pub mod LotsIncluded
+pub mod Refusals
 pub mod Stages
 pub mod EachKind
 pub mod AuctionTurns

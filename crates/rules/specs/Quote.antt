@@ -4,9 +4,8 @@ use mathlib.Core.List.{List, [], _∷_, _++_}
 use Prim.Native.Nat.{ℕ, _+_}
 use lib.Dec.{ltb, eqb}
 use Rattle.laws.specs.Choice.{pick}
-use Rattle.rules.specs.Answers.{Refusal, _when_, orderRefusals}
-use Rattle.rules.specs.Bounds.{continuous}
-use Rattle.rules.specs.Exchange.{Exchange, listingNamed, phaseNow, holderOf, absent, placeOf}
+use Rattle.rules.specs.Answers.{Refusal, _when_, namedRefusals, notContinuous, orderRefusals}
+use Rattle.rules.specs.Exchange.{Exchange, listingNamed, holderOf, placeOf}
 use Rattle.rules.specs.Matching.{Entered, tradedLots}
 use Rattle.rules.specs.Step.{Effect, withListing, listingWithout, enteredOf, exchangeAfter}
 use Rattle.rules.specs.WellFormed.{isQuoteOf}
@@ -75,15 +74,19 @@ sellEntered x q = enteredMarked (withBuy x q) (sellOf q)
 
 -- ---- "Refusals: after 4, code 23 if not a maker, then 24 if buy is not below sell, then the buy's code from 5 on, then the sell's."
 
+-- those before its orders are looked at
+abbrev pub offerRefusals : Exchange → Offered → List Refusal
+offerRefusals x q =
+    namedRefusals x notContinuous (q .account) (q .contract)
+    ++ (23 when not (eqb (holderOf x (q .account) .maker) 1))
+    ∷ (24 when not (ltb (q .buy) (q .sell)))
+    ∷ []
+
 unfoldable pub quoteRefusals : Exchange → Offered → List Refusal
 quoteRefusals x q =
-    (2 when absent (q .account) (x .accounts))
-    ∷ (3 when absent (q .contract) (x .listings))
-    -- "in continuous only"
-    ∷ (4 when not (eqb (phaseNow x (q .contract)) continuous))
-    ∷ (23 when not (eqb (holderOf x (q .account) .maker) 1))
-    ∷ (24 when not (ltb (q .buy) (q .sell)))
-    ∷ (orderRefusals (withoutQuote x q) (buyOf q) ++ orderRefusals (withBuy x q) (sellOf q))
+    offerRefusals x q
+    ++ orderRefusals (withoutQuote x q) (buyOf q)
+    ++ orderRefusals (withBuy x q) (sellOf q)
 
 -- ---- "The C line gives the buy's number; its lots are summed over both." "a place in use only between the steps is set to zero":
 -- each state is written over the last
