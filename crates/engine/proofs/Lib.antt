@@ -3,6 +3,7 @@ pub mod Changes
 pub mod Declared
 pub mod Formed
 pub mod Margins
+pub mod Named
 pub mod Outcomes
 pub mod Paying
 pub mod Puts

@@ -3,15 +3,18 @@ use mathlib.Core.Bool.{true, false}
 use mathlib.Core.Path.{_≡_, sym, _∙_}
 use Prim.Native.Nat.{_<_}
 use borrow.Author.Needs.{needs}
-use Rattle.engine.specs.Removal.{removalCode}
+use denote.Ref.{now}
+use Rattle.rules.specs.Answers.{firstOf, pullRefusals}
+use Rattle.rules.specs.Memory.{exchangeOf, memory}
 use Rattle.engine.proofs.Removals.{few-contracts, account-low, contract-low, contract-fits, side-room, side-once, cancel-refused, bid-done, bid-another, offer-refused, offer-done}
 use Rattle.engine.proofs.removal.cancel.Statement.{statement}
 use Rattle.engine.proofs.removal.cancel.Tie as tie
 
 -- ---- what the tests have shown
 
-none : (c : tie.Else1) → removalCode (c .before .before .before .before .before .args .state) (c .before .before .before .before .before .args .account) (c .before .before .before .before .before .args .contract) (c .before .before .before .before .before .args .operator) ≡ 0
-none c = sym (c .before .refusal .ensures) ∙ c .if1 .left
+none : (c : tie.Else1) → let start = c .before .before .before .before .before in
+    firstOf (pullRefusals (exchangeOf (memory (start .args .state) (now (start .args .buys)) (now (start .args .sells)) (now (start .args .trades)))) (start .args .account) (start .args .contract) (start .args .operator)) ≡ 0
+none c = sym (c .before .refusal .ensures _ _ _ (c .before .before .before .before .before .pre)) ∙ c .if1 .left
 
 place : (c : tie.After-place-of) → c .place-of .result < 4
 place c = contract-fits (c .before .before .before .before .before .before .pre) _ _ _ (none (c .before)) (c .place-of .ensures)
@@ -25,7 +28,7 @@ refused-requires : tie.Need-refused-requires
 refused-requires c κs = search needs
 
 returns : tie.Need-returns
-returns c = cancel-refused (c .before .before .before .before .before .before .pre) _ _ _ _ (c .before .before .refusal .ensures) (c .before .if1 .taken) (c .refused .ensures)
+returns c = cancel-refused (c .before .before .before .before .before .before .pre) _ _ _ _ (c .before .before .refusal .ensures _ _ _ (c .before .before .before .before .before .before .pre)) (c .before .if1 .taken) (c .refused .ensures)
 
 place-of-requires : tie.Need-place-of-requires
 place-of-requires c κs = contract-low (c .before .before .before .before .before .pre) _ _ _ (none c)
