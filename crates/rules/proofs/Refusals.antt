@@ -41,11 +41,18 @@ first-append [] ss k = refl
 first-append ((code when true) ∷ rs) ss k = rw (ne-eqb code 0 (λ (e : code ≡ 0). omega (arith, k .0))) refl
 first-append ((code when false) ∷ rs) ss k = first-append rs ss (k .1)
 
--- where the first list's failed it is the second's
-pub then-first : (rs ss : List Refusal) → Failed rs → firstOf (rs ++ ss) ≡ firstOf ss
+-- the first list's where one of it holds, the second's where none does
+pub first-here : (rs ss : List Refusal) → (firstOf rs ≡ 0 → ⊥) → firstOf rs ≡ firstOf (rs ++ ss)
 unfolding firstOf
-then-first [] ss f = refl
-then-first ((code when test) ∷ rs) ss f = rw (f .0) (then-first rs ss (f .1))
+first-here [] ss some = absurd (some refl)
+first-here ((code when true) ∷ rs) ss some = refl
+first-here ((code when false) ∷ rs) ss some = first-here rs ss some
+
+pub first-there : (rs ss : List Refusal) → Coded rs → firstOf rs ≡ 0 → firstOf ss ≡ firstOf (rs ++ ss)
+unfolding firstOf
+first-there [] ss k e = refl
+first-there ((code when true) ∷ rs) ss k e = absurd (omega arith)
+first-there ((code when false) ∷ rs) ss k e = first-there rs ss (k .1) e
 
 -- code 0 of both is code 0 of each
 pub both-zero : (rs ss : List Refusal) → Coded rs → firstOf (rs ++ ss) ≡ 0 → Failed rs × (firstOf ss ≡ 0)
