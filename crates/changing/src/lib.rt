@@ -8,9 +8,9 @@ ghost use Rattle.rules.specs.Answers as answer;
 ghost use Rattle.rules.specs.Bounds.{termsInRange};
 ghost use Rattle.rules.specs.Memory.{memory, queueIn, stepIn, firstWord, orderStride, WellFormedState};
 ghost use Rattle.rules.specs.declared.Command.the-variants.{Change};
-ghost use Rattle.engine.specs.Outcome.{OutcomeIs};
+ghost use Rattle.engine.specs.Outcome.{OutcomeIs, FirstIn};
 ghost use Rattle.refusals.specs.Insertion.{sideArea, sideCount};
-ghost use Rattle.changing.specs.Resting.{RestingIs, Changeable, stateRefusals, orderRefusals, loses, arrivingFor, lessenedIn, putBackIn, removedIn, takenOut};
+ghost use Rattle.changing.specs.Resting.{RestingIs, Changeable, restingRefusals, loses, arrivingFor, lessenedIn, putBackIn, removedIn, takenOut};
 use book::queue;
 use engine::answers;
 use engine::answers::Outcome;
@@ -84,7 +84,7 @@ fn resting_order<'a>(
 // Codes 2, 3 and 4, 0 where none holds: "in continuous only". Requires at most 4 contracts.
 fn state_code(state: State, account: u32, contract: u32) -> u32
     requires { ⌜ state .contractcount ≤ 4 ⌝ }
-    ensures { λ r. ⌜ r ≡ answer.firstOf (stateRefusals state account contract) ⌝ }
+    ensures { λ r. ⌜ FirstIn state (λ x. answer.namedRefusals x answer.notContinuous account contract) r ⌝ }
 {
     if answers::is_absent(account, state.accountcount) {
         return 2;
@@ -102,9 +102,9 @@ fn state_code(state: State, account: u32, contract: u32) -> u32
 }
 
 // Codes 14, 15, 5 and 7, 0 where none holds. `account` is the account's place.
-fn order_code(terms: Contract, account: u32, r: Resting, lots: u32, price: u32) -> u32
+fn resting_code(terms: Contract, account: u32, r: Resting, lots: u32, price: u32) -> u32
     requires { ⌜ termsInRange terms ≡ true ⌝ }
-    ensures { λ code. ⌜ code ≡ answer.firstOf (orderRefusals terms account r lots price) ⌝ }
+    ensures { λ code. ⌜ code ≡ answer.firstOf (restingRefusals terms account r lots price) ⌝ }
 {
     if !r.found {
         return 14;
@@ -212,7 +212,7 @@ fn lose_place(
     price: u32,
     r: Resting,
 ) -> Outcome
-    requires { ⌜ WellFormedState state (now buys) (now sells) (now trades) × Changeable state (now buys) (now sells) account contract number lots price r × (lots ≡ 0 → ⊥) × (loses (r .order) lots price ≡ true) ⌝ }
+    requires { ⌜ WellFormedState state (now buys) (now sells) (now trades) × Changeable state (now buys) (now sells) (now trades) account contract number lots price r × (lots ≡ 0 → ⊥) × (loses (r .order) lots price ≡ true) ⌝ }
     ensures { λ o. ⌜ OutcomeIs (stepIn (memory state (now (buys .entry)) (now (sells .entry)) (now (trades .entry))) (Change account contract number lots price)) o (now (buys .exit)) (now (sells .exit)) (now (trades .exit)) ⌝ }
 {
     let c = laws::place_of(contract);
@@ -257,7 +257,7 @@ pub fn change(
     let bids = orders::side_count(false, state, c);
     let offers = orders::side_count(true, state, c);
     let r = resting_order(&buys[..], bids, &sells[..], offers, c, number);
-    let code = order_code(terms, account - 1, r, lots, price);
+    let code = resting_code(terms, account - 1, r, lots, price);
     if code != 0 {
         return answers::refused(state, code);
     }

@@ -4,3 +4,4 @@ pub mod Conditions
 pub mod Inserting
 pub mod Sides
 pub mod Reentering
+pub mod Continuous

@@ -1,21 +1,30 @@
 -- `changing::lose_place` meets its contract: refused, the order is where it was; accepted, it is entered. Assumes nothing.
 use mathlib.Core.Path.{refl, ap, _∙_}
+use native.Mathlib.Omega.{arith}
+use denote.Ref.{now}
 use lib.ListN.{length}
+use Rattle.rules.specs.Answers.{namedRefusals, notContinuous}
+use Rattle.rules.specs.Memory.{exchangeOf, memory}
+use Rattle.rules.proofs.Refusals.{Failed, failed}
+use Rattle.refusals.proofs.Continuous.{account-fits, account-low, contract-fits, contract-low}
 use Rattle.insertion.proofs.Entering.{arrives, leaves-room, order-entered, ready}
-use Rattle.changing.proofs.Changing.{account-fits, account-low, buys-back, can-put-back, can-take-out, contract-fits, contract-low, gone-formed, gone-lots, gone-owner, gone-present, lost-changed, lost-enterable, lost-refused, sells-back, taken-out}
+use Rattle.changing.proofs.Changing.{buys-back, can-put-back, can-take-out, gone-formed, gone-lots, gone-owner, gone-present, lost-changed, lost-enterable, lost-refused, sells-back, taken-out}
 use borrow.Author.Needs.{needs}
 use Rattle.changing.proofs.lose_place.Statement.{statement}
 use Rattle.changing.proofs.lose_place.Tie as tie
 
+named : (start : tie.Start) → Failed (namedRefusals (exchangeOf (memory (start .args .t1) (now (start .args .buys)) (now (start .args .sells)) (now (start .args .trades)))) notContinuous (start .args .account) (start .args .contract))
+named start = failed _ (omega arith) (start .pre .1 .state)
+
 place-of-requires : tie.Need-place-of-requires
 place-of-requires c κs =
     let start = c .before .before .before in
-    contract-low (start .pre .0) (start .args .account) (start .args .contract) (start .args .number) (start .args .lots) (start .args .price) (start .pre .1 .state)
+    contract-low (start .pre .0) _ _ (named start)
 
 place-of-requires-2 : tie.Need-place-of-requires-2
 place-of-requires-2 c κs =
     let start = c .before .before .before .before in
-    account-low (start .pre .0) (start .args .account) (start .args .contract) (start .args .number) (start .args .lots) (start .args .price) (start .pre .1 .state)
+    account-low (start .pre .0) _ _ (named start)
 
 mul-who : tie.Need-mul-who
 mul-who c = search needs
@@ -23,7 +32,7 @@ mul-who c = search needs
 element-copy-out-who : tie.Need-element-copy-out-who
 element-copy-out-who c =
     let start = c .before .before .before .before .before in
-    account-fits (start .pre .0) (start .args .account) (start .args .contract) (start .args .number) (start .args .lots) (start .args .price) (start .pre .1 .state) (c .place-of2 .ensures)
+    account-fits (start .pre .0) _ _ (named start) (c .place-of2 .ensures)
 
 arriving-requires : tie.Need-arriving-requires
 arriving-requires c κs = search needs
@@ -42,7 +51,7 @@ reentry-code-requires c κs =
 side-count-requires : tie.Need-side-count-requires
 side-count-requires c κs =
     let start = c .before .before .before .before .before .before .before .before .before .before .before .before .before .before .before .before .before .before .before in
-    contract-fits (start .pre .0) (start .args .account) (start .args .contract) (start .args .number) (start .args .lots) (start .args .price) (start .pre .1 .state) (c .before .before .before .before .before .before .before .before .before .before .before .before .before .before .before .place-of .ensures)
+    contract-fits (start .pre .0) _ _ (named start) (c .before .before .before .before .before .before .before .before .before .before .before .before .before .before .before .place-of .ensures)
 
 put-back-requires : tie.Need-put-back-requires
 put-back-requires c κs =
