@@ -5,18 +5,18 @@ use mathlib.Core.List.{List, [], _∷_, _++_}
 use mathlib.Core.Path.{_≡_, refl, sym, ap, subst, _∙_}
 use Prim.Native.Nat.{ℕ, _+_, _-_, _<_, _≤_}
 use native.Mathlib.Omega.{arith}
-use borrow.Author.Tests.{eqb-true, eq-eqb, leb-false, ltb-false, ne-eqb, not-false}
-use lib.Dec.{eqb, ltb}
+use borrow.Author.Tests.{eq-eqb, leb-false, ltb-false, ne-eqb}
+use lib.Dec.{eqb}
 use lib.ListN.{length, getD, set, length-set}
 use lib.Seq.{getD-set-same, set-getD}
 use Rattle.laws.specs.Choice.{pick}
 use Rattle.areas.specs.Lists.{removeAt}
 use Rattle.areas.proofs.Lists.{length-removeAt}
 use Rattle.rules.specs.Answers as rules
-use Rattle.rules.specs.Answers.{Refusal, cancelRefusals, firstOf, listingOf, namedRefusals, noSuchOrder, notContinuous, numbered, ofAnother, ownerRefusals, pullRefusals, removalRefused, restingOrder}
-use Rattle.rules.specs.Bounds.{allowedToday, continuous, maxLots, maxResting, numbersEnd, termsInRange}
+use Rattle.rules.specs.Answers.{Refusal, cancelRefusals, dayLimit, firstOf, listingOf, namedRefusals, noSuchOrder, notContinuous, numbered, ofAnother, ownerRefusals, pullRefusals, restingOrder}
+use Rattle.rules.specs.Bounds.{maxResting, numbersEnd}
 use Rattle.rules.specs.Change.{Asked, arriving, asked, changeRefusals, changed, gone, isSell, lessened, listingFor, listingLessened, losesPlace, newFieldsRefusals, oldOrder, placeKept, placeLost, reentered, reentryRefusals, unchanged}
-use Rattle.rules.specs.Exchange.{Exchange, absent, listingAt, noAccount, noContract, noOrder, own, placeOf, isAbsent}
+use Rattle.rules.specs.Exchange.{Exchange, noAccount, noContract, noOrder, own, placeOf}
 use Rattle.rules.specs.Kinds.{codeOf, decide, done, kindOf, lastOf, step}
 use Rattle.rules.specs.Matching.{Entered, tradedLots}
 use Rattle.rules.specs.Memory.{Declared, Memory, AfterCommand, WellFormedState, exchangeOf, firstWord, listingIn, memory, orderStride, put, putQueue, queueIn, stepIn, written}
@@ -44,13 +44,12 @@ use Rattle.engine.specs.declared.answers.Outcome.{Outcome}
 use Rattle.engine.proofs.Formed.{Formed, formed, listing-at}
 use Rattle.engine.proofs.Outcomes.{acceptance, refusal}
 use Rattle.engine.proofs.Puts.{put-queues}
-use Rattle.engine.proofs.Removals.{apart, in-continuous, removal-accepted, removed-none, side-few, side-once, side-room}
-use Rattle.engine.proofs.Tests.{place-below}
+use Rattle.engine.proofs.Removals.{apart, removal-accepted, removed-none, side-few, side-once, side-room}
 use Rattle.engine.proofs.Traded.{few-after}
 use Rattle.refusals.specs.Insertion.{Present, sideArea, sideCount}
-use Rattle.refusals.proofs.Continuous.{account-here, account-low, contract-fits, contract-low, here, none}
+use Rattle.refusals.proofs.Continuous.{account-here, account-low, contract-fits, contract-here, contract-low, pulls}
 use Rattle.insertion.specs.Arrival.{Enterable, enteredIn}
-use Rattle.changing.specs.Resting.{Changeable, RestingIs, arrivingFor, lessenedIn, loses, putBackIn, removedIn, restingRefusals, takenOut}
+use Rattle.changing.specs.Resting.{Changeable, RestingIs, lessenedIn, loses, putBackIn, removedIn, restingRefusals, takenOut}
 use Rattle.changing.specs.declared.Resting.{Resting}
 use Rattle.changing.proofs.Finding.{lessened-none, lessened-one, missing-of, restored}
 
@@ -108,7 +107,7 @@ module _ {s : State} {buys sells trades : List ℕ} (w : WellFormedState s buys 
 
   module _ (st : firstOf stated ≡ 0) where
     listing-is : listingFor x k ≡ listingIn m c
-    listing-is = listing-at m f c (here w account contract (failed stated (omega arith) st))
+    listing-is = listing-at m f c (contract-here w account contract (failed stated (omega arith) st))
 
     resting-is : resting ≡ numbered number (bought ++ sold)
     unfolding restingOrder listingIn
@@ -170,7 +169,7 @@ module _ {s : State} {buys sells trades : List ℕ} (w : WellFormedState s buys 
     unfolding isSell listingIn
     sell-is = rw (listing-is st′) (sym (g .resting .sell found))
 
-    arriving-is : arriving x k ≡ arrivingFor account contract r lots price
+    arriving-is : arriving x k ≡ dayLimit account contract (r .sell) (eqb (r .order .close) 1) lots price
     unfolding arriving
     arriving-is = rw (sell-is, old-is)
 
@@ -200,13 +199,13 @@ module _ {s : State} {buys sells trades : List ℕ} (w : WellFormedState s buys 
     queue side = queueIn (area side) c (count side)
 
     room : (side : Bool) → firstWord c (count side) ≤ length (area side)
-    room = side-room w account contract false (none w account contract named) refl
+    room = side-room w account contract false (pulls w account contract named) refl
 
     few : (side : Bool) → count side ≤ maxResting
-    few = side-few w account contract false (none w account contract named) refl
+    few = side-few w account contract false (pulls w account contract named) refl
 
     once : (side : Bool) → usedOnce (numbers (queue side)) ≡ true
-    once = side-once w account contract false (none w account contract named) refl
+    once = side-once w account contract false (pulls w account contract named) refl
 
     mine : (side : Bool) → r .sell ≡ side → (r .place ≡ indexOf number (queue side)) × (r .place < count side)
     mine true e =
@@ -219,7 +218,7 @@ module _ {s : State} {buys sells trades : List ℕ} (w : WellFormedState s buys 
 
     other : (side : Bool) → r .sell ≡ side → indexOf number (queue (not side)) ≡ length (queue (not side))
     other true e = missing-of number bought (sym (g .resting .sell found) ∙ e)
-    other false e = apart w account contract false (none w account contract named) refl number (mine-in false e)
+    other false e = apart w account contract false (pulls w account contract named) refl number (mine-in false e)
 
     place-in : r .place < count (r .sell)
     place-in = mine (r .sell) refl .1
@@ -244,7 +243,7 @@ module _ {s : State} {buys sells trades : List ℕ} (w : WellFormedState s buys 
     cancel-code : codeOf x (Cancel account contract false number) ≡ 0
     unfolding codeOf kindOf cancelRefusals pullRefusals firstOf ofAnother noSuchOrder
     cancel-code =
-        sym (first-there (pullRefusals x account contract false) (ownerRefusals (placeOf account) resting) (omega arith) (none w account contract named))
+        sym (first-there (pullRefusals x account contract false) (ownerRefusals (placeOf account) resting) (omega arith) (pulls w account contract named))
         ∙ rw (one-resting, another) refl
 
     gone-is : stepIn m (Cancel account contract false number) .memory ≡ put m (gone x k)
@@ -284,10 +283,10 @@ module _ {s : State} {buys sells trades : List ℕ} (w : WellFormedState s buys 
         (pick side buys (removedIn buys c (count false) (r .place))) (pick side (removedIn sells c (count true) (r .place)) sells)
     unfolding kindOf cancelled
     as-cancelled true e =
-        removal-accepted w account contract false (none w account contract named) refl (hasNumber number) (other-removed true e) (own-removed true e)
+        removal-accepted w account contract false (pulls w account contract named) refl (hasNumber number) (other-removed true e) (own-removed true e)
         (Cancel account contract false number) cancel-code refl refl (omega arith) refl
     as-cancelled false e =
-        removal-accepted w account contract false (none w account contract named) refl (hasNumber number) (own-removed false e) (other-removed false e)
+        removal-accepted w account contract false (pulls w account contract named) refl (hasNumber number) (own-removed false e) (other-removed false e)
         (Cancel account contract false number) cancel-code refl refl (omega arith) refl
 
     pub can-take-out : {place : ℕ} → place ≡ c
@@ -359,7 +358,7 @@ module _ {s : State} {buys sells trades : List ℕ} (w : WellFormedState s buys 
         unfolding listingIn
         less-lies =
             rw (listing-is st′)
-            (put-queues m f c (here w account contract named) (lessened number lots bought) (lessened number lots sold) (less-few false) (less-few true)
+            (put-queues m f c (contract-here w account contract named) (lessened number lots bought) (lessened number lots sold) (less-few false) (less-few true)
             ∙ rw (
               less-length number lots bought,
               less-length number lots sold,
@@ -409,7 +408,7 @@ module _ {s : State} {buys sells trades : List ℕ} (w : WellFormedState s buys 
         gone-lies : put m (gone x k)
             ≡ memory (withCountsIn s (set (s .buycounts) c (length (left false))) (set (s .sellcounts) c (length (left true)))) (putQueue buys c (count false) (left false)) (putQueue sells c (count true) (left true)) trades
         unfolding gone listingIn
-        gone-lies = rw (listing-is st′) (put-queues m f c (here w account contract named) (left false) (left true) (left-few false) (left-few true))
+        gone-lies = rw (listing-is st′) (put-queues m f c (contract-here w account contract named) (left false) (left true) (left-few false) (left-few true))
 
         gone-state : t .state ≡ withCountsIn s (set (s .buycounts) c (length (left false))) (set (s .sellcounts) c (length (left true)))
         gone-state = ap (λ (n : Memory). n .state) (lies ∙ gone-lies)
@@ -436,14 +435,14 @@ module _ {s : State} {buys sells trades : List ℕ} (w : WellFormedState s buys 
         gone-formed = record { declared = gone-declared; formed = rw (taken .memory) (step-in-keeps m (w .formed) (Cancel account contract false number)) }
 
         -- the order as it arrives again
-        module _ {o : NewOrder} (eo : o ≡ arrivingFor account contract r lots price) where
+        module _ {o : NewOrder} (eo : o ≡ dayLimit account contract (r .sell) (eqb (r .order .close) 1) lots price) where
           its-order : o ≡ arriving x k
           its-order = eo ∙ sym arriving-is
 
           pub gone-present : Present (t .state) o
           gone-present =
               rw (eo, gone-state)
-              (record { account-low = account-low w account contract named; account = account-here w account contract named; contract-low = contract-low w account contract named; contract = here w account contract named })
+              (record { account-low = account-low w account contract named; account = account-here w account contract named; contract-low = contract-low w account contract named; contract = contract-here w account contract named })
 
           pub gone-lots : o .lots ≤ 1_000
           gone-lots = rw eo few-lots
@@ -462,10 +461,10 @@ module _ {s : State} {buys sells trades : List ℕ} (w : WellFormedState s buys 
               kept-other side e = rw (without-none (hasNumber number) (queue (not side)) (other side e)) (put-queue (area (not side)) c (count (not side)) (room (not side)))
 
               counts-in : c < length (s .buycounts)
-              counts-in = omega (arith, w .declared .buys, here w account contract named, f .contracts-high)
+              counts-in = omega (arith, w .declared .buys, contract-here w account contract named, f .contracts-high)
 
               counts-in-sells : c < length (s .sellcounts)
-              counts-in-sells = omega (arith, w .declared .sells, here w account contract named, f .contracts-high)
+              counts-in-sells = omega (arith, w .declared .sells, contract-here w account contract named, f .contracts-high)
 
               count-is : (side : Bool) → r .sell ≡ side → sideCount side (t .state) c ≡ count side - 1
               count-is true e = rw gone-state (getD-set-same (s .sellcounts) c (length (left true)) 0 counts-in-sells ∙ out-length true e)
@@ -475,8 +474,8 @@ module _ {s : State} {buys sells trades : List ℕ} (w : WellFormedState s buys 
               less-one = en ∙ rw is (count-is (r .sell) refl)
 
               wide : (side : Bool) → length (sideArea side buys′ sells′) ≡ length (area side)
-              wide true = ap length gone-sells ∙ length-putQueue sells c (count true) (left true) (few true) (left-few true) (omega (arith, f .sells-room, here w account contract named))
-              wide false = ap length gone-buys ∙ length-putQueue buys c (count false) (left false) (few false) (left-few false) (omega (arith, f .buys-room, here w account contract named))
+              wide true = ap length gone-sells ∙ length-putQueue sells c (count true) (left true) (few true) (left-few true) (omega (arith, f .sells-room, contract-here w account contract named))
+              wide false = ap length gone-buys ∙ length-putQueue buys c (count false) (left false) (few false) (left-few false) (omega (arith, f .buys-room, contract-here w account contract named))
 
               pub can-put-back : (r .place ≤ count₁) × (firstWord place count₁ + orderStride ≤ length (sideArea (r .sell) buys′ sells′))
               can-put-back = rw is (omega (arith, less-one, place-in), omega (arith, less-one, place-in, wide (r .sell), room (r .sell)))

@@ -1,6 +1,6 @@
 -- A resting order as the code finds it, what a change of it has passed before its place may be lost, and what is written of one queue.
 -- Assumes nothing.
-use mathlib.Core.Bool.{Bool, true, false, not, _&&_, _||_}
+use mathlib.Core.Bool.{Bool, true, false, not, _||_}
 use mathlib.Core.List.{List, [], _∷_, _++_}
 use mathlib.Core.Path.{_≡_}
 use Prim.Native.Nat.{ℕ, _-_, _<_}
@@ -15,11 +15,8 @@ use Rattle.rules.specs.Matching.{withLots}
 use Rattle.rules.specs.Memory.{exchangeOf, memory, putQueue, queueIn}
 use Rattle.book.specs.Places.{indexOf}
 use Rattle.rules.specs.declared.Contract.{Contract}
-use Rattle.rules.specs.declared.NewOrder.{NewOrder}
 use Rattle.rules.specs.declared.Order.{Order}
-use Rattle.rules.specs.declared.PriceCondition.the-variants.{Limit}
 use Rattle.rules.specs.declared.State.{State}
-use Rattle.rules.specs.declared.TimeCondition.the-variants.{GoodForDay}
 use Rattle.engine.specs.Outcome.{withCountsIn}
 use Rattle.refusals.specs.Insertion.{sideCount}
 use Rattle.changing.specs.declared.Resting.{Resting}
@@ -48,20 +45,6 @@ pub record Changeable (s : State) (buys sells trades : List ℕ) (account contra
 -- "more lots or another price lose it"
 abbrev pub loses : Order → ℕ → ℕ → Bool
 loses o lots price = ltb (o .lots) lots || not (eqb price (o .price))
-
--- the order as it arrives again
-abbrev pub arrivingFor : ℕ → ℕ → Resting → ℕ → ℕ → NewOrder
-arrivingFor account contract r lots price =
-    record {
-      account = account;
-      contract = contract;
-      sell = r .sell;
-      close = eqb (r .order .close) 1;
-      lots = lots;
-      price = price;
-      condition = Limit price;
-      time = GoodForDay;
-    }
 
 -- ---- one queue written: other lots and no mark at a place, an order taken out of one, and put back
 

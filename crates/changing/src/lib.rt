@@ -2,28 +2,26 @@
 ghost use mathlib.Core.Bool.{true, false};
 ghost use mathlib.Core.Path.{_≡_};
 ghost use Prim.Native.Nat.{_+_, _<_, _≤_};
+ghost use lib.Dec.{eqb};
 ghost use lib.ListN.{length};
 ghost use Rattle.laws.specs.Choice.{pick};
 ghost use Rattle.rules.specs.Answers as answer;
 ghost use Rattle.rules.specs.Bounds.{termsInRange};
 ghost use Rattle.rules.specs.Memory.{memory, queueIn, stepIn, firstWord, orderStride, WellFormedState};
 ghost use Rattle.rules.specs.declared.Command.the-variants.{Change};
-ghost use Rattle.engine.specs.Outcome.{OutcomeIs, FirstIn};
+ghost use Rattle.engine.specs.Outcome.{OutcomeIs};
 ghost use Rattle.refusals.specs.Insertion.{sideArea, sideCount};
-ghost use Rattle.changing.specs.Resting.{RestingIs, Changeable, restingRefusals, loses, arrivingFor, lessenedIn, putBackIn, removedIn, takenOut};
+ghost use Rattle.changing.specs.Resting.{RestingIs, Changeable, restingRefusals, loses, lessenedIn, putBackIn, removedIn, takenOut};
 use book::queue;
 use engine::answers;
 use engine::answers::Outcome;
 use engine::removal;
 use refusals::codes;
 use refusals::orders;
-use rules::CONTINUOUS;
 use rules::Contract;
 use rules::NewOrder;
 use rules::Order;
-use rules::PriceCondition;
 use rules::State;
-use rules::TimeCondition;
 
 // The order with a number as it rests: whether there is one, its side, its place in the queue, the order itself.
 struct Resting {
@@ -81,26 +79,6 @@ fn resting_order<'a>(
     }
 }
 
-// Codes 2, 3 and 4, 0 where none holds: "in continuous only". Requires at most 4 contracts.
-fn state_code(state: State, account: u32, contract: u32) -> u32
-    requires { ⌜ state .contractcount ≤ 4 ⌝ }
-    ensures { λ r. ⌜ FirstIn state (λ x. answer.namedRefusals x answer.notContinuous account contract) r ⌝ }
-{
-    if answers::is_absent(account, state.accountcount) {
-        return 2;
-    }
-    if answers::is_absent(contract, state.contractcount) {
-        return 3;
-    }
-    let place = laws::place_of(contract);
-    let contracts = state.contracts;
-    let terms = contracts[place];
-    if terms.phase != CONTINUOUS {
-        return 4;
-    }
-    0
-}
-
 // Codes 14, 15, 5 and 7, 0 where none holds. `account` is the account's place.
 fn resting_code(terms: Contract, account: u32, r: Resting, lots: u32, price: u32) -> u32
     requires { ⌜ termsInRange terms ≡ true ⌝ }
@@ -135,21 +113,12 @@ fn loses_place(order: Order, lots: u32, price: u32) -> bool
     price != order.price
 }
 
-// The order as it arrives again: a good-for-day limit order, to open or close as before.
+// The order as it arrives again, to open or close as before.
 fn arriving(account: u32, contract: u32, r: Resting, lots: u32, price: u32) -> NewOrder
-    ensures { λ o. ⌜ o ≡ arrivingFor account contract r lots price ⌝ }
+    ensures { λ o. ⌜ o ≡ answer.dayLimit account contract (r .sell) (eqb (r .order .close) 1) lots price ⌝ }
 {
     let order = r.order;
-    NewOrder {
-        account,
-        contract,
-        sell: r.sell,
-        close: order.close == 1,
-        lots,
-        price,
-        condition: PriceCondition::Limit(price),
-        time: TimeCondition::GoodForDay,
-    }
+    orders::day_limit(account, contract, r.sell, order.close == 1, lots, price)
 }
 
 // Fewer lots: that order's lots alone, and its mark. `count` is the number of orders on its side.
@@ -247,7 +216,7 @@ pub fn change(
     requires { ⌜ WellFormedState state (now buys) (now sells) (now trades) ⌝ }
     ensures { λ r. ⌜ OutcomeIs (stepIn (memory state (now (buys .entry)) (now (sells .entry)) (now (trades .entry))) (Change account contract number lots price)) r (now (buys .exit)) (now (sells .exit)) (now (trades .exit)) ⌝ }
 {
-    let early = state_code(state, account, contract);
+    let early = codes::continuous_code(state, account, contract);
     if early != 0 {
         return answers::refused(state, early);
     }

@@ -17,7 +17,7 @@ use Rattle.areas.proofs.Lists.{length-removeAt}
 use Rattle.rules.specs.Kinds.{codeOf, done, kindOf}
 use Rattle.rules.specs.Answers.{Refusal, cancelRefusals, firstOf, noSuchOrder, numbered, ofAnother, ownerRefusals, pullRefusals, removalRefused, restingOrder}
 use Rattle.rules.specs.Bounds.{maxLots, inAuction, maxResting}
-use Rattle.rules.specs.Exchange.{Listing, listingAt, lotsWhere, noContract, noListing, noOrder, isAbsent}
+use Rattle.rules.specs.Exchange.{Listing, listingAt, lotsWhere, noListing, noOrder, isAbsent}
 use Rattle.rules.specs.Memory.{Memory, exchangeOf, listingIn, orderFrom, put, putQueue, queueIn, stepIn, memory, WellFormedState, firstWord}
 use Rattle.book.specs.Places.{firstWhere, indexOf}
 use Rattle.rules.specs.Step.{Effect, answerOf, cancelled, hasNumber, isOf, listingWithout, pulled, removed, withListing, without}

@@ -32,8 +32,8 @@ module _ {s : State} {buys sells trades : List ℕ} (w : WellFormedState s buys 
   abbrev c : ℕ
   c = placeOf contract
 
-  pub here : c < s .contractcount
-  here = contract-there w notContinuous account contract passed .1
+  pub contract-here : c < s .contractcount
+  contract-here = contract-there w notContinuous account contract passed .1
 
   pub contract-low : 1 ≤ contract
   contract-low = contract-there w notContinuous account contract passed .0
@@ -48,20 +48,20 @@ module _ {s : State} {buys sells trades : List ℕ} (w : WellFormedState s buys 
   account-fits e = omega (arith, account-here, f .accounts-high)
 
   pub contract-fits : {place : ℕ} → place ≡ c → place < maxContracts
-  contract-fits e = omega (arith, here, f .contracts-high)
+  contract-fits e = omega (arith, contract-here, f .contracts-high)
 
   pub terms-ok : {place : ℕ} → place ≡ c → termsInRange (getD (s .contracts) place noContract) ≡ true
-  terms-ok e = rw e (contract-terms m f c here)
+  terms-ok e = rw e (contract-terms m f c contract-here)
 
   phase-is : listingAt x c .contract .phase ≡ continuous
   phase-is = eqb-true _ _ (not-false _ (passed .1 .1 .0))
 
   -- a cancel passes its first tests too
-  pub none : firstOf (pullRefusals x account contract false) ≡ 0
+  pub pulls : firstOf (pullRefusals x account contract false) ≡ 0
   unfolding pullRefusals firstOf
-  none = rw (passed .0, passed .1 .0, ← in-continuous (listingAt x c .contract) false phase-is) refl
+  pulls = rw (passed .0, passed .1 .0, ← in-continuous (listingAt x c .contract) false phase-is) refl
 
   pub rooms : {place : ℕ} → place ≡ c → {bids offers : ℕ} → bids ≡ getD (s .buycounts) place 0 → offers ≡ getD (s .sellcounts) place 0
       → (firstWord place bids ≤ length buys) × (firstWord place offers ≤ length sells)
-  rooms e eb es = rw (eb, es) (side-room w account contract false none e false, side-room w account contract false none e true)
+  rooms e eb es = rw (eb, es) (side-room w account contract false pulls e false, side-room w account contract false pulls e true)
 

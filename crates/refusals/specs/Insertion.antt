@@ -6,7 +6,7 @@ use mathlib.Core.Path.{_≡_}
 use Prim.Native.Nat.{ℕ, _<_, _≤_}
 use lib.ListN.{length, getD}
 use Rattle.laws.specs.Choice.{pick}
-use Rattle.rules.specs.Answers.{listingOf, oppositeQueue, ownQueue, takerOf}
+use Rattle.rules.specs.Answers.{listingOf, namedRefusals, notContinuous, oppositeQueue, ownQueue, takerOf}
 use Rattle.rules.specs.Bounds.{maxResting}
 use Rattle.rules.specs.Exchange.{Exchange, bestPrice, isAbsent, noAccount, placeOf}
 use Rattle.rules.specs.Memory.{queueIn, firstWord}
@@ -17,6 +17,7 @@ use Rattle.rules.specs.declared.NewOrder.{NewOrder}
 use Rattle.rules.specs.declared.Order.{Order}
 use Rattle.rules.specs.declared.State.{State}
 use Rattle.rules.specs.declared.Taker.{Taker}
+use Rattle.engine.specs.Outcome.{FirstIn}
 
 -- ---- one side of a contract, as it lies
 
@@ -58,3 +59,8 @@ pub record Present (s : State) (o : NewOrder) : Type 0 where
 pub record OwnedBy (s : State) (o : NewOrder) (who : Account) : Type 0 where
   pub in-use : isAbsent (o .account) (s .accountcount) ≡ false
   pub owner : getD (s .accounts) (placeOf (o .account)) noAccount ≡ who
+
+-- 2, 3 and 4 of a kind "in continuous only"; code 0 says that its account is in use
+pub record ContinuousIs (s : State) (account contract code : ℕ) : Type 0 where
+  pub first : FirstIn s (λ x. namedRefusals x notContinuous account contract) code
+  pub account-in-use : code ≡ 0 → isAbsent account (s .accountcount) ≡ false

@@ -1,20 +1,20 @@
 // The code of an insert: the refusals 3 to 13 in their order, those from 5 on as a call of its own; and of an order that is entered
 // again, which some of them test. For our own crates: `code_of`, `order_code` and `reentry_code` ask for a well-formed state and an
-// order whose account is in use, the others for what they read of it.
+// order whose account is in use, the others for what they read of it; `continuous_code` gives 2, 3 and 4 of a quote and of a change.
 ghost use mathlib.Core.Bool.{true, _&&_, _||_};
 ghost use mathlib.Core.Path.{_≡_};
 ghost use Prim.Native.Nat.{_-_, _≤_};
 ghost use lib.Dec.{leb, ltb};
 ghost use lib.ListN.{getD};
 ghost use Rattle.rules.specs.Answers as answer;
-ghost use Rattle.rules.specs.Bounds.{inAuction, termsInRange, maxTrades, numbersEnd};
+ghost use Rattle.rules.specs.Bounds.{termsInRange, maxContracts, maxLots, maxTrades, numbersEnd};
 ghost use Rattle.rules.specs.Exchange.{Exchange, noAccount};
 ghost use Rattle.rules.specs.Matching as matching;
 ghost use Rattle.rules.specs.Kinds.{codeOf};
 ghost use Rattle.rules.specs.Memory.{exchangeOf, queueIn, memory, WellFormedState};
 ghost use Rattle.rules.specs.declared.Command.the-variants.{Insert};
 ghost use Rattle.rules.specs.Change.{reentryRefusals};
-ghost use Rattle.refusals.specs.Insertion.{Present, OwnedBy, QueueRoom, Facing, Meets};
+ghost use Rattle.refusals.specs.Insertion.{Present, OwnedBy, QueueRoom, Facing, Meets, ContinuousIs};
 use crate::orders;
 use engine::answers;
 use rules::AUCTION;
@@ -127,7 +127,7 @@ fn money_refused<'a>(
     trades: &'a [u32],
     o: NewOrder,
 ) -> bool
-    requires { ⌜ WellFormedState state (now buys) (now sells) (now trades) × Present state o × (o .lots ≤ 1000) × (getD (state .accounts) (o .account - 1) noAccount ≡ who) ⌝ }
+    requires { ⌜ WellFormedState state (now buys) (now sells) (now trades) × Present state o × (o .lots ≤ maxLots) × (getD (state .accounts) (o .account - 1) noAccount ≡ who) ⌝ }
     ensures { λ r. ⌜ r ≡ answer.moneyRefused (exchangeOf (memory state (now (buys .entry)) (now (sells .entry)) (now (trades .entry)))) o ⌝ }
 {
     if o.close {
@@ -163,7 +163,7 @@ fn account_code<'a>(
     trades: &'a [u32],
     o: NewOrder,
 ) -> u32
-    requires { ⌜ WellFormedState state (now buys) (now sells) (now trades) × Present state o × (o .lots ≤ 1000) × (getD (state .accounts) (o .account - 1) noAccount ≡ who) ⌝ }
+    requires { ⌜ WellFormedState state (now buys) (now sells) (now trades) × Present state o × (o .lots ≤ maxLots) × (getD (state .accounts) (o .account - 1) noAccount ≡ who) ⌝ }
     ensures { λ r. ⌜ r ≡ answer.firstOf (answer.accountRefusals (exchangeOf (memory state (now (buys .entry)) (now (sells .entry)) (now (trades .entry)))) o) ⌝ }
 {
     let c = laws::place_of(o.contract);
@@ -369,7 +369,7 @@ pub fn reentry_code<'a>(
     o: NewOrder,
     number: u32,
 ) -> u32
-    requires { ⌜ WellFormedState state (now buys) (now sells) (now trades) × Present state o × (o .lots ≤ 1000) × (getD (state .accounts) (o .account - 1) noAccount ≡ who) ⌝ }
+    requires { ⌜ WellFormedState state (now buys) (now sells) (now trades) × Present state o × (o .lots ≤ maxLots) × (getD (state .accounts) (o .account - 1) noAccount ≡ who) ⌝ }
     ensures { λ r. ⌜ r ≡ answer.firstOf (reentryRefusals (exchangeOf (memory state (now (buys .entry)) (now (sells .entry)) (now (trades .entry)))) number o) ⌝ }
 {
     let account = account_code(state, who, buys, sells, trades, o);
@@ -387,6 +387,26 @@ pub fn reentry_code<'a>(
     let t = orders::taker_of(number, 0, state.nextstamp, terms, area, count, o);
     if trades_refused(terms, state.tradecount, area, c, count, t, o.lots) {
         return 12;
+    }
+    0
+}
+
+// Codes 2, 3 and 4 of a quote and of a change, 0 where none holds: "in continuous only".
+pub fn continuous_code(state: State, account: u32, contract: u32) -> u32
+    requires { ⌜ state .contractcount ≤ maxContracts ⌝ }
+    ensures { λ r. ⌜ ContinuousIs state account contract r ⌝ }
+{
+    if answers::is_absent(account, state.accountcount) {
+        return 2;
+    }
+    if answers::is_absent(contract, state.contractcount) {
+        return 3;
+    }
+    let place = laws::place_of(contract);
+    let contracts = state.contracts;
+    let terms = contracts[place];
+    if terms.phase != CONTINUOUS {
+        return 4;
     }
     0
 }

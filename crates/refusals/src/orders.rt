@@ -72,6 +72,29 @@ pub fn by_side(sell: bool, selling: u32, buying: u32) -> u32
     if sell { selling } else { buying }
 }
 
+// A good-for-day limit order, as a change and a quote send it.
+pub fn day_limit(
+    account: u32,
+    contract: u32,
+    sell: bool,
+    close: bool,
+    lots: u32,
+    price: u32,
+) -> NewOrder
+    ensures { λ r. ⌜ r ≡ answer.dayLimit account contract sell close lots price ⌝ }
+{
+    NewOrder {
+        account,
+        contract,
+        sell,
+        close,
+        lots,
+        price,
+        condition: PriceCondition::Limit(price),
+        time: TimeCondition::GoodForDay,
+    }
+}
+
 // The area of a side.
 pub fn side_area<'a>(sell: bool, buys: &'a [u32], sells: &'a [u32]) -> &'a [u32]
     ensures { λ r. ⌜ now r ≡ sideArea sell (now (buys .entry)) (now (sells .entry)) ⌝ }

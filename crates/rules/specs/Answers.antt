@@ -55,6 +55,11 @@ abbrev pub mark : Bool → ℕ
 mark true = 1
 mark false = 0
 
+-- a good-for-day limit order, as a change and a quote send it (02, tickets 8 and 7)
+abbrev pub dayLimit : ℕ → ℕ → Bool → Bool → ℕ → ℕ → NewOrder
+dayLimit account contract sell close lots price =
+    record { account = account; contract = contract; sell = sell; close = close; lots = lots; price = price; condition = Limit price; time = GoodForDay }
+
 unfoldable pub listingOf : Exchange → NewOrder → Listing
 listingOf x o = listingNamed x (o .contract)
 

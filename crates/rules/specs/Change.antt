@@ -5,7 +5,7 @@ use Prim.Native.Nat.{ℕ}
 use lib.Dec.{ltb, eqb}
 use lib.ListN.{getD}
 use Rattle.laws.specs.Choice.{pick}
-use Rattle.rules.specs.Answers.{Refusal, _when_, numbered, restingOrder, noSuchOrder, namedRefusals, notContinuous, ownerRefusals, accountRefusals, stampsUsedUp, tradesRefused}
+use Rattle.rules.specs.Answers.{Refusal, _when_, dayLimit, numbered, restingOrder, noSuchOrder, namedRefusals, notContinuous, ownerRefusals, accountRefusals, stampsUsedUp, tradesRefused}
 use Rattle.rules.specs.Bounds.{allowedToday, maxLots}
 use Rattle.rules.specs.Exchange.{Exchange, Listing, listingNamed, placeOf, noOrder}
 use Rattle.rules.specs.Matching.{Entered, tradedLots, withLots}
@@ -13,8 +13,6 @@ use Rattle.rules.specs.Step.{Effect, accepted, withListing, listingWitho
 use Rattle.rules.specs.declared.Contract.{Contract}
 use Rattle.rules.specs.declared.NewOrder.{NewOrder}
 use Rattle.rules.specs.declared.Order.{Order}
-use Rattle.rules.specs.declared.PriceCondition.the-variants.{Limit}
-use Rattle.rules.specs.declared.TimeCondition.the-variants.{GoodForDay}
 use Rattle.rules.specs.declared.Trade.{Trade}
 
 -- "account, contract, order number, the new remaining lots and the price"
@@ -49,17 +47,7 @@ gone x k = withListing x (placeOf (k .contract)) (listingWithout (hasNumber (k .
 
 -- "then matched at once": it arrives as a good-for-day limit order of its account, on its side, to open or close as before
 unfoldable pub arriving : Exchange → Asked → NewOrder
-arriving x k =
-    record {
-      account = k .account;
-      contract = k .contract;
-      sell = isSell x k;
-      close = eqb (oldOrder x k .close) 1;
-      lots = k .lots;
-      price = k .price;
-      condition = Limit (k .price);
-      time = GoodForDay;
-    }
+arriving x k = dayLimit (k .account) (k .contract) (isSell x k) (eqb (oldOrder x k .close) 1) (k .lots) (k .price)
 
 -- "The number stays." "In a quote, any other change of an order drops that order's mark."
 unfoldable pub reentered : Exchange → Asked → Entered

@@ -4,14 +4,13 @@ use mathlib.Core.List.{List, [], _∷_, _++_}
 use Prim.Native.Nat.{ℕ, _+_}
 use lib.Dec.{ltb, eqb}
 use Rattle.laws.specs.Choice.{pick}
-use Rattle.rules.specs.Answers.{Refusal, _when_, namedRefusals, notContinuous, orderRefusals}
+use Rattle.rules.specs.Answers.{Refusal, _when_, dayLimit, namedRefusals, notContinuous, orderRefusals}
 use Rattle.rules.specs.Exchange.{Exchange, listingNamed, holderOf, placeOf}
 use Rattle.rules.specs.Matching.{Entered, tradedLots}
 use Rattle.rules.specs.Step.{Effect, withListing, listingWithout, enteredOf, exchangeAfter}
 use Rattle.rules.specs.WellFormed.{isQuoteOf}
+use Rattle.rules.specs.declared.Account.{Account}
 use Rattle.rules.specs.declared.NewOrder.{NewOrder}
-use Rattle.rules.specs.declared.PriceCondition.the-variants.{Limit}
-use Rattle.rules.specs.declared.TimeCondition.the-variants.{GoodForDay}
 use Rattle.rules.specs.declared.Trade.{Trade}
 
 -- account, contract, "equal lots", the buy price and the sell price
@@ -27,17 +26,7 @@ offered account contract lots buy sell = record { account = account; contract = 
 
 -- "a buy and a sell good-for-day limit open with equal lots"
 unfoldable pub half : Offered → Bool → NewOrder
-half q sell =
-    record {
-      account = q .account;
-      contract = q .contract;
-      sell = sell;
-      close = false;
-      lots = q .lots;
-      price = pick sell (q .sell) (q .buy);
-      condition = Limit (pick sell (q .sell) (q .buy));
-      time = GoodForDay;
-    }
+half q sell = dayLimit (q .account) (q .contract) sell false (q .lots) (pick sell (q .sell) (q .buy))
 
 abbrev pub buyOf : Offered → NewOrder
 buyOf q = half q false
@@ -74,17 +63,17 @@ sellEntered x q = enteredMarked (withBuy x q) (sellOf q)
 
 -- ---- "Refusals: after 4, code 23 if not a maker, then 24 if buy is not below sell, then the buy's code from 5 on, then the sell's."
 
--- those before its orders are looked at
-abbrev pub offerRefusals : Exchange → Offered → List Refusal
-offerRefusals x q =
-    namedRefusals x notContinuous (q .account) (q .contract)
-    ++ (23 when not (eqb (holderOf x (q .account) .maker) 1))
-    ∷ (24 when not (ltb (q .buy) (q .sell)))
+-- 23 and 24, before its orders are looked at
+abbrev pub makerRefusals : Account → ℕ → ℕ → List Refusal
+makerRefusals a buy sell =
+    (23 when not (eqb (a .maker) 1))
+    ∷ (24 when not (ltb buy sell))
     ∷ []
 
 unfoldable pub quoteRefusals : Exchange → Offered → List Refusal
 quoteRefusals x q =
-    offerRefusals x q
+    namedRefusals x notContinuous (q .account) (q .contract)
+    ++ makerRefusals (holderOf x (q .account)) (q .buy) (q .sell)
     ++ orderRefusals (withoutQuote x q) (buyOf q)
     ++ orderRefusals (withBuy x q) (sellOf q)
 

@@ -16,7 +16,7 @@ use Rattle.changing.proofs.change.Tie as tie
 -- ---- what the tests have shown
 
 zero : (c : tie.Else1) → let start = c .before .before .before .before .before in firstOf (namedRefusals (exchangeOf (memory (start .args .state) (now (start .args .buys)) (now (start .args .sells)) (now (start .args .trades)))) notContinuous (start .args .account) (start .args .contract)) ≡ 0
-zero c = sym (c .before .state-code .ensures _ _ _ (c .before .before .before .before .before .pre)) ∙ c .if1 .left
+zero c = sym (c .before .continuous-code .ensures .first _ _ _ (c .before .before .before .before .before .pre)) ∙ c .if1 .left
 
 none : (c : tie.Else1) → let start = c .before .before .before .before .before in Failed (namedRefusals (exchangeOf (memory (start .args .state) (now (start .args .buys)) (now (start .args .sells)) (now (start .args .trades)))) notContinuous (start .args .account) (start .args .contract))
 none c = failed _ (omega arith) (zero c)
@@ -30,8 +30,8 @@ passed c =
 
 -- ---- the needs
 
-state-code-requires : tie.Need-state-code-requires
-state-code-requires c κs =
+continuous-code-requires : tie.Need-continuous-code-requires
+continuous-code-requires c κs =
     let start = c .before .before .before in
     formed (start .pre) .contracts-high
 
@@ -41,7 +41,7 @@ refused-requires c κs = search needs
 returns : tie.Need-returns
 returns c =
     let start = c .before .before .before .before .before .before in
-    refused-early (start .pre) (start .args .account) (start .args .contract) (start .args .number) (start .args .lots) (start .args .price) (c .before .before .state-code .ensures _ _ _ (start .pre)) (c .before .if1 .taken) (c .refused .ensures)
+    refused-early (start .pre) (start .args .account) (start .args .contract) (start .args .number) (start .args .lots) (start .args .price) (c .before .before .continuous-code .ensures .first _ _ _ (start .pre)) (c .before .if1 .taken) (c .refused .ensures)
 
 place-of-requires : tie.Need-place-of-requires
 place-of-requires c κs =
@@ -176,7 +176,7 @@ pub change-spec : {M : Type 1} → statement M
 change-spec =
     tie.close
     (tie.spec
-    state-code-requires
+    continuous-code-requires
     refused-requires
     returns
     place-of-requires

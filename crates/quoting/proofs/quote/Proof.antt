@@ -1,16 +1,25 @@
 -- `quoting::quote` meets its contract: refused by the tests on the state alone, or placed; where an order is refused, the areas as they
 -- were. Assumes nothing.
-use mathlib.Core.Path.{refl, sym, _∙_}
+use mathlib.Core.Path.{_≡_, refl, sym, _∙_}
 use native.Mathlib.Omega.{arith}
-use Rattle.quoting.proofs.Placing.{buys-again, buys-room, contract-low, early-refused, few-accounts, few-contracts, kept-room, quote-undone, sells-again, sells-room, traded-few, trades-again}
+use denote.Ref.{now}
+use Rattle.rules.specs.Answers.{firstOf}
+use Rattle.rules.specs.Memory.{exchangeOf, memory}
+use Rattle.engine.proofs.Formed.{formed}
+use Rattle.quoting.specs.Placing.{earlyRefusals}
+use Rattle.quoting.proofs.Placing.{buys-again, buys-room, contract-low, early-refused, kept-room, quote-undone, sells-again, sells-room, traded-few, trades-again}
 use borrow.Author.Needs.{needs}
 use Rattle.quoting.proofs.quote.Statement.{statement}
 use Rattle.quoting.proofs.quote.Tie as tie
 
+-- none of 2, 3, 4, 23 and 24 holds
+none : (c : tie.Else1) → let start = c .before .before .before .before .before in firstOf (earlyRefusals (exchangeOf (memory (start .args .state) (now (start .args .buys)) (now (start .args .sells)) (now (start .args .trades)))) (start .args .account) (start .args .contract) (start .args .buy) (start .args .sell)) ≡ 0
+none c = sym (c .before .early-code .ensures _ _ _ (c .before .before .before .before .before .pre)) ∙ c .if1 .left
+
 early-code-requires : tie.Need-early-code-requires
 early-code-requires c κs =
     let start = c .before .before .before in
-    (few-contracts (start .pre) (start .args .account) (start .args .contract) (start .args .lots) (start .args .buy) (start .args .sell), few-accounts (start .pre) (start .args .account) (start .args .contract) (start .args .lots) (start .args .buy) (start .args .sell))
+    (formed (start .pre) .contracts-high, formed (start .pre) .accounts-high)
 
 refused-requires : tie.Need-refused-requires
 refused-requires c κs = search needs
@@ -18,12 +27,12 @@ refused-requires c κs = search needs
 returns : tie.Need-returns
 returns c =
     let start = c .before .before .before .before .before .before in
-    early-refused (start .pre) (start .args .account) (start .args .contract) (start .args .lots) (start .args .buy) (start .args .sell) (c .before .before .early-code .ensures) (c .before .if1 .taken) (c .refused .ensures)
+    early-refused (start .pre) (start .args .account) (start .args .contract) (start .args .lots) (start .args .buy) (start .args .sell) (c .before .before .early-code .ensures _ _ _ (start .pre)) (c .before .if1 .taken) (c .refused .ensures)
 
 place-of-requires : tie.Need-place-of-requires
 place-of-requires c κs =
     let start = c .before .before .before .before .before in
-    contract-low (start .pre) (start .args .account) (start .args .contract) (start .args .lots) (start .args .buy) (start .args .sell) (sym (c .before .early-code .ensures) ∙ c .if1 .left)
+    contract-low (start .pre) (start .args .account) (start .args .contract) (start .args .lots) (start .args .buy) (start .args .sell) (none c)
 
 mul-queue : tie.Need-mul-queue
 mul-queue c = search needs
@@ -31,7 +40,7 @@ mul-queue c = search needs
 first-made-requires : tie.Need-first-made-requires
 first-made-requires c κs =
     let start = c .before .before .before .before .before .before in
-    traded-few (start .pre) (start .args .account) (start .args .contract) (start .args .lots) (start .args .buy) (start .args .sell) (sym (c .before .before .early-code .ensures) ∙ c .before .if1 .left)
+    traded-few (start .pre) (start .args .account) (start .args .contract) (start .args .lots) (start .args .buy) (start .args .sell) (none (c .before))
 
 slice-aggregate-keep : tie.Need-slice-aggregate-keep
 slice-aggregate-keep c = search needs
@@ -39,7 +48,7 @@ slice-aggregate-keep c = search needs
 keep-requires : tie.Need-keep-requires
 keep-requires c κs =
     let start = c .before .before .before .before .before .before .before .before .before in
-    buys-room (start .pre) (start .args .account) (start .args .contract) (start .args .lots) (start .args .buy) (start .args .sell) (sym (c .before .before .before .before .before .early-code .ensures) ∙ c .before .before .before .before .if1 .left) (c .before .before .before .place-of .ensures) refl
+    buys-room (start .pre) (start .args .account) (start .args .contract) (start .args .lots) (start .args .buy) (start .args .sell) (none (c .before .before .before .before)) (c .before .before .before .place-of .ensures) refl
 
 slice-aggregate-keep-2 : tie.Need-slice-aggregate-keep-2
 slice-aggregate-keep-2 c = search needs
@@ -47,7 +56,7 @@ slice-aggregate-keep-2 c = search needs
 keep-requires-2 : tie.Need-keep-requires-2
 keep-requires-2 c κs =
     let start = c .before .before .before .before .before .before .before .before .before .before .before .before .before in
-    sells-room (start .pre) (start .args .account) (start .args .contract) (start .args .lots) (start .args .buy) (start .args .sell) (sym (c .before .before .before .before .before .before .before .before .before .early-code .ensures) ∙ c .before .before .before .before .before .before .before .before .if1 .left) (c .before .before .before .before .before .before .before .place-of .ensures) refl
+    sells-room (start .pre) (start .args .account) (start .args .contract) (start .args .lots) (start .args .buy) (start .args .sell) (none (c .before .before .before .before .before .before .before .before)) (c .before .before .before .before .before .before .before .place-of .ensures) refl
 
 slice-aggregate-keep-3 : tie.Need-slice-aggregate-keep-3
 slice-aggregate-keep-3 c = search needs
@@ -55,12 +64,12 @@ slice-aggregate-keep-3 c = search needs
 keep-requires-3 : tie.Need-keep-requires-3
 keep-requires-3 c κs =
     let start = c .before .before .before .before .before .before .before .before .before .before .before .before .before .before .before .before .before in
-    kept-room (start .pre) (start .args .account) (start .args .contract) (start .args .lots) (start .args .buy) (start .args .sell) (sym (c .before .before .before .before .before .before .before .before .before .before .before .before .before .early-code .ensures) ∙ c .before .before .before .before .before .before .before .before .before .before .before .before .if1 .left) (c .before .before .before .before .before .before .before .before .before .before .first-made .ensures) refl
+    kept-room (start .pre) (start .args .account) (start .args .contract) (start .args .lots) (start .args .buy) (start .args .sell) (none (c .before .before .before .before .before .before .before .before .before .before .before .before)) (c .before .before .before .before .before .before .before .before .before .before .first-made .ensures) refl
 
 place-requires : tie.Need-place-requires
 place-requires c κs =
     let start = c .before .before .before .before .before .before .before .before .before .before .before .before .before .before .before .before .before .before .before .before .before .before in
-    (start .pre, sym (c .before .before .before .before .before .before .before .before .before .before .before .before .before .before .before .before .before .before .early-code .ensures) ∙ c .before .before .before .before .before .before .before .before .before .before .before .before .before .before .before .before .before .if1 .left)
+    (start .pre, none (c .before .before .before .before .before .before .before .before .before .before .before .before .before .before .before .before .before))
 
 slice-aggregate-put-back : tie.Need-slice-aggregate-put-back
 slice-aggregate-put-back c = omega (arith, c .before .before .before .before .before .before .before .before .before .before .before .before .before .before .before .before .before .before .before .before .before .before .before .bids2 .given)
@@ -68,7 +77,7 @@ slice-aggregate-put-back c = omega (arith, c .before .before .before .before .be
 put-back-requires : tie.Need-put-back-requires
 put-back-requires c κs =
     let start = c .before .before .before .before .before .before .before .before .before .before .before .before .before .before .before .before .before .before .before .before .before .before .before .before .before .before .before .before .before .before .before .before .before .before in
-    omega (arith, c .before .before .before .before .before .before .before .before .before .before .before .before .before .before .before .before .before .before .before .before .before .before .before .bids2 .given, buys-room (start .pre) (start .args .account) (start .args .contract) (start .args .lots) (start .args .buy) (start .args .sell) (sym (c .before .before .before .before .before .before .before .before .before .before .before .before .before .before .before .before .before .before .before .before .before .before .before .before .before .before .before .before .before .before .early-code .ensures) ∙ c .before .before .before .before .before .before .before .before .before .before .before .before .before .before .before .before .before .before .before .before .before .before .before .before .before .before .before .before .before .if1 .left) (c .before .before .before .before .before .before .before .before .before .before .before .before .before .before .before .before .before .before .before .before .before .before .before .before .before .before .before .before .place-of .ensures) refl, c .before .before .before .before .before .before .before .before .before .before .before .place .ensures .buys-back (c .before .before .if2 .taken) .long)
+    omega (arith, c .before .before .before .before .before .before .before .before .before .before .before .before .before .before .before .before .before .before .before .before .before .before .before .bids2 .given, buys-room (start .pre) (start .args .account) (start .args .contract) (start .args .lots) (start .args .buy) (start .args .sell) (none (c .before .before .before .before .before .before .before .before .before .before .before .before .before .before .before .before .before .before .before .before .before .before .before .before .before .before .before .before .before)) (c .before .before .before .before .before .before .before .before .before .before .before .before .before .before .before .before .before .before .before .before .before .before .before .before .before .before .before .before .place-of .ensures) refl, c .before .before .before .before .before .before .before .before .before .before .before .place .ensures .buys-back (c .before .before .if2 .taken) .long)
 
 slice-aggregate-put-back-2 : tie.Need-slice-aggregate-put-back-2
 slice-aggregate-put-back-2 c = search needs
@@ -76,7 +85,7 @@ slice-aggregate-put-back-2 c = search needs
 put-back-requires-2 : tie.Need-put-back-requires-2
 put-back-requires-2 c κs =
     let start = c .before .before .before .before .before .before .before .before .before .before .before .before .before .before .before .before .before .before .before .before .before .before .before .before .before .before .before .before .before .before .before .before .before .before .before .before .before .before .before in
-    omega (arith, c .before .before .before .before .before .before .before .before .before .before .before .before .before .before .before .before .before .before .before .before .before .before .before .before .offers2 .given, sells-room (start .pre) (start .args .account) (start .args .contract) (start .args .lots) (start .args .buy) (start .args .sell) (sym (c .before .before .before .before .before .before .before .before .before .before .before .before .before .before .before .before .before .before .before .before .before .before .before .before .before .before .before .before .before .before .before .before .before .before .before .early-code .ensures) ∙ c .before .before .before .before .before .before .before .before .before .before .before .before .before .before .before .before .before .before .before .before .before .before .before .before .before .before .before .before .before .before .before .before .before .before .if1 .left) (c .before .before .before .before .before .before .before .before .before .before .before .before .before .before .before .before .before .before .before .before .before .before .before .before .before .before .before .before .before .before .before .before .before .place-of .ensures) refl, c .before .before .before .before .before .before .before .before .before .before .before .before .before .before .before .before .place .ensures .sells-back (c .before .before .before .before .before .before .before .if2 .taken) .long)
+    omega (arith, c .before .before .before .before .before .before .before .before .before .before .before .before .before .before .before .before .before .before .before .before .before .before .before .before .offers2 .given, sells-room (start .pre) (start .args .account) (start .args .contract) (start .args .lots) (start .args .buy) (start .args .sell) (none (c .before .before .before .before .before .before .before .before .before .before .before .before .before .before .before .before .before .before .before .before .before .before .before .before .before .before .before .before .before .before .before .before .before .before)) (c .before .before .before .before .before .before .before .before .before .before .before .before .before .before .before .before .before .before .before .before .before .before .before .before .before .before .before .before .before .before .before .before .before .place-of .ensures) refl, c .before .before .before .before .before .before .before .before .before .before .before .before .before .before .before .before .place .ensures .sells-back (c .before .before .before .before .before .before .before .if2 .taken) .long)
 
 slice-aggregate-put-back-3 : tie.Need-slice-aggregate-put-back-3
 slice-aggregate-put-back-3 c = search needs
@@ -84,7 +93,7 @@ slice-aggregate-put-back-3 c = search needs
 put-back-requires-3 : tie.Need-put-back-requires-3
 put-back-requires-3 c κs =
     let start = c .before .before .before .before .before .before .before .before .before .before .before .before .before .before .before .before .before .before .before .before .before .before .before .before .before .before .before .before .before .before .before .before .before .before .before .before .before .before .before .before .before .before .before .before in
-    omega (arith, c .before .before .before .before .before .before .before .before .before .before .before .before .before .before .before .before .before .before .before .before .before .before .before .before .before .made2 .given, kept-room (start .pre) (start .args .account) (start .args .contract) (start .args .lots) (start .args .buy) (start .args .sell) (sym (c .before .before .before .before .before .before .before .before .before .before .before .before .before .before .before .before .before .before .before .before .before .before .before .before .before .before .before .before .before .before .before .before .before .before .before .before .before .before .before .before .early-code .ensures) ∙ c .before .before .before .before .before .before .before .before .before .before .before .before .before .before .before .before .before .before .before .before .before .before .before .before .before .before .before .before .before .before .before .before .before .before .before .before .before .before .before .if1 .left) (c .before .before .before .before .before .before .before .before .before .before .before .before .before .before .before .before .before .before .before .before .before .before .before .before .before .before .before .before .before .before .before .before .before .before .before .before .before .first-made .ensures) refl, c .before .before .before .before .before .before .before .before .before .before .before .before .before .before .before .before .before .before .before .before .before .place .ensures .trades-back (c .before .before .before .before .before .before .before .before .before .before .before .before .if2 .taken) .long)
+    omega (arith, c .before .before .before .before .before .before .before .before .before .before .before .before .before .before .before .before .before .before .before .before .before .before .before .before .before .made2 .given, kept-room (start .pre) (start .args .account) (start .args .contract) (start .args .lots) (start .args .buy) (start .args .sell) (none (c .before .before .before .before .before .before .before .before .before .before .before .before .before .before .before .before .before .before .before .before .before .before .before .before .before .before .before .before .before .before .before .before .before .before .before .before .before .before .before)) (c .before .before .before .before .before .before .before .before .before .before .before .before .before .before .before .before .before .before .before .before .before .before .before .before .before .before .before .before .before .before .before .before .before .before .before .before .before .first-made .ensures) refl, c .before .before .before .before .before .before .before .before .before .before .before .before .before .before .before .before .before .before .before .before .before .place .ensures .trades-back (c .before .before .before .before .before .before .before .before .before .before .before .before .if2 .taken) .long)
 
 same-length : tie.Need-same-length
 same-length c = search needs
@@ -98,7 +107,7 @@ same-length-3 c = search needs
 returns-2 : tie.Need-returns-2
 returns-2 c =
     let start = c .before .before .before .before .before .before .before .before .before .before .before .before .before .before .before .before .before .before .before .before .before .before .before .before .before .before .before .before .before .before .before .before .before .before .before .before .before .before .before .before .before .before .before .before .before .before .before in
-    quote-undone (start .pre) (start .args .account) (start .args .contract) (start .args .lots) (start .args .buy) (start .args .sell) (sym (c .before .before .before .before .before .before .before .before .before .before .before .before .before .before .before .before .before .before .before .before .before .before .before .before .before .before .before .before .before .before .before .before .before .before .before .before .before .before .before .before .before .before .before .early-code .ensures) ∙ c .before .before .before .before .before .before .before .before .before .before .before .before .before .before .before .before .before .before .before .before .before .before .before .before .before .before .before .before .before .before .before .before .before .before .before .before .before .before .before .before .before .before .if1 .left) (c .before .before .before .before .before .before .before .before .before .before .before .before .before .before .before .before .before .before .before .before .before .before .before .before .place .ensures) (c .before .before .before .before .before .before .before .before .before .before .before .before .before .before .before .if2 .taken) (buys-again (start .pre) (start .args .account) (start .args .contract) (start .args .lots) (start .args .buy) (start .args .sell) (sym (c .before .before .before .before .before .before .before .before .before .before .before .before .before .before .before .before .before .before .before .before .before .before .before .before .before .before .before .before .before .before .before .before .before .before .before .before .before .before .before .before .before .before .before .early-code .ensures) ∙ c .before .before .before .before .before .before .before .before .before .before .before .before .before .before .before .before .before .before .before .before .before .before .before .before .before .before .before .before .before .before .before .before .before .before .before .before .before .before .before .before .before .before .if1 .left) (c .before .before .before .before .before .before .before .before .before .before .before .before .before .before .before .before .before .before .before .before .before .before .before .before .place .ensures) (c .before .before .before .before .before .before .before .before .before .before .before .before .before .before .before .if2 .taken) (c .before .before .before .before .before .before .before .before .before .before .before .before .before .before .before .before .before .before .before .before .before .before .before .before .before .before .before .before .before .before .before .before .before .before .before .before .before .before .before .before .before .place-of .ensures) refl (c .before .before .before .before .before .before .before .before .before .before .before .before .before .before .before .before .before .before .before .before .before .before .before .before .before .before .before .before .before .before .before .before .before .before .before .before .before .keep .ensures) (c .before .before .before .before .before .before .before .before .before .before .before .before .put-back .ensures)) (sells-again (start .pre) (start .args .account) (start .args .contract) (start .args .lots) (start .args .buy) (start .args .sell) (sym (c .before .before .before .before .before .before .before .before .before .before .before .before .before .before .before .before .before .before .before .before .before .before .before .before .before .before .before .before .before .before .before .before .before .before .before .before .before .before .before .before .before .before .before .early-code .ensures) ∙ c .before .before .before .before .before .before .before .before .before .before .before .before .before .before .before .before .before .before .before .before .before .before .before .before .before .before .before .before .before .before .before .before .before .before .before .before .before .before .before .before .before .before .if1 .left) (c .before .before .before .before .before .before .before .before .before .before .before .before .before .before .before .before .before .before .before .before .before .before .before .before .place .ensures) (c .before .before .before .before .before .before .before .before .before .before .before .before .before .before .before .if2 .taken) (c .before .before .before .before .before .before .before .before .before .before .before .before .before .before .before .before .before .before .before .before .before .before .before .before .before .before .before .before .before .before .before .before .before .before .before .before .before .before .before .before .before .place-of .ensures) refl (c .before .before .before .before .before .before .before .before .before .before .before .before .before .before .before .before .before .before .before .before .before .before .before .before .before .before .before .before .before .before .before .before .before .keep2 .ensures) (c .before .before .before .before .before .before .before .put-back2 .ensures)) (trades-again (start .pre) (start .args .account) (start .args .contract) (start .args .lots) (start .args .buy) (start .args .sell) (sym (c .before .before .before .before .before .before .before .before .before .before .before .before .before .before .before .before .before .before .before .before .before .before .before .before .before .before .before .before .before .before .before .before .before .before .before .before .before .before .before .before .before .before .before .early-code .ensures) ∙ c .before .before .before .before .before .before .before .before .before .before .before .before .before .before .before .before .before .before .before .before .before .before .before .before .before .before .before .before .before .before .before .before .before .before .before .before .before .before .before .before .before .before .if1 .left) (c .before .before .before .before .before .before .before .before .before .before .before .before .before .before .before .before .before .before .before .before .before .before .before .before .place .ensures) (c .before .before .before .before .before .before .before .before .before .before .before .before .before .before .before .if2 .taken) (c .before .before .before .before .before .before .before .before .before .before .before .before .before .before .before .before .before .before .before .before .before .before .before .before .before .before .before .before .before .before .before .before .before .before .before .before .before .before .before .before .first-made .ensures) refl (c .before .before .before .before .before .before .before .before .before .before .before .before .before .before .before .before .before .before .before .before .before .before .before .before .before .before .before .before .before .keep3 .ensures) (c .before .before .put-back3 .ensures))
+    quote-undone (start .pre) (start .args .account) (start .args .contract) (start .args .lots) (start .args .buy) (start .args .sell) (none (c .before .before .before .before .before .before .before .before .before .before .before .before .before .before .before .before .before .before .before .before .before .before .before .before .before .before .before .before .before .before .before .before .before .before .before .before .before .before .before .before .before .before)) (c .before .before .before .before .before .before .before .before .before .before .before .before .before .before .before .before .before .before .before .before .before .before .before .before .place .ensures) (c .before .before .before .before .before .before .before .before .before .before .before .before .before .before .before .if2 .taken) (buys-again (start .pre) (start .args .account) (start .args .contract) (start .args .lots) (start .args .buy) (start .args .sell) (none (c .before .before .before .before .before .before .before .before .before .before .before .before .before .before .before .before .before .before .before .before .before .before .before .before .before .before .before .before .before .before .before .before .before .before .before .before .before .before .before .before .before .before)) (c .before .before .before .before .before .before .before .before .before .before .before .before .before .before .before .before .before .before .before .before .before .before .before .before .place .ensures) (c .before .before .before .before .before .before .before .before .before .before .before .before .before .before .before .if2 .taken) (c .before .before .before .before .before .before .before .before .before .before .before .before .before .before .before .before .before .before .before .before .before .before .before .before .before .before .before .before .before .before .before .before .before .before .before .before .before .before .before .before .before .place-of .ensures) refl (c .before .before .before .before .before .before .before .before .before .before .before .before .before .before .before .before .before .before .before .before .before .before .before .before .before .before .before .before .before .before .before .before .before .before .before .before .before .keep .ensures) (c .before .before .before .before .before .before .before .before .before .before .before .before .put-back .ensures)) (sells-again (start .pre) (start .args .account) (start .args .contract) (start .args .lots) (start .args .buy) (start .args .sell) (none (c .before .before .before .before .before .before .before .before .before .before .before .before .before .before .before .before .before .before .before .before .before .before .before .before .before .before .before .before .before .before .before .before .before .before .before .before .before .before .before .before .before .before)) (c .before .before .before .before .before .before .before .before .before .before .before .before .before .before .before .before .before .before .before .before .before .before .before .before .place .ensures) (c .before .before .before .before .before .before .before .before .before .before .before .before .before .before .before .if2 .taken) (c .before .before .before .before .before .before .before .before .before .before .before .before .before .before .before .before .before .before .before .before .before .before .before .before .before .before .before .before .before .before .before .before .before .before .before .before .before .before .before .before .before .place-of .ensures) refl (c .before .before .before .before .before .before .before .before .before .before .before .before .before .before .before .before .before .before .before .before .before .before .before .before .before .before .before .before .before .before .before .before .before .keep2 .ensures) (c .before .before .before .before .before .before .before .put-back2 .ensures)) (trades-again (start .pre) (start .args .account) (start .args .contract) (start .args .lots) (start .args .buy) (start .args .sell) (none (c .before .before .before .before .before .before .before .before .before .before .before .before .before .before .before .before .before .before .before .before .before .before .before .before .before .before .before .before .before .before .before .before .before .before .before .before .before .before .before .before .before .before)) (c .before .before .before .before .before .before .before .before .before .before .before .before .before .before .before .before .before .before .before .before .before .before .before .before .place .ensures) (c .before .before .before .before .before .before .before .before .before .before .before .before .before .before .before .if2 .taken) (c .before .before .before .before .before .before .before .before .before .before .before .before .before .before .before .before .before .before .before .before .before .before .before .before .before .before .before .before .before .before .before .before .before .before .before .before .before .before .before .before .first-made .ensures) refl (c .before .before .before .before .before .before .before .before .before .before .before .before .before .before .before .before .before .before .before .before .before .before .before .before .before .before .before .before .before .keep3 .ensures) (c .before .before .put-back3 .ensures))
 
 same-length-4 : tie.Need-same-length-4
 same-length-4 c = search needs

@@ -1,4 +1,4 @@
--- `changing::state_code` meets its contract: the three tests in their order. Assumes nothing.
+-- `codes::continuous_code` meets its contract: the three tests in their order. Assumes nothing.
 use mathlib.Core.Bool.{false, not}
 use mathlib.Core.List.{[]}
 use mathlib.Core.Path.{_≡_, sym, ap, _∙_}
@@ -9,8 +9,8 @@ use Rattle.rules.specs.Exchange.{isAbsent}
 use Rattle.engine.proofs.Named.{no-such-account, no-such-contract, forbidden, allowed}
 use Rattle.engine.proofs.Tests.{place-below}
 use borrow.Author.Needs.{needs}
-use Rattle.changing.proofs.state_code.Statement.{statement}
-use Rattle.changing.proofs.state_code.Tie as tie
+use Rattle.refusals.proofs.codes.continuous_code.Statement.{statement}
+use Rattle.refusals.proofs.codes.continuous_code.Tie as tie
 
 account : (c : tie.Else1) → isAbsent (c .before .before .args .account) (c .before .before .args .state .accountcount) ≡ false
 account c = sym (c .before .is-absent .ensures) ∙ c .if1 .left
@@ -22,13 +22,18 @@ is-absent-requires : tie.Need-is-absent-requires
 is-absent-requires c κs = search needs
 
 returns : tie.Need-returns
-returns c = λ buys sells trades w. no-such-account w notContinuous _ _ [] (sym (c .before .is-absent .ensures) ∙ c .if1 .taken)
+returns c =
+    record { first = λ buys sells trades w. no-such-account w notContinuous _ _ [] (sym (c .before .is-absent .ensures) ∙ c .if1 .taken); account-in-use = λ e. absurd (omega arith) }
 
 is-absent-requires-2 : tie.Need-is-absent-requires-2
 is-absent-requires-2 c κs = search needs
 
 returns-2 : tie.Need-returns-2
-returns-2 c = λ buys sells trades w. no-such-contract w notContinuous _ _ [] (account (c .before .before)) (sym (c .before .is-absent2 .ensures) ∙ c .if2 .taken)
+returns-2 c =
+    record {
+      first = λ buys sells trades w. no-such-contract w notContinuous _ _ [] (account (c .before .before)) (sym (c .before .is-absent2 .ensures) ∙ c .if2 .taken);
+      account-in-use = λ e. absurd (omega arith);
+    }
 
 place-of-requires : tie.Need-place-of-requires
 place-of-requires c κs =
@@ -44,16 +49,24 @@ array-copy-out-terms c =
     omega (arith, c .before .place-of .ensures, (place-below (start .args .contract) (start .args .state .contractcount) (contract (c .before .before))) .1, start .pre)
 
 returns-3 : tie.Need-returns-3
-returns-3 c = λ buys sells trades w.
-    forbidden w notContinuous _ _ [] (account (c .before .before .before .before .before .before .before)) (contract (c .before .before .before .before .before)) (ap not (ne-eqb _ _ (rw (c .before .before .before .before .place-of .ensures) at (c .if3 .taken))))
+returns-3 c =
+    record {
+      first = λ buys sells trades w.
+          forbidden w notContinuous _ _ [] (account (c .before .before .before .before .before .before .before)) (contract (c .before .before .before .before .before)) (ap not (ne-eqb _ _ (rw (c .before .before .before .before .place-of .ensures) at (c .if3 .taken))));
+      account-in-use = λ e. absurd (omega arith);
+    }
 
 returns-4 : tie.Need-returns-4
 unfolding firstOf
-returns-4 c = λ buys sells trades w.
-    sym (allowed w notContinuous _ _ [] (account (c .before .before .before .before .before .before .before)) (contract (c .before .before .before .before .before)) (ap not (eq-eqb _ _ (rw (c .before .before .before .before .place-of .ensures) at (c .if3 .left)))))
+returns-4 c =
+    record {
+      first = λ buys sells trades w.
+          sym (allowed w notContinuous _ _ [] (account (c .before .before .before .before .before .before .before)) (contract (c .before .before .before .before .before)) (ap not (eq-eqb _ _ (rw (c .before .before .before .before .place-of .ensures) at (c .if3 .left)))));
+      account-in-use = λ e. account (c .before .before .before .before .before .before .before);
+    }
 
-pub state-code-spec : {M : Type 1} → statement M
-state-code-spec =
+pub continuous-code-spec : {M : Type 1} → statement M
+continuous-code-spec =
     tie.close
     (tie.spec
     is-absent-requires
