@@ -92,13 +92,14 @@ same-length-2 c = search needs
 
 returns-2 : tie.Need-returns-2
 returns-2 c =
-    let start = c .before .before .before .before .before .before .before .before .before .before .before .before .before .before .before .before in
-    order-refused (start .pre) (start .args .account) (start .args .contract) (start .args .number) (start .args .lots) (start .args .price) (zero (c .before .before .before .before .before .before .before .before .before .before .before)) (c .before .before .before .before .before .before .before .before .before .before .place-of .ensures) (c .before .before .before .before .before .before .before .side-count .ensures) (c .before .before .before .before .before .before .side-count2 .ensures) (c .before .before .before .resting-order .ensures) (c .before .before .resting-code .ensures) (c .before .if2 .taken) (c .refused2 .ensures)
+    let after = c .before .before .before .before .before .before in
+    let start = after .before .before .before .before .before .before .before .before .before .before in
+    order-refused (start .pre) (start .args .account) (start .args .contract) (start .args .number) (start .args .lots) (start .args .price) (zero (after .before .before .before .before .before)) (after .before .before .before .before .place-of .ensures) (after .before .side-count .ensures) (after .side-count2 .ensures) (c .before .before .before .resting-order .ensures) (c .before .before .resting-code .ensures) (c .before .if2 .taken) (c .refused2 .ensures)
 
 take-out-requires : tie.Need-take-out-requires
 take-out-requires c κs =
     let start = c .before .before .before .before .before .before .before .before .before .before .before .before .before .before .before .before .before .before .before in
-    can-take-out (start .pre) (start .args .account) (start .args .contract) (start .args .number) (start .args .lots) (start .args .price) (passed (c .before .before .before .before)) (c .before .before .before .before .before .before .before .before .before .before .before .before .before .place-of .ensures)
+    can-take-out (start .pre) _ _ _ _ _ (passed (c .before .before .before .before)) (c .before .before .before .before .before .before .before .before .before .before .before .before .before .place-of .ensures)
 
 accepted-requires : tie.Need-accepted-requires
 accepted-requires c κs = search needs
@@ -111,8 +112,9 @@ same-length-4 c = search needs
 
 returns-3 : tie.Need-returns-3
 returns-3 c =
-    let start = c .before .before .before .before .before .before .before .before .before .before .before .before .before .before .before .before .before .before .before .before .before .before .before .before .before in
-    rw (c .accepted .ensures) (zero-changed (start .pre) (start .args .account) (start .args .contract) (start .args .number) (start .args .lots) (start .args .price) (passed (c .before .before .before .before .before .before .before .before .before .before)) (c .before .before .before .before .before .before .before .before .if3 .taken) (taken-out (start .pre) (start .args .account) (start .args .contract) (start .args .number) (start .args .lots) (start .args .price) (passed (c .before .before .before .before .before .before .before .before .before .before)) (c .before .before .before .before .before .before .before .before .before .before .before .before .before .before .before .before .before .before .before .place-of .ensures) (c .before .before .before .before .before .take-out .ensures .0) (c .before .before .before .before .before .take-out .ensures .1 .0) (c .before .before .before .before .before .take-out .ensures .1 .1)))
+    let after = c .before .before .before .before .before in
+    let start = after .before .before .before .before .before .before .before .before .before .before .before .before .before .before .before .before .before .before .before .before in
+    rw (c .accepted .ensures) (zero-changed (start .pre) _ _ _ _ _ (passed (after .before .before .before .before .before)) (after .before .before .before .if3 .taken) (taken-out (start .pre) _ _ _ _ _ (passed (after .before .before .before .before .before)) (after .before .before .before .before .before .before .before .before .before .before .before .before .before .before .place-of .ensures) (after .take-out .ensures .0) (after .take-out .ensures .1 .0) (after .take-out .ensures .1 .1)))
 
 loses-place-requires : tie.Need-loses-place-requires
 loses-place-requires c κs = search needs
@@ -146,7 +148,7 @@ same-length-9 c = search needs
 returns-5 : tie.Need-returns-5
 returns-5 c =
     let start = c .before .before .before .before .before .before .before .before .before .before .before .before .before .before .before .before .before .before .before .before .before .before in
-    equal-changed (start .pre) (start .args .account) (start .args .contract) (start .args .number) (start .args .lots) (start .args .price) (passed (c .before .before .before .before .before .before .before)) (c .before .before .before .before .before .if3 .left) (sym (c .before .before .before .before .loses-place .ensures) ∙ c .before .before .before .if4 .left) (c .before .if5 .taken) (c .accepted2 .ensures)
+    equal-changed (start .pre) _ _ _ _ _ (passed (c .before .before .before .before .before .before .before)) (c .before .before .before .before .before .if3 .left) (sym (c .before .before .before .before .loses-place .ensures) ∙ c .before .before .before .if4 .left) (c .before .if5 .taken) (c .accepted2 .ensures)
 
 side-count-requires-3 : tie.Need-side-count-requires-3
 side-count-requires-3 c κs =
@@ -155,8 +157,9 @@ side-count-requires-3 c κs =
 
 lessen-requires : tie.Need-lessen-requires
 lessen-requires c κs =
-    let start = c .before .before .before .before .before .before .before .before .before .before .before .before .before .before .before .before .before .before .before .before .before .before .before .before in
-    can-lessen (start .pre) (start .args .account) (start .args .contract) (start .args .number) (start .args .lots) (start .args .price) (passed (c .before .before .before .before .before .before .before .before .before)) (c .before .before .before .before .before .before .before .if3 .left) (sym (c .before .before .before .before .before .before .loses-place .ensures) ∙ c .before .before .before .before .before .if4 .left) (c .before .before .before .before .before .before .before .before .before .before .before .before .before .before .before .before .before .before .place-of .ensures) (c .before .before .side-count3 .ensures)
+    let after = c .before .before .before .before .before in
+    let start = after .before .before .before .before .before .before .before .before .before .before .before .before .before .before .before .before .before .before .before in
+    can-lessen (start .pre) _ _ _ _ _ (passed (after .before .before .before .before)) (after .before .before .if3 .left) (sym (after .before .loses-place .ensures) ∙ after .if4 .left) (after .before .before .before .before .before .before .before .before .before .before .before .before .before .place-of .ensures) (c .before .before .side-count3 .ensures)
 
 accepted-requires-3 : tie.Need-accepted-requires-3
 accepted-requires-3 c κs = search needs
@@ -169,8 +172,9 @@ same-length-11 c = search needs
 
 returns-6 : tie.Need-returns-6
 returns-6 c =
-    let start = c .before .before .before .before .before .before .before .before .before .before .before .before .before .before .before .before .before .before .before .before .before .before .before .before .before .before .before .before .before .before in
-    fewer-changed (start .pre) (start .args .account) (start .args .contract) (start .args .number) (start .args .lots) (start .args .price) (passed (c .before .before .before .before .before .before .before .before .before .before .before .before .before .before .before)) (c .before .before .before .before .before .before .before .before .before .before .before .before .before .if3 .left) (sym (c .before .before .before .before .before .before .before .before .before .before .before .before .loses-place .ensures) ∙ c .before .before .before .before .before .before .before .before .before .before .before .if4 .left) (c .before .before .before .before .before .before .before .before .before .if5 .left) (c .before .before .before .before .before .before .before .before .before .before .before .before .before .before .before .before .before .before .before .before .before .before .before .before .place-of .ensures) (c .before .before .before .before .before .before .before .before .side-count3 .ensures) (c .before .before .before .before .before .lessen .ensures .0) (c .before .before .before .before .before .lessen .ensures .1) (c .accepted3 .ensures)
+    let after = c .before .before .before .before .before .before .before .before in
+    let start = after .before .before .before .before .before .before .before .before .before .before .before .before .before .before .before .before .before .before .before .before .before .before in
+    fewer-changed (start .pre) _ _ _ _ _ (passed (after .before .before .before .before .before .before .before)) (after .before .before .before .before .before .if3 .left) (sym (after .before .before .before .before .loses-place .ensures) ∙ after .before .before .before .if4 .left) (after .before .if5 .left) (after .before .before .before .before .before .before .before .before .before .before .before .before .before .before .before .before .place-of .ensures) (after .side-count3 .ensures) (c .before .before .before .before .before .lessen .ensures .0) (c .before .before .before .before .before .lessen .ensures .1) (c .accepted3 .ensures)
 
 pub change-spec : {M : Type 1} → statement M
 change-spec =

@@ -76,24 +76,27 @@ slice-aggregate-put-back c = omega (arith, c .before .before .before .before .be
 
 put-back-requires : tie.Need-put-back-requires
 put-back-requires c κs =
-    let start = c .before .before .before .before .before .before .before .before .before .before .before .before .before .before .before .before .before .before .before .before .before .before .before .before .before .before .before .before .before .before .before .before .before .before in
-    omega (arith, c .before .before .before .before .before .before .before .before .before .before .before .before .before .before .before .before .before .before .before .before .before .before .before .bids2 .given, buys-room (start .pre) (start .args .account) (start .args .contract) (start .args .lots) (start .args .buy) (start .args .sell) (none (c .before .before .before .before .before .before .before .before .before .before .before .before .before .before .before .before .before .before .before .before .before .before .before .before .before .before .before .before .before)) (c .before .before .before .before .before .before .before .before .before .before .before .before .before .before .before .before .before .before .before .before .before .before .before .before .before .before .before .before .place-of .ensures) refl, c .before .before .before .before .before .before .before .before .before .before .before .place .ensures .buys-back (c .before .before .if2 .taken) .long)
+    let after = c .before .before .before .before .before .before .before .before .before .before .before .before .before .before .before .before .before .before .before .before .before .before .before in
+    let start = after .before .before .before .before .before .before .before .before .before .before .before in
+    omega (arith, after .bids2 .given, buys-room (start .pre) (start .args .account) (start .args .contract) (start .args .lots) (start .args .buy) (start .args .sell) (none (after .before .before .before .before .before .before)) (after .before .before .before .before .before .place-of .ensures) refl, c .before .before .before .before .before .before .before .before .before .before .before .place .ensures .buys-back (c .before .before .if2 .taken) .long)
 
 slice-aggregate-put-back-2 : tie.Need-slice-aggregate-put-back-2
 slice-aggregate-put-back-2 c = search needs
 
 put-back-requires-2 : tie.Need-put-back-requires-2
 put-back-requires-2 c κs =
-    let start = c .before .before .before .before .before .before .before .before .before .before .before .before .before .before .before .before .before .before .before .before .before .before .before .before .before .before .before .before .before .before .before .before .before .before .before .before .before .before .before in
-    omega (arith, c .before .before .before .before .before .before .before .before .before .before .before .before .before .before .before .before .before .before .before .before .before .before .before .before .offers2 .given, sells-room (start .pre) (start .args .account) (start .args .contract) (start .args .lots) (start .args .buy) (start .args .sell) (none (c .before .before .before .before .before .before .before .before .before .before .before .before .before .before .before .before .before .before .before .before .before .before .before .before .before .before .before .before .before .before .before .before .before .before)) (c .before .before .before .before .before .before .before .before .before .before .before .before .before .before .before .before .before .before .before .before .before .before .before .before .before .before .before .before .before .before .before .before .before .place-of .ensures) refl, c .before .before .before .before .before .before .before .before .before .before .before .before .before .before .before .before .place .ensures .sells-back (c .before .before .before .before .before .before .before .if2 .taken) .long)
+    let after = c .before .before .before .before .before .before .before .before .before .before .before .before .before .before .before .before .before .before .before .before .before .before .before .before in
+    let start = after .before .before .before .before .before .before .before .before .before .before .before .before .before .before .before in
+    omega (arith, after .offers2 .given, sells-room (start .pre) (start .args .account) (start .args .contract) (start .args .lots) (start .args .buy) (start .args .sell) (none (after .before .before .before .before .before .before .before .before .before .before)) (after .before .before .before .before .before .before .before .before .before .place-of .ensures) refl, c .before .before .before .before .before .before .before .before .before .before .before .before .before .before .before .before .place .ensures .sells-back (c .before .before .before .before .before .before .before .if2 .taken) .long)
 
 slice-aggregate-put-back-3 : tie.Need-slice-aggregate-put-back-3
 slice-aggregate-put-back-3 c = search needs
 
 put-back-requires-3 : tie.Need-put-back-requires-3
 put-back-requires-3 c κs =
-    let start = c .before .before .before .before .before .before .before .before .before .before .before .before .before .before .before .before .before .before .before .before .before .before .before .before .before .before .before .before .before .before .before .before .before .before .before .before .before .before .before .before .before .before .before .before in
-    omega (arith, c .before .before .before .before .before .before .before .before .before .before .before .before .before .before .before .before .before .before .before .before .before .before .before .before .before .made2 .given, kept-room (start .pre) (start .args .account) (start .args .contract) (start .args .lots) (start .args .buy) (start .args .sell) (none (c .before .before .before .before .before .before .before .before .before .before .before .before .before .before .before .before .before .before .before .before .before .before .before .before .before .before .before .before .before .before .before .before .before .before .before .before .before .before .before)) (c .before .before .before .before .before .before .before .before .before .before .before .before .before .before .before .before .before .before .before .before .before .before .before .before .before .before .before .before .before .before .before .before .before .before .before .before .before .first-made .ensures) refl, c .before .before .before .before .before .before .before .before .before .before .before .before .before .before .before .before .before .before .before .before .before .place .ensures .trades-back (c .before .before .before .before .before .before .before .before .before .before .before .before .if2 .taken) .long)
+    let after = c .before .before .before .before .before .before .before .before .before .before .before .before .before .before .before .before .before .before .before .before .before in
+    let start = after .before .before .before .before .before .before .before .before .before .before .before .before .before .before .before .before .before .before .before .before .before .before .before in
+    omega (arith, after .before .before .before .before .made2 .given, kept-room (start .pre) (start .args .account) (start .args .contract) (start .args .lots) (start .args .buy) (start .args .sell) (none (after .before .before .before .before .before .before .before .before .before .before .before .before .before .before .before .before .before .before)) (after .before .before .before .before .before .before .before .before .before .before .before .before .before .before .before .before .first-made .ensures) refl, after .place .ensures .trades-back (c .before .before .before .before .before .before .before .before .before .before .before .before .if2 .taken) .long)
 
 same-length : tie.Need-same-length
 same-length c = search needs
@@ -106,8 +109,9 @@ same-length-3 c = search needs
 
 returns-2 : tie.Need-returns-2
 returns-2 c =
-    let start = c .before .before .before .before .before .before .before .before .before .before .before .before .before .before .before .before .before .before .before .before .before .before .before .before .before .before .before .before .before .before .before .before .before .before .before .before .before .before .before .before .before .before .before .before .before .before .before in
-    quote-undone (start .pre) (start .args .account) (start .args .contract) (start .args .lots) (start .args .buy) (start .args .sell) (none (c .before .before .before .before .before .before .before .before .before .before .before .before .before .before .before .before .before .before .before .before .before .before .before .before .before .before .before .before .before .before .before .before .before .before .before .before .before .before .before .before .before .before)) (c .before .before .before .before .before .before .before .before .before .before .before .before .before .before .before .before .before .before .before .before .before .before .before .before .place .ensures) (c .before .before .before .before .before .before .before .before .before .before .before .before .before .before .before .if2 .taken) (buys-again (start .pre) (start .args .account) (start .args .contract) (start .args .lots) (start .args .buy) (start .args .sell) (none (c .before .before .before .before .before .before .before .before .before .before .before .before .before .before .before .before .before .before .before .before .before .before .before .before .before .before .before .before .before .before .before .before .before .before .before .before .before .before .before .before .before .before)) (c .before .before .before .before .before .before .before .before .before .before .before .before .before .before .before .before .before .before .before .before .before .before .before .before .place .ensures) (c .before .before .before .before .before .before .before .before .before .before .before .before .before .before .before .if2 .taken) (c .before .before .before .before .before .before .before .before .before .before .before .before .before .before .before .before .before .before .before .before .before .before .before .before .before .before .before .before .before .before .before .before .before .before .before .before .before .before .before .before .before .place-of .ensures) refl (c .before .before .before .before .before .before .before .before .before .before .before .before .before .before .before .before .before .before .before .before .before .before .before .before .before .before .before .before .before .before .before .before .before .before .before .before .before .keep .ensures) (c .before .before .before .before .before .before .before .before .before .before .before .before .put-back .ensures)) (sells-again (start .pre) (start .args .account) (start .args .contract) (start .args .lots) (start .args .buy) (start .args .sell) (none (c .before .before .before .before .before .before .before .before .before .before .before .before .before .before .before .before .before .before .before .before .before .before .before .before .before .before .before .before .before .before .before .before .before .before .before .before .before .before .before .before .before .before)) (c .before .before .before .before .before .before .before .before .before .before .before .before .before .before .before .before .before .before .before .before .before .before .before .before .place .ensures) (c .before .before .before .before .before .before .before .before .before .before .before .before .before .before .before .if2 .taken) (c .before .before .before .before .before .before .before .before .before .before .before .before .before .before .before .before .before .before .before .before .before .before .before .before .before .before .before .before .before .before .before .before .before .before .before .before .before .before .before .before .before .place-of .ensures) refl (c .before .before .before .before .before .before .before .before .before .before .before .before .before .before .before .before .before .before .before .before .before .before .before .before .before .before .before .before .before .before .before .before .before .keep2 .ensures) (c .before .before .before .before .before .before .before .put-back2 .ensures)) (trades-again (start .pre) (start .args .account) (start .args .contract) (start .args .lots) (start .args .buy) (start .args .sell) (none (c .before .before .before .before .before .before .before .before .before .before .before .before .before .before .before .before .before .before .before .before .before .before .before .before .before .before .before .before .before .before .before .before .before .before .before .before .before .before .before .before .before .before)) (c .before .before .before .before .before .before .before .before .before .before .before .before .before .before .before .before .before .before .before .before .before .before .before .before .place .ensures) (c .before .before .before .before .before .before .before .before .before .before .before .before .before .before .before .if2 .taken) (c .before .before .before .before .before .before .before .before .before .before .before .before .before .before .before .before .before .before .before .before .before .before .before .before .before .before .before .before .before .before .before .before .before .before .before .before .before .before .before .before .first-made .ensures) refl (c .before .before .before .before .before .before .before .before .before .before .before .before .before .before .before .before .before .before .before .before .before .before .before .before .before .before .before .before .before .keep3 .ensures) (c .before .before .put-back3 .ensures))
+    let after = c .before .before .before .before .before .before .before .before .before .before .before .before .before .before .before .before .before .before .before .before .before .before .before .before in
+    let start = after .before .before .before .before .before .before .before .before .before .before .before .before .before .before .before .before .before .before .before .before .before .before .before in
+    quote-undone (start .pre) (start .args .account) (start .args .contract) (start .args .lots) (start .args .buy) (start .args .sell) (none (after .before .before .before .before .before .before .before .before .before .before .before .before .before .before .before .before .before .before)) (after .place .ensures) (c .before .before .before .before .before .before .before .before .before .before .before .before .before .before .before .if2 .taken) (buys-again (start .pre) (start .args .account) (start .args .contract) (start .args .lots) (start .args .buy) (start .args .sell) (none (after .before .before .before .before .before .before .before .before .before .before .before .before .before .before .before .before .before .before)) (after .place .ensures) (c .before .before .before .before .before .before .before .before .before .before .before .before .before .before .before .if2 .taken) (after .before .before .before .before .before .before .before .before .before .before .before .before .before .before .before .before .before .place-of .ensures) refl (after .before .before .before .before .before .before .before .before .before .before .before .before .before .keep .ensures) (c .before .before .before .before .before .before .before .before .before .before .before .before .put-back .ensures)) (sells-again (start .pre) (start .args .account) (start .args .contract) (start .args .lots) (start .args .buy) (start .args .sell) (none (after .before .before .before .before .before .before .before .before .before .before .before .before .before .before .before .before .before .before)) (after .place .ensures) (c .before .before .before .before .before .before .before .before .before .before .before .before .before .before .before .if2 .taken) (after .before .before .before .before .before .before .before .before .before .before .before .before .before .before .before .before .before .place-of .ensures) refl (after .before .before .before .before .before .before .before .before .before .keep2 .ensures) (c .before .before .before .before .before .before .before .put-back2 .ensures)) (trades-again (start .pre) (start .args .account) (start .args .contract) (start .args .lots) (start .args .buy) (start .args .sell) (none (after .before .before .before .before .before .before .before .before .before .before .before .before .before .before .before .before .before .before)) (after .place .ensures) (c .before .before .before .before .before .before .before .before .before .before .before .before .before .before .before .if2 .taken) (after .before .before .before .before .before .before .before .before .before .before .before .before .before .before .before .before .first-made .ensures) refl (after .before .before .before .before .before .keep3 .ensures) (c .before .before .put-back3 .ensures))
 
 same-length-4 : tie.Need-same-length-4
 same-length-4 c = search needs

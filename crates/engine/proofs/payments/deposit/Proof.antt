@@ -91,9 +91,10 @@ accepted-requires c κs = search needs
 
 returns-4 : tie.Need-returns-4
 returns-4 c =
-    deposit-accepted (c .before .before .before .before .before .before .before .before .before .before .before .before .before .before .pre) _ _ (present (c .before .before .before .before .before .before .before .before .before)) (right (c .before .before .before .before .before .before .before)) (c .before .before .before .before .before .before .place-of .ensures)
+    let after = c .before .before .before .before .before in
+    deposit-accepted (after .before .before .before .before .before .before .before .before .before .pre) _ _ (present (after .before .before .before .before)) (right (after .before .before)) (after .before .place-of .ensures)
     (sym (high (c .before .before .before)) ∙ c .before .before .if3 .left)
-    (c .before .with-balance .ensures ∙ rw (add-back (balance (c .before .before .before .before .before .before)) (small (c .before .before .before .before .before .before .before)) (omega arith)))
+    (c .before .with-balance .ensures ∙ rw (add-back (balance (after .before)) (small (after .before .before)) (omega arith)))
     (c .accepted .ensures)
 
 pub deposit-spec : {M : Type 1} → statement M

@@ -80,7 +80,9 @@ refused-requires-3 : tie.Need-refused-requires-3
 refused-requires-3 c κs = search needs
 
 returns-3 : tie.Need-returns-3
-returns-3 c = withdraw-short (c .before .before .before .before .before .before .before .before .before .before .before .before .before .before .before .before .before .before .before .pre) _ _ (present (c .before .before .before .before .before .before .before .before .before .before .before .before .before .before)) (right (c .before .before .before .before .before .before .before .before .before .before .before .before)) (c .before .before .before .before .before .before .before .before .before .before .before .place-of .ensures) (c .before .before .before .charged .ensures)
+returns-3 c =
+    let after = c .before .before .before .before .before .before .before .before .before .before .before in
+    withdraw-short (after .before .before .before .before .before .before .before .before .pre) _ _ (present (after .before .before .before)) (right (after .before)) (after .place-of .ensures) (c .before .before .before .charged .ensures)
     (sym (left-is (c .before .before)) ∙ c .before .if3 .taken) (c .refused3 .ensures)
 
 with-balance-requires : tie.Need-with-balance-requires
@@ -90,9 +92,11 @@ accepted-requires : tie.Need-accepted-requires
 accepted-requires c κs = search needs
 
 returns-4 : tie.Need-returns-4
-returns-4 c = withdraw-accepted (c .before .before .before .before .before .before .before .before .before .before .before .before .before .before .before .before .before .before .before .before .pre) _ _ (present (c .before .before .before .before .before .before .before .before .before .before .before .before .before .before .before)) (right (c .before .before .before .before .before .before .before .before .before .before .before .before .before)) (c .before .before .before .before .before .before .before .before .before .before .before .before .place-of .ensures) (c .before .before .before .before .charged .ensures)
+returns-4 c =
+    let after = c .before .before .before .before .before .before .before .before .before .before .before in
+    withdraw-accepted (after .before .before .before .before .before .before .before .before .before .pre) _ _ (present (after .before .before .before .before)) (right (after .before .before)) (after .before .place-of .ensures) (c .before .before .before .before .charged .ensures)
     (sym (left-is (c .before .before .before)) ∙ c .before .before .if3 .left)
-    (c .before .with-balance .ensures ∙ rw (sub-back (balance (c .before .before .before .before .before .before .before .before .before .before .before .before)) (small (c .before .before .before .before .before .before .before .before .before .before .before .before .before)) (omega arith)))
+    (c .before .with-balance .ensures ∙ rw (sub-back (balance (after .before)) (small (after .before .before)) (omega arith)))
     (c .accepted .ensures)
 
 pub withdraw-spec : {M : Type 1} → statement M

@@ -81,7 +81,8 @@ sub-cancel-in-2 c = account-low (c .before .before .before .before .before .befo
 
 cancel-in-requires-2 : tie.Need-cancel-in-requires-2
 cancel-in-requires-2 c κs =
-    (side-room (c .before .before .before .before .before .before .before .before .before .before .before .before .before .before .before .before .before .pre) _ _ _ (none (c .before .before .before .before .before .before .before .before .before .before .before .before)) (c .before .before .before .before .before .before .before .before .before .before .before .place-of .ensures) true, side-once (c .before .before .before .before .before .before .before .before .before .before .before .before .before .before .before .before .before .pre) _ _ _ (none (c .before .before .before .before .before .before .before .before .before .before .before .before)) (c .before .before .before .before .before .before .before .before .before .before .before .place-of .ensures) true)
+    let after = c .before .before .before .before .before .before .before .before .before .before .before in
+    (side-room (after .before .before .before .before .before .before .pre) _ _ _ (none (after .before)) (after .place-of .ensures) true, side-once (after .before .before .before .before .before .before .pre) _ _ _ (none (after .before)) (after .place-of .ensures) true)
 
 refused-requires-3 : tie.Need-refused-requires-3
 refused-requires-3 c κs = search needs
@@ -94,7 +95,8 @@ same-length-4 c = search needs
 
 returns-4 : tie.Need-returns-4
 returns-4 c =
-    offer-refused (c .before .before .before .before .before .before .before .before .before .before .before .before .before .before .before .before .before .before .before .before .before .before .before .pre) _ _ _ (none (c .before .before .before .before .before .before .before .before .before .before .before .before .before .before .before .before .before .before)) (c .before .before .before .before .before .before .before .before .before .before .before .before .before .before .before .before .before .place-of .ensures) _ (c .before .before .before .before .before .before .before .before .before .before .before .before .before .cancel-in .ensures) (c .before .before .before .before .before .before .before .before .before .if2 .left) (c .before .before .before .before .before .before .before .if3 .left)
+    let after = c .before .before .before .before .before .before .before .before .before .before .before .before .before in
+    offer-refused (after .before .before .before .before .before .before .before .before .before .before .pre) _ _ _ (none (after .before .before .before .before .before)) (after .before .before .before .before .place-of .ensures) _ (after .cancel-in .ensures) (c .before .before .before .before .before .before .before .before .before .if2 .left) (c .before .before .before .before .before .before .before .if3 .left)
     (c .before .before .before .before .before .cancel-in2 .ensures) (c .before .if4 .taken) (c .refused3 .ensures)
 
 with-counts-requires-2 : tie.Need-with-counts-requires-2
@@ -111,7 +113,8 @@ same-length-6 c = search needs
 
 returns-5 : tie.Need-returns-5
 returns-5 c =
-    offer-done (c .before .before .before .before .before .before .before .before .before .before .before .before .before .before .before .before .before .before .before .before .before .before .before .before .pre) _ _ _ (none (c .before .before .before .before .before .before .before .before .before .before .before .before .before .before .before .before .before .before .before)) (c .before .before .before .before .before .before .before .before .before .before .before .before .before .before .before .before .before .before .place-of .ensures) _ (c .before .before .before .before .before .before .before .before .before .before .before .before .before .before .cancel-in .ensures) (c .before .before .before .before .before .before .before .before .before .before .if2 .left) (c .before .before .before .before .before .before .before .before .if3 .left)
+    let after = c .before .before .before .before .before .before .before .before .before .before .before .before .before .before in
+    offer-done (after .before .before .before .before .before .before .before .before .before .before .pre) _ _ _ (none (after .before .before .before .before .before)) (after .before .before .before .before .place-of .ensures) _ (after .cancel-in .ensures) (c .before .before .before .before .before .before .before .before .before .before .if2 .left) (c .before .before .before .before .before .before .before .before .if3 .left)
     (c .before .before .before .before .before .before .cancel-in2 .ensures) (c .before .before .if4 .left) (c .before .with-counts2 .ensures) (c .accepted2 .ensures)
 
 pub cancel-spec : {M : Type 1} → statement M

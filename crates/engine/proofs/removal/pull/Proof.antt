@@ -22,8 +22,9 @@ place c = contract-fits (c .before .before .before .before .before .before .pre)
 
 few : (c : tie.After-struct-known2) → c .before .before .before .before .before .before .before .before .pull .result .lots + c .before .before .before .before .pull2 .result .lots ≤ 128_000
 few c =
-    let b = pulled-high (c .before .before .before .before .before .before .before .before .before .before .before .before .before .before .before .before .before .before .pre) _ _ _ (none (c .before .before .before .before .before .before .before .before .before .before .before .before .before)) (c .before .before .before .before .before .before .before .before .before .before .before .before .place-of .ensures) false (c .before .before .before .before .before .before .before .before .pull .ensures) in
-    let o = pulled-high (c .before .before .before .before .before .before .before .before .before .before .before .before .before .before .before .before .before .before .pre) _ _ _ (none (c .before .before .before .before .before .before .before .before .before .before .before .before .before)) (c .before .before .before .before .before .before .before .before .before .before .before .before .place-of .ensures) true (c .before .before .before .before .pull2 .ensures) in
+    let after = c .before .before .before .before .before .before .before .before .before .before .before .before in
+    let b = pulled-high (after .before .before .before .before .before .before .pre) _ _ _ (none (after .before)) (after .place-of .ensures) false (c .before .before .before .before .before .before .before .before .pull .ensures) in
+    let o = pulled-high (after .before .before .before .before .before .before .pre) _ _ _ (none (after .before)) (after .place-of .ensures) true (c .before .before .before .before .pull2 .ensures) in
     omega arith
 
 -- ---- the needs
@@ -64,7 +65,8 @@ sub-pull-2 c = account-low (c .before .before .before .before .before .before .b
 
 pull-requires-2 : tie.Need-pull-requires-2
 pull-requires-2 c κs =
-    (side-few (c .before .before .before .before .before .before .before .before .before .before .before .before .before .pre) _ _ _ (none (c .before .before .before .before .before .before .before .before)) (c .before .before .before .before .before .before .before .place-of .ensures) true, side-room (c .before .before .before .before .before .before .before .before .before .before .before .before .before .pre) _ _ _ (none (c .before .before .before .before .before .before .before .before)) (c .before .before .before .before .before .before .before .place-of .ensures) true)
+    let after = c .before .before .before .before .before .before .before in
+    (side-few (after .before .before .before .before .before .before .pre) _ _ _ (none (after .before)) (after .place-of .ensures) true, side-room (after .before .before .before .before .before .before .pre) _ _ _ (none (after .before)) (after .place-of .ensures) true)
 
 add-lots : tie.Need-add-lots
 add-lots c = omega (arith, few c)
@@ -86,7 +88,8 @@ same-length-2 c = search needs
 
 returns-2 : tie.Need-returns-2
 returns-2 c =
-    pull-accepted (c .before .before .before .before .before .before .before .before .before .before .before .before .before .before .before .before .before .before .before .before .pre) _ _ _ (none (c .before .before .before .before .before .before .before .before .before .before .before .before .before .before .before)) (c .before .before .before .before .before .before .before .before .before .before .before .before .before .before .place-of .ensures) (c .before .before .before .before .before .before .before .before .before .before .pull .ensures) (c .before .before .before .before .before .before .pull2 .ensures) (c .before .with-counts .ensures) refl
+    let after = c .before .before .before .before .before .before .before .before .before .before in
+    pull-accepted (after .before .before .before .before .before .before .before .before .before .before .pre) _ _ _ (none (after .before .before .before .before .before)) (after .before .before .before .before .place-of .ensures) (after .pull .ensures) (c .before .before .before .before .before .before .pull2 .ensures) (c .before .with-counts .ensures) refl
     (c .accepted .ensures)
 
 pub pull-spec : {M : Type 1} → statement M

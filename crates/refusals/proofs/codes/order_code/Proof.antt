@@ -77,9 +77,10 @@ book-code-requires c κs =
 
 returns-3 : tie.Need-returns-3
 returns-3 c =
-    let start = c .before .before .before .before .before .before .before .before .before .before .before .before .before .before .before .before .before .before in
-    code-book (start .pre .0) (start .args .o) (fields (c .before .before .before .before .before .before .before .before .before .before)) (c .before .before .before .before .before .before .before .before .before .if1 .left) (c .before .before .before .before .before .account-code .ensures) (c .before .before .before .before .if2 .left)
-    (c .book-code .ensures _ (meets (start .pre .0) (start .args .o) (start .pre .1) (c .before .before .before .before .before .before .before .before .before .before .before .before .before .before .place-of .ensures) (c .before .before .side-area .ensures) (c .before .before .before .before .before .before .side-count2 .ensures) (c .before .taker-of .ensures) (c .before .before .before .before .before .before .before .before .side-count .ensures)))
+    let after = c .before .before .before .before .before .before .before .before in
+    let start = after .before .before .before .before .before .before .before .before .before .before in
+    code-book (start .pre .0) (start .args .o) (fields (after .before .before)) (after .before .if1 .left) (c .before .before .before .before .before .account-code .ensures) (c .before .before .before .before .if2 .left)
+    (c .book-code .ensures _ (meets (start .pre .0) (start .args .o) (start .pre .1) (after .before .before .before .before .before .before .place-of .ensures) (c .before .before .side-area .ensures) (c .before .before .before .before .before .before .side-count2 .ensures) (c .before .taker-of .ensures) (after .side-count .ensures)))
 
 pub order-code-spec : {M : Type 1} → statement M
 order-code-spec =
