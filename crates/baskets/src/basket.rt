@@ -6,9 +6,11 @@ ghost use Prim.Native.Nat.{_*_, _/_, _≤_};
 ghost use lib.ListN.{length, take};
 ghost use Rattle.areas.specs.Records.{store};
 ghost use Rattle.rules.specs.Condition3.{run};
+ghost use Rattle.rules.specs.DayFile.{commandWidth};
 ghost use Rattle.rules.specs.Memory.{memory, wellFormedMemory};
 ghost use Rattle.exchange.specs.Run.{wholeCommands};
-ghost use Rattle.baskets.specs.Bundle.{BundleIs, answerWords, answersTo, bundleCode, maxCommands};
+ghost use Rattle.baskets.specs.Bundle.{BundleIs, answerWords, answersTo, bundleCode, maxCommands, answerStride};
+use crate::answers::ANSWER_STRIDE;
 use crate::answers::answer_command;
 use crate::list::answer_records;
 use rules::Command;
@@ -41,7 +43,7 @@ fn refusal(
     if count > MAX_COMMANDS {
         return 22;
     }
-    if words < 4 * count {
+    if words < ANSWER_STRIDE * count {
         return 22;
     }
     0
@@ -58,7 +60,7 @@ fn answer_all(
     count: usize,
     answers: &mut [u32],
 ) -> State
-    requires { ⌜ (true ≡ wellFormedMemory (memory state (now buys) (now sells) (now trades))) × (count ≤ maxCommands) × (4 * count ≤ length (now answers)) ⌝ }
+    requires { ⌜ (true ≡ wellFormedMemory (memory state (now buys) (now sells) (now trades))) × (count ≤ maxCommands) × (answerStride * count ≤ length (now answers)) ⌝ }
     ensures { λ r. ⌜ memory r (now (buys .exit)) (now (sells .exit)) (now (trades .exit)) ≡ run (memory state (now (buys .entry)) (now (sells .entry)) (now (trades .entry))) (take count commands) ⌝ }
     ensures { λ r. ⌜ now (answers .exit) ≡ store answerWords (now (answers .entry)) 0 (answersTo (memory state (now (buys .entry)) (now (sells .entry)) (now (trades .entry))) (take count commands)) ⌝ }
 {
@@ -111,9 +113,9 @@ pub fn submit_bytes(
     bytes: &[u8],
     answers: &mut [u32],
 ) -> Receipt
-    ensures { λ r. ⌜ BundleIs (memory state (now (buys .entry)) (now (sells .entry)) (now (trades .entry))) (wholeCommands (now (bytes .entry))) (length (now (bytes .entry)) / 24) (now (answers .entry)) r (memory (r .state) (now (buys .exit)) (now (sells .exit)) (now (trades .exit))) (now (answers .exit)) ⌝ }
+    ensures { λ r. ⌜ BundleIs (memory state (now (buys .entry)) (now (sells .entry)) (now (trades .entry))) (wholeCommands (now (bytes .entry))) (length (now (bytes .entry)) / commandWidth) (now (answers .entry)) r (memory (r .state) (now (buys .exit)) (now (sells .exit)) (now (trades .exit))) (now (answers .exit)) ⌝ }
 {
-    let count = bytes.len() / 24;
+    let count = bytes.len() / rules::COMMAND_WIDTH;
     let code = refusal(
         state,
         &buys[..],
