@@ -14,7 +14,7 @@ use Rattle.areas.specs.Lists.{removeAt}
 use Rattle.areas.proofs.Lists.{length-removeAt}
 use Rattle.rules.specs.Answers as rules
 use Rattle.rules.specs.Answers.{Refusal, cancelRefusals, dayLimit, firstOf, listingOf, namedRefusals, noSuchOrder, notContinuous, numbered, ofAnother, ownerRefusals, pullRefusals, restingOrder}
-use Rattle.rules.specs.Bounds.{maxResting, numbersEnd}
+use Rattle.rules.specs.Bounds.{maxResting, numbersEnd, maxLots, maxContracts}
 use Rattle.rules.specs.Change.{Asked, arriving, asked, changeRefusals, changed, gone, isSell, lessened, listingFor, listingLessened, losesPlace, newFieldsRefusals, oldOrder, placeKept, placeLost, reentered, reentryRefusals, unchanged}
 use Rattle.rules.specs.Exchange.{Exchange, noAccount, noContract, noOrder, own, placeOf}
 use Rattle.rules.specs.Kinds.{codeOf, decide, done, kindOf, lastOf, step}
@@ -155,7 +155,7 @@ module _ {s : State} {buys sells trades : List ℕ} (w : WellFormedState s buys 
     one-found : numbered number (bought ++ sold) ≡ r .order ∷ []
     one-found = g .resting .order ∙ rw found refl
 
-    few-lots : lots ≤ 1_000
+    few-lots : lots ≤ maxLots
     few-lots = ltb-false _ _ (its .1 .1 .0)
 
     one-resting : resting ≡ r .order ∷ []
@@ -290,7 +290,7 @@ module _ {s : State} {buys sells trades : List ℕ} (w : WellFormedState s buys 
         (Cancel account contract false number) cancel-code refl refl (omega arith) refl
 
     pub can-take-out : {place : ℕ} → place ≡ c
-        → (place < 4) × (r .place < sideCount (r .sell) s place) × (firstWord place (sideCount (r .sell) s place) ≤ length (sideArea (r .sell) buys sells))
+        → (place < maxContracts) × (r .place < sideCount (r .sell) s place) × (firstWord place (sideCount (r .sell) s place) ≤ length (sideArea (r .sell) buys sells))
     can-take-out is = rw is (contract-fits w account contract named refl, place-in, room (r .sell))
 
     pub taken-out : {place : ℕ} → place ≡ c → {t : State} → t ≡ takenOut s place r → {buys′ sells′ : List ℕ}
@@ -444,7 +444,7 @@ module _ {s : State} {buys sells trades : List ℕ} (w : WellFormedState s buys 
               rw (eo, gone-state)
               (record { account-low = account-low w account contract named; account = account-here w account contract named; contract-low = contract-low w account contract named; contract = contract-here w account contract named })
 
-          pub gone-lots : o .lots ≤ 1_000
+          pub gone-lots : o .lots ≤ maxLots
           gone-lots = rw eo few-lots
 
           pub gone-owner : {place : ℕ} → place ≡ placeOf account → {who : Account} → who ≡ getD (s .accounts) place noAccount → getD (t .state .accounts) (o .account - 1) noAccount ≡ who

@@ -6,7 +6,7 @@ ghost use lib.Dec.{eqb};
 ghost use lib.ListN.{length};
 ghost use Rattle.laws.specs.Choice.{pick};
 ghost use Rattle.rules.specs.Answers as answer;
-ghost use Rattle.rules.specs.Bounds.{termsInRange};
+ghost use Rattle.rules.specs.Bounds.{termsInRange, maxContracts};
 ghost use Rattle.rules.specs.Memory.{memory, queueIn, stepIn, firstWord, orderStride, WellFormedState};
 ghost use Rattle.rules.specs.declared.Command.the-variants.{Change};
 ghost use Rattle.engine.specs.Outcome.{OutcomeIs};
@@ -152,7 +152,7 @@ fn put_back(buys: &mut [u32], sells: &mut [u32], c: usize, count: usize, r: Rest
 
 // The order is taken out of its queue. The state after it.
 fn take_out(state: State, buys: &mut [u32], sells: &mut [u32], c: usize, r: Resting) -> State
-    requires { ⌜ (c < 4) × (r .place < sideCount (r .sell) state c) × (firstWord c (sideCount (r .sell) state c) ≤ length (sideArea (r .sell) (now buys) (now sells))) ⌝ }
+    requires { ⌜ (c < maxContracts) × (r .place < sideCount (r .sell) state c) × (firstWord c (sideCount (r .sell) state c) ≤ length (sideArea (r .sell) (now buys) (now sells))) ⌝ }
     ensures { λ t. ⌜ t ≡ takenOut state c r ⌝ }
     ensures { λ _. ⌜ now (buys .exit) ≡ pick (r .sell) (now (buys .entry)) (removedIn (now (buys .entry)) c (sideCount false state c) (r .place)) ⌝ }
     ensures { λ _. ⌜ now (sells .exit) ≡ pick (r .sell) (removedIn (now (sells .entry)) c (sideCount true state c) (r .place)) (now (sells .entry)) ⌝ }

@@ -16,7 +16,7 @@ use Rattle.areas.specs.Lists.{removeAt}
 use Rattle.areas.proofs.Lists.{length-removeAt}
 use Rattle.rules.specs.Kinds.{codeOf, done, kindOf}
 use Rattle.rules.specs.Answers.{Refusal, cancelRefusals, firstOf, noSuchOrder, numbered, ofAnother, ownerRefusals, pullRefusals, removalRefused, restingOrder}
-use Rattle.rules.specs.Bounds.{maxLots, inAuction, maxResting}
+use Rattle.rules.specs.Bounds.{maxLots, inAuction, maxResting, maxContracts}
 use Rattle.rules.specs.Exchange.{Listing, listingAt, lotsWhere, noListing, noOrder, isAbsent}
 use Rattle.rules.specs.Memory.{Memory, exchangeOf, listingIn, orderFrom, put, putQueue, queueIn, stepIn, memory, WellFormedState, firstWord}
 use Rattle.book.specs.Places.{firstWhere, indexOf}
@@ -185,7 +185,7 @@ module _ {s : State} {buys sells trades : List ℕ} (w : WellFormedState s buys 
   f : Formed m
   f = formed w
 
-  pub few-contracts : s .contractcount ≤ 4
+  pub few-contracts : s .contractcount ≤ maxContracts
   few-contracts = f .contracts-high
 
   -- ---- the tests that both kinds make first
@@ -221,7 +221,7 @@ module _ {s : State} {buys sells trades : List ℕ} (w : WellFormedState s buys 
       here : place < s .contractcount
       here = rw is (place-below contract (s .contractcount) (tests .1) .1)
 
-      pub contract-fits : place < 4
+      pub contract-fits : place < maxContracts
       contract-fits = omega (arith, here, few-contracts)
 
       listing-is : listingAt (exchangeOf m) (contract - 1) ≡ listingIn m place
@@ -342,12 +342,12 @@ module _ {s : State} {buys sells trades : List ℕ} (w : WellFormedState s buys 
       unfolding exchangeOf
       in-range = rw (listing-at m f place here) at (f .contents .listing place (rw (contracts-count m f) here))
 
-      side-lots : (sell : Bool) (test : Order → Bool) → lotsWhere test (orders sell) ≤ 64_000
+      side-lots : (sell : Bool) (test : Order → Bool) → lotsWhere test (orders sell) ≤ maxResting * maxLots
       unfolding listingIn
       side-lots false test = omega (arith, lots-high _ _ _ _ test (orders false) (in-range .orders false), length-queue buys place (count false), side-few false)
       side-lots true test = omega (arith, lots-high _ _ _ _ test (orders true) (in-range .orders true), length-queue sells place (count true), side-few true)
 
-      pub pulled-high : (sell : Bool) {p : Pulled} {area′ : List ℕ} → PulledIs (isOf (account - 1)) (area sell) place (count sell) p area′ → p .lots ≤ 64_000
+      pub pulled-high : (sell : Bool) {p : Pulled} {area′ : List ℕ} → PulledIs (isOf (account - 1)) (area sell) place (count sell) p area′ → p .lots ≤ maxResting * maxLots
       pulled-high sell b = rw (b .lots) (side-lots sell (isOf (account - 1)))
 
       pub pull-accepted : {r : Outcome} {next : State} {lots : ℕ} {bid offer : Pulled} {buys′ sells′ : List ℕ}

@@ -3,6 +3,7 @@ ghost use mathlib.Core.Bool.{true};
 ghost use mathlib.Core.Path.{_≡_};
 ghost use Prim.Native.Nat.{_+_, _<_, _≤_};
 ghost use lib.ListN.{length, set};
+ghost use Rattle.rules.specs.Bounds.{maxContracts};
 ghost use Rattle.rules.specs.Answers.{pullRefusals, removalRefused};
 ghost use Rattle.rules.specs.Memory.{queueIn, stepIn, memory, WellFormedState, firstWord};
 ghost use Rattle.rules.specs.WellFormed.{numbers, usedOnce};
@@ -33,7 +34,7 @@ fn is_refused(terms: Contract, operator: bool) -> bool
 
 // The tests that cancel and pull share: 2, 3 or 4, and 0 where none refuses. Requires at most 4 contracts.
 fn refusal(state: State, account: u32, contract: u32, operator: bool) -> u32
-    requires { ⌜ state .contractcount ≤ 4 ⌝ }
+    requires { ⌜ state .contractcount ≤ maxContracts ⌝ }
     ensures { λ r. ⌜ FirstIn state (λ x. pullRefusals x account contract operator) r ⌝ }
 {
     if answers::is_absent(account, state.accountcount) {
@@ -53,7 +54,7 @@ fn refusal(state: State, account: u32, contract: u32, operator: bool) -> u32
 
 // The state with other counts of resting orders at one contract's place. Another crate takes orders out too.
 pub fn with_counts(state: State, c: usize, bought: usize, sold: usize) -> State
-    requires { ⌜ c < 4 ⌝ }
+    requires { ⌜ c < maxContracts ⌝ }
     ensures { λ r. ⌜ r ≡ withCountsIn state (set (state .buycounts) c bought) (set (state .sellcounts) c sold) ⌝ }
 {
     let mut next = state;

@@ -7,6 +7,7 @@ use native.Mathlib.Omega.{arith}
 use borrow.Author.Tests.{eqb-true, ne-eqb}
 use lib.Dec.{eqb}
 use lib.ListN.{length}
+use Rattle.rules.specs.Bounds.{maxAccounts, numbersEnd}
 use Rattle.laws.specs.Choice.{pick}
 use Rattle.rules.specs.Answers.{firstOf, orderRefusals}
 use Rattle.rules.specs.Exchange.{Exchange, placeOf}
@@ -58,7 +59,7 @@ module _ {s : State} {buys sells trades : List ℕ} (w : WellFormedState s buys 
   pub marked-low : 1 ≤ o .account
   marked-low = g .present .account-low
 
-  pub marked-fits : {place : ℕ} → place ≡ o .account - 1 → place < 32
+  pub marked-fits : {place : ℕ} → place ≡ o .account - 1 → place < maxAccounts
   marked-fits e = omega (arith, g .present .account, f .accounts-high)
 
   module _ {code : ℕ} (ec : code ≡ firstOf (orderRefusals x o)) where
@@ -84,7 +85,7 @@ module _ {s : State} {buys sells trades : List ℕ} (w : WellFormedState s buys 
       marks : Marks x 1 o
       marks = record { low = omega arith; allowed = rw (g .maker, g .opens) refl; single = omega (arith, g .single) }
 
-      pub numbers-low : s .next < 1_000_000
+      pub numbers-low : s .next < numbersEnd
       unfolding exchangeOf
       numbers-low = numbers-left x o tests
 

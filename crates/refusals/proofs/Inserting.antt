@@ -8,6 +8,7 @@ use native.Mathlib.Omega.{arith}
 use borrow.Author.Tests.{leb-true, not-false}
 use lib.Dec.{leb}
 use lib.ListN.{length, getD}
+use Rattle.holdings.specs.Bounds.{heldMost}
 use Rattle.laws.specs.Choice.{both-true, pick}
 use Rattle.rules.specs.Answers.{Refusal, accountRefusals, bookRefusals, conditionsRefused, fieldsRefusals, fillableLots, firstOf, fullRefused, holdingRefused, insertRefusals, killRefused, listingOf, lotsRefused, mark, noRoomFor, oppositeQueue, orderRefusals, ownQueue, takerFor, takerOf, takesOrders, tradesNeeded, tradesRefused, tradesWith}
 use Rattle.rules.specs.Bounds.{inAuction, maxAccounts, maxContracts, maxLots, maxResting, maxTrades, numbersEnd, termsInRange, within}
@@ -157,7 +158,7 @@ module _ {s : State} {buys sells trades : List ℕ} (w : WellFormedState s buys 
         rested-is : rested ≡ resting (mark (o .close)) (o .account - 1) (queueIn (sideArea (o .sell) buys sells) c (sideCount (o .sell) s c))
         rested-is = er ∙ rw (em, ec, ea, is)
 
-        pub rested-low : rested ≤ 1_000_000
+        pub rested-low : rested ≤ heldMost
         rested-low = rw rested-is (resting-low m f c (p .contract) (o .account - 1) (p .account) (o .sell) (o .close))
 
         pub lots-are : {who : Account} → getD (s .accounts) (o .account - 1) noAccount ≡ who → {r : Bool} → r ≡ lotsRefused terms (getD (who .holdings) place noHolding) rested o → r ≡ holdingRefused x o

@@ -6,6 +6,7 @@ ghost use mathlib.Core.Path.{_≡_};
 ghost use Prim.Native.Nat.{_-_, _≤_};
 ghost use lib.Dec.{leb, ltb};
 ghost use lib.ListN.{getD};
+ghost use Rattle.holdings.specs.Bounds.{heldMost};
 ghost use Rattle.rules.specs.Answers as answer;
 ghost use Rattle.rules.specs.Bounds.{termsInRange, maxContracts, maxLots, maxTrades, numbersEnd};
 ghost use Rattle.rules.specs.Exchange.{Exchange, noAccount};
@@ -104,7 +105,7 @@ pub fn fields_code(terms: Contract, conditions: bool, o: NewOrder) -> u32
 // 8: an open may not lift holding and resting opens above the limit, a close may not exceed what is held less resting closes.
 // `rested` are the account's resting lots on the order's side, opens of an open and closes of a close.
 fn lots_refused(terms: Contract, h: Holding, rested: u64, o: NewOrder) -> bool
-    requires { ⌜ rested ≤ 1000000 ⌝ }
+    requires { ⌜ rested ≤ heldMost ⌝ }
     ensures { λ r. ⌜ r ≡ answer.lotsRefused terms h rested o ⌝ }
 {
     let lots = laws::wide64(o.lots);

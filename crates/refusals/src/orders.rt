@@ -2,6 +2,7 @@
 // room.
 ghost use mathlib.Core.Path.{_≡_};
 ghost use Prim.Native.Nat.{_-_, _<_, _≤_};
+ghost use Rattle.rules.specs.Bounds.{maxContracts};
 ghost use Rattle.laws.specs.Choice.{pick};
 ghost use Rattle.rules.specs.Answers as answer;
 ghost use Rattle.rules.specs.Exchange as exchange;
@@ -107,7 +108,7 @@ pub fn side_area<'a>(sell: bool, buys: &'a [u32], sells: &'a [u32]) -> &'a [u32]
 
 // How many orders rest on a side of the contract at a place.
 pub fn side_count(sell: bool, state: State, c: usize) -> usize
-    requires { ⌜ c < 4 ⌝ }
+    requires { ⌜ c < maxContracts ⌝ }
     ensures { λ r. ⌜ r ≡ sideCount sell state c ⌝ }
 {
     let bids = state.buycounts;

@@ -7,6 +7,7 @@ use borrow.Author.Needs.{needs}
 use lib.IntN.{pos, _+ℤ_}
 use lib.ListN.{getD}
 use lib.Signed.{ltZ}
+use Rattle.rules.specs.Bounds.{balanceMost}
 use Rattle.laws.specs.Bound.{Within, within-fits, within-pos}
 use Rattle.laws.proofs.Signed.{add-fits, add-back, back}
 use Rattle.rules.specs.Answers.{amountRefused}
@@ -28,12 +29,12 @@ right c = sym (c .before .amount-refused .ensures) ∙ c .if2 .left
 small : (c : tie.Else2) → Within (10 ^ 15) (pos (c .before .before .before .before .before .before .before .args .amount))
 small c = within-pos (amount-high _ (right c))
 
-balance : (c : tie.After-place-of) → Within (2 * 10 ^ 18) (getD (c .before .before .before .before .before .before .before .before .args .t1 .accounts) (c .place-of .result) noAccount .balance)
+balance : (c : tie.After-place-of) → Within balanceMost (getD (c .before .before .before .before .before .before .before .before .args .t1 .accounts) (c .place-of .result) noAccount .balance)
 balance c = balance-fits (c .before .before .before .before .before .before .before .before .pre) _ (present (c .before .before .before)) (c .place-of .ensures)
 
 high : (c : tie.After-lifts-too-high)
     → c .lifts-too-high .result ≡ ltZ (pos (10 ^ 18)) (getD (c .before .before .before .before .before .before .before .before .before .before .before .args .t1 .accounts) (c .before .before .before .place-of .result) noAccount .balance +ℤ pos (c .before .before .before .before .before .before .before .before .before .before .before .args .amount))
-high c = c .lifts-too-high .ensures ∙ rw (back (2 * 10 ^ 18) (omega arith) (balance (c .before .before .before)))
+high c = c .lifts-too-high .ensures ∙ rw (back balanceMost (omega arith) (balance (c .before .before .before)))
 
 -- ---- the needs
 
@@ -67,7 +68,7 @@ element-copy-out-who : tie.Need-element-copy-out-who
 element-copy-out-who c = account-fits (c .before .before .before .before .before .before .before .before .pre) _ (c .place-of .ensures) (present (c .before .before .before))
 
 lifts-too-high-requires : tie.Need-lifts-too-high-requires
-lifts-too-high-requires c κs = (rw (back (2 * 10 ^ 18) (omega arith) (balance (c .before .before))) (balance (c .before .before)), amount-high _ (right (c .before .before .before)))
+lifts-too-high-requires c κs = (rw (back balanceMost (omega arith) (balance (c .before .before))) (balance (c .before .before)), amount-high _ (right (c .before .before .before)))
 
 refused-requires-3 : tie.Need-refused-requires-3
 refused-requires-3 c κs = search needs

@@ -7,6 +7,7 @@ use borrow.Author.Needs.{needs}
 use lib.IntN.{pos, _-ℤ_}
 use lib.ListN.{getD}
 use lib.Signed.{ltZ}
+use Rattle.rules.specs.Bounds.{balanceMost}
 use Rattle.laws.specs.Bound.{Within, within-fits, within-pos}
 use Rattle.laws.proofs.Signed.{sub-fits, sub-back}
 use Rattle.rules.specs.Answers.{amountRefused}
@@ -28,7 +29,7 @@ right c = sym (c .before .amount-refused .ensures) ∙ c .if2 .left
 small : (c : tie.Else2) → Within (10 ^ 15) (pos (c .before .before .before .before .before .before .before .args .amount))
 small c = within-pos (amount-high _ (right c))
 
-balance : (c : tie.After-place-of) → Within (2 * 10 ^ 18) (getD (c .before .before .before .before .before .before .before .before .args .t1 .accounts) (c .place-of .result) noAccount .balance)
+balance : (c : tie.After-place-of) → Within balanceMost (getD (c .before .before .before .before .before .before .before .before .args .t1 .accounts) (c .place-of .result) noAccount .balance)
 balance c = balance-fits (c .before .before .before .before .before .before .before .before .pre) _ (present (c .before .before .before)) (c .place-of .ensures)
 
 -- the code's difference is the rules'

@@ -4,6 +4,7 @@ use mathlib.Core.Path.{_≡_, sym, _∙_}
 use Prim.Native.Nat.{_<_}
 use borrow.Author.Needs.{needs}
 use denote.Ref.{now}
+use Rattle.rules.specs.Bounds.{maxContracts}
 use Rattle.rules.specs.Answers.{firstOf, pullRefusals}
 use Rattle.rules.specs.Memory.{exchangeOf, memory}
 use Rattle.engine.proofs.Removals.{few-contracts, account-low, contract-low, contract-fits, side-room, side-once, cancel-refused, bid-done, bid-another, offer-refused, offer-done}
@@ -16,7 +17,7 @@ none : (c : tie.Else1) → let start = c .before .before .before .before .before
     firstOf (pullRefusals (exchangeOf (memory (start .args .state) (now (start .args .buys)) (now (start .args .sells)) (now (start .args .trades)))) (start .args .account) (start .args .contract) (start .args .operator)) ≡ 0
 none c = sym (c .before .refusal .ensures _ _ _ (c .before .before .before .before .before .pre)) ∙ c .if1 .left
 
-place : (c : tie.After-place-of) → c .place-of .result < 4
+place : (c : tie.After-place-of) → c .place-of .result < maxContracts
 place c = contract-fits (c .before .before .before .before .before .before .pre) _ _ _ (none (c .before)) (c .place-of .ensures)
 
 -- ---- the needs

@@ -5,6 +5,7 @@ use Prim.Native.Nat.{_+_, _<_, _≤_}
 use native.Mathlib.Omega.{arith}
 use borrow.Author.Needs.{needs}
 use denote.Ref.{now}
+use Rattle.rules.specs.Bounds.{maxResting, maxLots, maxContracts}
 use Rattle.rules.specs.Answers.{firstOf, pullRefusals}
 use Rattle.rules.specs.Memory.{exchangeOf, memory}
 use Rattle.engine.proofs.Removals.{few-contracts, account-low, contract-low, contract-fits, side-few, side-room, pulled-high, pull-refused, pull-accepted}
@@ -17,10 +18,10 @@ none : (c : tie.Else1) → let start = c .before .before .before .before .before
     firstOf (pullRefusals (exchangeOf (memory (start .args .state) (now (start .args .buys)) (now (start .args .sells)) (now (start .args .trades)))) (start .args .account) (start .args .contract) (start .args .operator)) ≡ 0
 none c = sym (c .before .refusal .ensures _ _ _ (c .before .before .before .before .before .pre)) ∙ c .if1 .left
 
-place : (c : tie.After-place-of) → c .place-of .result < 4
+place : (c : tie.After-place-of) → c .place-of .result < maxContracts
 place c = contract-fits (c .before .before .before .before .before .before .pre) _ _ _ (none (c .before)) (c .place-of .ensures)
 
-few : (c : tie.After-struct-known2) → c .before .before .before .before .before .before .before .before .pull .result .lots + c .before .before .before .before .pull2 .result .lots ≤ 128_000
+few : (c : tie.After-struct-known2) → c .before .before .before .before .before .before .before .before .pull .result .lots + c .before .before .before .before .pull2 .result .lots ≤ 2 * (maxResting * maxLots)
 few c =
     let after = c .before .before .before .before .before .before .before .before .before .before .before .before in
     let b = pulled-high (after .before .before .before .before .before .before .pre) _ _ _ (none (after .before)) (after .place-of .ensures) false (c .before .before .before .before .before .before .before .before .pull .ensures) in

@@ -2,6 +2,7 @@
 use mathlib.Core.Path.{_∙_}
 use Prim.Native.Nat.{_^_, _*_}
 use native.Mathlib.Omega.{arith}
+use Rattle.rules.specs.Bounds.{balanceMost}
 use Rattle.laws.proofs.Signed.{back}
 use Rattle.refusals.proofs.Affording.{close-free, can-hold, can-charge, balance-fits, money-is}
 use Rattle.refusals.proofs.Inserting.{place-fits}
@@ -35,7 +36,7 @@ returns-2 : tie.Need-returns-2
 returns-2 c =
     let after = c .before .before .before .before .before .before .before .before .before .before .before .before .before .before in
     money-is (after .pre .0) (after .args .o) (after .pre .1) (after .pre .2) (c .before .before .before .before .before .before .before .before .before .place-of .ensures) (c .before .before .before .before .before .before .before .before .place-of2 .ensures) (after .pre .3) (c .before .before .before .before .before .before .before .book-leg .ensures) (c .before .charged .ensures) (c .before .before .before .before .before .before .before .before .before .before .if1 .left)
-    (c .too-little .ensures ∙ rw (back (2 * 10 ^ 18) (omega arith) (balance-fits (after .pre .0) (after .args .o) (after .pre .1) (after .pre .2) (c .before .before .before .before .before .before .before .before .before .place-of .ensures) (c .before .before .before .before .before .before .before .before .place-of2 .ensures) (after .pre .3))))
+    (c .too-little .ensures ∙ rw (back balanceMost (omega arith) (balance-fits (after .pre .0) (after .args .o) (after .pre .1) (after .pre .2) (c .before .before .before .before .before .before .before .before .before .place-of .ensures) (c .before .before .before .before .before .before .before .before .place-of2 .ensures) (after .pre .3))))
 
 pub money-refused-spec : {M : Type 1} → statement M
 money-refused-spec =
