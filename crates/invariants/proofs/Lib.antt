@@ -26,8 +26,8 @@ pub mod QuoteKeeps
 pub mod Singly
 pub mod QuoteAsOrders
 pub mod Makers
-pub mod Keeps
 pub mod Stamps
+pub mod EachKind
 pub mod MemoryRoom
 pub mod MemoryLaws
 pub mod MemoryKeeps
