@@ -10,16 +10,12 @@ ghost use Rattle.clients.specs.Parts.{PostingIs};
 ghost use Rattle.clients.specs.Clients.{clientPlace, clientTrade, isClient, legsIn, maxClients, others};
 ghost use Rattle.rules.specs.Bounds.{maxTrades};
 ghost use Rattle.rules.specs.Memory.{tradeStride};
+use crate::MAX_CLIENTS;
 use book::trades;
 use rules::Trade;
 
-// "up to 16 clients"; the place behind theirs stands for every other account.
-pub const MAX_CLIENTS: u32 = 16;
-
+// The place behind the clients' stands for every other account.
 const OTHERS: u32 = MAX_CLIENTS;
-
-// The clients' places and the others'.
-pub const CLIENT_PLACES: usize = 17;
 
 // Whether the account's legs all have clients, and how many legs there are.
 pub struct Posting {

@@ -39,13 +39,7 @@ fn tell<'a>(
     let accounts = clients::starts::client_accounts(starts, clients);
     let contracts = state.contractcount;
     let count = state.tradecount;
-    let held = replaying::replay(
-        accounts,
-        contracts,
-        clients::posting::CLIENT_PLACES,
-        area,
-        count,
-    );
+    let held = replaying::replay(accounts, contracts, clients::CLIENT_PLACES, area, count);
     if !held.covered {
         return refused(27);
     }

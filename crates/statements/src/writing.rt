@@ -75,7 +75,7 @@ fn put_side(
     requires { ⌜ (at + length (pick (isClient place) (statement.legBytes t place sell close order) []) ≤ length (now out)) × (t .contract < maxContracts) ⌝ }
     ensures { λ r. ⌜ Written legWidth (now (out .entry)) at (pick (isClient place) (statement.legBytes t place sell close order) []) (now (out .exit)) r ⌝ }
 {
-    if clients::posting::MAX_CLIENTS <= place {
+    if clients::MAX_CLIENTS <= place {
         return at;
     }
     put_leg(out, at, t, place, sell, close, order)
