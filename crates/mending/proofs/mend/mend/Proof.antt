@@ -18,7 +18,9 @@ sound c = sym (c .before .head-sound .ensures) ∙ not-false (c .before .head-so
 within : (c : tie.After-head-end) → c .head-end .result ≤ length (c .before .before .before .before .before .before .args .file .now)
 within c = omega (arith, c .head-end .ensures, place-within _ (sound (c .before)))
 
-found : (c : tie.After-count-kept) → Found (c .before .before .before .before .before .before .before .args .file .now) (c .before .head-end .result) (wholeRecords (c .before .before .before .before .before .before .before .args .file .now) (c .before .head-end .result)) (c .count-kept .result)
+found : (c : tie.After-count-kept)
+    → let file = c .before .before .before .before .before .before .before .args .file .now in
+    Found file (c .before .head-end .result) (wholeRecords file (c .before .head-end .result)) (c .count-kept .result)
 found c = record { sound = sound (c .before .before); place = c .before .head-end .ensures; records = refl; keeps = c .count-kept .ensures }
 
 head-sound-requires : tie.Need-head-sound-requires
@@ -75,7 +77,8 @@ same-length-2 c = search needs
 
 returns-4 : tie.Need-returns-4
 returns-4 c =
-    mended (found (c .before .before .before .before .before .before .before .before .before .before .before)) (c .before .before .before .before .before .before .before .before .before .before .count-dropped .ensures) _ _ (omega (arith, c .before .before .before .before .before .before .before .before .before .if2 .left)) (omega (arith, c .before .before .before .before .before .before .before .before .if3 .left))
+    let fits = c .before .before .before .before .before .before .before .before in
+    mended (found (fits .before .before .before)) (fits .before .before .count-dropped .ensures) _ _ (omega (arith, fits .before .if2 .left)) (omega (arith, fits .if3 .left))
     (c .before .before .before .before .before .before .put-file .ensures) (c .before .before .put-list .ensures)
 
 pub mend-spec : {M : Type 1} → statement M

@@ -30,38 +30,46 @@ slice-aggregate-play c = c .before .before .before .before .before .loop .inv .b
 play-requires : tie.Need-play-requires Inv-loop μ-loop
 play-requires c κs = can-play _ (c .before .before .before .before .before .before .before .before .before .before .before .before .pre) (c .before .before .before .before .before .loop .inv)
 
+-- from a part played back to the loop's head, and from there to the start
+abbrev Head : tie.After-play Inv-loop μ-loop → tie.At-loop Inv-loop μ-loop
+Head p = p .before .before .before .before .before .before
+
+abbrev Begun : tie.At-loop Inv-loop μ-loop → tie.Start Inv-loop μ-loop
+Begun h = h .before .before .before .before .before .before .before
+
 slice-aggregate-write-part : tie.Need-slice-aggregate-write-part Inv-loop μ-loop
-slice-aggregate-write-part c = let turn = c .before .before .before .before .before .before .before .before .before .before .before .before .before .before in buffer-stays _ (turn .before .before .before .before .before .before .before .pre) (turn .loop .inv) (c .before .before .before .before .before .before .before .before .play .ensures)
+slice-aggregate-write-part c = let p = c .before .before .before .before .before .before .before .before in buffer-stays _ (Begun (Head p) .pre) (Head p .loop .inv) (p .play .ensures)
 
 write-part-requires : tie.Need-write-part-requires Inv-loop μ-loop
-write-part-requires c κs = let turn = c .before .before .before .before .before .before .before .before .before .before .before .before .before .before in part-written _ (turn .before .before .before .before .before .before .before .pre) (turn .loop .inv) (c .before .before .before .before .before .before .before .before .play .ensures)
+write-part-requires c κs = let p = c .before .before .before .before .before .before .before .before in part-written _ (Begun (Head p) .pre) (Head p .loop .inv) (p .play .ensures)
 
 same-length : tie.Need-same-length Inv-loop μ-loop
-same-length c = c .before .before .before .before .before .before .before .before .before .before .before .play .kept .1 .1 .1 .0 ∙ c .before .before .before .before .before .before .before .before .before .before .before .before .before .before .before .before .before .loop .inv .room .buys
+same-length c = let p = c .before .before .before .before .before .before .before .before .before .before .before in p .play .kept .1 .1 .1 .0 ∙ Head p .loop .inv .room .buys
 
 same-length-2 : tie.Need-same-length-2 Inv-loop μ-loop
-same-length-2 c = c .before .before .before .before .before .before .before .before .before .before .before .play .kept .1 .1 .1 .1 .0 ∙ c .before .before .before .before .before .before .before .before .before .before .before .before .before .before .before .before .before .loop .inv .room .sells
+same-length-2 c = let p = c .before .before .before .before .before .before .before .before .before .before .before in p .play .kept .1 .1 .1 .1 .0 ∙ Head p .loop .inv .room .sells
 
 same-length-3 : tie.Need-same-length-3 Inv-loop μ-loop
-same-length-3 c = c .before .before .before .before .before .before .before .before .before .before .before .play .kept .1 .1 .1 .1 .1 .0 ∙ c .before .before .before .before .before .before .before .before .before .before .before .before .before .before .before .before .before .loop .inv .room .trades
+same-length-3 c = let p = c .before .before .before .before .before .before .before .before .before .before .before in p .play .kept .1 .1 .1 .1 .1 .0 ∙ Head p .loop .inv .room .trades
 
 returns : tie.Need-returns Inv-loop μ-loop
-returns c = let turn = c .before .before .before .before .before .before .before .before .before .before .before .before .before .before .before .before .before in stopped _ (turn .before .before .before .before .before .before .before .pre) (turn .loop .inv) (c .before .before .before .before .before .before .before .before .before .before .before .play .ensures)
+returns c = let p = c .before .before .before .before .before .before .before .before .before .before .before in stopped _ (Begun (Head p) .pre) (Head p .loop .inv) (p .play .ensures)
 
 add-bytes : tie.Need-add-bytes Inv-loop μ-loop
-add-bytes c = let turn = c .before .before .before .before .before .before .before .before .before .before .before .before .before .before .before .before .before .before in omega (arith, bytes-most _ (turn .before .before .before .before .before .before .before .pre) (turn .loop .inv) (c .before .before .before .before .before .before .before .before .before .before .before .before .play .ensures))
+add-bytes c = let p = c .before .before .before .before .before .before .before .before .before .before .before .before in omega (arith, bytes-most _ (Begun (Head p) .pre) (Head p .loop .inv) (p .play .ensures))
 
 loop-less : tie.Need-loop-less Inv-loop μ-loop
 loop-less c =
-    let turn = c .before .before .before .before .before .before .before .before .before .before .before .before .before .before .before .before .before .before in
-    fewer-left _ (turn .before .before .before .before .before .before .before .pre) (turn .loop .inv) (c .before .before .before .before .before .before .before .before .before .before .before .before .play .ensures) (turn .before .before .commands-in .ensures) (c .before .before .before .before .before .before .before .before .before .before .before .before .before .before .before .before .before .loop-test .taken)
+    let p = c .before .before .before .before .before .before .before .before .before .before .before .before in
+    let h = Head p in
+    fewer-left _ (Begun h .pre) (h .loop .inv) (p .play .ensures) (h .before .before .commands-in .ensures) (p .before .before .before .before .before .loop-test .taken)
 
 loop-again : tie.Need-loop-again Inv-loop μ-loop
 loop-again c =
-    let turn = c .before .before .before .before .before .before .before .before .before .before .before .before .before .before .before .before .before .before in
-    let play = c .before .before .before .before .before .before .before .before .before .before .before .before .play in
-    part-done _ (turn .before .before .before .before .before .before .before .pre) (turn .loop .inv) (play .ensures) (turn .before .before .commands-in .ensures) (c .before .before .before .before .before .before .before .before .before .before .before .before .before .before .before .before .before .loop-test .taken)
-    (play .kept .1 .1 .1 .0) (play .kept .1 .1 .1 .1 .0) (play .kept .1 .1 .1 .1 .1 .0)
+    let p = c .before .before .before .before .before .before .before .before .before .before .before .before in
+    let h = Head p in
+    part-done _ (Begun h .pre) (h .loop .inv) (p .play .ensures) (h .before .before .commands-in .ensures) (p .before .before .before .before .before .loop-test .taken)
+    (p .play .kept .1 .1 .1 .0) (p .play .kept .1 .1 .1 .1 .0) (p .play .kept .1 .1 .1 .1 .1 .0)
 
 same-length-4 : tie.Need-same-length-4 Inv-loop μ-loop
 same-length-4 c = c .before .loop .inv .room .buys

@@ -49,10 +49,14 @@ record-of-requires c κs = (c .before .before .before .before .before .before .b
 add-play-record : tie.Need-add-play-record Inv-loop μ-loop
 add-play-record c = omega (arith, c .before .before .before .before .before .before .before .before .commands-in .ensures, sound-layout _ (c .before .before .before .before .before .before .before .before .before .before .before .before .before .before .pre .whole) .commands)
 
+-- from a record read back to the loop's head
+abbrev Head : tie.After-record-of Inv-loop μ-loop → tie.At-loop Inv-loop μ-loop
+Head r = r .before .before .before
+
 play-record-requires : tie.Need-play-record-requires Inv-loop μ-loop
 play-record-requires c κs =
-    let turn = c .before .before .before .before .before .before .before in
-    (still-formed _ _ (turn .before .before .before .before .before .before .before .before .pre) (turn .loop .inv), omega (arith, c .before .before .before .before .before .if1 .left, turn .loop .inv .lines .inside, turn .loop .inv .lines .kept))
+    let h = Head (c .before .before .before .before) in
+    (still-formed _ _ (h .before .before .before .before .before .before .before .before .pre) (h .loop .inv), omega (arith, c .before .before .before .before .before .if1 .left, h .loop .inv .lines .inside, h .loop .inv .lines .kept))
 
 add-i : tie.Need-add-i Inv-loop μ-loop
 add-i c = omega (arith, c .before .before .before .before .before .before .before .before .before .before .before .before .before .before .before .before .loop-test .taken)
@@ -62,10 +66,11 @@ loop-less c = omega (arith, c .before .before .before .before .before .before .b
 
 loop-again : tie.Need-loop-again Inv-loop μ-loop
 loop-again c =
-    let turn = c .before .before .before .before .before .before .before .before .before .before .before .before .before .before .before .before .before in
+    let r = c .before .before .before .before .before .before .before .before .before .before .before .before .before .before in
+    let h = Head r in
     let play = c .before .before .before .before .before .before .before .before .before .play-record in
-    one-more _ _ (turn .before .before .before .before .before .before .before .before .pre) (turn .loop .inv) (omega (arith, c .before .before .before .before .before .before .before .before .before .before .before .before .before .before .before .before .loop-test .taken, turn .before .before .commands-in .ensures))
-    (ap commandOf (c .before .before .before .before .before .before .before .before .before .before .before .before .before .before .record-of .ensures)) (play .ensures) (play .kept .1 .0) (play .kept .1 .1 .0) (play .kept .1 .1 .1 .0)
+    one-more _ _ (h .before .before .before .before .before .before .before .before .pre) (h .loop .inv) (omega (arith, r .before .before .loop-test .taken, h .before .before .commands-in .ensures))
+    (ap commandOf (r .record-of .ensures)) (play .ensures) (play .kept .1 .0) (play .kept .1 .1 .0) (play .kept .1 .1 .1 .0)
 
 same-length-5 : tie.Need-same-length-5 Inv-loop μ-loop
 same-length-5 c = c .before .loop .inv .room .buys
