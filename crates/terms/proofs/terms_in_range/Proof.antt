@@ -75,25 +75,13 @@ returns-7 c =
     let reference = band .before .before in
     let tick = reference .before .before in
     let multiplier = tick .before .before in
-    last (terms-chain _) (
-      passed (multiplier .before .within .ensures) (multiplier .if1 .left),
-      (
-        passed (tick .before .within2 .ensures) (tick .if2 .left),
-        (
-          passed (reference .before .tick-multiple .ensures) (reference .if3 .left),
-          (
-            passed (band .before .tick-multiple2 .ensures) (band .if4 .left),
-            (
-              passed (limit .before .within3 .ensures) (limit .if5 .left),
-              (
-                passed (rate .before .within4 .ensures) (rate .if6 .left),
-                tt,
-              ),
-            ),
-          ),
-        ),
-      ),
-    )
+    let m = passed (multiplier .before .within .ensures) (multiplier .if1 .left) in
+    let t = passed (tick .before .within2 .ensures) (tick .if2 .left) in
+    let r = passed (reference .before .tick-multiple .ensures) (reference .if3 .left) in
+    let b = passed (band .before .tick-multiple2 .ensures) (band .if4 .left) in
+    let l = passed (limit .before .within3 .ensures) (limit .if5 .left) in
+    let s = passed (rate .before .within4 .ensures) (rate .if6 .left) in
+    last (terms-chain _) (m, (t, (r, (b, (l, (s, tt))))))
 
 pub terms-in-range-spec : {M : Type 1} → statement M
 terms-in-range-spec =

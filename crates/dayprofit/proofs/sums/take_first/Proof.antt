@@ -27,8 +27,9 @@ take-leg-requires c κs = buy-addable (read (c .before .before)) (taking (c .bef
 
 take-leg-requires-2 : tie.Need-take-leg-requires-2 Inv-loop μ-loop
 take-leg-requires-2 c κs =
+    let t = c .before .before .before .before .before .before .before .before .before in
     let buy = c .before .before .before .before .before .before .take-leg .ensures in
-    sell-addable (read (c .before .before .before .before .before .before .before .before .before)) (taking (c .before .before .before .before .before .before .before .before .before .before .before .before .before .before .before .args .left .now)) (c .before .before .before .before .before .before .before .before .before .before .before .loop .inv) (buy .0) (buy .1)
+    sell-addable (read t) (taking (t .before .before .before .before .before .before .args .left .now)) (t .before .before .loop .inv) (buy .0) (buy .1)
 
 add-i : tie.Need-add-i Inv-loop μ-loop
 add-i c = omega arith
@@ -38,9 +39,10 @@ loop-less c = omega arith
 
 loop-again : tie.Need-loop-again Inv-loop μ-loop
 loop-again c =
+    let t = c .before .before .before .before .before .before .before .before .before .before .before .before .before .before in
     let buy = c .before .before .before .before .before .before .before .before .before .before .before .take-leg .ensures in
     let sell = c .before .before .before .before .take-leg2 .ensures in
-    passing-more (read (c .before .before .before .before .before .before .before .before .before .before .before .before .before .before)) (taking (c .before .before .before .before .before .before .before .before .before .before .before .before .before .before .before .before .before .before .before .before .args .left .now)) (c .before .before .before .before .before .before .before .before .before .before .before .before .before .before .before .before .loop .inv) (buy .0) (buy .1) (sell .0) (sell .1)
+    passing-more (read t) (taking (t .before .before .before .before .before .before .args .left .now)) (t .before .before .loop .inv) (buy .0) (buy .1) (sell .0) (sell .1)
 
 same-length : tie.Need-same-length Inv-loop μ-loop
 same-length c = c .before .loop .inv .kept .room ∙ sym (c .before .before .before .before .before .pre .1)
