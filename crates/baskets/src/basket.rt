@@ -9,7 +9,7 @@ ghost use Rattle.rules.specs.Condition3.{run};
 ghost use Rattle.rules.specs.DayFile.{commandWidth};
 ghost use Rattle.rules.specs.Memory.{memory, wellFormedMemory};
 ghost use Rattle.exchange.specs.Run.{wholeCommands};
-ghost use Rattle.baskets.specs.Bundle.{BundleIs, answerWords, answersTo, bundleCode, maxCommands, answerStride};
+ghost use Rattle.baskets.specs.Bundle.{BundleIs, answerWords, answersTo, bundleCode, maxBundle, answerStride};
 use crate::answers::ANSWER_STRIDE;
 use crate::answers::answer_command;
 use crate::list::answer_records;
@@ -17,7 +17,7 @@ use rules::Command;
 use rules::State;
 
 // "up to 100 commands in one call"
-pub const MAX_COMMANDS: usize = 100;
+pub const MAX_BUNDLE: usize = 100;
 
 // 0, or the code that refuses the whole bundle, and the state after it.
 #[repr(C)]
@@ -40,7 +40,7 @@ fn refusal(
     if !audit::well_formed(state, buys, sells, trades) {
         return 21;
     }
-    if count > MAX_COMMANDS {
+    if count > MAX_BUNDLE {
         return 22;
     }
     if words < ANSWER_STRIDE * count {
@@ -56,11 +56,11 @@ fn answer_all(
     buys: &mut [u32],
     sells: &mut [u32],
     trades: &mut [u32],
-    commands: [Command; MAX_COMMANDS],
+    commands: [Command; MAX_BUNDLE],
     count: usize,
     answers: &mut [u32],
 ) -> State
-    requires { ⌜ (true ≡ wellFormedMemory (memory state (now buys) (now sells) (now trades))) × (count ≤ maxCommands) × (answerStride * count ≤ length (now answers)) ⌝ }
+    requires { ⌜ (true ≡ wellFormedMemory (memory state (now buys) (now sells) (now trades))) × (count ≤ maxBundle) × (answerStride * count ≤ length (now answers)) ⌝ }
     ensures { λ r. ⌜ memory r (now (buys .exit)) (now (sells .exit)) (now (trades .exit)) ≡ run (memory state (now (buys .entry)) (now (sells .entry)) (now (trades .entry))) (take count commands) ⌝ }
     ensures { λ r. ⌜ now (answers .exit) ≡ store answerWords (now (answers .entry)) 0 (answersTo (memory state (now (buys .entry)) (now (sells .entry)) (now (trades .entry))) (take count commands)) ⌝ }
 {
@@ -80,7 +80,7 @@ pub fn submit(
     buys: &mut [u32],
     sells: &mut [u32],
     trades: &mut [u32],
-    commands: [Command; MAX_COMMANDS],
+    commands: [Command; MAX_BUNDLE],
     count: usize,
     answers: &mut [u32],
 ) -> Receipt

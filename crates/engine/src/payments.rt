@@ -2,7 +2,7 @@
 ghost use mathlib.Core.Path.{_≡_};
 ghost use lib.IntN.{pos, _+ℤ_};
 ghost use lib.Signed.{ltZ};
-ghost use Prim.Native.Nat.{_<_, _≤_, _^_, _*_};
+ghost use Prim.Native.Nat.{_<_, _≤_, _^_};
 ghost use Rattle.rules.specs.Bounds.{balanceMost, maxAmount, maxAccounts};
 ghost use Rattle.rules.specs.Answers.{amountRefused};
 ghost use Rattle.rules.specs.Memory.{stepIn, memory, WellFormedState};

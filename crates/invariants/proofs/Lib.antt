@@ -1,3 +1,4 @@
+-- The theorems on the state and its memory, and the laws beneath them. Assumes nothing.
 pub mod Clauses
 pub mod Replay
 pub mod Carry

@@ -6,13 +6,13 @@ use mathlib.Core.List.{List, [], _∷_, _++_, append-nil, map}
 use mathlib.Core.Path.{_≡_, refl, sym, ap, _∙_}
 use Prim.Native.Nat.{ℕ, _+_, _<_, _≤_}
 use native.Mathlib.Omega.{arith}
-use borrow.Author.Tests.{eqb-true, eqb-false, ne-eqb}
+use borrow.Author.Tests.{eqb-true, eqb-false}
 use lib.Dec.{ltb, eqb}
 use lib.ListN.{length, length-set}
 use lib.Seq.{getD-set-same, set-getD, set-set}
 use Rattle.laws.specs.Choice.{pick, allOf, allOf-append, both-true}
 use Rattle.laws.specs.Sums.{sumOf-append, sumOf-at}
-use Rattle.rules.specs.Answers.{Refusal, _when_, cancelRefusals, firstOf, insertRefusals, listingOf, orderRefusals, pullRefusals, removalRefused, restingOrder, takesOrders}
+use Rattle.rules.specs.Answers.{cancelRefusals, firstOf, insertRefusals, listingOf, orderRefusals, pullRefusals, removalRefused, restingOrder, takesOrders}
 use Rattle.rules.specs.Bounds.{continuous}
 use Rattle.rules.specs.Exchange.{Exchange, Listing, absent, accountAt, listingAt, noListing, placeOf}
 use Rattle.rules.specs.Kinds.{codeOf, decide, kindOf, lastOf, step}

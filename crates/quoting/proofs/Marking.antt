@@ -23,7 +23,7 @@ use Rattle.engine.specs.declared.answers.Outcome.{Outcome}
 use Rattle.engine.proofs.Formed.{Formed, accounts-count, contracts-count, formed}
 use Rattle.insertion.specs.Arrival.{Enterable, enteredIn}
 use Rattle.insertion.proofs.Entering.{may-enter}
-use Rattle.quoting.specs.Placing.{Markable, markedIn}
+use Rattle.quoting.specs.Placing.{Quotable, markedIn}
 
 -- a code that is told, whichever way it went
 told-either : (code : ℕ) (entered : AfterCommand) (m : Memory) → entered .answer .code ≡ 0 → pick (eqb code 0) entered (inMemory m (refused code)) .answer .code ≡ code
@@ -46,7 +46,7 @@ module _ (m : Memory) (o : NewOrder) {r : Outcome} {buys′ sells′ trades′ :
   pub entered-so : r .answer .code ≡ 0 → OutcomeIs (enteredIn m o (m .state .next) 1 (m .state .next + 1)) r buys′ sells′ trades′
   entered-so clear = rw (sym told ∙ clear) at is
 
-module _ {s : State} {buys sells trades : List ℕ} (w : WellFormedState s buys sells trades) (o : NewOrder) (g : Markable s buys sells trades o) where
+module _ {s : State} {buys sells trades : List ℕ} (w : WellFormedState s buys sells trades) (o : NewOrder) (g : Quotable s buys sells trades o) where
   abbrev m : Memory
   m = memory s buys sells trades
 

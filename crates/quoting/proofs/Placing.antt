@@ -51,7 +51,7 @@ use Rattle.engine.proofs.Traded.{few-after, put-traded}
 use Rattle.refusals.proofs.Arrivals.{count-within}
 use Rattle.refusals.proofs.Continuous as first
 use Rattle.insertion.specs.Arrival.{enteredIn}
-use Rattle.quoting.specs.Placing.{Markable, PlacedIs, Undoable, earlyRefusals, goneIn, madeFrom, markedIn}
+use Rattle.quoting.specs.Placing.{Quotable, PlacedIs, Undoable, earlyRefusals, goneIn, madeFrom, markedIn}
 use Rattle.quoting.proofs.Marking.{entered-so, nothing-moved, told}
 use Rattle.quoting.proofs.Undo.{made-room, undo-both, undo-nothing, undo-queue, undo-trades}
 
@@ -269,9 +269,9 @@ module _ {s : State} {buys sells trades : List ℕ} (w : WellFormedState s buys 
         unfolding half
         bid-is = eb
 
-        pub buy-markable : Markable gone buys₁ sells₁ trades bid
+        pub buy-quotable : Quotable gone buys₁ sells₁ trades bid
         unfolding listingOf
-        buy-markable =
+        buy-quotable =
             rw eb
             (record {
               present =
@@ -426,9 +426,9 @@ module _ {s : State} {buys sells trades : List ℕ} (w : WellFormedState s buys 
               unfolding half
               offer-is = eo
 
-              pub sell-markable : Markable (r₁ .state) buys₂ sells₂ trades₂ offer
+              pub sell-quotable : Quotable (r₁ .state) buys₂ sells₂ trades₂ offer
               unfolding listingOf
-              sell-markable =
+              sell-quotable =
                   rw eo
                   (record {
                     present =

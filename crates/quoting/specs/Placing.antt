@@ -37,7 +37,7 @@ goneIn m account contract =
 -- ---- an order of a quote, on the state that the step before it leaves
 
 -- a maker's open, with no marked order of its account on its side
-pub record Markable (s : State) (buys sells trades : List ℕ) (o : NewOrder) : Type 0 where
+pub record Quotable (s : State) (buys sells trades : List ℕ) (o : NewOrder) : Type 0 where
   pub present : Present s o
   pub opens : o .close ≡ false
   pub maker : accountAt (exchangeOf (memory s buys sells trades) .accounts) (placeOf (o .account)) .maker ≡ 1

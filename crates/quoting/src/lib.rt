@@ -11,7 +11,7 @@ ghost use Rattle.rules.specs.Bounds.{maxAccounts, maxContracts, maxTrades};
 ghost use Rattle.rules.specs.Memory.{exchangeOf, memory, stepIn, WellFormedState};
 ghost use Rattle.rules.specs.declared.Command.the-variants.{Quote};
 ghost use Rattle.engine.specs.Outcome.{OutcomeIs, FirstIn};
-ghost use Rattle.quoting.specs.Placing.{earlyRefusals, goneIn, Markable, markedIn, PlacedIs, madeFrom};
+ghost use Rattle.quoting.specs.Placing.{earlyRefusals, goneIn, Quotable, markedIn, PlacedIs, madeFrom};
 use engine::answers;
 use engine::answers::Outcome;
 use refusals::codes;
@@ -72,7 +72,7 @@ fn enter_marked(
     trades: &mut [u32],
     o: NewOrder,
 ) -> Outcome
-    requires { ⌜ WellFormedState state (now buys) (now sells) (now trades) × Markable state (now buys) (now sells) (now trades) o ⌝ }
+    requires { ⌜ WellFormedState state (now buys) (now sells) (now trades) × Quotable state (now buys) (now sells) (now trades) o ⌝ }
     ensures { λ r. ⌜ OutcomeIs (markedIn (memory state (now (buys .entry)) (now (sells .entry)) (now (trades .entry))) o) r (now (buys .exit)) (now (sells .exit)) (now (trades .exit)) ⌝ }
 {
     let a = laws::place_of(o.account);

@@ -64,4 +64,3 @@ module _ {s : State} {buys sells trades : List ℕ} (w : WellFormedState s buys 
   pub rooms : {place : ℕ} → place ≡ c → {bids offers : ℕ} → bids ≡ getD (s .buycounts) place 0 → offers ≡ getD (s .sellcounts) place 0
       → (firstWord place bids ≤ length buys) × (firstWord place offers ≤ length sells)
   rooms e eb es = rw (eb, es) (side-room w account contract false pulls e false, side-room w account contract false pulls e true)
-

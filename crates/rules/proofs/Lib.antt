@@ -1,3 +1,4 @@
+-- What follows from the rules' definitions, the lower laws first. Assumes nothing.
 pub mod Codecs
 pub mod PutByPlace
 pub mod Sweep

@@ -1,6 +1,6 @@
 -- `quoting::place` meets its contract: each step by its law in Placing.antt. Assumes nothing.
 use native.Mathlib.Omega.{arith}
-use Rattle.quoting.proofs.Placing.{bought-formed, buy-markable, buy-refused, gone-formed, quote-accepted, removable, sell-markable, sell-refused, sums-fit}
+use Rattle.quoting.proofs.Placing.{bought-formed, buy-quotable, buy-refused, gone-formed, quote-accepted, removable, sell-quotable, sell-refused, sums-fit}
 use borrow.Author.Needs.{needs}
 use Rattle.quoting.proofs.place.Statement.{statement}
 use Rattle.quoting.proofs.place.Tie as tie
@@ -17,7 +17,7 @@ enter-marked-requires : tie.Need-enter-marked-requires
 enter-marked-requires c κs =
     let after = c .before .before .before .before .before .before .before .before in
     let start = after .before .before .before .before .before .before .before in
-    (gone-formed (start .pre .0) (start .args .account) (start .args .contract) (start .args .lots) (start .args .buy) (start .args .sell) (start .pre .1) (after .remove-quote .ensures), buy-markable (start .pre .0) (start .args .account) (start .args .contract) (start .args .lots) (start .args .buy) (start .args .sell) (start .pre .1) (after .remove-quote .ensures) (c .before .before .before .day-limit .ensures))
+    (gone-formed (start .pre .0) (start .args .account) (start .args .contract) (start .args .lots) (start .args .buy) (start .args .sell) (start .pre .1) (after .remove-quote .ensures), buy-quotable (start .pre .0) (start .args .account) (start .args .contract) (start .args .lots) (start .args .buy) (start .args .sell) (start .pre .1) (after .remove-quote .ensures) (c .before .before .before .day-limit .ensures))
 
 refused-requires : tie.Need-refused-requires
 refused-requires c κs = search needs
@@ -44,7 +44,7 @@ enter-marked-requires-2 : tie.Need-enter-marked-requires-2
 enter-marked-requires-2 c κs =
     let after = c .before .before .before .before .before .before .before .before .before .before .before .before .before .before in
     let start = after .before .before .before .before .before .before .before .before .before .before .before .before .before .before .before .before in
-    (bought-formed (start .pre .0) (start .args .account) (start .args .contract) (start .args .lots) (start .args .buy) (start .args .sell) (start .pre .1) (after .before .before .before .before .before .before .before .before .before .remove-quote .ensures) (after .before .before .before .before .day-limit .ensures) (after .enter-marked .ensures) (c .before .before .before .before .before .if1 .left), sell-markable (start .pre .0) (start .args .account) (start .args .contract) (start .args .lots) (start .args .buy) (start .args .sell) (start .pre .1) (after .before .before .before .before .before .before .before .before .before .remove-quote .ensures) (after .before .before .before .before .day-limit .ensures) (after .enter-marked .ensures) (c .before .before .before .before .before .if1 .left) (c .before .before .before .day-limit2 .ensures))
+    (bought-formed (start .pre .0) (start .args .account) (start .args .contract) (start .args .lots) (start .args .buy) (start .args .sell) (start .pre .1) (after .before .before .before .before .before .before .before .before .before .remove-quote .ensures) (after .before .before .before .before .day-limit .ensures) (after .enter-marked .ensures) (c .before .before .before .before .before .if1 .left), sell-quotable (start .pre .0) (start .args .account) (start .args .contract) (start .args .lots) (start .args .buy) (start .args .sell) (start .pre .1) (after .before .before .before .before .before .before .before .before .before .remove-quote .ensures) (after .before .before .before .before .day-limit .ensures) (after .enter-marked .ensures) (c .before .before .before .before .before .if1 .left) (c .before .before .before .day-limit2 .ensures))
 
 refused-requires-2 : tie.Need-refused-requires-2
 refused-requires-2 c κs = search needs

@@ -1,3 +1,4 @@
+-- `profit::profit_of` meets its contract: both parts fit, and are those of the two sides. Assumes nothing.
 use Rattle.dayprofit.proofs.Gains.{marked-fits, gains-small, losses-small, gains-fit, losses-fit, profit-is}
 use borrow.Author.Needs.{needs}
 use Rattle.dayprofit.proofs.profit.profit_of.Statement.{statement}

@@ -1,3 +1,4 @@
+-- `sums::add_up` meets its contract. The invariant: the sums are those of the trades below i. Assumes nothing.
 use mathlib.Core.Path.{sym, ap, _∙_}
 use Prim.Native.Nat.{_-_}
 use native.Mathlib.Omega.{arith}

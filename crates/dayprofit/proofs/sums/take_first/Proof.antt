@@ -1,3 +1,4 @@
+-- `sums::take_first` meets its contract. The invariant: what is left and what is used are those of the trades below i. Assumes nothing.
 use mathlib.Core.Path.{sym, ap, _∙_}
 use Prim.Native.Nat.{_-_}
 use native.Mathlib.Omega.{arith}

@@ -1,6 +1,5 @@
 -- `codes::money_refused` meets its contract: the account can be charged with the order's lots, and what is charged is the rules'. Assumes nothing.
 use mathlib.Core.Path.{_∙_}
-use Prim.Native.Nat.{_^_, _*_}
 use native.Mathlib.Omega.{arith}
 use Rattle.rules.specs.Bounds.{balanceMost}
 use Rattle.laws.proofs.Signed.{back}

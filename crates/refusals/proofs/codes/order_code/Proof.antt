@@ -65,15 +65,18 @@ side-area-requires c κs = search needs
 
 taker-of-requires : tie.Need-taker-of-requires
 taker-of-requires c κs =
-    let start = c .before .before .before .before .before .before .before .before .before .before .before .before .before .before .before .before in
-    (start .pre .1 .account-low, start .pre .1 .contract-low,
-    opposite-room (start .pre .0) (start .args .o) (start .pre .1) (c .before .before .before .before .before .before .before .before .before .before .before .before .place-of .ensures) (c .side-area .ensures) (c .before .before .before .before .side-count2 .ensures))
+    let start = c .before .before .before .before .before .before .before .before .before .before .before .before .before .before .before .before in (
+      start .pre .1 .account-low,
+      start .pre .1 .contract-low,
+      opposite-room (start .pre .0) (start .args .o) (start .pre .1) (c .before .before .before .before .before .before .before .before .before .before .before .before .place-of .ensures) (c .side-area .ensures) (c .before .before .before .before .side-count2 .ensures),
+    )
 
 book-code-requires : tie.Need-book-code-requires
 book-code-requires c κs =
-    let start = c .before .before .before .before .before .before .before .before .before .before .before .before .before .before .before .before .before in
-    (facing (start .pre .0) (start .args .o) (start .pre .1) (c .before .before .before .before .before .before .before .before .before .before .before .before .before .place-of .ensures) (c .before .side-area .ensures) (c .before .before .before .before .before .side-count2 .ensures) _ (c .taker-of .ensures),
-    recorded-high (start .pre .0) (start .args .o))
+    let start = c .before .before .before .before .before .before .before .before .before .before .before .before .before .before .before .before .before in (
+      facing (start .pre .0) (start .args .o) (start .pre .1) (c .before .before .before .before .before .before .before .before .before .before .before .before .before .place-of .ensures) (c .before .side-area .ensures) (c .before .before .before .before .before .side-count2 .ensures) _ (c .taker-of .ensures),
+      recorded-high (start .pre .0) (start .args .o),
+    )
 
 returns-3 : tie.Need-returns-3
 returns-3 c =

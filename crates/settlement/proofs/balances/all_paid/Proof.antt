@@ -1,3 +1,4 @@
+-- `balances::all_paid` meets its contract: the day's sums, what each account is paid from them; the accounts below a are paid. Assumes nothing.
 use mathlib.Core.Path.{refl}
 use Prim.Native.Nat.{_-_, _<_}
 use native.Mathlib.Omega.{arith}

@@ -1,3 +1,4 @@
+-- `balances::put_all_due` meets its contract. The invariant: what is due stands at the places below k. Assumes nothing.
 use mathlib.Core.Path.{sym, _∙_}
 use Prim.Native.Nat.{_-_}
 use native.Mathlib.Omega.{arith}

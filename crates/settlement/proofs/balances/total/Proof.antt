@@ -1,3 +1,4 @@
+-- `balances::total` meets its contract. The invariant: the sums so far are those of the contracts below c. Assumes nothing.
 use Prim.Native.Nat.{_-_}
 use native.Mathlib.Omega.{arith}
 use Rattle.settlement.proofs.Totals.{Totalling, totalling-none, closing-bits, holding-bits, closing-fits, holding-fits, totalling-more, totalling-done}
