@@ -7,9 +7,8 @@ use Prim.Native.Nat.{ℕ, _+_, _*_, _<_, _≤_}
 use native.Mathlib.Omega.{arith}
 use borrow.Author.Tests.{eqb-true, eq-eqb, le-ltb, lt-ltb, ne-eqb, not-false}
 use lib.Dec.{eqb, ltb}
-use lib.ListN.{length, getD, set, take, drop, length-append}
+use lib.ListN.{length, getD, set, length-append}
 use Rattle.laws.specs.Choice.{pick}
-use Rattle.areas.specs.Lists.{over}
 use Rattle.areas.specs.Records.{store}
 use Rattle.rules.specs.Answers.{Refusal, dayLimit, firstOf, isGoodForDay, listingOf, namedRefusals, notContinuous, orderRefusals, pullRefusals, takerOf, tradesNeeded, tradesWith}
 use Rattle.rules.specs.Bounds.{inAuction, maxLots, maxResting, maxTrades}
@@ -32,7 +31,7 @@ use Rattle.rules.proofs.Fillable.{swept-at-most, traded-nil}
 use Rattle.book.proofs.EarlyStop.{trades-counted}
 use Rattle.rules.proofs.Queue.{length-without}
 use Rattle.rules.proofs.Stages.{Each}
-use Rattle.rules.proofs.Refusals.{Failed, failed, failed-both, first-append, first-here, first-there}
+use Rattle.rules.proofs.Refusals.{Failed, both-zero, failed, first-append, first-here, first-there}
 use Rattle.book.specs.Removal.{PulledIs}
 use Rattle.book.specs.declared.removal.Pulled.{Pulled}
 use Rattle.accounting.proofs.Declared.{stage-declared}
@@ -86,6 +85,10 @@ gone-written w account contract none is b o e =
     (sym (lies w account contract false none is (isQuoteOf (placeOf account)) (record { queue = b .queue; count = b .count; lots = b .lots }) (record { queue = o .queue; count = o .count; lots = o .lots })))
 
 -- ---- 2, 3 and 4, then 23 and 24, as the code tries them
+
+pub named-passed : (x : Exchange) (account contract buy sell : ℕ) → firstOf (earlyRefusals x account contract buy sell) ≡ 0 → Failed (namedRefusals x notContinuous account contract)
+named-passed x account contract buy sell e =
+    both-zero (namedRefusals x notContinuous account contract) (makerRefusals (holderOf x account) buy sell) (omega arith) e .0
 
 module _ {s : State} {buys sells trades : List ℕ} (w : WellFormedState s buys sells trades) (account contract buy sell : ℕ) {named : ℕ}
     (en : named ≡ firstOf (namedRefusals (exchangeOf (memory s buys sells trades)) notContinuous account contract)) where
@@ -161,7 +164,7 @@ module _ {s : State} {buys sells trades : List ℕ} (w : WellFormedState s buys 
     tests = failed early (omega arith) none
 
     named : Failed (namedRefusals x notContinuous account contract)
-    named = failed-both (namedRefusals x notContinuous account contract) (makerRefusals (holderOf x account) buy sell) tests .0
+    named = named-passed x account contract buy sell none
 
     holder-here : a < s .accountcount
     holder-here = first.account-here w account contract named
@@ -534,29 +537,9 @@ module _ {s : State} {buys sells trades : List ℕ} (w : WellFormedState s buys 
                         trades-back = λ z. absurd (z zero-told);
                       }
 
-    -- ---- what is kept and put back; n is the room of the copy
-
-    pub traded-few : s .tradecount ≤ maxTrades
-    traded-few = f .trades-high
-
-    pub buys-room : {place n : ℕ} → place ≡ placeOf contract → n ≡ queueStride → queueStride * place + n ≤ length buys
-    buys-room is en = rw (is, en) room-buys
-
-    pub sells-room : {place n : ℕ} → place ≡ placeOf contract → n ≡ queueStride → queueStride * place + n ≤ length sells
-    sells-room is en = rw (is, en) room-sells
-
-    pub kept-room : {at n : ℕ} → at ≡ madeFrom (s .tradecount) → n ≡ tradeStride * maxResting → at + n ≤ length trades
-    kept-room ea en = rw (ea, en) trades-room
-
-    module _ {r : Outcome} {buys′ sells′ trades′ : List ℕ} (p : PlacedIs s buys sells trades account contract lots buy sell r buys′ sells′ trades′) (some : r .answer .code ≡ 0 → ⊥) where
-      pub buys-again : {place n : ℕ} → place ≡ placeOf contract → n ≡ queueStride → {kept buys″ : List ℕ} → kept ≡ take n (drop (queueStride * place) buys) → buys″ ≡ over buys′ (queueStride * place) kept → buys″ ≡ buys
-      buys-again is en e h = h ∙ rw (e, is, en) (p .buys-back some .back)
-
-      pub sells-again : {place n : ℕ} → place ≡ placeOf contract → n ≡ queueStride → {kept sells″ : List ℕ} → kept ≡ take n (drop (queueStride * place) sells) → sells″ ≡ over sells′ (queueStride * place) kept → sells″ ≡ sells
-      sells-again is en e h = h ∙ rw (e, is, en) (p .sells-back some .back)
-
-      pub trades-again : {at n : ℕ} → at ≡ madeFrom (s .tradecount) → n ≡ tradeStride * maxResting → {kept trades″ : List ℕ} → kept ≡ take n (drop at trades) → trades″ ≡ over trades′ at kept → trades″ ≡ trades
-      trades-again ea en e h = h ∙ rw (e, ea, en) (p .trades-back some .back)
-
-      pub quote-undone : {buys″ sells″ trades″ : List ℕ} → buys″ ≡ buys → sells″ ≡ sells → trades″ ≡ trades → OutcomeIs (stepIn m command) r buys″ sells″ trades″
-      quote-undone b o t = rw (b, o, t) (p .refused some)
+-- refused, with every area as it was
+pub quote-undone : {s : State} {buys sells trades : List ℕ} {account contract lots buy sell : ℕ} {r : Outcome} {buys′ sells′ trades′ : List ℕ}
+    → PlacedIs s buys sells trades account contract lots buy sell r buys′ sells′ trades′ → (r .answer .code ≡ 0 → ⊥)
+    → {buys″ sells″ trades″ : List ℕ} → buys″ ≡ buys → sells″ ≡ sells → trades″ ≡ trades
+    → OutcomeIs (stepIn (memory s buys sells trades) (Quote account contract lots buy sell)) r buys″ sells″ trades″
+quote-undone p some b o t = rw (b, o, t) (p .refused some)
