@@ -13,9 +13,9 @@ use Rattle.laws.specs.Choice.{pick}
 use Rattle.areas.specs.Lists.{removeAt}
 use Rattle.areas.proofs.Lists.{length-removeAt}
 use Rattle.rules.specs.Answers as rules
-use Rattle.rules.specs.Answers.{Refusal, cancelRefusals, dayLimit, firstOf, listingOf, namedRefusals, noSuchOrder, notContinuous, numbered, ofAnother, ownerRefusals, pullRefusals, restingOrder}
+use Rattle.rules.specs.Answers.{Refusal, cancelRefusals, dayLimitOrder, firstOf, listingOf, namedRefusals, noSuchOrder, notContinuous, numbered, ofAnother, ownerRefusals, pullRefusals, restingOrder}
 use Rattle.rules.specs.Bounds.{maxResting, numbersEnd, maxLots, maxContracts}
-use Rattle.rules.specs.Change.{Asked, arriving, asked, changeRefusals, changed, gone, isSell, lessened, listingFor, listingLessened, losesPlace, newFieldsRefusals, oldOrder, placeKept, placeLost, reentered, reentryRefusals, unchanged}
+use Rattle.rules.specs.Change.{Asked, arriving, asked, changeRefusals, changed, gone, isSell, lessened, listingFor, listingLessened, loses, losesPlace, newFieldsRefusals, oldOrder, placeKept, placeLost, reentered, reentryRefusals, unchanged}
 use Rattle.rules.specs.Exchange.{Exchange, noAccount, noContract, noOrder, own, placeOf}
 use Rattle.rules.specs.Kinds.{codeOf, decide, done, kindOf, lastOf, step}
 use Rattle.rules.specs.Matching.{Entered, tradedLots}
@@ -49,7 +49,7 @@ use Rattle.engine.proofs.Traded.{few-after}
 use Rattle.refusals.specs.Insertion.{Present, sideArea, sideCount}
 use Rattle.refusals.proofs.Continuous.{account-here, account-low, contract-fits, contract-here, contract-low, pulls}
 use Rattle.insertion.specs.Arrival.{Enterable, enteredIn}
-use Rattle.changing.specs.Resting.{Changeable, RestingIs, lessenedIn, loses, putBackIn, removedIn, restingRefusals, takenOut}
+use Rattle.changing.specs.Resting.{Changeable, RestingIs, lessenedIn, putBackIn, removedIn, restingRefusals, takenOut}
 use Rattle.changing.specs.declared.Resting.{Resting}
 use Rattle.changing.proofs.Finding.{lessened-none, lessened-one, missing-of, restored}
 
@@ -169,7 +169,7 @@ module _ {s : State} {buys sells trades : List ℕ} (w : WellFormedState s buys 
     unfolding isSell listingIn
     sell-is = rw (listing-is st′) (sym (g .resting .sell found))
 
-    arriving-is : arriving x k ≡ dayLimit account contract (r .sell) (eqb (r .order .close) 1) lots price
+    arriving-is : arriving x k ≡ dayLimitOrder account contract (r .sell) (eqb (r .order .close) 1) lots price
     unfolding arriving
     arriving-is = rw (sell-is, old-is)
 
@@ -435,7 +435,7 @@ module _ {s : State} {buys sells trades : List ℕ} (w : WellFormedState s buys 
         gone-formed = record { declared = gone-declared; formed = rw (taken .memory) (step-in-keeps m (w .formed) (Cancel account contract false number)) }
 
         -- the order as it arrives again
-        module _ {o : NewOrder} (eo : o ≡ dayLimit account contract (r .sell) (eqb (r .order .close) 1) lots price) where
+        module _ {o : NewOrder} (eo : o ≡ dayLimitOrder account contract (r .sell) (eqb (r .order .close) 1) lots price) where
           its-order : o ≡ arriving x k
           its-order = eo ∙ sym arriving-is
 

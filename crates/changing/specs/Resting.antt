@@ -1,10 +1,9 @@
 -- A resting order as the code finds it, what a change of it has passed before its place may be lost, and what is written of one queue.
 -- Assumes nothing.
-use mathlib.Core.Bool.{Bool, true, false, not, _||_}
+use mathlib.Core.Bool.{true, false}
 use mathlib.Core.List.{List, [], _∷_, _++_}
 use mathlib.Core.Path.{_≡_}
 use Prim.Native.Nat.{ℕ, _-_, _<_}
-use lib.Dec.{eqb, ltb}
 use lib.ListN.{length, getD, set}
 use Rattle.laws.specs.Choice.{pick}
 use Rattle.areas.specs.Lists.{insertAt, removeAt}
@@ -41,10 +40,6 @@ pub record Changeable (s : State) (buys sells trades : List ℕ) (account contra
   pub state : firstOf (namedRefusals (exchangeOf (memory s buys sells trades)) notContinuous account contract) ≡ 0
   pub resting : RestingIs number (queueIn buys (placeOf contract) (getD (s .buycounts) (placeOf contract) 0)) (queueIn sells (placeOf contract) (getD (s .sellcounts) (placeOf contract) 0)) r
   pub order : firstOf (restingRefusals (getD (s .contracts) (placeOf contract) noContract) (placeOf account) r lots price) ≡ 0
-
--- "more lots or another price lose it"
-abbrev pub loses : Order → ℕ → ℕ → Bool
-loses o lots price = ltb (o .lots) lots || not (eqb price (o .price))
 
 -- ---- one queue written: other lots and no mark at a place, an order taken out of one, and put back
 

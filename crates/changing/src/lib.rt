@@ -6,12 +6,13 @@ ghost use lib.Dec.{eqb};
 ghost use lib.ListN.{length};
 ghost use Rattle.laws.specs.Choice.{pick};
 ghost use Rattle.rules.specs.Answers as answer;
+ghost use Rattle.rules.specs.Change.{loses};
 ghost use Rattle.rules.specs.Bounds.{termsInRange, maxContracts};
 ghost use Rattle.rules.specs.Memory.{memory, queueIn, stepIn, firstWord, orderStride, WellFormedState};
 ghost use Rattle.rules.specs.declared.Command.the-variants.{Change};
 ghost use Rattle.engine.specs.Outcome.{OutcomeIs};
 ghost use Rattle.refusals.specs.Insertion.{sideArea, sideCount};
-ghost use Rattle.changing.specs.Resting.{RestingIs, Changeable, restingRefusals, loses, lessenedIn, putBackIn, removedIn, takenOut};
+ghost use Rattle.changing.specs.Resting.{RestingIs, Changeable, restingRefusals, lessenedIn, putBackIn, removedIn, takenOut};
 use book::queue;
 use engine::answers;
 use engine::answers::Outcome;
@@ -115,7 +116,7 @@ fn loses_place(order: Order, lots: u32, price: u32) -> bool
 
 // The order as it arrives again, to open or close as before.
 fn arriving(account: u32, contract: u32, r: Resting, lots: u32, price: u32) -> NewOrder
-    ensures { λ o. ⌜ o ≡ answer.dayLimit account contract (r .sell) (eqb (r .order .close) 1) lots price ⌝ }
+    ensures { λ o. ⌜ o ≡ answer.dayLimitOrder account contract (r .sell) (eqb (r .order .close) 1) lots price ⌝ }
 {
     let order = r.order;
     orders::day_limit(account, contract, r.sell, order.close == 1, lots, price)

@@ -185,9 +185,6 @@ module _ {s : State} {buys sells trades : List ℕ} (w : WellFormedState s buys 
   f : Formed m
   f = formed w
 
-  pub few-contracts : s .contractcount ≤ maxContracts
-  few-contracts = f .contracts-high
-
   -- ---- the tests that both kinds make first
 
   abbrev shared : List Refusal
@@ -222,7 +219,7 @@ module _ {s : State} {buys sells trades : List ℕ} (w : WellFormedState s buys 
       here = rw is (place-below contract (s .contractcount) (tests .1) .1)
 
       pub contract-fits : place < maxContracts
-      contract-fits = omega (arith, here, few-contracts)
+      contract-fits = omega (arith, here, f .contracts-high)
 
       listing-is : listingAt (exchangeOf m) (contract - 1) ≡ listingIn m place
       listing-is = rw (← is) (listing-at m f place here)

@@ -10,7 +10,7 @@ use Rattle.rules.specs.Bounds.{continuous, inAuction}
 use Rattle.rules.specs.Answers.{Refusal, firstOf}
 use Rattle.rules.specs.Exchange.{Exchange, isAbsent, noAccount, noContract, placeOf}
 use Rattle.rules.specs.Step.{answerOf, withBalance, withPhase}
-use Rattle.rules.specs.Memory.{AfterCommand, WellFormedState, exchangeOf, memory}
+use Rattle.rules.specs.Memory.{AfterCommand, Declared, exchangeOf, memory}
 use Rattle.rules.specs.declared.Account.{Account}
 use Rattle.rules.specs.declared.Contract.{Contract}
 use Rattle.rules.specs.declared.State.{State}
@@ -21,10 +21,9 @@ pub record OutcomeIs (response : AfterCommand) (r : Outcome) (buys sells trades 
   pub answer : r .answer ≡ response .answer
   pub memory : memory (r .state) buys sells trades ≡ response .memory
 
--- a code that is the first of some refusals on a state, in whatever areas it is well formed with: they read no area
-abbrev pub FirstIn : State → (Exchange → List Refusal) → ℕ → Type 0
-FirstIn s refusals code =
-    (buys sells trades : List ℕ) → WellFormedState s buys sells trades → code ≡ firstOf (refusals (exchangeOf (memory s buys sells trades)))
+-- a code that is the first of some refusals on a state, whatever the areas lent with it hold: they are not read
+abbrev pub CodeIn : State → (Exchange → List Refusal) → ℕ → Type 0
+CodeIn s refusals code = Declared s → (buys sells trades : List ℕ) → code ≡ firstOf (refusals (exchangeOf (memory s buys sells trades)))
 
 -- a change of a contract's state that makes a match: from auction to continuous
 unfoldable pub isMatch : State → ℕ → ℕ → Bool

@@ -2,8 +2,8 @@
 ghost use mathlib.Core.Path.{_≡_};
 ghost use lib.IntN.{pos, _+ℤ_};
 ghost use lib.Signed.{ltZ};
-ghost use Prim.Native.Nat.{_<_, _≤_, _^_};
-ghost use Rattle.rules.specs.Bounds.{balanceMost, maxAmount, maxAccounts};
+ghost use Prim.Native.Nat.{_<_, _≤_};
+ghost use Rattle.rules.specs.Bounds.{balanceMost, maxAmount, maxAccounts, maxBalance};
 ghost use Rattle.rules.specs.Answers.{amountRefused};
 ghost use Rattle.rules.specs.Memory.{stepIn, memory, WellFormedState};
 ghost use Rattle.rules.specs.declared.Command.the-variants.{Deposit, Withdraw};
@@ -25,7 +25,7 @@ fn amount_refused(amount: u64) -> bool
 // "deposit lifts the balance above 10^18"
 fn lifts_too_high(balance: i64, amount: u64) -> bool
     requires { ⌜ Within balanceMost balance × (amount ≤ maxAmount) ⌝ }
-    ensures { λ r. ⌜ r ≡ ltZ (pos (10 ^ 18)) (balance +ℤ pos amount) ⌝ }
+    ensures { λ r. ⌜ r ≡ ltZ (pos maxBalance) (balance +ℤ pos amount) ⌝ }
 {
     (rules::MAX_BALANCE as i64) < balance + amount as i64
 }

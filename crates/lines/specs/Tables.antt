@@ -1,4 +1,4 @@
--- The lines of a settlement's two tables, one contract's and one account's. Assumes nothing.
+-- How many bytes a line may have, and the lines of a settlement's two tables, one contract's and one account's. Assumes nothing.
 use mathlib.Core.List.{List, [], _∷_}
 use Prim.Native.Nat.{ℕ, _+_, _*_}
 use lib.IntN.{ℤ}

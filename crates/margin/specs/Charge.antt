@@ -52,7 +52,7 @@ pub record Has (s : State) (holdings : List Holding) (terms : List Contract) (co
   pub bought : s .buycounts ≡ bids
   pub sold : s .sellcounts ≡ offers
 
--- an account's margin: a price and multiplier at their largest for so many lots in each contract come to 8 x 10^14
+-- an account's margin: price, multiplier and rate at their largest, for `chargedMost` lots in each contract, come to 8 x 10^14
 abbrev pub marginMost : ℕ
 marginMost = 10 ^ 15
 

@@ -41,13 +41,14 @@ keptBytes file first (suc k) =
     keptBytes file first k
     ++ pick (eqb (reason file first k (kept file first k)) 0) (take commandWidth (drop (first + commandWidth * k) file)) []
 
--- "The list is an 8-byte count, then each dropped record in file order: its place from 1 (8) and a reason (1)": the widths, in bytes
+-- "The list is an 8-byte count, then each dropped record in file order": the widths in bytes
 abbrev pub listCountWidth : ℕ
 listCountWidth = 8
 
 abbrev pub entryWidth : ℕ
 entryWidth = 9
 
+-- "its place from 1 (8) and a reason (1)"
 abbrev pub entry : ℕ → ℕ → List ℕ
 entry k why = eight (k + 1) ++ (why ∷ [])
 

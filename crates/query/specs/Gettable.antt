@@ -1,14 +1,14 @@
 -- How much could I get? What an order would trade now, and how many resting orders are read to know it (document 02, ticket 3).
 -- The contract's state plays no part, nor does the time condition beyond code 6. Assumes nothing.
 use mathlib.Core.Bool.{not}
-use mathlib.Core.List.{List, [], _∷_}
+use mathlib.Core.List.{List, [], _∷_, _++_}
 use mathlib.Core.Path.{_≡_}
 use Prim.Native.Nat.{ℕ, _+_, _-_, min}
 use lib.Dec.{eqb, ltb}
 use Rattle.laws.specs.Choice.{pick}
-use Rattle.rules.specs.Answers.{Refusal, _when_, dayWithoutLimit, fieldsRefusals, fillableLots, firstOf, listingOf, takerOf}
+use Rattle.rules.specs.Answers.{Refusal, _when_, absentRefusals, dayWithoutLimit, fieldsRefusals, fillableLots, firstOf, listingOf, takerOf}
 use Rattle.rules.specs.Command.{commandOf, isInsert, newOrder}
-use Rattle.rules.specs.Exchange.{Exchange, absent, opposite}
+use Rattle.rules.specs.Exchange.{Exchange, opposite}
 use Rattle.rules.specs.Matching.{counterpart, fillable}
 use Rattle.rules.specs.Memory.{Memory, exchangeOf, wellFormedMemory}
 use Rattle.rules.specs.declared.NewOrder.{NewOrder}
@@ -38,11 +38,9 @@ readNow x o = ordersRead (takerOf x (x .next) 0 o) (o .lots) (opposite (o .sell)
 
 unfoldable pub questionRefusals : Exchange → NewOrder → List Refusal
 questionRefusals x o =
-    -- "account 0 or absent"; "contract 0 or absent"
-    (2 when absent (o .account) (x .accounts))
-    ∷ (3 when absent (o .contract) (x .listings))
+    absentRefusals x (o .account) (o .contract)
     -- 5 to 7; its 6 is "market or best with good for day" in every state, auction's own is no part of it (02, ticket 4)
-    ∷ fieldsRefusals (dayWithoutLimit (o .condition) (o .time)) (listingOf x o .contract) o
+    ++ fieldsRefusals (dayWithoutLimit (o .condition) (o .time)) (listingOf x o .contract) o
 
 -- "21, 1, 2, 3, 5, 6, 7"
 unfoldable pub askRefusals : Memory → Record → List Refusal

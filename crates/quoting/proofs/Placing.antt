@@ -10,13 +10,13 @@ use lib.Dec.{eqb, ltb}
 use lib.ListN.{length, getD, set, length-append}
 use Rattle.laws.specs.Choice.{pick}
 use Rattle.areas.specs.Records.{store}
-use Rattle.rules.specs.Answers.{Refusal, dayLimit, firstOf, isGoodForDay, listingOf, namedRefusals, notContinuous, orderRefusals, pullRefusals, takerOf, tradesNeeded, tradesWith}
-use Rattle.rules.specs.Bounds.{inAuction, maxLots, maxResting, maxTrades}
+use Rattle.rules.specs.Answers.{Refusal, dayLimitOrder, firstOf, isGoodForDay, listingOf, namedRefusals, notContinuous, orderRefusals, pullRefusals, takerOf, tradesNeeded, tradesAgainst}
+use Rattle.rules.specs.Bounds.{inAuction, maxLots, maxResting, maxTrades, maxAccounts}
 use Rattle.rules.specs.Exchange.{Exchange, Listing, accountAt, holderOf, noAccount, opposite, own, placeOf}
 use Rattle.rules.specs.Kinds.{codeOf, done, kindOf}
 use Rattle.rules.specs.Matching.{enter, restWhole, restedLots, sweep, tradedLots}
 use Rattle.rules.specs.Memory.{Declared, Memory, WellFormedState, exchangeOf, listingIn, memory, put, putQueue, putState, queueIn, queueStride, stepIn, tradeStride, tradeWords, wellFormedMemory, written}
-use Rattle.rules.specs.Quote.{Offered, makerRefusals, offered, half, buyOf, sellOf, buyEntered, sellEntered, withoutQuote, withBuy, withSell, quoteRefusals, quoted}
+use Rattle.rules.specs.Quote.{Offered, offerRefusals, offered, half, buyOf, sellOf, buyEntered, sellEntered, withoutQuote, withBuy, withSell, quoteRefusals, quoted}
 use Rattle.rules.specs.Step.{answerOf, enteredOf, exchangeAfter, listingAfter, withTrades, without}
 use Rattle.rules.specs.WellFormed.{isQuoteOf}
 use Rattle.rules.specs.declared.Command.{Command}
@@ -27,6 +27,7 @@ use Rattle.rules.specs.declared.State.{State}
 use Rattle.rules.specs.declared.Trade.{Trade}
 use Rattle.rules.proofs.AuctionSteps.{entered-either, trades-needed}
 use Rattle.rules.proofs.Codecs.{length-queue}
+use Rattle.rules.proofs.InUse.{account-in-use}
 use Rattle.rules.proofs.Fillable.{swept-at-most, traded-nil}
 use Rattle.book.proofs.EarlyStop.{trades-counted}
 use Rattle.rules.proofs.Queue.{length-without}
@@ -42,13 +43,14 @@ use Rattle.invariants.proofs.MemoryKeeps.{sound, stage-keeps, stage-read}
 use Rattle.invariants.proofs.QuoteKeeps.{buy-counted, buy-keeps, buy-passes, buy-sells, gone-accounts, gone-counted, gone-keeps, none-marked, sells-unmarked, still-maker}
 use Rattle.engine.specs.Outcome.{OutcomeIs, acceptedWith, refusedWith, withCountsIn}
 use Rattle.engine.specs.declared.answers.Outcome.{Outcome}
-use Rattle.engine.proofs.Formed.{Formed, account-at, accounts-count, contracts-count, formed, listing-at}
+use Rattle.engine.proofs.Formed.{Formed, accounts-count, contracts-count, formed, listing-at}
 use Rattle.engine.proofs.Outcomes.{acceptance, refusal}
 use Rattle.engine.proofs.Puts.{put-queues, trades-count}
 use Rattle.engine.proofs.Removals.{lies}
 use Rattle.engine.proofs.Traded.{few-after, put-traded}
 use Rattle.refusals.proofs.Arrivals.{count-within}
 use Rattle.refusals.proofs.Continuous as first
+use Rattle.engine.proofs.Named.{account-there}
 use Rattle.insertion.specs.Arrival.{enteredIn}
 use Rattle.quoting.specs.Placing.{Quotable, PlacedIs, Undoable, earlyRefusals, goneIn, madeFrom, markedIn}
 use Rattle.quoting.proofs.Marking.{entered-so, nothing-moved, told}
@@ -56,7 +58,7 @@ use Rattle.quoting.proofs.Undo.{made-room, undo-both, undo-nothing, und
 
 -- an order trades at most once with each order that it meets
 needed-few : (y : Exchange) (number : ℕ) (o : NewOrder) → tradesNeeded y number o ≤ length (opposite (o .sell) (listingOf y o))
-unfolding tradesNeeded tradesWith
+unfolding tradesNeeded tradesAgainst
 needed-few y number o = by-auction (inAuction (listingOf y o .contract))
   where
     by-auction : (b : Bool) → pick b 0 (length (sweep (takerOf y number 0 o) (o .lots) (listingOf y o .contract .last) (opposite (o .sell) (listingOf y o)) .trades)) ≤ length (opposite (o .sell) (listingOf y o))
@@ -88,9 +90,9 @@ gone-written w account contract none is b o e =
 
 pub named-passed : (x : Exchange) (account contract buy sell : ℕ) → firstOf (earlyRefusals x account contract buy sell) ≡ 0 → Failed (namedRefusals x notContinuous account contract)
 named-passed x account contract buy sell e =
-    both-zero (namedRefusals x notContinuous account contract) (makerRefusals (holderOf x account) buy sell) (omega arith) e .0
+    both-zero (namedRefusals x notContinuous account contract) (offerRefusals (holderOf x account) buy sell) (omega arith) e .0
 
-module _ {s : State} {buys sells trades : List ℕ} (w : WellFormedState s buys sells trades) (account contract buy sell : ℕ) {named : ℕ}
+module _ {s : State} (d : Declared s) (few : s .accountcount ≤ maxAccounts) (buys sells trades : List ℕ) (account contract buy sell : ℕ) {named : ℕ}
     (en : named ≡ firstOf (namedRefusals (exchangeOf (memory s buys sells trades)) notContinuous account contract)) where
   abbrev y : Exchange
   y = exchangeOf (memory s buys sells trades)
@@ -99,18 +101,20 @@ module _ {s : State} {buys sells trades : List ℕ} (w : WellFormedState s buys 
   code = firstOf (earlyRefusals y account contract buy sell)
 
   pub early-named : (named ≡ 0 → ⊥) → named ≡ code
-  early-named some = en ∙ first-here (namedRefusals y notContinuous account contract) (makerRefusals (holderOf y account) buy sell) (λ e. some (en ∙ e))
+  early-named some = en ∙ first-here (namedRefusals y notContinuous account contract) (offerRefusals (holderOf y account) buy sell) (λ e. some (en ∙ e))
 
   -- the account as it lies
   module _ (none : named ≡ 0) {place : ℕ} (is : place ≡ placeOf account) where
+    in-use : placeOf account < s .accountcount
+    in-use = account-there d few buys sells trades notContinuous account contract (failed (namedRefusals y notContinuous account contract) (omega arith) (sym en ∙ none)) .1
+
     maker-is : holderOf y account .maker ≡ getD (s .accounts) place noAccount .maker
     unfolding accountAt
-    maker-is =
-        rw is (ap (λ v. v .maker) (account-at (memory s buys sells trades) (formed w) (placeOf account) (first.account-here w account contract (failed (namedRefusals y notContinuous account contract) (omega arith) (sym en ∙ none)))))
+    maker-is = rw is (ap (λ v. v .maker) (account-in-use (memory s buys sells trades) (placeOf account) in-use))
 
     maker-first : code ≡ pick (not (eqb (getD (s .accounts) place noAccount .maker) 1)) 23 (pick (not (ltb buy sell)) 24 0)
     unfolding firstOf
-    maker-first = sym (first-there (namedRefusals y notContinuous account contract) (makerRefusals (holderOf y account) buy sell) (omega arith) (sym en ∙ none)) ∙ rw maker-is refl
+    maker-first = sym (first-there (namedRefusals y notContinuous account contract) (offerRefusals (holderOf y account) buy sell) (omega arith) (sym en ∙ none)) ∙ rw maker-is refl
 
     pub early-maker : (getD (s .accounts) place noAccount .maker ≡ 1 → ⊥) → 23 ≡ code
     early-maker e = sym (maker-first ∙ rw (ne-eqb _ _ e) refl)
@@ -267,7 +271,7 @@ module _ {s : State} {buys sells trades : List ℕ} (w : WellFormedState s buys 
 
       -- ---- the buy
 
-      module _ {bid : NewOrder} (eb : bid ≡ dayLimit account contract false false lots buy) where
+      module _ {bid : NewOrder} (eb : bid ≡ dayLimitOrder account contract false false lots buy) where
         bid-is : bid ≡ buyOf q
         unfolding half
         bid-is = eb
@@ -424,7 +428,7 @@ module _ {s : State} {buys sells trades : List ℕ} (w : WellFormedState s buys 
 
             -- ---- the sell
 
-            module _ {offer : NewOrder} (eo : offer ≡ dayLimit account contract true false lots sell) where
+            module _ {offer : NewOrder} (eo : offer ≡ dayLimitOrder account contract true false lots sell) where
               offer-is : offer ≡ sellOf q
               unfolding half
               offer-is = eo

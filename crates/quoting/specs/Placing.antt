@@ -13,7 +13,7 @@ use Rattle.rules.specs.Bounds.{maxResting, maxTrades}
 use Rattle.rules.specs.Exchange.{Exchange, accountAt, holderOf, listingAt, own, placeOf}
 use Rattle.rules.specs.Kinds.{refused}
 use Rattle.rules.specs.Memory.{Memory, AfterCommand, exchangeOf, inMemory, memory, put, queueStride, stepIn, tradeStride}
-use Rattle.rules.specs.Quote.{makerRefusals}
+use Rattle.rules.specs.Quote.{offerRefusals}
 use Rattle.rules.specs.Step.{listingWithout, withListing}
 use Rattle.rules.specs.WellFormed.{isQuoteOf, quotes}
 use Rattle.rules.specs.declared.Command.the-variants.{Quote}
@@ -27,7 +27,7 @@ use Rattle.insertion.specs.Arrival.{enteredIn}
 -- 2, 3, 4, 23, 24: what a quote is refused for before its orders are looked at
 abbrev pub earlyRefusals : Exchange → ℕ → ℕ → ℕ → ℕ → List Refusal
 earlyRefusals x account contract buy sell =
-    namedRefusals x notContinuous account contract ++ makerRefusals (holderOf x account) buy sell
+    namedRefusals x notContinuous account contract ++ offerRefusals (holderOf x account) buy sell
 
 -- the account's old quote taken out of the contract's queues
 abbrev pub goneIn : Memory → ℕ → ℕ → Memory

@@ -10,7 +10,7 @@ ghost use Rattle.rules.specs.Answers as answer;
 ghost use Rattle.rules.specs.Bounds.{maxAccounts, maxContracts, maxTrades};
 ghost use Rattle.rules.specs.Memory.{exchangeOf, memory, stepIn, WellFormedState};
 ghost use Rattle.rules.specs.declared.Command.the-variants.{Quote};
-ghost use Rattle.engine.specs.Outcome.{OutcomeIs, FirstIn};
+ghost use Rattle.engine.specs.Outcome.{OutcomeIs, CodeIn};
 ghost use Rattle.quoting.specs.Placing.{earlyRefusals, goneIn, Quotable, markedIn, PlacedIs, madeFrom};
 use engine::answers;
 use engine::answers::Outcome;
@@ -25,7 +25,7 @@ const MADE: usize = rules::TRADE_STRIDE * rules::MAX_RESTING;
 // Codes 2, 3, 4, 23 and 24, 0 where none holds. Requires at most 4 contracts and 32 accounts.
 fn early_code(state: State, account: u32, contract: u32, buy: u32, sell: u32) -> u32
     requires { ⌜ (state .contractcount ≤ maxContracts) × (state .accountcount ≤ maxAccounts) ⌝ }
-    ensures { λ r. ⌜ FirstIn state (λ x. earlyRefusals x account contract buy sell) r ⌝ }
+    ensures { λ r. ⌜ CodeIn state (λ x. earlyRefusals x account contract buy sell) r ⌝ }
 {
     let named = codes::continuous_code(state, account, contract);
     if named != 0 {

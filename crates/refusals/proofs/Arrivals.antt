@@ -9,7 +9,7 @@ use borrow.Author.Tests.{le-ltb}
 use lib.Dec.{ltb}
 use lib.ListN.{length, getD, drop}
 use Rattle.laws.specs.Choice.{pick}
-use Rattle.rules.specs.Answers.{noRoomFor, tradesWith}
+use Rattle.rules.specs.Answers.{noRoomFor, tradesAgainst}
 use Rattle.rules.specs.Bounds.{inAuction, maxResting, maxTrades}
 use Rattle.book.specs.EarlyStop.{countTrades, fillableFront}
 use Rattle.rules.specs.Exchange.{bestPrice, noOrder}
@@ -60,19 +60,19 @@ module _ (terms : Contract) (t : Taker) (lots : ℕ) {area : List ℕ} {c count 
   pub few-trades : countTrades t lots queue ≤ maxResting
   few-trades = omega (arith, count-within t lots queue, length-queue area c count, room .few)
 
-  pub trades-none : (recorded : ℕ) → recorded ≤ maxTrades → inAuction terms ≡ true → false ≡ noRoomFor recorded (tradesWith terms t lots queue)
-  unfolding tradesWith
+  pub trades-none : (recorded : ℕ) → recorded ≤ maxTrades → inAuction terms ≡ true → false ≡ noRoomFor recorded (tradesAgainst terms t lots queue)
+  unfolding tradesAgainst
   trades-none recorded h e = sym (rw e (le-ltb maxTrades (recorded + 0) (omega arith)))
 
   module _ (elsewhere : inAuction terms ≡ false) where
-    trades-are : tradesWith terms t lots queue ≡ countTrades t lots queue
-    unfolding tradesWith
+    trades-are : tradesAgainst terms t lots queue ≡ countTrades t lots queue
+    unfolding tradesAgainst
     trades-are = rw elsewhere (trades-counted t lots (terms .last) queue)
 
-    pub trades-fit : (recorded : ℕ) → recorded ≤ maxTrades - maxResting → false ≡ noRoomFor recorded (tradesWith terms t lots queue)
+    pub trades-fit : (recorded : ℕ) → recorded ≤ maxTrades - maxResting → false ≡ noRoomFor recorded (tradesAgainst terms t lots queue)
     trades-fit recorded h = sym (rw trades-are (le-ltb maxTrades (recorded + countTrades t lots queue) (omega (arith, few-trades))))
 
-    pub trades-told : (recorded : ℕ) {n : ℕ} → n ≡ countTrades t lots queue → ltb maxTrades (recorded + n) ≡ noRoomFor recorded (tradesWith terms t lots queue)
+    pub trades-told : (recorded : ℕ) {n : ℕ} → n ≡ countTrades t lots queue → ltb maxTrades (recorded + n) ≡ noRoomFor recorded (tradesAgainst terms t lots queue)
     trades-told recorded e = rw (trades-are, e) refl
 
 -- ---- the lots that can be filled

@@ -33,16 +33,16 @@ module _ {s : State} {buys sells trades : List ℕ} (w : WellFormedState s buys 
   c = placeOf contract
 
   pub contract-here : c < s .contractcount
-  contract-here = contract-there w notContinuous account contract passed .1
+  contract-here = contract-there (w .declared) (f .accounts-high) buys sells trades notContinuous account contract passed .1
 
   pub contract-low : 1 ≤ contract
-  contract-low = contract-there w notContinuous account contract passed .0
+  contract-low = contract-there (w .declared) (f .accounts-high) buys sells trades notContinuous account contract passed .0
 
   pub account-low : 1 ≤ account
-  account-low = account-there w notContinuous account contract passed .0
+  account-low = account-there (w .declared) (f .accounts-high) buys sells trades notContinuous account contract passed .0
 
   pub account-here : placeOf account < s .accountcount
-  account-here = account-there w notContinuous account contract passed .1
+  account-here = account-there (w .declared) (f .accounts-high) buys sells trades notContinuous account contract passed .1
 
   pub account-fits : {place : ℕ} → place ≡ placeOf account → place < maxAccounts
   account-fits e = omega (arith, account-here, f .accounts-high)

@@ -8,10 +8,9 @@ use native.Mathlib.Omega.{arith}
 use borrow.Author.Tests.{leb-true, not-false}
 use lib.Dec.{leb}
 use lib.ListN.{length, getD}
-use Rattle.holdings.specs.Bounds.{heldMost}
 use Rattle.laws.specs.Choice.{both-true, pick}
-use Rattle.rules.specs.Answers.{Refusal, accountRefusals, bookRefusals, conditionsRefused, fieldsRefusals, fillableLots, firstOf, fullRefused, holdingRefused, insertRefusals, killRefused, listingOf, lotsRefused, mark, noRoomFor, oppositeQueue, orderRefusals, ownQueue, takerFor, takerOf, takesOrders, tradesNeeded, tradesRefused, tradesWith}
-use Rattle.rules.specs.Bounds.{inAuction, maxAccounts, maxContracts, maxLots, maxResting, maxTrades, numbersEnd, termsInRange, within}
+use Rattle.rules.specs.Answers.{Refusal, accountRefusals, bookRefusals, conditionsRefused, fieldsRefusals, fillableLots, firstOf, fullRefused, holdingRefused, insertRefusals, killRefused, listingOf, lotsRefused, mark, noRoomFor, oppositeQueue, orderRefusals, ownQueue, takerFor, takerOf, takesOrders, tradesNeeded, tradesRefused, tradesAgainst}
+use Rattle.rules.specs.Bounds.{inAuction, maxAccounts, maxContracts, maxLimit, maxLots, maxResting, maxTrades, numbersEnd, termsInRange, within}
 use Rattle.rules.specs.Exchange.{Exchange, accountAt, holdingAt, isAbsent, noAccount, noContract, noHolding, placeOf, resting}
 use Rattle.rules.specs.Kinds.{codeOf, kindOf}
 use Rattle.rules.specs.Matching.{fillable}
@@ -29,15 +28,15 @@ use Rattle.engine.proofs.Formed.{Formed, formed, holding-at}
 use Rattle.engine.proofs.Named.{allowed, forbidden, no-such-account, no-such-contract}
 use Rattle.engine.proofs.Puts.{trades-count}
 use Rattle.engine.proofs.Tests.{place-below}
-use Rattle.refusals.specs.Insertion.{Facing, Meets, Present, QueueRoom, sideArea, sideCount}
+use Rattle.refusals.specs.Insertion.{Facing, MeetsQueue, Present, QueueRoom, sideArea, sideCount}
 use Rattle.refusals.proofs.Sides.{contract-is, contract-terms, opposite-facing, opposite-is, resting-low, side-is, side-room}
 
 -- 10 to 13, in any exchange in which the order meets the queue so
-pub book-tests : {x : Exchange} {o : NewOrder} {s : State} {terms : Contract} {own : ℕ} {t : Taker} {queue : List Order} → Meets x o s terms own t queue →
+pub book-tests : {x : Exchange} {o : NewOrder} {s : State} {terms : Contract} {own : ℕ} {t : Taker} {queue : List Order} → MeetsQueue x o s terms own t queue →
     firstOf (bookRefusals x o)
     ≡ pick (leb numbersEnd (s .next) || leb numbersEnd (s .nextstamp)) 10
     (pick (killRefused (fillable t queue) (o .lots) (o .time)) 11
-    (pick (noRoomFor (s .tradecount) (tradesWith terms t (o .lots) queue)) 12
+    (pick (noRoomFor (s .tradecount) (tradesAgainst terms t (o .lots) queue)) 12
     (pick (fullRefused (inAuction terms) own (fillable t queue) (o .lots) (o .time)) 13 0)))
 unfolding firstOf fillableLots tradesRefused tradesNeeded
 book-tests m = rw (m .taker, m .opposite-side, m .own-side, m .contract, m .recorded, m .next, m .nextstamp) refl
@@ -93,7 +92,7 @@ module _ {s : State} {buys sells trades : List ℕ} (w : WellFormedState s buys 
 
   pub code-account : isAbsent (o .account) (s .accountcount) ≡ true → 2 ≡ codeOf x (Insert o)
   unfolding codeOf kindOf insertRefusals
-  code-account e = no-such-account w forbids (o .account) (o .contract) (orderRefusals x o) e
+  code-account e = no-such-account (w .declared) (f .accounts-high) buys sells trades forbids (o .account) (o .contract) (orderRefusals x o) e
 
   module _ (a : isAbsent (o .account) (s .accountcount) ≡ false) where
     pub holder-low : 1 ≤ o .account
@@ -104,7 +103,7 @@ module _ {s : State} {buys sells trades : List ℕ} (w : WellFormedState s buys 
 
     pub code-contract : isAbsent (o .contract) (s .contractcount) ≡ true → 3 ≡ codeOf x (Insert o)
     unfolding codeOf kindOf insertRefusals
-    code-contract e = no-such-contract w forbids (o .account) (o .contract) (orderRefusals x o) a e
+    code-contract e = no-such-contract (w .declared) (f .accounts-high) buys sells trades forbids (o .account) (o .contract) (orderRefusals x o) a e
 
     module _ (b : isAbsent (o .contract) (s .contractcount) ≡ false) {place : ℕ} (is : place ≡ o .contract - 1) {takes : Bool} (et : takes ≡ takesOrders (getD (s .contracts) place noContract)) where
       takes-is : takes ≡ takesOrders (getD (s .contracts) c noContract)
@@ -112,11 +111,11 @@ module _ {s : State} {buys sells trades : List ℕ} (w : WellFormedState s buys 
 
       pub code-phase : takes ≡ false → 4 ≡ codeOf x (Insert o)
       unfolding codeOf kindOf insertRefusals
-      code-phase e = forbidden w forbids (o .account) (o .contract) (orderRefusals x o) a b (ap not (sym takes-is ∙ e))
+      code-phase e = forbidden (w .declared) (f .accounts-high) buys sells trades forbids (o .account) (o .contract) (orderRefusals x o) a b (ap not (sym takes-is ∙ e))
 
       pub code-order : {r : ℕ} → takes ≡ true → r ≡ code → r ≡ codeOf x (Insert o)
       unfolding codeOf kindOf insertRefusals
-      code-order e h = h ∙ sym (allowed w forbids (o .account) (o .contract) (orderRefusals x o) a b (ap not (sym takes-is ∙ e)))
+      code-order e h = h ∙ sym (allowed (w .declared) (f .accounts-high) buys sells trades forbids (o .account) (o .contract) (orderRefusals x o) a b (ap not (sym takes-is ∙ e)))
 
   -- ---- an order whose account and contract are in use
 
@@ -158,7 +157,7 @@ module _ {s : State} {buys sells trades : List ℕ} (w : WellFormedState s buys 
         rested-is : rested ≡ resting (mark (o .close)) (o .account - 1) (queueIn (sideArea (o .sell) buys sells) c (sideCount (o .sell) s c))
         rested-is = er ∙ rw (em, ec, ea, is)
 
-        pub rested-low : rested ≤ heldMost
+        pub rested-low : rested ≤ maxLimit
         rested-low = rw rested-is (resting-low m f c (p .contract) (o .account - 1) (p .account) (o .sell) (o .close))
 
         pub lots-are : {who : Account} → getD (s .accounts) (o .account - 1) noAccount ≡ who → {r : Bool} → r ≡ lotsRefused terms (getD (who .holdings) place noHolding) rested o → r ≡ holdingRefused x o
@@ -184,12 +183,12 @@ module _ {s : State} {buys sells trades : List ℕ} (w : WellFormedState s buys 
         taker-is = rw (et, opposite-queue, terms-is, is) refl
 
         -- 12 with that number
-        pub trades-are : {r : Bool} → r ≡ noRoomFor (s .tradecount) (tradesWith terms t (o .lots) (queueIn area place count)) → r ≡ tradesRefused x number o
+        pub trades-are : {r : Bool} → r ≡ noRoomFor (s .tradecount) (tradesAgainst terms t (o .lots) (queueIn area place count)) → r ≡ tradesRefused x number o
         unfolding tradesRefused tradesNeeded
         trades-are er = er ∙ rw (trades-count m f, opposite-queue, taker-is, terms-is) refl
 
       pub meets : {t : Taker} → t ≡ takerFor (s .next) 0 (s .nextstamp) terms (queueIn area (o .contract - 1) count) o → {own₁ : ℕ} → own₁ ≡ sideCount (o .sell) s place
-          → Meets x o s terms own₁ t (queueIn area place count)
+          → MeetsQueue x o s terms own₁ t (queueIn area place count)
       unfolding exchangeOf
       meets et eo =
           record {

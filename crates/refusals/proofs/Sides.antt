@@ -93,6 +93,6 @@ module _ (m : Memory) (f : Formed m) (c : ℕ) (h : c < m .state .contractcount)
         let sold = holding .opens true in
         record { long = omega (arith, limit-high); short = omega (arith, limit-high) }
 
-    pub resting-low : (side close : Bool) → resting (mark close) a (queueOf side) ≤ heldMost
+    pub resting-low : (side close : Bool) → resting (mark close) a (queueOf side) ≤ maxLimit
     resting-low side false = rw (← side-is side) (omega (arith, holding .opens side, limit-high))
     resting-low side true = rw (← side-is side) (omega (arith, holding .closes side, holding .opens (not side), limit-high))

@@ -17,7 +17,7 @@ use Rattle.rules.specs.declared.NewOrder.{NewOrder}
 use Rattle.rules.specs.declared.Order.{Order}
 use Rattle.rules.specs.declared.State.{State}
 use Rattle.rules.specs.declared.Taker.{Taker}
-use Rattle.engine.specs.Outcome.{FirstIn}
+use Rattle.engine.specs.Outcome.{CodeIn}
 
 -- ---- one side of a contract, as it lies
 
@@ -39,7 +39,7 @@ pub record Facing (t : Taker) (area : List ℕ) (c count : ℕ) : Type 0 where
   pub best : t .best ≡ bestPrice (queueIn area c count)
 
 -- an exchange in which the order meets that queue so: what 10 to 13 read of it
-pub record Meets (x : Exchange) (o : NewOrder) (s : State) (terms : Contract) (own : ℕ) (t : Taker) (queue : List Order) : Type 0 where
+pub record MeetsQueue (x : Exchange) (o : NewOrder) (s : State) (terms : Contract) (own : ℕ) (t : Taker) (queue : List Order) : Type 0 where
   pub next : x .next ≡ s .next
   pub nextstamp : x .nextstamp ≡ s .nextstamp
   pub recorded : length (x .trades) ≡ s .tradecount
@@ -62,5 +62,5 @@ pub record OwnedBy (s : State) (o : NewOrder) (who : Account) : Type 0 where
 
 -- 2, 3 and 4 of a kind "in continuous only"; code 0 says that its account is in use
 pub record ContinuousIs (s : State) (account contract code : ℕ) : Type 0 where
-  pub first : FirstIn s (λ x. namedRefusals x notContinuous account contract) code
+  pub first : CodeIn s (λ x. namedRefusals x notContinuous account contract) code
   pub account-in-use : code ≡ 0 → isAbsent account (s .accountcount) ≡ false

@@ -6,16 +6,15 @@ ghost use mathlib.Core.Path.{_≡_};
 ghost use Prim.Native.Nat.{_-_, _≤_};
 ghost use lib.Dec.{leb, ltb};
 ghost use lib.ListN.{getD};
-ghost use Rattle.holdings.specs.Bounds.{heldMost};
 ghost use Rattle.rules.specs.Answers as answer;
-ghost use Rattle.rules.specs.Bounds.{termsInRange, maxContracts, maxLots, maxTrades, numbersEnd};
+ghost use Rattle.rules.specs.Bounds.{termsInRange, maxContracts, maxLots, maxTrades, numbersEnd, maxAccounts, maxLimit};
 ghost use Rattle.rules.specs.Exchange.{Exchange, noAccount};
 ghost use Rattle.rules.specs.Matching as matching;
 ghost use Rattle.rules.specs.Kinds.{codeOf};
 ghost use Rattle.rules.specs.Memory.{exchangeOf, queueIn, memory, WellFormedState};
 ghost use Rattle.rules.specs.declared.Command.the-variants.{Insert};
 ghost use Rattle.rules.specs.Change.{reentryRefusals};
-ghost use Rattle.refusals.specs.Insertion.{Present, OwnedBy, QueueRoom, Facing, Meets, ContinuousIs};
+ghost use Rattle.refusals.specs.Insertion.{Present, OwnedBy, QueueRoom, Facing, MeetsQueue, ContinuousIs};
 use crate::orders;
 use engine::answers;
 use rules::AUCTION;
@@ -105,7 +104,7 @@ pub fn fields_code(terms: Contract, conditions: bool, o: NewOrder) -> u32
 // 8: an open may not lift holding and resting opens above the limit, a close may not exceed what is held less resting closes.
 // `rested` are the account's resting lots on the order's side, opens of an open and closes of a close.
 fn lots_refused(terms: Contract, h: Holding, rested: u64, o: NewOrder) -> bool
-    requires { ⌜ rested ≤ heldMost ⌝ }
+    requires { ⌜ rested ≤ maxLimit ⌝ }
     ensures { λ r. ⌜ r ≡ answer.lotsRefused terms h rested o ⌝ }
 {
     let lots = laws::wide64(o.lots);
@@ -221,7 +220,7 @@ fn trades_refused(
     lots: u32,
 ) -> bool
     requires { ⌜ QueueRoom (now area) c count × (recorded ≤ maxTrades) ⌝ }
-    ensures { λ r. ⌜ r ≡ answer.noRoomFor recorded (answer.tradesWith terms t lots (queueIn (now (area .entry)) c count)) ⌝ }
+    ensures { λ r. ⌜ r ≡ answer.noRoomFor recorded (answer.tradesAgainst terms t lots (queueIn (now (area .entry)) c count)) ⌝ }
 {
     if terms.phase == AUCTION {
         return false;
@@ -282,7 +281,7 @@ fn book_code(
     o: NewOrder,
 ) -> u32
     requires { ⌜ Facing t (now area) c count × (state .tradecount ≤ maxTrades) ⌝ }
-    ensures { λ r. ⌜ ((x : Exchange) → Meets x o state terms own t (queueIn (now (area .entry)) c count) → r ≡ answer.firstOf (answer.bookRefusals x o)) ⌝ }
+    ensures { λ r. ⌜ ((x : Exchange) → MeetsQueue x o state terms own t (queueIn (now (area .entry)) c count) → r ≡ answer.firstOf (answer.bookRefusals x o)) ⌝ }
 {
     let time = o.time;
     let lots = o.lots;
@@ -392,9 +391,9 @@ pub fn reentry_code<'a>(
     0
 }
 
-// Codes 2, 3 and 4 of a quote and of a change, 0 where none holds: "in continuous only".
+// Codes 2, 3 and 4 of a quote and of a change, 0 where none holds: "in continuous only". Requires at most 4 contracts and 32 accounts.
 pub fn continuous_code(state: State, account: u32, contract: u32) -> u32
-    requires { ⌜ state .contractcount ≤ maxContracts ⌝ }
+    requires { ⌜ (state .contractcount ≤ maxContracts) × (state .accountcount ≤ maxAccounts) ⌝ }
     ensures { λ r. ⌜ ContinuousIs state account contract r ⌝ }
 {
     if answers::is_absent(account, state.accountcount) {

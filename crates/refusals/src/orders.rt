@@ -82,7 +82,7 @@ pub fn day_limit(
     lots: u32,
     price: u32,
 ) -> NewOrder
-    ensures { λ r. ⌜ r ≡ answer.dayLimit account contract sell close lots price ⌝ }
+    ensures { λ r. ⌜ r ≡ answer.dayLimitOrder account contract sell close lots price ⌝ }
 {
     NewOrder {
         account,

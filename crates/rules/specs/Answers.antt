@@ -56,8 +56,8 @@ mark true = 1
 mark false = 0
 
 -- a good-for-day limit order, as a change and a quote send it (02, tickets 8 and 7)
-abbrev pub dayLimit : ℕ → ℕ → Bool → Bool → ℕ → ℕ → NewOrder
-dayLimit account contract sell close lots price =
+abbrev pub dayLimitOrder : ℕ → ℕ → Bool → Bool → ℕ → ℕ → NewOrder
+dayLimitOrder account contract sell close lots price =
     record { account = account; contract = contract; sell = sell; close = close; lots = lots; price = price; condition = Limit price; time = GoodForDay }
 
 unfoldable pub listingOf : Exchange → NewOrder → Listing
@@ -95,11 +95,11 @@ unfoldable pub fillableLots : Exchange → NewOrder → ℕ
 fillableLots x o = fillable (takerOf x (x .next) 0 o) (oppositeQueue x o)
 
 -- how many trades so many lots would make with a queue: in auction none, since orders "rest without matching" (02, ticket 4)
-unfoldable pub tradesWith : Contract → Taker → ℕ → List Order → ℕ
-tradesWith c t lots queue = pick (inAuction c) 0 (length (sweep t lots (c .last) queue .trades))
+unfoldable pub tradesAgainst : Contract → Taker → ℕ → List Order → ℕ
+tradesAgainst c t lots queue = pick (inAuction c) 0 (length (sweep t lots (c .last) queue .trades))
 
 unfoldable pub tradesNeeded : Exchange → ℕ → NewOrder → ℕ
-tradesNeeded x number o = tradesWith (listingOf x o .contract) (takerOf x number 0 o) (o .lots) (oppositeQueue x o)
+tradesNeeded x number o = tradesAgainst (listingOf x o .contract) (takerOf x number 0 o) (o .lots) (oppositeQueue x o)
 
 -- ---- the tests of an insert
 
@@ -176,14 +176,17 @@ fullRefused auctioned rest filled lots time = isGoodForDay time && leb maxRestin
 
 -- ---- the refusals of each kind, "Order: 21, 1, then .."
 
--- 2, 3 and 4, with which the kinds begin that name an account and a contract: "account 0 or absent", "contract 0 or absent",
--- "contract state forbids it". `forbids` is the kind's test of 4.
-abbrev pub namedRefusals : Exchange → (Contract → Bool) → ℕ → ℕ → List Refusal
-namedRefusals x forbids account contract =
+-- 2 and 3: "account 0 or absent"; "contract 0 or absent"
+abbrev pub absentRefusals : Exchange → ℕ → ℕ → List Refusal
+absentRefusals x account contract =
     (2 when absent account (x .accounts))
     ∷ (3 when absent contract (x .listings))
-    ∷ (4 when forbids (listingNamed x contract .contract))
     ∷ []
+
+-- and 4, "contract state forbids it", with which the kinds begin that name an account and a contract; `forbids` is the kind's own test
+abbrev pub namedRefusals : Exchange → (Contract → Bool) → ℕ → ℕ → List Refusal
+namedRefusals x forbids account contract =
+    absentRefusals x account contract ++ (4 when forbids (listingNamed x contract .contract)) ∷ []
 
 -- an order's own fields, by its contract's terms; `conditions` is the test of 6
 abbrev pub fieldsRefusals : Bool → Contract → NewOrder → List Refusal
@@ -242,21 +245,23 @@ unfoldable pub ofAnother : ℕ → List Order → Bool
 ofAnother a [] = false
 ofAnother a (o ∷ os) = not (eqb (o .account) a)
 
--- 14 and 15, of the order found, a list of one or none: "no such resting order in that contract", "resting order of another account"
+-- 14 and 15: "no such resting order in that contract", "resting order of another account"; the order found is a list of one or none, and
+-- `a` the account's place
 abbrev pub ownerRefusals : ℕ → List Order → List Refusal
-ownerRefusals account found =
+ownerRefusals a found =
     (14 when noSuchOrder found)
-    ∷ (15 when ofAnother account found)
+    ∷ (15 when ofAnother a found)
     ∷ []
-
--- "pull 2, 3, 4"
-unfoldable pub pullRefusals : Exchange → ℕ → ℕ → Bool → List Refusal
-pullRefusals x account contract operator = namedRefusals x (λ c. removalRefused c operator) account contract
 
 -- "cancel 2, 3, 4, 14, 15"
 unfoldable pub cancelRefusals : Exchange → ℕ → ℕ → Bool → ℕ → List Refusal
 cancelRefusals x account contract operator number =
-    pullRefusals x account contract operator ++ ownerRefusals (placeOf account) (restingOrder (listingNamed x contract) number)
+    namedRefusals x (λ c. removalRefused c operator) account contract
+    ++ ownerRefusals (placeOf account) (restingOrder (listingNamed x contract) number)
+
+-- "pull 2, 3, 4"
+unfoldable pub pullRefusals : Exchange → ℕ → ℕ → Bool → List Refusal
+pullRefusals x account contract operator = namedRefusals x (λ c. removalRefused c operator) account contract
 
 -- 16: "amount not 1 to 10^15, or deposit lifts the balance above 10^18"
 unfoldable pub amountRefused : ℕ → Bool

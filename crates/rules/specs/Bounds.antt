@@ -44,7 +44,7 @@ maxAmount = 10 ^ 15
 abbrev pub maxDayProfit : ℕ
 maxDayProfit = 3 * 10 ^ 15
 
--- "each balance is within 10^18 plus settlements so far times 3 x 10^15": for 250 of them that is less than twice 10^18
+-- no rule: what every balance of a well-formed state is within, for 250 settlements of 3 x 10^15 add less than 10^18
 abbrev pub balanceMost : ℕ
 balanceMost = 2 * maxBalance
 

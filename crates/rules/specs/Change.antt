@@ -5,7 +5,7 @@ use Prim.Native.Nat.{ℕ}
 use lib.Dec.{ltb, eqb}
 use lib.ListN.{getD}
 use Rattle.laws.specs.Choice.{pick}
-use Rattle.rules.specs.Answers.{Refusal, _when_, dayLimit, numbered, restingOrder, noSuchOrder, namedRefusals, notContinuous, ownerRefusals, accountRefusals, stampsUsedUp, tradesRefused}
+use Rattle.rules.specs.Answers.{Refusal, _when_, dayLimitOrder, numbered, restingOrder, noSuchOrder, namedRefusals, notContinuous, ownerRefusals, accountRefusals, stampsUsedUp, tradesRefused}
 use Rattle.rules.specs.Bounds.{allowedToday, maxLots}
 use Rattle.rules.specs.Exchange.{Exchange, Listing, listingNamed, placeOf, noOrder}
 use Rattle.rules.specs.Matching.{Entered, tradedLots, withLots}
@@ -37,9 +37,13 @@ oldOrder x k = getD (restingOrder (listingFor x k) (k .number)) 0 noOrder
 unfoldable pub isSell : Exchange → Asked → Bool
 isSell x k = noSuchOrder (numbered (k .number) (listingFor x k .buys))
 
--- "fewer lots keep the place in the queue; more lots or another price lose it"; zero lots are no loss of place but a removal
+-- "fewer lots keep the place in the queue; more lots or another price lose it"
+abbrev pub loses : Order → ℕ → ℕ → Bool
+loses o lots price = ltb (o .lots) lots || not (eqb price (o .price))
+
+-- zero lots are no loss of place but a removal
 unfoldable pub losesPlace : Exchange → Asked → Bool
-losesPlace x k = not (eqb (k .lots) 0) && (ltb (oldOrder x k .lots) (k .lots) || not (eqb (k .price) (oldOrder x k .price)))
+losesPlace x k = not (eqb (k .lots) 0) && loses (oldOrder x k) (k .lots) (k .price)
 
 -- "as though the old order were gone"
 unfoldable pub gone : Exchange → Asked → Exchange
@@ -47,7 +51,7 @@ gone x k = withListing x (placeOf (k .contract)) (listingWithout (hasNumber (k .
 
 -- "then matched at once": it arrives as a good-for-day limit order of its account, on its side, to open or close as before
 unfoldable pub arriving : Exchange → Asked → NewOrder
-arriving x k = dayLimit (k .account) (k .contract) (isSell x k) (eqb (oldOrder x k .close) 1) (k .lots) (k .price)
+arriving x k = dayLimitOrder (k .account) (k .contract) (isSell x k) (eqb (oldOrder x k .close) 1) (k .lots) (k .price)
 
 -- "The number stays." "In a quote, any other change of an order drops that order's mark."
 unfoldable pub reentered : Exchange → Asked → Entered

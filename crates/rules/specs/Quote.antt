@@ -4,7 +4,7 @@ use mathlib.Core.List.{List, [], _∷_, _++_}
 use Prim.Native.Nat.{ℕ, _+_}
 use lib.Dec.{ltb, eqb}
 use Rattle.laws.specs.Choice.{pick}
-use Rattle.rules.specs.Answers.{Refusal, _when_, dayLimit, namedRefusals, notContinuous, orderRefusals}
+use Rattle.rules.specs.Answers.{Refusal, _when_, dayLimitOrder, namedRefusals, notContinuous, orderRefusals}
 use Rattle.rules.specs.Exchange.{Exchange, listingNamed, holderOf, placeOf}
 use Rattle.rules.specs.Matching.{Entered, tradedLots}
 use Rattle.rules.specs.Step.{Effect, withListing, listingWithout, enteredOf, exchangeAfter}
@@ -26,7 +26,7 @@ offered account contract lots buy sell = record { account = account; contract = 
 
 -- "a buy and a sell good-for-day limit open with equal lots"
 unfoldable pub half : Offered → Bool → NewOrder
-half q sell = dayLimit (q .account) (q .contract) sell false (q .lots) (pick sell (q .sell) (q .buy))
+half q sell = dayLimitOrder (q .account) (q .contract) sell false (q .lots) (pick sell (q .sell) (q .buy))
 
 abbrev pub buyOf : Offered → NewOrder
 buyOf q = half q false
@@ -64,8 +64,8 @@ sellEntered x q = enteredMarked (withBuy x q) (sellOf q)
 -- ---- "Refusals: after 4, code 23 if not a maker, then 24 if buy is not below sell, then the buy's code from 5 on, then the sell's."
 
 -- 23 and 24, before its orders are looked at
-abbrev pub makerRefusals : Account → ℕ → ℕ → List Refusal
-makerRefusals a buy sell =
+abbrev pub offerRefusals : Account → ℕ → ℕ → List Refusal
+offerRefusals a buy sell =
     (23 when not (eqb (a .maker) 1))
     ∷ (24 when not (ltb buy sell))
     ∷ []
@@ -73,7 +73,7 @@ makerRefusals a buy sell =
 unfoldable pub quoteRefusals : Exchange → Offered → List Refusal
 quoteRefusals x q =
     namedRefusals x notContinuous (q .account) (q .contract)
-    ++ makerRefusals (holderOf x (q .account)) (q .buy) (q .sell)
+    ++ offerRefusals (holderOf x (q .account)) (q .buy) (q .sell)
     ++ orderRefusals (withoutQuote x q) (buyOf q)
     ++ orderRefusals (withBuy x q) (sellOf q)
 

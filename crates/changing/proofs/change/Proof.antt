@@ -16,7 +16,7 @@ use Rattle.changing.proofs.change.Tie as tie
 -- ---- what the tests have shown
 
 zero : (c : tie.Else1) → let start = c .before .before .before .before .before in firstOf (namedRefusals (exchangeOf (memory (start .args .state) (now (start .args .buys)) (now (start .args .sells)) (now (start .args .trades)))) notContinuous (start .args .account) (start .args .contract)) ≡ 0
-zero c = sym (c .before .continuous-code .ensures .first _ _ _ (c .before .before .before .before .before .pre)) ∙ c .if1 .left
+zero c = sym (c .before .continuous-code .ensures .first (c .before .before .before .before .before .pre .declared) _ _ _) ∙ c .if1 .left
 
 none : (c : tie.Else1) → let start = c .before .before .before .before .before in Failed (namedRefusals (exchangeOf (memory (start .args .state) (now (start .args .buys)) (now (start .args .sells)) (now (start .args .trades)))) notContinuous (start .args .account) (start .args .contract))
 none c = failed _ (omega arith) (zero c)
@@ -31,9 +31,7 @@ passed c =
 -- ---- the needs
 
 continuous-code-requires : tie.Need-continuous-code-requires
-continuous-code-requires c κs =
-    let start = c .before .before .before in
-    formed (start .pre) .contracts-high
+continuous-code-requires c κs = let start = c .before .before .before in (formed (start .pre) .contracts-high, formed (start .pre) .accounts-high)
 
 refused-requires : tie.Need-refused-requires
 refused-requires c κs = search needs
@@ -41,7 +39,7 @@ refused-requires c κs = search needs
 returns : tie.Need-returns
 returns c =
     let start = c .before .before .before .before .before .before in
-    refused-early (start .pre) (start .args .account) (start .args .contract) (start .args .number) (start .args .lots) (start .args .price) (c .before .before .continuous-code .ensures .first _ _ _ (start .pre)) (c .before .if1 .taken) (c .refused .ensures)
+    refused-early (start .pre) (start .args .account) (start .args .contract) (start .args .number) (start .args .lots) (start .args .price) (c .before .before .continuous-code .ensures .first (start .pre .declared) _ _ _) (c .before .if1 .taken) (c .refused .ensures)
 
 place-of-requires : tie.Need-place-of-requires
 place-of-requires c κs =

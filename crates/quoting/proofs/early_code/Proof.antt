@@ -17,7 +17,7 @@ continuous-code-requires : tie.Need-continuous-code-requires
 continuous-code-requires c κs = search needs
 
 returns : tie.Need-returns
-returns c = λ buys sells trades w. early-named w (c .before .before .args .account) (c .before .before .args .contract) (c .before .before .args .buy) (c .before .before .args .sell) (c .before .continuous-code .ensures .first _ _ _ w) (c .if1 .taken)
+returns c = λ d buys sells trades. early-named d (c .before .before .pre .1) buys sells trades (c .before .before .args .account) (c .before .before .args .contract) (c .before .before .args .buy) (c .before .before .args .sell) (c .before .continuous-code .ensures .first d _ _ _) (c .if1 .taken)
 
 place-of-requires : tie.Need-place-of-requires
 place-of-requires c κs = place-below _ _ (there c) .0
@@ -29,16 +29,16 @@ element-copy-out-who : tie.Need-element-copy-out-who
 element-copy-out-who c = let start = c .before .before .before in omega (arith, c .place-of .ensures, place-below (start .args .account) (start .args .t1 .accountcount) (there (c .before)) .1, start .pre .1)
 
 returns-2 : tie.Need-returns-2
-returns-2 c = λ buys sells trades w.
-    early-maker w (c .before .before .before .before .before .before .args .account) (c .before .before .before .before .before .before .args .contract) (c .before .before .before .before .before .before .args .buy) (c .before .before .before .before .before .before .args .sell) (c .before .before .before .before .before .continuous-code .ensures .first _ _ _ w) (c .before .before .before .before .if1 .left) (c .before .before .before .place-of .ensures) (c .if2 .taken)
+returns-2 c = λ d buys sells trades.
+    early-maker d (c .before .before .before .before .before .before .pre .1) buys sells trades (c .before .before .before .before .before .before .args .account) (c .before .before .before .before .before .before .args .contract) (c .before .before .before .before .before .before .args .buy) (c .before .before .before .before .before .before .args .sell) (c .before .before .before .before .before .continuous-code .ensures .first d _ _ _) (c .before .before .before .before .if1 .left) (c .before .before .before .place-of .ensures) (c .if2 .taken)
 
 returns-3 : tie.Need-returns-3
-returns-3 c = λ buys sells trades w.
-    early-prices w (c .before .before .before .before .before .before .before .args .account) (c .before .before .before .before .before .before .before .args .contract) (c .before .before .before .before .before .before .before .args .buy) (c .before .before .before .before .before .before .before .args .sell) (c .before .before .before .before .before .before .continuous-code .ensures .first _ _ _ w) (c .before .before .before .before .before .if1 .left) (c .before .before .before .before .place-of .ensures) (c .before .if2 .left) (c .if3 .taken)
+returns-3 c = λ d buys sells trades.
+    early-prices d (c .before .before .before .before .before .before .before .pre .1) buys sells trades (c .before .before .before .before .before .before .before .args .account) (c .before .before .before .before .before .before .before .args .contract) (c .before .before .before .before .before .before .before .args .buy) (c .before .before .before .before .before .before .before .args .sell) (c .before .before .before .before .before .before .continuous-code .ensures .first d _ _ _) (c .before .before .before .before .before .if1 .left) (c .before .before .before .before .place-of .ensures) (c .before .if2 .left) (c .if3 .taken)
 
 returns-4 : tie.Need-returns-4
-returns-4 c = λ buys sells trades w.
-    early-none w (c .before .before .before .before .before .before .before .args .account) (c .before .before .before .before .before .before .before .args .contract) (c .before .before .before .before .before .before .before .args .buy) (c .before .before .before .before .before .before .before .args .sell) (c .before .before .before .before .before .before .continuous-code .ensures .first _ _ _ w) (c .before .before .before .before .before .if1 .left) (c .before .before .before .before .place-of .ensures) (c .before .if2 .left) (c .if3 .left)
+returns-4 c = λ d buys sells trades.
+    early-none d (c .before .before .before .before .before .before .before .pre .1) buys sells trades (c .before .before .before .before .before .before .before .args .account) (c .before .before .before .before .before .before .before .args .contract) (c .before .before .before .before .before .before .before .args .buy) (c .before .before .before .before .before .before .before .args .sell) (c .before .before .before .before .before .before .continuous-code .ensures .first d _ _ _) (c .before .before .before .before .before .if1 .left) (c .before .before .before .before .place-of .ensures) (c .before .if2 .left) (c .if3 .left)
 
 pub early-code-spec : {M : Type 1} → statement M
 early-code-spec =

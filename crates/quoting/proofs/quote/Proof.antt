@@ -20,7 +20,7 @@ use Rattle.quoting.proofs.quote.Tie as tie
 
 -- none of 2, 3, 4, 23 and 24 holds
 none : (c : tie.Else1) → let start = c .before .before .before .before .before in firstOf (earlyRefusals (exchangeOf (memory (start .args .state) (now (start .args .buys)) (now (start .args .sells)) (now (start .args .trades)))) (start .args .account) (start .args .contract) (start .args .buy) (start .args .sell)) ≡ 0
-none c = sym (c .before .early-code .ensures _ _ _ (c .before .before .before .before .before .pre)) ∙ c .if1 .left
+none c = sym (c .before .early-code .ensures (c .before .before .before .before .before .pre .declared) _ _ _) ∙ c .if1 .left
 
 named : (c : tie.Else1) → let start = c .before .before .before .before .before in Failed (namedRefusals (exchangeOf (memory (start .args .state) (now (start .args .buys)) (now (start .args .sells)) (now (start .args .trades)))) notContinuous (start .args .account) (start .args .contract))
 named c = let start = c .before .before .before .before .before in named-passed _ _ _ (start .args .buy) (start .args .sell) (none c)
@@ -39,7 +39,7 @@ refused-requires c κs = search needs
 returns : tie.Need-returns
 returns c =
     let start = c .before .before .before .before .before .before in
-    early-refused (start .pre) (start .args .account) (start .args .contract) (start .args .lots) (start .args .buy) (start .args .sell) (c .before .before .early-code .ensures _ _ _ (start .pre)) (c .before .if1 .taken) (c .refused .ensures)
+    early-refused (start .pre) (start .args .account) (start .args .contract) (start .args .lots) (start .args .buy) (start .args .sell) (c .before .before .early-code .ensures (start .pre .declared) _ _ _) (c .before .if1 .taken) (c .refused .ensures)
 
 place-of-requires : tie.Need-place-of-requires
 place-of-requires c κs =

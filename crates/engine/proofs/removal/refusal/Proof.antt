@@ -36,14 +36,14 @@ is-absent-requires c κs = search needs
 
 returns : tie.Need-returns
 unfolding pullRefusals
-returns c = λ buys sells trades w. no-such-account w (refused (c .before .before .args .operator)) _ _ [] (sym (c .before .is-absent .ensures) ∙ c .if1 .taken)
+returns c = λ d buys sells trades. no-such-account d (c .before .before .pre .1) buys sells trades (refused (c .before .before .args .operator)) _ _ [] (sym (c .before .is-absent .ensures) ∙ c .if1 .taken)
 
 is-absent-requires-2 : tie.Need-is-absent-requires-2
 is-absent-requires-2 c κs = search needs
 
 returns-2 : tie.Need-returns-2
 unfolding pullRefusals
-returns-2 c = λ buys sells trades w. no-such-contract w (refused (c .before .before .before .before .args .operator)) _ _ [] (account (c .before .before)) (sym (c .before .is-absent2 .ensures) ∙ c .if2 .taken)
+returns-2 c = λ d buys sells trades. no-such-contract d (c .before .before .before .before .pre .1) buys sells trades (refused (c .before .before .before .before .args .operator)) _ _ [] (account (c .before .before)) (sym (c .before .is-absent2 .ensures) ∙ c .if2 .taken)
 
 place-of-requires : tie.Need-place-of-requires
 place-of-requires c κs = place-below _ _ (contract c) .0
@@ -52,20 +52,20 @@ mul-terms : tie.Need-mul-terms
 mul-terms c = search needs
 
 array-copy-out-terms : tie.Need-array-copy-out-terms
-array-copy-out-terms c = omega (arith, place (c .before), c .before .before .before .before .before .before .pre)
+array-copy-out-terms c = omega (arith, place (c .before), c .before .before .before .before .before .before .pre .0)
 
 is-refused-requires : tie.Need-is-refused-requires
 is-refused-requires c κs = search needs
 
 returns-3 : tie.Need-returns-3
 unfolding pullRefusals
-returns-3 c = λ buys sells trades w.
-    forbidden w (refused (c .before .before .before .before .before .before .before .before .before .args .operator)) _ _ [] (account (c .before .before .before .before .before .before .before)) (contract (c .before .before .before .before .before)) (sym (phase (c .before)) ∙ c .if3 .taken)
+returns-3 c = λ d buys sells trades.
+    forbidden d (c .before .before .before .before .before .before .before .before .before .pre .1) buys sells trades (refused (c .before .before .before .before .before .before .before .before .before .args .operator)) _ _ [] (account (c .before .before .before .before .before .before .before)) (contract (c .before .before .before .before .before)) (sym (phase (c .before)) ∙ c .if3 .taken)
 
 returns-4 : tie.Need-returns-4
 unfolding pullRefusals firstOf
-returns-4 c = λ buys sells trades w.
-    sym (allowed w (refused (c .before .before .before .before .before .before .before .before .before .args .operator)) _ _ [] (account (c .before .before .before .before .before .before .before)) (contract (c .before .before .before .before .before)) (sym (phase (c .before)) ∙ c .if3 .left))
+returns-4 c = λ d buys sells trades.
+    sym (allowed d (c .before .before .before .before .before .before .before .before .before .pre .1) buys sells trades (refused (c .before .before .before .before .before .before .before .before .before .args .operator)) _ _ [] (account (c .before .before .before .before .before .before .before)) (contract (c .before .before .before .before .before)) (sym (phase (c .before)) ∙ c .if3 .left))
 
 pub refusal-spec : {M : Type 1} → statement M
 refusal-spec =

@@ -23,7 +23,7 @@ is-absent-requires c κs = search needs
 
 returns : tie.Need-returns
 returns c =
-    record { first = λ buys sells trades w. no-such-account w notContinuous _ _ [] (sym (c .before .is-absent .ensures) ∙ c .if1 .taken); account-in-use = λ e. absurd (omega arith) }
+    record { first = λ d buys sells trades. no-such-account d (c .before .before .pre .1) buys sells trades notContinuous _ _ [] (sym (c .before .is-absent .ensures) ∙ c .if1 .taken); account-in-use = λ e. absurd (omega arith) }
 
 is-absent-requires-2 : tie.Need-is-absent-requires-2
 is-absent-requires-2 c κs = search needs
@@ -31,7 +31,7 @@ is-absent-requires-2 c κs = search needs
 returns-2 : tie.Need-returns-2
 returns-2 c =
     record {
-      first = λ buys sells trades w. no-such-contract w notContinuous _ _ [] (account (c .before .before)) (sym (c .before .is-absent2 .ensures) ∙ c .if2 .taken);
+      first = λ d buys sells trades. no-such-contract d (c .before .before .before .before .pre .1) buys sells trades notContinuous _ _ [] (account (c .before .before)) (sym (c .before .is-absent2 .ensures) ∙ c .if2 .taken);
       account-in-use = λ e. absurd (omega arith);
     }
 
@@ -46,13 +46,13 @@ mul-terms c = search needs
 array-copy-out-terms : tie.Need-array-copy-out-terms
 array-copy-out-terms c =
     let start = c .before .before .before .before .before .before in
-    omega (arith, c .before .place-of .ensures, (place-below (start .args .contract) (start .args .state .contractcount) (contract (c .before .before))) .1, start .pre)
+    omega (arith, c .before .place-of .ensures, (place-below (start .args .contract) (start .args .state .contractcount) (contract (c .before .before))) .1, start .pre .0)
 
 returns-3 : tie.Need-returns-3
 returns-3 c =
     record {
-      first = λ buys sells trades w.
-          forbidden w notContinuous _ _ [] (account (c .before .before .before .before .before .before .before)) (contract (c .before .before .before .before .before)) (ap not (ne-eqb _ _ (rw (c .before .before .before .before .place-of .ensures) at (c .if3 .taken))));
+      first = λ d buys sells trades.
+          forbidden d (c .before .before .before .before .before .before .before .before .before .pre .1) buys sells trades notContinuous _ _ [] (account (c .before .before .before .before .before .before .before)) (contract (c .before .before .before .before .before)) (ap not (ne-eqb _ _ (rw (c .before .before .before .before .place-of .ensures) at (c .if3 .taken))));
       account-in-use = λ e. absurd (omega arith);
     }
 
@@ -60,8 +60,8 @@ returns-4 : tie.Need-returns-4
 unfolding firstOf
 returns-4 c =
     record {
-      first = λ buys sells trades w.
-          sym (allowed w notContinuous _ _ [] (account (c .before .before .before .before .before .before .before)) (contract (c .before .before .before .before .before)) (ap not (eq-eqb _ _ (rw (c .before .before .before .before .place-of .ensures) at (c .if3 .left)))));
+      first = λ d buys sells trades.
+          sym (allowed d (c .before .before .before .before .before .before .before .before .before .pre .1) buys sells trades notContinuous _ _ [] (account (c .before .before .before .before .before .before .before)) (contract (c .before .before .before .before .before)) (ap not (eq-eqb _ _ (rw (c .before .before .before .before .place-of .ensures) at (c .if3 .left)))));
       account-in-use = λ e. account (c .before .before .before .before .before .before .before);
     }
 
