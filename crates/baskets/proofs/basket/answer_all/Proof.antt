@@ -45,10 +45,12 @@ loop-less c = omega arith
 
 loop-again : tie.Need-loop-again Inv-loop μ-loop
 loop-again c =
-    let turn = c .before .before .before .before .before .before .before .before .before .before .before .before .before .before .before in
-    let answer = c .before .before .before .before .before .before .before .before .answer-command in
-    answering-more (turn .loop .inv) (c .before .before .before .before .before .before .before .before .before .before .before .before .before .before .loop-test .taken) (omega (arith, turn .before .before .before .before .before .pre .1, hundred (turn .before .before .before .before .before))) refl (answer .ensures .0) (answer .ensures .1)
-    (answer .kept .1 .1 .0) (answer .kept .1 .1 .1 .0) (answer .kept .1 .1 .1 .1 .0) (answer .kept .1 .1 .1 .1 .1 .1 .0)
+    let answer = c .before .before .before .before .before .before .before .before in
+    let turn = answer .before .before .before .before .before .before .before in
+    let start = turn .before .before .before .before .before in
+    let kept = answer .answer-command .kept .1 .1 in
+    answering-more (turn .loop .inv) (answer .before .before .before .before .before .before .loop-test .taken) (omega (arith, start .pre .1, hundred start)) refl
+    (answer .answer-command .ensures .0) (answer .answer-command .ensures .1) (kept .0) (kept .1 .0) (kept .1 .1 .0) (kept .1 .1 .1 .1 .0)
 
 same-length : tie.Need-same-length Inv-loop μ-loop
 same-length c = search needs

@@ -43,12 +43,14 @@ loop-less c = omega arith
 
 loop-again : tie.Need-loop-again Inv-loop μ-loop
 loop-again c =
-    let turn = c .before .before .before .before .before .before .before .before .before .before .before .before .before .before .before .before in
-    let start = turn .before .before .before .before .before .before in
-    let answer = c .before .before .before .before .before .before .before .before .answer-command in
-    answering-more (turn .loop .inv) (c .before .before .before .before .before .before .before .before .before .before .before .before .before .before .before .loop-test .taken) (omega (arith, length-first (start .args .bytes .now) (start .args .count)))
-    (command-at _ _ _ (c .before .before .before .before .before .before .before .before .before .before .before .before .before .before .before .loop-test .taken) ∙ sym (c .before .before .before .before .before .before .before .before .before .before .before .before .before .command-of .ensures ∙ ap commandOf (c .before .before .before .before .before .before .before .before .before .before .before .before .before .before .record-at .ensures)))
-    (answer .ensures .0) (answer .ensures .1) (answer .kept .1 .1 .0) (answer .kept .1 .1 .1 .0) (answer .kept .1 .1 .1 .1 .0) (answer .kept .1 .1 .1 .1 .1 .1 .0)
+    let answer = c .before .before .before .before .before .before .before .before in
+    let command = answer .before .before .before .before .before in
+    let turn = command .before .before .before in
+    let here = command .before .before .loop-test .taken in
+    let kept = answer .answer-command .kept .1 .1 in
+    answering-more (turn .loop .inv) here (omega (arith, length-first (turn .before .before .before .before .before .before .args .bytes .now) (turn .before .before .before .before .before .before .args .count)))
+    (command-at _ _ _ here ∙ sym (command .command-of .ensures ∙ ap commandOf (command .before .record-at .ensures)))
+    (answer .answer-command .ensures .0) (answer .answer-command .ensures .1) (kept .0) (kept .1 .0) (kept .1 .1 .0) (kept .1 .1 .1 .1 .0)
 
 same-length : tie.Need-same-length Inv-loop μ-loop
 same-length c = search needs

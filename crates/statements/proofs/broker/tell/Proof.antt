@@ -58,18 +58,18 @@ books-requires c κs =
 
 put-statement-requires : tie.Need-put-statement-requires
 put-statement-requires c κs =
-    let start = c .before .before .before .before .before .before .before .before .before .before .before .before .before .before .before .before in
-    tellable (start .pre) (c .before .before .before .before .before .before .before .before .before .before .client-accounts .ensures) (c .before .before .before .before .before .before .before .before .before .replay .ensures) (not-false _ (c .before .before .before .before .before .before .before .if1 .left))
-    (rw (c .before .before .before .before .before .with-clients .ensures) at (c .before .before .before .before .books .ensures)) _ (c .before .before .before .before .before .before .if2 .left)
+    let books = c .before .before .before .before in
+    tellable (books .before .before .before .before .before .before .before .before .before .before .before .before .pre) (books .before .before .before .before .before .before .client-accounts .ensures) (books .before .before .before .before .before .replay .ensures) (not-false _ (books .before .before .before .if1 .left))
+    (rw (books .before .with-clients .ensures) at (books .books .ensures)) _ (books .before .before .if2 .left)
 
 same-length : tie.Need-same-length
 same-length c = search needs
 
 returns-3 : tie.Need-returns-3
 returns-3 c =
-    let start = c .before .before .before .before .before .before .before .before .before .before .before .before .before .before .before .before .before .before .before in
-    told-whole (start .pre) (c .before .before .before .before .before .before .before .before .before .before .before .before .before .client-accounts .ensures) (c .before .before .before .before .before .before .before .before .before .before .before .before .replay .ensures) (not-false _ (c .before .before .before .before .before .before .before .before .before .before .if1 .left))
-    (rw (c .before .before .before .before .before .before .before .before .with-clients .ensures) at (c .before .before .before .before .before .before .before .books .ensures)) (c .before .before .before .before .before .before .before .before .before .if2 .left) (c .before .before .put-statement .ensures)
+    let books = c .before .before .before .before .before .before .before in
+    told-whole (books .before .before .before .before .before .before .before .before .before .before .before .before .pre) (books .before .before .before .before .before .before .client-accounts .ensures) (books .before .before .before .before .before .replay .ensures) (not-false _ (books .before .before .before .if1 .left))
+    (rw (books .before .with-clients .ensures) at (books .books .ensures)) (books .before .before .if2 .left) (c .before .before .put-statement .ensures)
 
 pub tell-spec : {M : Type 1} → statement M
 tell-spec =
