@@ -37,11 +37,21 @@ extern "C" {
 #define ZELVORM_NUMBERS_END 1000000u
 #define ZELVORM_MAX_LOTS 1000u
 #define ZELVORM_MAX_PRICE 1000000u
+#define ZELVORM_MAX_MULTIPLIER 1000u
+#define ZELVORM_MAX_TICK 1000u
+#define ZELVORM_MAX_LIMIT 100000u
+#define ZELVORM_MAX_RATE 10000u
 #define ZELVORM_MAX_BALANCE UINT64_C(1000000000000000000)
 #define ZELVORM_MAX_AMOUNT UINT64_C(1000000000000000)
 #define ZELVORM_MAX_DAY_PROFIT UINT64_C(3000000000000000)
 #define ZELVORM_MAX_METHOD 2u
 #define ZELVORM_MAX_COMMANDS 2000u
+
+/* How many bytes the count of a section, a contract, an account and a command take in a day file. */
+#define ZELVORM_COUNT_WIDTH 4u
+#define ZELVORM_CONTRACT_WIDTH 20u
+#define ZELVORM_ACCOUNT_WIDTH 8u
+#define ZELVORM_COMMAND_WIDTH 24u
 
 /* How many words an order and a trade take in the lent areas, and all the places of one queue. */
 #define ZELVORM_ORDER_STRIDE 7u

@@ -25,11 +25,21 @@ MAX_SETTLEMENTS = 250
 NUMBERS_END = 1000000
 MAX_LOTS = 1000
 MAX_PRICE = 1000000
+MAX_MULTIPLIER = 1000
+MAX_TICK = 1000
+MAX_LIMIT = 100000
+MAX_RATE = 10000
 MAX_BALANCE = 1000000000000000000
 MAX_AMOUNT = 1000000000000000
 MAX_DAY_PROFIT = 3000000000000000
 MAX_METHOD = 2
 MAX_COMMANDS = 2000
+
+# How many bytes the count of a section, a contract, an account and a command take in a day file.
+COUNT_WIDTH = 4
+CONTRACT_WIDTH = 20
+ACCOUNT_WIDTH = 8
+COMMAND_WIDTH = 24
 
 # How many words an order and a trade take in the lent areas, and all the places of one queue.
 ORDER_STRIDE = 7

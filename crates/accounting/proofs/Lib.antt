@@ -1,3 +1,4 @@
+-- The theorems on money, and the laws beneath them. Assumes nothing.
 pub mod DayProfit
 pub mod Trades
 pub mod Booking

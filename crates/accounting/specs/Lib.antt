@@ -1,3 +1,4 @@
+-- What is claimed of money beside the rules: quantities that no settlement changes, any pairing of lots. Assumes nothing.
 pub mod Article32
 pub mod Pairing
 pub mod PairingExamples

@@ -7,11 +7,11 @@ use lib.Dec.{leb, ltb}
 use lib.ListN.{length, drop}
 use Rattle.laws.specs.Choice.{allOf, pick}
 use Rattle.rules.specs.Auction.{Matched, matchAt, unmatched}
-use Rattle.rules.specs.Bounds.{maxLots}
+use Rattle.rules.specs.Bounds.{maxLots, maxContracts, maxAccounts}
 use Rattle.rules.specs.Memory.{queueIn, putQueue, tradeStride}
 use Rattle.rules.specs.declared.Account.{Account}
 use Rattle.rules.specs.declared.Order.{Order}
-use Rattle.holdings.specs.Bounds.{HeldWithin}
+use Rattle.holdings.specs.Bounds.{HeldWithin, heldMost}
 use Rattle.book.specs.Trading.{AllBooked}
 use Rattle.auction.specs.Price.{QueuesRoom}
 use Rattle.auction.specs.declared.matched.Filled.{Filled}
@@ -25,7 +25,7 @@ fits used o = ltb (o .account) used && leb (o .lots) maxLots
 -- the queues' orders are of accounts in use, and no account in use holds more than b lots of the contract on either side
 pub record Parties (b c : ℕ) (held : List Account) (buys sells : List Order) : Type 0 where
   pub used : ℕ
-  pub few : used ≤ 32
+  pub few : used ≤ maxAccounts
   pub buyers : allOf (fits used) buys ≡ true
   pub sellers : allOf (fits used) sells ≡ true
   pub holdings : HeldWithin b used c held
@@ -33,10 +33,10 @@ pub record Parties (b c : ℕ) (held : List Account) (buys sells : List Order) :
 -- a contract that exists, room for the queues and for the trades, and accounts whose holdings are not near their width
 pub record MatchReady
     (m : Matched) (c : ℕ) (held : List Account) (buys : List ℕ) (bought : ℕ) (sells : List ℕ) (sold : ℕ) (area : List ℕ) (before : ℕ) : Type 0 where
-  pub contract : c < 4
+  pub contract : c < maxContracts
   pub queues : QueuesRoom buys bought sells sold c
   pub room : tradeStride * (before + length (m .trades)) ≤ length area
-  pub parties : Parties 1_000_000 c held (queueIn buys c bought) (queueIn sells c sold)
+  pub parties : Parties heldMost c held (queueIn buys c bought) (queueIn sells c sold)
 
 -- the orders that stay of a queue of n: those from place i on, behind the filled ones
 pub record LeftIn (queue : List Order) (area : List ℕ) (c n i : ℕ) (area′ : List ℕ) : Type 0 where

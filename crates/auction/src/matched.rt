@@ -95,7 +95,7 @@ fn count_trades<'a>(
 // The accounts; lots traded, the last price, buys and sells filled, trades of the day. The array stands first, so that nothing
 // pads it and fewer copies of it are made.
 pub struct Filled {
-    pub accounts: [Account; 32],
+    pub accounts: [Account; rules::MAX_ACCOUNTS],
     pub traded: u32,
     pub last: u32,
     pub bought: usize,
@@ -114,7 +114,7 @@ pub fn match_at(
     contract: u32,
     price: u32,
     last: u32,
-    accounts: [Account; 32],
+    accounts: [Account; rules::MAX_ACCOUNTS],
 ) -> Filled
     requires { ⌜ MatchReady (rule.matchAt contract price (queueIn (now buys) contract bought) (queueIn (now sells) contract sold)) contract accounts (now buys) bought (now sells) sold (now area) before ⌝ }
     ensures { λ r. ⌜ FilledIs (rule.matchAt contract price (queueIn (now (buys .entry)) contract bought) (queueIn (now (sells .entry)) contract sold)) contract last accounts (now (buys .entry)) bought (now (sells .entry)) sold (now (area .entry)) before r (now (buys .exit)) (now (sells .exit)) (now (area .exit)) ⌝ }
@@ -189,7 +189,7 @@ pub fn trades_needed<'a>(
 
 // The accounts, first as in `Filled`; lots traded, the last price, buys and sells that stay, trades of the day.
 pub struct Match {
-    pub accounts: [Account; 32],
+    pub accounts: [Account; rules::MAX_ACCOUNTS],
     pub traded: u32,
     pub last: u32,
     pub bought: usize,
@@ -208,7 +208,7 @@ pub fn match_queues(
     contract: u32,
     chosen: Level,
     last: u32,
-    accounts: [Account; 32],
+    accounts: [Account; rules::MAX_ACCOUNTS],
 ) -> Match
     requires { ⌜ MatchReady (levelMatch contract chosen (queueIn (now buys) contract bought) (queueIn (now sells) contract sold)) contract accounts (now buys) bought (now sells) sold (now area) before ⌝ }
     ensures { λ r. ⌜ MatchedIs (levelMatch contract chosen (queueIn (now (buys .entry)) contract bought) (queueIn (now (sells .entry)) contract sold)) contract last accounts (now (buys .entry)) bought (now (sells .entry)) sold (now (area .entry)) before r (now (buys .exit)) (now (sells .exit)) (now (area .exit)) ⌝ }

@@ -9,6 +9,11 @@ use Rattle.laws.specs.Choice.{both-false, false-both, true-both}
 use Rattle.rules.specs.Bounds.{within}
 pub use Rattle.laws.specs.Tests.{refused, passed, Chain, fails, last, group}
 
+-- tests that passed, one after the other
+infixr 5 _and_
+pub _and_ : {A B : Type 0} → A → B → A × B
+a and b = (a, b)
+
 -- ---- a range in two tests
 
 module _ (low high : ℕ) {n : ℕ} where

@@ -75,51 +75,60 @@ module _ (accounts : List Account) (few : length accounts ≤ 32) (queue : List 
     unfolding queueQuoted
     not-allowed e = sym (false-both (allOf (markAllowed accounts) queue) _ (allOf-stop (markAllowed accounts) queue i noOrder there (rw it e)))
 
-    -- a marked order, of the account at `place`
-    module _ {place : ℕ} (p : place ≡ o .account) (mark : Markable (length accounts) o) (some : o .quote ≡ 0 → ⊥) where
-      marked : o .quote ≡ 1
-      marked = omega (arith, mark .quote, some)
+-- a marked order is met: it stands at place i, and its account at `place`
+pub record MarkMet (accounts : List Account) (queue : List Order) (i : ℕ) (seen : List ℕ) (o : Order) (place : ℕ) : Type 0 where
+  pub few : length accounts ≤ 32
+  pub met : Met accounts queue i seen
+  pub there : i < length queue
+  pub it : getD queue i noOrder ≡ o
+  pub whose : place ≡ o .account
+  pub may : Markable (length accounts) o
+  pub some : o .quote ≡ 0 → ⊥
 
-      pub met-no-maker : (accountAt accounts place .maker ≡ 1 → ⊥) → false ≡ queueQuoted accounts queue
-      unfolding markAllowed
-      met-no-maker h = not-allowed (rw (marked, ← p, ne-eqb _ _ h) refl)
+module _ {accounts : List Account} {queue : List Order} {i : ℕ} {seen : List ℕ} {o : Order} {place : ℕ} (g : MarkMet accounts queue i seen o place) where
+  marked : o .quote ≡ 1
+  marked = omega (arith, g .may .quote, g .some)
 
-      pub met-close : (o .close ≡ 0 → ⊥) → false ≡ queueQuoted accounts queue
-      unfolding markAllowed
-      met-close h = not-allowed (rw (marked, ne-eqb _ _ h) (both-false (eqb (accountAt accounts (o .account) .maker) 1) false refl))
+  pub met-no-maker : (accountAt accounts place .maker ≡ 1 → ⊥) → false ≡ queueQuoted accounts queue
+  unfolding markAllowed
+  met-no-maker h = not-allowed accounts (g .few) queue (g .met) (g .there) (g .it) (rw (marked, ← g .whose, ne-eqb _ _ h) refl)
 
-      one-more : quotes place (take (i + 1) queue) ≡ quotes place (take i queue) + 1
-      one-more = quotes-more place ∙ rw (marked, eq-eqb (o .account) place (sym p)) refl
+  pub met-close : (o .close ≡ 0 → ⊥) → false ≡ queueQuoted accounts queue
+  unfolding markAllowed
+  met-close h = not-allowed accounts (g .few) queue (g .met) (g .there) (g .it) (rw (marked, ne-eqb _ _ h) (both-false (eqb (accountAt accounts (o .account) .maker) 1) false refl))
 
-      none-more : (a : ℕ) → (a ≡ place → ⊥) → quotes a (take (i + 1) queue) ≡ quotes a (take i queue)
-      none-more a other = quotes-more a ∙ rw (ne-eqb (o .account) a (λ e. other (sym e ∙ sym p))) (omega arith)
+  one-more : quotes place (take (i + 1) queue) ≡ quotes place (take i queue) + 1
+  one-more = quotes-more accounts (g .few) queue (g .met) (g .there) (g .it) place ∙ rw (marked, eq-eqb (o .account) place (sym (g .whose))) refl
 
-      here : place < length accounts
-      here = omega (arith, mark .account)
+  none-more : (a : ℕ) → (a ≡ place → ⊥) → quotes a (take (i + 1) queue) ≡ quotes a (take i queue)
+  none-more a other = quotes-more accounts (g .few) queue (g .met) (g .there) (g .it) a ∙ rw (ne-eqb (o .account) a (λ e. other (sym e ∙ sym (g .whose)))) (omega arith)
 
-      -- one of an account that has one
-      pub met-again : (getD seen place 0 ≡ 0 → ⊥) → false ≡ queueQuoted accounts queue
-      unfolding queueQuoted quotes
-      met-again h =
-          let two : 1 < quotes place queue = omega (arith, m .counts place here, one-more, sumOf-take (λ o. pick (isQuoteOf place o) 1 0) (i + 1) queue) in
-          sym (both-false (allOf (markAllowed accounts) queue) (all (λ a. leb (quotes a queue) 1) (length accounts))
-          (all-stop (λ a. leb (quotes a queue) 1) place (length accounts) here (lt-leb _ _ two)))
+  here : place < length accounts
+  here = omega (arith, g .may .account)
 
-      pub met-marked : accountAt accounts place .maker ≡ 1 → o .close ≡ 0 → getD seen place 0 ≡ 0 → Met accounts queue (i + 1) (set seen place 1)
-      unfolding markAllowed
-      met-marked maker opens first =
-          record {
-            room = length-set seen place 1 ∙ m .room;
-            allowed = all-more _ i (m .allowed) (rw (it, marked, ← p, maker, opens) refl);
-            counts = λ a l. by-place a (eqb a place) refl l .0;
-            single = λ a l. by-place a (eqb a place) refl l .1;
-          }
-        where
-          by-place : (a : ℕ) (b : Bool) → eqb a place ≡ b → a < length accounts → (getD (set seen place 1) a 0 ≡ quotes a (take (i + 1) queue)) × (quotes a (take (i + 1) queue) ≤ 1)
-          by-place a true e l = rw (eqb-true a place e) (
-            getD-set-same seen place 1 0 (omega (arith, m .room)) ∙ omega (arith, m .counts place here, one-more),
-            omega (arith, m .counts place here, one-more),
-          )
-          by-place a false e l =
-              let other : a ≡ place → ⊥ = eqb-false a place e in
-              (getD-set-other seen place a 1 0 other ∙ m .counts a l ∙ sym (none-more a other), rw (none-more a other) (m .single a l))
+  -- one of an account that has one
+  pub met-again : (getD seen place 0 ≡ 0 → ⊥) → false ≡ queueQuoted accounts queue
+  unfolding queueQuoted quotes
+  met-again h =
+      let two : 1 < quotes place queue = omega (arith, g .met .counts place here, one-more, sumOf-take (λ o. pick (isQuoteOf place o) 1 0) (i + 1) queue) in
+      sym (both-false (allOf (markAllowed accounts) queue) (all (λ a. leb (quotes a queue) 1) (length accounts))
+      (all-stop (λ a. leb (quotes a queue) 1) place (length accounts) here (lt-leb _ _ two)))
+
+  pub met-marked : accountAt accounts place .maker ≡ 1 → o .close ≡ 0 → getD seen place 0 ≡ 0 → Met accounts queue (i + 1) (set seen place 1)
+  unfolding markAllowed
+  met-marked maker opens first =
+      record {
+        room = length-set seen place 1 ∙ g .met .room;
+        allowed = all-more _ i (g .met .allowed) (rw (g .it, marked, ← g .whose, maker, opens) refl);
+        counts = λ a l. by-place a (eqb a place) refl l .0;
+        single = λ a l. by-place a (eqb a place) refl l .1;
+      }
+    where
+      by-place : (a : ℕ) (b : Bool) → eqb a place ≡ b → a < length accounts → (getD (set seen place 1) a 0 ≡ quotes a (take (i + 1) queue)) × (quotes a (take (i + 1) queue) ≤ 1)
+      by-place a true e l = rw (eqb-true a place e) (
+        getD-set-same seen place 1 0 (omega (arith, g .met .room)) ∙ omega (arith, g .met .counts place here, one-more),
+        omega (arith, g .met .counts place here, one-more),
+      )
+      by-place a false e l =
+          let other : a ≡ place → ⊥ = eqb-false a place e in
+          (getD-set-other seen place a 1 0 other ∙ g .met .counts a l ∙ sym (none-more a other), rw (none-more a other) (g .met .single a l))

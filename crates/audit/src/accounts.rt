@@ -5,7 +5,7 @@ ghost use Prim.Native.Nat.{ℕ, _+_, _*_, _≤_, _<_};
 ghost use lib.Dec.{leb};
 ghost use lib.ListN.{length, getD, take};
 ghost use Rattle.laws.specs.Choice.{all, allOf};
-ghost use Rattle.rules.specs.Bounds.{maxResting};
+ghost use Rattle.rules.specs.Bounds.{maxResting, maxAccounts, maxSettlements};
 ghost use Rattle.rules.specs.Exchange.{holdingAt, noOrder};
 ghost use Rattle.rules.specs.Memory.{queueIn, firstWord};
 ghost use Rattle.rules.specs.WellFormed.{holdingInRange, markInRange, balanceInRange};
@@ -124,7 +124,7 @@ pub fn holdings_in_range(state: State, buys: &[u32], sells: &[u32]) -> bool
 
 // "maker mark 1, its value 0 or 1"
 pub fn marks_in_range(list: [Account; rules::MAX_ACCOUNTS], accounts: usize) -> bool
-    requires { ⌜ accounts ≤ 32 ⌝ }
+    requires { ⌜ accounts ≤ maxAccounts ⌝ }
     ensures { λ r. ⌜ r ≡ allOf markInRange (take accounts list) ⌝ }
 {
     let mut a: usize = 0;
@@ -140,7 +140,7 @@ pub fn marks_in_range(list: [Account; rules::MAX_ACCOUNTS], accounts: usize) -> 
 
 // "each balance is within 10^18 plus settlements so far times 3 x 10^15, either sign"
 fn balance_in_range(settlements: u32, a: Account) -> bool
-    requires { ⌜ settlements ≤ 250 ⌝ }
+    requires { ⌜ settlements ≤ maxSettlements ⌝ }
     ensures { λ r. ⌜ r ≡ balanceInRange settlements a ⌝ }
 {
     let most = rules::MAX_BALANCE + laws::wide64(settlements) * rules::MAX_DAY_PROFIT;
@@ -160,7 +160,7 @@ pub fn balances_in_range(
     accounts: usize,
     settlements: u32,
 ) -> bool
-    requires { ⌜ (accounts ≤ 32) × (settlements ≤ 250) ⌝ }
+    requires { ⌜ (accounts ≤ maxAccounts) × (settlements ≤ maxSettlements) ⌝ }
     ensures { λ r. ⌜ r ≡ allOf (balanceInRange settlements) (take accounts list) ⌝ }
 {
     let mut a: usize = 0;

@@ -5,13 +5,13 @@ ghost use Prim.Native.Nat.{_≤_};
 ghost use lib.Dec.{leb};
 ghost use lib.ListN.{getD};
 ghost use Rattle.laws.specs.Choice.{all};
-ghost use Rattle.rules.specs.Bounds.{within, maxResting};
+ghost use Rattle.rules.specs.Bounds.{within, maxResting, maxContracts, maxSettlements, numbersEnd};
 ghost use Rattle.rules.specs.Memory.{countsInRange, hasRoom, memory};
 use rules::State;
 
 // Of the contracts in use none has more than 64 orders on a side.
 fn few_orders(counts: [usize; rules::MAX_CONTRACTS], contracts: usize) -> bool
-    requires { ⌜ contracts ≤ 4 ⌝ }
+    requires { ⌜ contracts ≤ maxContracts ⌝ }
     ensures { λ r. ⌜ r ≡ all (λ c. leb (getD counts c 0) maxResting) contracts ⌝ }
 {
     let mut c: usize = 0;
@@ -69,7 +69,7 @@ pub fn has_room(s: State, buys: &[u32], sells: &[u32], trades: &[u32]) -> bool
 
 // "the next order number 1 to 1,000,000", the next time stamp too; "Settlements: 250 a run."
 pub fn counters_in_range(next: u32, nextstamp: u32, settlements: u32) -> bool
-    ensures { λ r. ⌜ r ≡ (within 1 1000000 next && within 1 1000000 nextstamp && leb settlements 250) ⌝ }
+    ensures { λ r. ⌜ r ≡ (within 1 numbersEnd next && within 1 numbersEnd nextstamp && leb settlements maxSettlements) ⌝ }
 {
     if !terms::within(1, rules::NUMBERS_END, next) {
         return false;

@@ -5,6 +5,7 @@ ghost use mathlib.Core.Path.{_≡_};
 ghost use Prim.Native.Nat.{ℕ, _≤_, _<_};
 ghost use lib.ListN.{length, getD, take};
 ghost use Rattle.laws.specs.Choice.{all};
+ghost use Rattle.rules.specs.Bounds.{maxAccounts};
 ghost use Rattle.rules.specs.Exchange.{noOrder};
 ghost use Rattle.rules.specs.Memory.{queueIn, firstWord};
 ghost use Rattle.rules.specs.WellFormed.{listingQuoted, queueQuoted};
@@ -14,7 +15,7 @@ use rules::State;
 
 // One pass that stops at marked orders only; `seen` counts them by account.
 fn queue_quoted(state: State, area: &[u32], c: usize, count: usize) -> bool
-    requires { ⌜ (state .accountcount ≤ 32) × (firstWord c count ≤ length (now area)) × ((i : ℕ) → i < count → Markable (state .accountcount) (getD (queueIn (now area) c count) i noOrder)) ⌝ }
+    requires { ⌜ (state .accountcount ≤ maxAccounts) × (firstWord c count ≤ length (now area)) × ((i : ℕ) → i < count → Markable (state .accountcount) (getD (queueIn (now area) c count) i noOrder)) ⌝ }
     ensures { λ r. ⌜ r ≡ queueQuoted (take (state .accountcount) (state .accounts)) (queueIn (now (area .entry)) c count) ⌝ }
 {
     let mut seen: [u32; rules::MAX_ACCOUNTS] = [0; rules::MAX_ACCOUNTS];

@@ -5,7 +5,7 @@ ghost use Prim.Native.Nat.{ℕ, _*_, _≤_, _<_};
 ghost use lib.Dec.{leb, ltb, eqb};
 ghost use lib.ListN.{length, getD};
 ghost use Rattle.laws.specs.Choice.{allOf};
-ghost use Rattle.rules.specs.Bounds.{termsInRange};
+ghost use Rattle.rules.specs.Bounds.{termsInRange, maxContracts};
 ghost use Rattle.rules.specs.Exchange.{noContract};
 ghost use Rattle.rules.specs.Memory.{recordedTrades, tradeStride};
 ghost use Rattle.rules.specs.WellFormed.{tradeInRange};
@@ -41,7 +41,7 @@ fn trade_in_range(
     next: u32,
     t: Trade,
 ) -> bool
-    requires { ⌜ (contracts ≤ 4) × ((c : ℕ) → c < contracts → termsInRange (getD list c noContract) ≡ true) ⌝ }
+    requires { ⌜ (contracts ≤ maxContracts) × ((c : ℕ) → c < contracts → termsInRange (getD list c noContract) ≡ true) ⌝ }
     ensures { λ r. ⌜ r ≡ tradeInRange (tested list contracts accounts next) t ⌝ }
 {
     let c = laws::wide(t.contract);
@@ -79,7 +79,7 @@ pub fn trades_in_range(
     area: &[u32],
     count: usize,
 ) -> bool
-    requires { ⌜ (contracts ≤ 4) × ((c : ℕ) → c < contracts → termsInRange (getD list c noContract) ≡ true) ⌝ }
+    requires { ⌜ (contracts ≤ maxContracts) × ((c : ℕ) → c < contracts → termsInRange (getD list c noContract) ≡ true) ⌝ }
     requires { ⌜ tradeStride * count ≤ length (now area) ⌝ }
     ensures { λ r. ⌜ r ≡ allOf (tradeInRange (tested list contracts accounts next)) (recordedTrades (now (area .entry)) count) ⌝ }
 {

@@ -3,7 +3,7 @@
 ghost use mathlib.Core.Path.{_≡_};
 ghost use Prim.Native.Nat.{ℕ, _*_, _≤_, _<_};
 ghost use lib.ListN.{length, getD, take};
-ghost use Rattle.rules.specs.Bounds.{maxTrades};
+ghost use Rattle.rules.specs.Bounds.{maxTrades, maxContracts, maxAccounts, maxLimit};
 ghost use Rattle.rules.specs.Exchange.{noTrade, holdingAt};
 ghost use Rattle.rules.specs.Holdings as holdings;
 ghost use Rattle.rules.specs.Memory.{recordedTrades, used, tradeStride};
@@ -48,7 +48,7 @@ fn start_of_day(accounts: [Account; rules::MAX_ACCOUNTS]) -> [Account; rules::MA
 }
 
 fn has_same_lots(a: Account, b: Account, contracts: usize) -> bool
-    requires { ⌜ contracts ≤ 4 ⌝ }
+    requires { ⌜ contracts ≤ maxContracts ⌝ }
     ensures { λ r. ⌜ r ≡ holdings.sameLots (take contracts (a .holdings)) (take contracts (b .holdings)) ⌝ }
 {
     let mut c: usize = 0;
@@ -72,7 +72,7 @@ fn have_same_holdings(
     contracts: usize,
     accounts: usize,
 ) -> bool
-    requires { ⌜ (contracts ≤ 4) × (accounts ≤ 32) ⌝ }
+    requires { ⌜ (contracts ≤ maxContracts) × (accounts ≤ maxAccounts) ⌝ }
     ensures { λ r. ⌜ r ≡ holdings.sameHoldings (used contracts accounts list) (used contracts accounts others) ⌝ }
 {
     let mut a: usize = 0;
@@ -92,9 +92,9 @@ pub fn replays(
     area: &[u32],
     count: usize,
 ) -> bool
-    requires { ⌜ (contracts ≤ 4) × (accounts ≤ 32) × (count ≤ maxTrades) × (tradeStride * count ≤ length (now area)) ⌝ }
+    requires { ⌜ (contracts ≤ maxContracts) × (accounts ≤ maxAccounts) × (count ≤ maxTrades) × (tradeStride * count ≤ length (now area)) ⌝ }
     requires { ⌜ ((i : ℕ) → i < count → Booked contracts accounts (getD (recordedTrades (now area) count) i noTrade)) ⌝ }
-    requires { ⌜ ((a c : ℕ) → a < accounts → c < contracts → (holdingAt list a c .startlong ≤ 100000) × (holdingAt list a c .startshort ≤ 100000)) ⌝ }
+    requires { ⌜ ((a c : ℕ) → a < accounts → c < contracts → (holdingAt list a c .startlong ≤ maxLimit) × (holdingAt list a c .startshort ≤ maxLimit)) ⌝ }
     ensures { λ r. ⌜ r ≡ wellformed.replays (replayed (used contracts accounts list) (recordedTrades (now (area .entry)) count)) ⌝ }
 {
     let start = start_of_day(list);

@@ -51,19 +51,16 @@ formed-after : (m : Memory) (cs : List Command) (t : Bool) → t ≡ wellFormedM
 formed-after m cs true e = sym (run-keeps m cs (sym e))
 formed-after m cs false e = e ∙ ap wellFormedMemory (sym (run-stays m (sym e) cs))
 
-pub still-known : (m : Memory) (cs : List Command) (t : Bool) {m′ : Memory} → t ≡ wellFormedMemory m → m′ ≡ run m cs → t ≡ wellFormedMemory m′
-still-known m cs t e f = formed-after m cs t e ∙ ap wellFormedMemory (sym f)
-
 -- the first k commands of a list, and one more
 module _ (m : Memory) (cs : List Command) where
-  pub none-ran : m ≡ run m (take 0 cs)
+  none-ran : m ≡ run m (take 0 cs)
   unfolding run
   none-ran = refl
 
   longer : (k : ℕ) → k < length cs → take (k + 1) cs ≡ take k cs ++ (getD cs k Malformed ∷ [])
   longer k h = rw (add-one k) (take-suc cs k Malformed h)
 
-  pub one-ran : (k : ℕ) {c : Command} → k < length cs → getD cs k Malformed ≡ c → {m′ m″ : Memory} → m′ ≡ run m (take k cs) → m″ ≡ respond m′ c .memory
+  one-ran : (k : ℕ) {c : Command} → k < length cs → getD cs k Malformed ≡ c → {m′ m″ : Memory} → m′ ≡ run m (take k cs) → m″ ≡ respond m′ c .memory
       → m″ ≡ run m (take (k + 1) cs)
   one-ran k {c} h same e f = f ∙ ap (λ (v : Memory). respond v c .memory) e ∙ sym (rw (longer k h, same, run-last m (take k cs) c))
 
@@ -72,12 +69,12 @@ module _ (m : Memory) (cs : List Command) (area : List ℕ) where
   unfoldable pub answered : ℕ → List ℕ
   answered k = store answerWords area 0 (answersTo m (take k cs))
 
-  pub none-answered : area ≡ answered 0
+  none-answered : area ≡ answered 0
   unfolding answered answersTo
   none-answered = sym (store-nil answer-codec area 0)
 
   -- one more, on the state that the first k left
-  pub one-answered : (k : ℕ) {c : Command} → k < length cs → getD cs k Malformed ≡ c → {m′ : Memory} {now after : List ℕ} → m′ ≡ run m (take k cs)
+  one-answered : (k : ℕ) {c : Command} → k < length cs → getD cs k Malformed ≡ c → {m′ : Memory} {now after : List ℕ} → m′ ≡ run m (take k cs)
       → now ≡ answered k → after ≡ store answerWords now (4 * k) (respond m′ c .answer ∷ []) → after ≡ answered (k + 1)
   unfolding answered
   one-answered k {c} h same {m′} {now} {after} e before put =
@@ -92,14 +89,49 @@ module _ (m : Memory) (cs : List Command) (area : List ℕ) where
       ∙ sym (store-append answer-codec area 0 (answersTo m first) (a ∷ []) (omega arith))
       ∙ rw (longer m cs k h, same, last) refl
 
-  -- all n
-  pub all-answered : {k n : ℕ} {m′ : Memory} {now : List ℕ} → k ≡ n → m′ ≡ run m (take k cs) → now ≡ answered k
-      → (m′ ≡ run m (take n cs)) × (now ≡ store answerWords area 0 (answersTo m (take n cs)))
+-- ---- the loop over a list: what it has come to at command k of n
+
+-- the memory is the run of the first k commands, the area has their answers, and all areas are as long as they were
+pub record AnsweredTo (m : Memory) (cs : List Command) (area : List ℕ) (n k : ℕ) (m′ : Memory) (now : List ℕ) : Type 0 where
+  pub within : k ≤ n
+  pub ran : m′ ≡ run m (take k cs)
+  pub told : now ≡ answered m cs area k
+  pub buys : length (m′ .buys) ≡ length (m .buys)
+  pub sells : length (m′ .sells) ≡ length (m .sells)
+  pub trades : length (m′ .trades) ≡ length (m .trades)
+  pub answers : length now ≡ length area
+
+pub answering-none : (m : Memory) (cs : List Command) (area : List ℕ) (n : ℕ) → AnsweredTo m cs area n 0 m area
+answering-none m cs area n =
+    record { within = omega arith; ran = none-ran m cs; told = none-answered m cs area; buys = refl; sells = refl; trades = refl; answers = refl }
+
+module _ {m : Memory} {cs : List Command} {area : List ℕ} {n k : ℕ} {m′ : Memory} {now : List ℕ} (w : AnsweredTo m cs area n k m′ now) where
+  pub still-known : (t : Bool) → t ≡ wellFormedMemory m → t ≡ wellFormedMemory m′
+  still-known t e = formed-after m (take k cs) t e ∙ ap wellFormedMemory (sym (w .ran))
+
+  -- one more command is answered
+  pub answering-more : k < n → n ≤ length cs → {c : Command} → getD cs k Malformed ≡ c → {m″ : Memory} {after : List ℕ} → m″ ≡ respond m′ c .memory
+      → after ≡ store answerWords now (4 * k) (respond m′ c .answer ∷ []) → length (m″ .buys) ≡ length (m′ .buys) → length (m″ .sells) ≡ length (m′ .sells)
+      → length (m″ .trades) ≡ length (m′ .trades) → length after ≡ length now → AnsweredTo m cs area n (k + 1) m″ after
+  answering-more l long same ran put buys sells trades answers =
+      record {
+        within = omega arith;
+        ran = one-ran m cs k (omega arith) same (w .ran) ran;
+        told = one-answered m cs area k (omega arith) same (w .ran) (w .told) put;
+        buys = buys ∙ w .buys;
+        sells = sells ∙ w .sells;
+        trades = trades ∙ w .trades;
+        answers = answers ∙ w .answers;
+      }
+
+  -- all n are
+  pub answering-done : n ≤ k → (m′ ≡ run m (take n cs)) × (now ≡ store answerWords area 0 (answersTo m (take n cs)))
   unfolding answered
-  all-answered {m′ = m′} {now = now} e f g = (
-    subst (λ (k : ℕ). m′ ≡ run m (take k cs)) e f,
-    subst (λ (k : ℕ). now ≡ store answerWords area 0 (answersTo m (take k cs))) e g,
-  )
+  answering-done h =
+      let e : k ≡ n = omega (arith, w .within) in (
+        subst (λ (k : ℕ). m′ ≡ run m (take k cs)) e (w .ran),
+        subst (λ (k : ℕ). now ≡ store answerWords area 0 (answersTo m (take k cs))) e (w .told),
+      )
 
 -- the commands of the first n records of a list of bytes
 module _ (bytes : List ℕ) (n : ℕ) where
@@ -115,11 +147,10 @@ module _ (bytes : List ℕ) (n : ℕ) where
   take-first = take-all n (firstCommands bytes n) (omega (arith, length-first))
 
   -- all of them
-  pub all-first : (m : Memory) (area : List ℕ) {k : ℕ} {m′ : Memory} {now : List ℕ} → k ≡ n → m′ ≡ run m (take k (firstCommands bytes n))
-      → now ≡ answered m (firstCommands bytes n) area k
+  pub all-first : {m : Memory} {area : List ℕ} {k : ℕ} {m′ : Memory} {now : List ℕ} → AnsweredTo m (firstCommands bytes n) area n k m′ now → n ≤ k
       → (m′ ≡ run m (firstCommands bytes n)) × (now ≡ store answerWords area 0 (answersTo m (firstCommands bytes n)))
-  all-first m area {m′ = m′} {now = now} e f g =
-      let all = all-answered m (firstCommands bytes n) area e f g in (
+  all-first {m} {area} {m′ = m′} {now = now} w h =
+      let all = answering-done w h in (
         subst (λ (l : List Command). m′ ≡ run m l) take-first (all .0),
         subst (λ (l : List Command). now ≡ store answerWords area 0 (answersTo m l)) take-first (all .1),
       )

@@ -15,12 +15,12 @@ use Rattle.rules.specs.Answers.{firstOf, _when_}
 use Rattle.rules.specs.Condition3.{MoneyKept, run}
 use Rattle.rules.specs.Memory.{Declared, Memory, respond, wellFormedMemory}
 use Rattle.rules.specs.declared.Command.{Command}
+use Rattle.rules.proofs.Refusals.{failed}
 use Rattle.accounting.proofs.Runs.{run-append}
-use Rattle.invariants.proofs.Accepted.{failed}
 use Rattle.invariants.proofs.Condition3.{money-left}
 use Rattle.exchange.specs.Run.{firstCommands, wholeCommands}
 use Rattle.baskets.specs.Answered.{AnsweredIs, playedCommands, playedOf}
-use Rattle.baskets.specs.Bundle.{BundleIs, answerWords, answersTo, bundleCode, carried, maxCommands}
+use Rattle.baskets.specs.Bundle.{BundleIs, answerWords, answersTo, bundleCode, carried, maxBundle}
 use Rattle.baskets.specs.Calls.{Call, single, list, bundle, afterCalls, commandsRead}
 use Rattle.baskets.specs.declared.basket.Receipt.{Receipt}
 use Rattle.baskets.specs.declared.list.Ran.{Ran}
@@ -33,30 +33,30 @@ module _ (m : Memory) (count words : ℕ) where
   unfolding bundleCode firstOf
   not-well-formed w = rw w
 
-  pub over-many : wellFormedMemory m ≡ true → maxCommands < count → 22 ≡ bundleCode m count words
+  pub over-many : wellFormedMemory m ≡ true → maxBundle < count → 22 ≡ bundleCode m count words
   unfolding bundleCode firstOf
-  over-many w h = rw (w, lt-ltb maxCommands count h)
+  over-many w h = rw (w, lt-ltb maxBundle count h)
 
-  pub too-short : wellFormedMemory m ≡ true → count ≤ maxCommands → words < 4 * count → 22 ≡ bundleCode m count words
+  pub too-short : wellFormedMemory m ≡ true → count ≤ maxBundle → words < 4 * count → 22 ≡ bundleCode m count words
   unfolding bundleCode firstOf
-  too-short w h k = rw (w, le-ltb maxCommands count h, lt-ltb words (4 * count) k)
+  too-short w h k = rw (w, le-ltb maxBundle count h, lt-ltb words (4 * count) k)
 
-  pub no-refusal : wellFormedMemory m ≡ true → count ≤ maxCommands → 4 * count ≤ words → 0 ≡ bundleCode m count words
+  pub no-refusal : wellFormedMemory m ≡ true → count ≤ maxBundle → 4 * count ≤ words → 0 ≡ bundleCode m count words
   unfolding bundleCode firstOf
-  no-refusal w h k = rw (w, le-ltb maxCommands count h, le-ltb words (4 * count) k)
+  no-refusal w h k = rw (w, le-ltb maxBundle count h, le-ltb words (4 * count) k)
 
 -- what a bundle is that is not refused
 pub record Unrefused (m : Memory) (count words : ℕ) : Type 0 where
   pub formed : wellFormedMemory m ≡ true
-  pub few : count ≤ maxCommands
+  pub few : count ≤ maxBundle
   pub room : 4 * count ≤ words
 
 pub not-refused : (m : Memory) (count words : ℕ) → bundleCode m count words ≡ 0 → Unrefused m count words
 unfolding bundleCode
 not-refused m count words e =
-    let told = failed ((21 when not (wellFormedMemory m)) ∷ (22 when (ltb maxCommands count || ltb words (4 * count))) ∷ []) (omega arith, (omega arith, tt)) e in
-    let fits = either-false (ltb maxCommands count) (ltb words (4 * count)) (told .1 .0) in
-    record { formed = not-false (wellFormedMemory m) (told .0); few = ltb-false maxCommands count (fits .0); room = ltb-false words (4 * count) (fits .1) }
+    let told = failed ((21 when not (wellFormedMemory m)) ∷ (22 when (ltb maxBundle count || ltb words (4 * count))) ∷ []) (omega arith, (omega arith, tt)) e in
+    let fits = either-false (ltb maxBundle count) (ltb words (4 * count)) (told .1 .0) in
+    record { formed = not-false (wellFormedMemory m) (told .0); few = ltb-false maxBundle count (fits .0); room = ltb-false words (4 * count) (fits .1) }
 
 -- ---- what a bundle leaves
 

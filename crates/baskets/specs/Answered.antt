@@ -5,6 +5,7 @@ use Prim.Native.Nat.{ℕ, _/_, min}
 use lib.ListN.{length}
 use Rattle.areas.specs.Records.{store}
 use Rattle.rules.specs.Condition3.{MoneyKept, run}
+use Rattle.rules.specs.DayFile.{commandWidth}
 use Rattle.rules.specs.Memory.{Memory}
 use Rattle.rules.specs.declared.Command.{Command}
 use Rattle.exchange.specs.Run.{firstCommands}
@@ -13,7 +14,7 @@ use Rattle.baskets.specs.declared.list.Ran.{Ran}
 
 -- the whole records of a list of bytes, or the places of an area where these are fewer
 unfoldable pub playedOf : List ℕ → List ℕ → ℕ
-playedOf bytes area = min (length bytes / 24) (length area / answerStride)
+playedOf bytes area = min (length bytes / commandWidth) (length area / answerStride)
 
 abbrev pub playedCommands : List ℕ → List ℕ → List Command
 playedCommands bytes area = firstCommands bytes (playedOf bytes area)

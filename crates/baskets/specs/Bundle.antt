@@ -15,8 +15,8 @@ use Rattle.rules.specs.declared.Command.{Command}
 use Rattle.baskets.specs.declared.basket.Receipt.{Receipt}
 
 -- "Take up to 100 commands in one call"
-abbrev pub maxCommands : ℕ
-maxCommands = 100
+abbrev pub maxBundle : ℕ
+maxBundle = 100
 
 -- ".. with an area for as many answers": four words each
 abbrev pub answerStride : ℕ
@@ -39,7 +39,7 @@ unfoldable pub bundleCode : Memory → ℕ → ℕ → ℕ
 bundleCode m count words =
     firstOf
     ((21 when not (wellFormedMemory m))
-    ∷ (22 when (ltb maxCommands count || ltb words (answerStride * count)))
+    ∷ (22 when (ltb maxBundle count || ltb words (answerStride * count)))
     ∷ [])
 
 -- "nothing carried out or written": the commands that a bundle carries out are the first `count` of those given, or none where it

@@ -1,21 +1,24 @@
-// Answers in their lent area: four words each. For our own crates: each asks for the room of the answer it names.
+// Answers in their lent area. For our own crates: each asks for the room of the answer it names.
 ghost use mathlib.Core.Path.{_≡_};
 ghost use mathlib.Core.List.{[], _∷_};
 ghost use Prim.Native.Nat.{_+_, _*_, _≤_};
 ghost use lib.ListN.{length};
 ghost use Rattle.areas.specs.Records.{store};
 ghost use Rattle.rules.specs.Memory.{memory, respond, wellFormedMemory};
-ghost use Rattle.baskets.specs.Bundle.{answerWords};
+ghost use Rattle.baskets.specs.Bundle.{answerWords, answerStride};
 use exchange::execute;
 use rules::Answer;
 use rules::Command;
 use rules::State;
 
+// How many words an answer takes.
+pub const ANSWER_STRIDE: usize = 4;
+
 pub fn put_answer(area: &mut [u32], k: usize, a: Answer)
-    requires { ⌜ 4 * k + 4 ≤ length (now area) ⌝ }
-    ensures { λ _. ⌜ now (area .exit) ≡ store answerWords (now (area .entry)) (4 * k) (a ∷ []) ⌝ }
+    requires { ⌜ answerStride * k + answerStride ≤ length (now area) ⌝ }
+    ensures { λ _. ⌜ now (area .exit) ≡ store answerWords (now (area .entry)) (answerStride * k) (a ∷ []) ⌝ }
 {
-    let at = 4 * k;
+    let at = ANSWER_STRIDE * k;
     area[at] = a.code;
     area[at + 1] = a.number;
     area[at + 2] = a.traded;
@@ -33,9 +36,9 @@ pub fn answer_command(
     answers: &mut [u32],
     k: usize,
 ) -> State
-    requires { ⌜ (formed ≡ wellFormedMemory (memory state (now buys) (now sells) (now trades))) × (4 * k + 4 ≤ length (now answers)) ⌝ }
+    requires { ⌜ (formed ≡ wellFormedMemory (memory state (now buys) (now sells) (now trades))) × (answerStride * k + answerStride ≤ length (now answers)) ⌝ }
     ensures { λ r. ⌜ memory r (now (buys .exit)) (now (sells .exit)) (now (trades .exit)) ≡ respond (memory state (now (buys .entry)) (now (sells .entry)) (now (trades .entry))) command .memory ⌝ }
-    ensures { λ _. ⌜ now (answers .exit) ≡ store answerWords (now (answers .entry)) (4 * k) (respond (memory state (now (buys .entry)) (now (sells .entry)) (now (trades .entry))) command .answer ∷ []) ⌝ }
+    ensures { λ _. ⌜ now (answers .exit) ≡ store answerWords (now (answers .entry)) (answerStride * k) (respond (memory state (now (buys .entry)) (now (sells .entry)) (now (trades .entry))) command .answer ∷ []) ⌝ }
 {
     let r = execute::respond(formed, state, buys, sells, trades, command);
     let answer = r.answer;

@@ -6,16 +6,18 @@ ghost use Prim.Native.Nat.{_*_, _/_, _≤_};
 ghost use lib.ListN.{length, take};
 ghost use Rattle.areas.specs.Records.{store};
 ghost use Rattle.rules.specs.Condition3.{run};
+ghost use Rattle.rules.specs.DayFile.{commandWidth};
 ghost use Rattle.rules.specs.Memory.{memory, wellFormedMemory};
 ghost use Rattle.exchange.specs.Run.{wholeCommands};
-ghost use Rattle.baskets.specs.Bundle.{BundleIs, answerWords, answersTo, bundleCode, maxCommands};
+ghost use Rattle.baskets.specs.Bundle.{BundleIs, answerWords, answersTo, bundleCode, maxBundle, answerStride};
+use crate::answers::ANSWER_STRIDE;
 use crate::answers::answer_command;
 use crate::list::answer_records;
 use rules::Command;
 use rules::State;
 
 // "up to 100 commands in one call"
-pub const MAX_COMMANDS: usize = 100;
+pub const MAX_BUNDLE: usize = 100;
 
 // 0, or the code that refuses the whole bundle, and the state after it.
 #[repr(C)]
@@ -38,10 +40,10 @@ fn refusal(
     if !audit::well_formed(state, buys, sells, trades) {
         return 21;
     }
-    if count > MAX_COMMANDS {
+    if count > MAX_BUNDLE {
         return 22;
     }
-    if words < 4 * count {
+    if words < ANSWER_STRIDE * count {
         return 22;
     }
     0
@@ -54,11 +56,11 @@ fn answer_all(
     buys: &mut [u32],
     sells: &mut [u32],
     trades: &mut [u32],
-    commands: [Command; MAX_COMMANDS],
+    commands: [Command; MAX_BUNDLE],
     count: usize,
     answers: &mut [u32],
 ) -> State
-    requires { ⌜ (true ≡ wellFormedMemory (memory state (now buys) (now sells) (now trades))) × (count ≤ maxCommands) × (4 * count ≤ length (now answers)) ⌝ }
+    requires { ⌜ (true ≡ wellFormedMemory (memory state (now buys) (now sells) (now trades))) × (count ≤ maxBundle) × (answerStride * count ≤ length (now answers)) ⌝ }
     ensures { λ r. ⌜ memory r (now (buys .exit)) (now (sells .exit)) (now (trades .exit)) ≡ run (memory state (now (buys .entry)) (now (sells .entry)) (now (trades .entry))) (take count commands) ⌝ }
     ensures { λ r. ⌜ now (answers .exit) ≡ store answerWords (now (answers .entry)) 0 (answersTo (memory state (now (buys .entry)) (now (sells .entry)) (now (trades .entry))) (take count commands)) ⌝ }
 {
@@ -78,7 +80,7 @@ pub fn submit(
     buys: &mut [u32],
     sells: &mut [u32],
     trades: &mut [u32],
-    commands: [Command; MAX_COMMANDS],
+    commands: [Command; MAX_BUNDLE],
     count: usize,
     answers: &mut [u32],
 ) -> Receipt
@@ -111,9 +113,9 @@ pub fn submit_bytes(
     bytes: &[u8],
     answers: &mut [u32],
 ) -> Receipt
-    ensures { λ r. ⌜ BundleIs (memory state (now (buys .entry)) (now (sells .entry)) (now (trades .entry))) (wholeCommands (now (bytes .entry))) (length (now (bytes .entry)) / 24) (now (answers .entry)) r (memory (r .state) (now (buys .exit)) (now (sells .exit)) (now (trades .exit))) (now (answers .exit)) ⌝ }
+    ensures { λ r. ⌜ BundleIs (memory state (now (buys .entry)) (now (sells .entry)) (now (trades .entry))) (wholeCommands (now (bytes .entry))) (length (now (bytes .entry)) / commandWidth) (now (answers .entry)) r (memory (r .state) (now (buys .exit)) (now (sells .exit)) (now (trades .exit))) (now (answers .exit)) ⌝ }
 {
-    let count = bytes.len() / 24;
+    let count = bytes.len() / rules::COMMAND_WIDTH;
     let code = refusal(
         state,
         &buys[..],

@@ -4,10 +4,12 @@ ghost use Prim.Native.Nat.{_*_, _≤_, min};
 ghost use lib.ListN.{length};
 ghost use Rattle.areas.specs.Records.{store};
 ghost use Rattle.rules.specs.Condition3.{run as rules·run};
+ghost use Rattle.rules.specs.DayFile.{commandWidth};
 ghost use Rattle.rules.specs.Memory.{memory, wellFormedMemory};
 ghost use Rattle.exchange.specs.Run.{firstCommands};
 ghost use Rattle.baskets.specs.Answered.{AnsweredIs};
-ghost use Rattle.baskets.specs.Bundle.{answerWords, answersTo};
+ghost use Rattle.baskets.specs.Bundle.{answerWords, answersTo, answerStride};
+use crate::answers::ANSWER_STRIDE;
 use crate::answers::answer_command;
 use rules::State;
 
@@ -30,14 +32,14 @@ pub fn answer_records(
     count: usize,
     answers: &mut [u32],
 ) -> State
-    requires { ⌜ (formed ≡ wellFormedMemory (memory state (now buys) (now sells) (now trades))) × (24 * count ≤ length (now bytes)) × (4 * count ≤ length (now answers)) ⌝ }
+    requires { ⌜ (formed ≡ wellFormedMemory (memory state (now buys) (now sells) (now trades))) × (commandWidth * count ≤ length (now bytes)) × (answerStride * count ≤ length (now answers)) ⌝ }
     ensures { λ r. ⌜ memory r (now (buys .exit)) (now (sells .exit)) (now (trades .exit)) ≡ rules·run (memory state (now (buys .entry)) (now (sells .entry)) (now (trades .entry))) (firstCommands (now (bytes .entry)) count) ⌝ }
     ensures { λ _. ⌜ now (answers .exit) ≡ store answerWords (now (answers .entry)) 0 (answersTo (memory state (now (buys .entry)) (now (sells .entry)) (now (trades .entry))) (firstCommands (now (bytes .entry)) count)) ⌝ }
 {
     let mut current = state;
     let mut k: usize = 0;
     while k < count {
-        let record = endian::reading::record_at(bytes, 24 * k);
+        let record = endian::reading::record_at(bytes, rules::COMMAND_WIDTH * k);
         let command = commands::command_of(record);
         current = answer_command(formed, current, buys, sells, trades, command, answers, k);
         k += 1;
@@ -64,7 +66,10 @@ pub fn run(
     ensures { λ r. ⌜ AnsweredIs (memory state (now (buys .entry)) (now (sells .entry)) (now (trades .entry))) (now (bytes .entry)) (now (answers .entry)) r (memory (r .state) (now (buys .exit)) (now (sells .exit)) (now (trades .exit))) (now (answers .exit)) ⌝ }
 {
     let formed = audit::well_formed(state, &buys[..], &sells[..], &trades[..]);
-    let count = fewer(bytes.len() / 24, answers.len() / 4);
+    let count = fewer(
+        bytes.len() / rules::COMMAND_WIDTH,
+        answers.len() / ANSWER_STRIDE,
+    );
     let next = answer_records(formed, state, buys, sells, trades, bytes, count, answers);
     Ran {
         played: count,

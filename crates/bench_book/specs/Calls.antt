@@ -5,6 +5,7 @@ use Prim.Native.Nat.{ℕ, zero, suc, _+_, _*_, _<_}
 use lib.IntN.{pos}
 use lib.ListN.{length, replicate}
 use Rattle.areas.specs.Records.{store}
+use Rattle.rules.specs.Bounds.{maxContracts, maxAccounts}
 use Rattle.rules.specs.Command.{priceCondition}
 use Rattle.rules.specs.Exchange.{holdingAt}
 use Rattle.rules.specs.Holdings.{bookTrades}
@@ -39,8 +40,8 @@ takerOf s =
 -- 32 accounts that hold as many lots of everything
 abbrev pub accountsOf : ℕ → List Account
 accountsOf lots =
-    replicate 32
-    (record { balance = pos 0; maker = 0; holdings = replicate 4 (record { long = lots; short = lots; startlong = lots; startshort = lots }) })
+    replicate maxAccounts
+    (record { balance = pos 0; maker = 0; holdings = replicate maxContracts (record { long = lots; short = lots; startlong = lots; startshort = lots }) })
 
 -- ---- one order entered again and again
 
@@ -96,8 +97,8 @@ Ready s b =
     EntryReady (takerOf s) (s .lots) (s .price) (s .day) (b .last) (b .accounts) (b .owns) (b .own) (b .opposites) (b .opposite) (b .area) (b .made)
 
 pub record SweepsReady (s : Sweeps) (times : ℕ) (owns opposites area : List ℕ) : Type 0 where
-  pub contract : s .contract < 4
-  pub probe : s .probe < 32
+  pub contract : s .contract < maxContracts
+  pub probe : s .probe < maxAccounts
   pub each : (n : ℕ) → n < times → Ready s (entered s (start s owns opposites area) n)
 
 -- the answer, and all three areas

@@ -4,6 +4,7 @@
 ghost use mathlib.Core.Bool.{true};
 ghost use mathlib.Core.Path.{_≡_};
 ghost use Prim.Native.Nat.{_<_};
+ghost use Rattle.rules.specs.Bounds.{maxContracts, maxAccounts};
 ghost use Rattle.rules.specs.DayFile.{sound};
 ghost use Rattle.bench_exchange.specs.Probes.{probeOf, ranOf, ProbedIs};
 use rules::State;
@@ -27,7 +28,7 @@ pub struct Probe {
 }
 
 pub fn probed(state: State, account: usize, contract: usize) -> Probe
-    requires { ⌜ (account < 32) × (contract < 4) ⌝ }
+    requires { ⌜ (account < maxAccounts) × (contract < maxContracts) ⌝ }
     ensures { λ r. ⌜ r ≡ probeOf state account contract ⌝ }
 {
     let who = state.accounts[account];
@@ -61,7 +62,7 @@ pub extern "C" fn bench_run<'a>(
     account: usize,
     contract: usize,
 ) -> Probe
-    requires { ⌜ (sound (now day) ≡ true) × (account < 32) × (contract < 4) ⌝ }
+    requires { ⌜ (sound (now day) ≡ true) × (account < maxAccounts) × (contract < maxContracts) ⌝ }
     ensures { λ r. ⌜ ProbedIs (ranOf (now (day .entry)) (now (commands .entry)) (now (buys .entry)) (now (sells .entry)) (now (trades .entry))) account contract r (now (buys .exit)) (now (sells .exit)) (now (trades .exit)) ⌝ }
 {
     let opening = dayfile::opening::opening_state(day);

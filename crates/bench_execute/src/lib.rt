@@ -3,6 +3,7 @@
 ghost use mathlib.Core.Bool.{true};
 ghost use mathlib.Core.Path.{_≡_};
 ghost use Prim.Native.Nat.{_<_};
+ghost use Rattle.rules.specs.Bounds.{maxContracts, maxAccounts};
 ghost use Rattle.rules.specs.DayFile.{commandFrom, sound};
 ghost use Rattle.rules.specs.Memory.{respond, wellFormedMemory};
 ghost use Rattle.bench_exchange.specs.Probes.{ranOf, ProbedIs};
@@ -28,7 +29,7 @@ pub extern "C" fn bench_test<'a>(
 // The bytes of one command.
 #[repr(C)]
 pub struct Single {
-    pub bytes: [u8; 24],
+    pub bytes: [u8; rules::COMMAND_WIDTH],
 }
 
 // Runs the commands, then one more by itself, which tests the whole state first.
@@ -43,7 +44,7 @@ pub extern "C" fn bench_execute<'a>(
     account: usize,
     contract: usize,
 ) -> Probe
-    requires { ⌜ (sound (now day) ≡ true) × (account < 32) × (contract < 4) ⌝ }
+    requires { ⌜ (sound (now day) ≡ true) × (account < maxAccounts) × (contract < maxContracts) ⌝ }
     ensures { λ r. ⌜ ProbedIs (respond (ranOf (now (day .entry)) (now (commands .entry)) (now (buys .entry)) (now (sells .entry)) (now (trades .entry))) (commandFrom (single .bytes) 0) .memory) account contract r (now (buys .exit)) (now (sells .exit)) (now (trades .exit)) ⌝ }
 {
     let opening = dayfile::opening::opening_state(day);

@@ -1,22 +1,22 @@
 -- A change of a resting order: the code's tests are the rules' refusals, and each of the four ways of an accepted one leaves what the
 -- rules say. Assumes nothing.
-use mathlib.Core.Bool.{Bool, true, false, not, _&&_}
+use mathlib.Core.Bool.{Bool, true, false, not, true≢false, _&&_}
 use mathlib.Core.List.{List, [], _∷_, _++_}
 use mathlib.Core.Path.{_≡_, refl, sym, ap, subst, _∙_}
 use Prim.Native.Nat.{ℕ, _+_, _-_, _<_, _≤_}
 use native.Mathlib.Omega.{arith}
-use borrow.Author.Tests.{eqb-true, eq-eqb, leb-false, ltb-false, ne-eqb, not-false}
-use lib.Dec.{eqb, ltb}
+use borrow.Author.Tests.{eq-eqb, leb-false, ltb-false, ne-eqb}
+use lib.Dec.{eqb}
 use lib.ListN.{length, getD, set, length-set}
 use lib.Seq.{getD-set-same, set-getD}
 use Rattle.laws.specs.Choice.{pick}
 use Rattle.areas.specs.Lists.{removeAt}
 use Rattle.areas.proofs.Lists.{length-removeAt}
 use Rattle.rules.specs.Answers as rules
-use Rattle.rules.specs.Answers.{Refusal, _when_, cancelRefusals, firstOf, listingOf, noSuchOrder, numbered, ofAnother, removalRefused, restingOrder, stampsUsedUp}
-use Rattle.rules.specs.Bounds.{allowedToday, continuous, maxLots, maxResting, numbersEnd, termsInRange}
-use Rattle.rules.specs.Change.{Asked, arriving, asked, changeRefusals, changed, gone, isSell, lessened, listingFor, listingLessened, losesPlace, oldOrder, placeKept, placeLost, reentered, unchanged}
-use Rattle.rules.specs.Exchange.{Exchange, absent, listingAt, noAccount, noContract, noOrder, own, placeOf, isAbsent}
+use Rattle.rules.specs.Answers.{Refusal, cancelRefusals, dayLimitOrder, firstOf, listingOf, namedRefusals, noSuchOrder, notContinuous, numbered, ofAnother, ownerRefusals, pullRefusals, restingOrder}
+use Rattle.rules.specs.Bounds.{maxResting, numbersEnd, maxLots, maxContracts}
+use Rattle.rules.specs.Change.{Asked, arriving, asked, changeRefusals, changed, gone, isSell, lessened, listingFor, listingLessened, loses, losesPlace, newFieldsRefusals, oldOrder, placeKept, placeLost, reentered, reentryRefusals, unchanged}
+use Rattle.rules.specs.Exchange.{Exchange, noAccount, noContract, noOrder, own, placeOf}
 use Rattle.rules.specs.Kinds.{codeOf, decide, done, kindOf, lastOf, step}
 use Rattle.rules.specs.Matching.{Entered, tradedLots}
 use Rattle.rules.specs.Memory.{Declared, Memory, AfterCommand, WellFormedState, exchangeOf, firstWord, listingIn, memory, orderStride, put, putQueue, queueIn, stepIn, written}
@@ -34,30 +34,24 @@ use Rattle.rules.proofs.Lessened.{less-length}
 use Rattle.rules.proofs.Queue.{length-without}
 use Rattle.book.proofs.Places.{lots-number, numbered-append-found, numbered-append-none, numbered-found, without-none, without-number}
 use Rattle.rules.proofs.Stages.{Each}
-use Rattle.invariants.proofs.Accepted.{Failed, failed}
+use Rattle.rules.proofs.Refusals.{Failed, failed, first-append, first-there}
 use Rattle.invariants.proofs.ChangeKeeps.{change-counted, change-keeps}
 use Rattle.invariants.proofs.Clauses.{Counted, WellFormed, well-formed-test}
 use Rattle.invariants.proofs.MemoryKeeps.{sound, step-in-keeps, step-in-read}
 use Rattle.engine.specs.Outcome.{OutcomeIs, acceptedWith, refusedWith, withCountsIn}
-use Rattle.engine.specs.Removal.{RemovedIs, removalCode}
+use Rattle.engine.specs.Removal.{RemovedIs}
 use Rattle.engine.specs.declared.answers.Outcome.{Outcome}
-use Rattle.engine.proofs.Formed.{Formed, formed, listing-at, no-account, no-contract}
+use Rattle.engine.proofs.Formed.{Formed, formed, listing-at}
 use Rattle.engine.proofs.Outcomes.{acceptance, refusal}
 use Rattle.engine.proofs.Puts.{put-queues}
-use Rattle.engine.proofs.Refusals.{first-append}
-use Rattle.engine.proofs.Removals.{apart, in-continuous, removal-accepted, removed-none, side-few, side-once, side-room}
-use Rattle.engine.proofs.Tests.{place-below}
+use Rattle.engine.proofs.Removals.{apart, removal-accepted, removed-none, side-few, side-once, side-room}
 use Rattle.engine.proofs.Traded.{few-after}
-use Rattle.refusals.specs.Insertion.{Present, reentryRefusals, sideArea, sideCount}
-use Rattle.refusals.proofs.Sides.{contract-terms}
+use Rattle.refusals.specs.Insertion.{Present, sideArea, sideCount}
+use Rattle.refusals.proofs.Continuous.{account-here, account-low, contract-fits, contract-here, contract-low, pulls}
 use Rattle.insertion.specs.Arrival.{Enterable, enteredIn}
-use Rattle.changing.specs.Resting.{Changeable, RestingIs, arrivingFor, lessenedIn, loses, orderRefusals, putBackIn, removedIn, stateRefusals, takenOut}
+use Rattle.changing.specs.Resting.{Changeable, RestingIs, lessenedIn, putBackIn, removedIn, restingRefusals, takenOut}
 use Rattle.changing.specs.declared.Resting.{Resting}
 use Rattle.changing.proofs.Finding.{lessened-none, lessened-one, missing-of, restored}
-
--- "2, 3, 4"
-abbrev codes : Bool → Bool → Bool → ℕ
-codes two three four = pick two 2 (pick three 3 (pick four 4 0))
 
 module _ {s : State} {buys sells trades : List ℕ} (w : WellFormedState s buys sells trades) (account contract number lots price : ℕ) where
   abbrev m : Memory
@@ -84,100 +78,36 @@ module _ {s : State} {buys sells trades : List ℕ} (w : WellFormedState s buys 
   abbrev sold : List Order
   sold = queueIn sells c (getD (s .sellcounts) c 0)
 
-  pub few-contracts : s .contractcount ≤ 4
-  few-contracts = f .contracts-high
-
   -- ---- the list in its parts
 
   abbrev resting : List Order
   resting = restingOrder (listingFor x k) number
 
-  abbrev statePart : List Refusal
-  statePart =
-      (2 when absent account (x .accounts))
-      ∷ (3 when absent contract (x .listings))
-      ∷ (4 when not (eqb (listingFor x k .contract .phase) continuous))
-      ∷ []
+  abbrev stated : List Refusal
+  stated = namedRefusals x notContinuous account contract
 
   abbrev orderPart : List Refusal
-  orderPart =
-      (14 when noSuchOrder resting)
-      ∷ (15 when ofAnother (placeOf account) resting)
-      ∷ (5 when ltb maxLots lots)
-      ∷ (7 when (not (eqb lots 0) && not (allowedToday (listingFor x k .contract) price)))
-      ∷ []
+  orderPart = ownerRefusals (placeOf account) resting ++ newFieldsRefusals (listingFor x k .contract) lots price
 
   abbrev lostPart : List Refusal
-  lostPart =
-      (8 when (losesPlace x k && rules.holdingRefused (gone x k) (arriving x k)))
-      ∷ (9 when (losesPlace x k && rules.moneyRefused (gone x k) (arriving x k)))
-      ∷ (10 when (losesPlace x k && stampsUsedUp x))
-      ∷ (12 when (losesPlace x k && rules.tradesRefused (gone x k) number (arriving x k)))
-      ∷ []
+  lostPart = pick (losesPlace x k) (reentryRefusals (gone x k) number (arriving x k)) []
 
-  in-parts : codeOf x command ≡ pick (eqb (firstOf statePart) 0) (firstOf (orderPart ++ lostPart)) (firstOf statePart)
+  in-parts : codeOf x command ≡ pick (eqb (firstOf stated) 0) (firstOf (orderPart ++ lostPart)) (firstOf stated)
   unfolding codeOf kindOf changeRefusals
-  in-parts = first-append statePart (orderPart ++ lostPart) (omega arith)
+  in-parts = first-append stated (orderPart ++ lostPart) (omega arith)
 
   order-first : firstOf (orderPart ++ lostPart) ≡ pick (eqb (firstOf orderPart) 0) (firstOf lostPart) (firstOf orderPart)
   order-first = first-append orderPart lostPart (omega arith)
 
   -- 2, 3 and 4
-  state-is : firstOf statePart ≡ firstOf (stateRefusals s account contract)
-  unfolding firstOf listingIn
-  state-is = rw (no-account m f account, no-contract m f contract) (by-absent-contract (isAbsent contract (s .contractcount)) refl)
-    where
-      by-absent-contract : (b : Bool) → isAbsent contract (s .contractcount) ≡ b
-          → codes (isAbsent account (s .accountcount)) b (not (eqb (listingFor x k .contract .phase) continuous))
-          ≡ codes (isAbsent account (s .accountcount)) b (not (eqb (getD (s .contracts) c noContract .phase) continuous))
-      by-absent-contract true e = refl
-      by-absent-contract false e = rw (listing-at m f c (place-below contract (s .contractcount) e .1))
-
-  pub refused-early : {code : ℕ} {o : Outcome} → code ≡ firstOf (stateRefusals s account contract) → (code ≡ 0 → ⊥) → o ≡ refusedWith s code
-      → OutcomeIs (stepIn m command) o buys sells trades
-  refused-early {code} e h a = refusal s buys sells trades command code (omega arith) (in-parts ∙ rw (state-is, ← e, ne-eqb code 0 h)) a
+  pub refused-early : {code : ℕ} {o : Outcome} → code ≡ firstOf stated → (code ≡ 0 → ⊥) → o ≡ refusedWith s code → OutcomeIs (stepIn m command) o buys sells trades
+  refused-early {code} e h a = refusal s buys sells trades command code (omega arith) (in-parts ∙ rw (← e, ne-eqb code 0 h)) a
 
   -- ---- in continuous, the account and the contract in use
 
-  module _ (st : firstOf (stateRefusals s account contract) ≡ 0) where
-    tests : Failed (stateRefusals s account contract)
-    tests = failed (stateRefusals s account contract) (omega arith) st
-
-    here : c < s .contractcount
-    here = place-below contract (s .contractcount) (tests .1 .0) .1
-
-    pub contract-low : 1 ≤ contract
-    contract-low = place-below contract (s .contractcount) (tests .1 .0) .0
-
-    pub account-low : 1 ≤ account
-    account-low = place-below account (s .accountcount) (tests .0) .0
-
-    account-here : placeOf account < s .accountcount
-    account-here = place-below account (s .accountcount) (tests .0) .1
-
-    pub account-fits : {place : ℕ} → place ≡ placeOf account → place < 32
-    account-fits e = omega (arith, account-here, f .accounts-high)
-
-    pub contract-fits : {place : ℕ} → place ≡ c → place < 4
-    contract-fits e = omega (arith, here, f .contracts-high)
-
-    pub terms-ok : {place : ℕ} → place ≡ c → termsInRange (getD (s .contracts) place noContract) ≡ true
-    terms-ok e = rw e (contract-terms m f c here)
-
-    phase-is : getD (s .contracts) c noContract .phase ≡ 1
-    phase-is = eqb-true _ _ (not-false _ (tests .1 .1 .0))
-
-    -- a cancel passes its first tests too
-    none : removalCode s account contract false ≡ 0
-    unfolding removalCode firstOf
-    none = rw (tests .0, tests .1 .0, ← in-continuous (getD (s .contracts) c noContract) false phase-is)
-
-    pub rooms : {place : ℕ} → place ≡ c → {bids offers : ℕ} → bids ≡ getD (s .buycounts) place 0 → offers ≡ getD (s .sellcounts) place 0
-        → (firstWord place bids ≤ length buys) × (firstWord place offers ≤ length sells)
-    rooms e eb es = rw (eb, es) (side-room w account contract false none e false, side-room w account contract false none e true)
-
+  module _ (st : firstOf stated ≡ 0) where
     listing-is : listingFor x k ≡ listingIn m c
-    listing-is = listing-at m f c here
+    listing-is = listing-at m f c (contract-here w account contract (failed stated (omega arith) st))
 
     resting-is : resting ≡ numbered number (bought ++ sold)
     unfolding restingOrder listingIn
@@ -186,48 +116,50 @@ module _ {s : State} {buys sells trades : List ℕ} (w : WellFormedState s buys 
     -- ---- 14, 15, 5 and 7, of the order found
 
     module _ {r : Resting} (rs : RestingIs number bought sold r) where
-      order-is : firstOf orderPart ≡ firstOf (orderRefusals (getD (s .contracts) c noContract) (placeOf account) r lots price)
-      unfolding firstOf ofAnother noSuchOrder listingIn
-      order-is = by-found (r .found) refl
-        where
-          by-found : (b : Bool) → r .found ≡ b → firstOf orderPart ≡ firstOf (orderRefusals (getD (s .contracts) c noContract) (placeOf account) r lots price)
-          by-found false e =
-              let no : noSuchOrder resting ≡ true = ap noSuchOrder resting-is ∙ sym (rs .found) ∙ ap not e in
-              rw (no, e)
-          by-found true e =
-              let one : resting ≡ r .order ∷ [] = resting-is ∙ rs .order e in
-              rw (one, e, listing-is)
+      order-is : firstOf orderPart ≡ firstOf (restingRefusals (getD (s .contracts) c noContract) (placeOf account) r lots price)
+      unfolding listingIn
+      order-is = rw (resting-is, rs .order, listing-is) refl
 
     module _ {place : ℕ} (is : place ≡ c) {bids offers : ℕ} (eb : bids ≡ getD (s .buycounts) place 0) (es : offers ≡ getD (s .sellcounts) place 0) {r : Resting}
         (rs : RestingIs number (queueIn buys place bids) (queueIn sells place offers) r) {code : ℕ}
-        (ec : code ≡ firstOf (orderRefusals (getD (s .contracts) place noContract) (account - 1) r lots price)) where
+        (ec : code ≡ firstOf (restingRefusals (getD (s .contracts) place noContract) (account - 1) r lots price)) where
       found-here : RestingIs number bought sold r
       found-here = rw (eb, es, is) at rs
 
       pub order-refused : (code ≡ 0 → ⊥) → {o : Outcome} → o ≡ refusedWith s code → OutcomeIs (stepIn m command) o buys sells trades
       order-refused h a =
-          refusal s buys sells trades command code (omega arith) (in-parts ∙ rw (state-is, st, order-first, order-is found-here, ← (rw is at ec), ne-eqb code 0 h)) a
+          refusal s buys sells trades command code (omega arith) (in-parts ∙ rw (st, order-first, order-is found-here, ← (rw is at ec), ne-eqb code 0 h)) a
 
-      pub changeable : code ≡ 0 → Changeable s buys sells account contract number lots price r
+      pub changeable : code ≡ 0 → Changeable s buys sells trades account contract number lots price r
       changeable e = record { state = st; resting = found-here; order = sym (rw is at ec) ∙ e }
 
   -- ---- none of these holds
 
-  module _ {r : Resting} (g : Changeable s buys sells account contract number lots price r) where
-    abbrev st′ : firstOf (stateRefusals s account contract) ≡ 0
+  module _ {r : Resting} (g : Changeable s buys sells trades account contract number lots price r) where
+    abbrev st′ : firstOf stated ≡ 0
     st′ = g .state
 
-    its : Failed (orderRefusals (getD (s .contracts) c noContract) (placeOf account) r lots price)
-    its = failed (orderRefusals (getD (s .contracts) c noContract) (placeOf account) r lots price) (omega arith) (g .order)
+    named : Failed stated
+    named = failed stated (omega arith) st′
+
+    its : Failed (restingRefusals (getD (s .contracts) c noContract) (placeOf account) r lots price)
+    its = failed (restingRefusals (getD (s .contracts) c noContract) (placeOf account) r lots price) (omega arith) (g .order)
 
     found : r .found ≡ true
-    found = not-false (r .found) (its .0)
+    found = by-found (r .found) (its .0)
+      where
+        by-found : (b : Bool) → noSuchOrder (pick b (r .order ∷ []) []) ≡ false → b ≡ true
+        by-found true e = refl
+        by-found false e = absurd (true≢false (unfold noSuchOrder in e))
 
-    few-lots : lots ≤ 1_000
+    one-found : numbered number (bought ++ sold) ≡ r .order ∷ []
+    one-found = g .resting .order ∙ rw found refl
+
+    few-lots : lots ≤ maxLots
     few-lots = ltb-false _ _ (its .1 .1 .0)
 
     one-resting : resting ≡ r .order ∷ []
-    one-resting = resting-is st′ ∙ g .resting .order found
+    one-resting = resting-is st′ ∙ one-found
 
     old-is : oldOrder x k ≡ r .order
     unfolding oldOrder
@@ -237,7 +169,7 @@ module _ {s : State} {buys sells trades : List ℕ} (w : WellFormedState s buys 
     unfolding isSell listingIn
     sell-is = rw (listing-is st′) (sym (g .resting .sell found))
 
-    arriving-is : arriving x k ≡ arrivingFor account contract r lots price
+    arriving-is : arriving x k ≡ dayLimitOrder account contract (r .sell) (eqb (r .order .close) 1) lots price
     unfolding arriving
     arriving-is = rw (sell-is, old-is)
 
@@ -246,14 +178,13 @@ module _ {s : State} {buys sells trades : List ℕ} (w : WellFormedState s buys 
     loses-is = rw old-is
 
     code-is : codeOf x command ≡ firstOf lostPart
-    code-is = in-parts ∙ rw (state-is, st′, order-first, order-is st′ (g .resting), g .order)
+    code-is = in-parts ∙ rw (st′, order-first, order-is st′ (g .resting), g .order)
 
     kept-code : losesPlace x k ≡ false → codeOf x command ≡ 0
     unfolding firstOf
     kept-code e = code-is ∙ rw e
 
     lost-code : losesPlace x k ≡ true → codeOf x command ≡ firstOf (reentryRefusals (gone x k) number (arriving x k))
-    unfolding firstOf reentryRefusals gone
     lost-code e = code-is ∙ rw e
 
     -- ---- where it rests: its own queue has it once, the other has it not
@@ -268,13 +199,13 @@ module _ {s : State} {buys sells trades : List ℕ} (w : WellFormedState s buys 
     queue side = queueIn (area side) c (count side)
 
     room : (side : Bool) → firstWord c (count side) ≤ length (area side)
-    room = side-room w account contract false (none st′) refl
+    room = side-room w account contract false (pulls w account contract named) refl
 
     few : (side : Bool) → count side ≤ maxResting
-    few = side-few w account contract false (none st′) refl
+    few = side-few w account contract false (pulls w account contract named) refl
 
     once : (side : Bool) → usedOnce (numbers (queue side)) ≡ true
-    once = side-once w account contract false (none st′) refl
+    once = side-once w account contract false (pulls w account contract named) refl
 
     mine : (side : Bool) → r .sell ≡ side → (r .place ≡ indexOf number (queue side)) × (r .place < count side)
     mine true e =
@@ -287,7 +218,7 @@ module _ {s : State} {buys sells trades : List ℕ} (w : WellFormedState s buys 
 
     other : (side : Bool) → r .sell ≡ side → indexOf number (queue (not side)) ≡ length (queue (not side))
     other true e = missing-of number bought (sym (g .resting .sell found) ∙ e)
-    other false e = apart w account contract false (none st′) refl number (mine-in false e)
+    other false e = apart w account contract false (pulls w account contract named) refl number (mine-in false e)
 
     place-in : r .place < count (r .sell)
     place-in = mine (r .sell) refl .1
@@ -299,18 +230,21 @@ module _ {s : State} {buys sells trades : List ℕ} (w : WellFormedState s buys 
         first-of o p q = ap (λ (l : List Order). getD l 0 noOrder) q
 
         its-order : (side : Bool) → r .sell ≡ side → r .order ≡ getD (queue side) (indexOf number (queue side)) noOrder
-        its-order false e = first-of _ _ (sym (g .resting .order found) ∙ numbered-append-found number bought sold (mine-in false e))
-        its-order true e = first-of _ _ (sym (g .resting .order found) ∙ numbered-append-none number bought sold (other true e) ∙ numbered-found number sold (mine-in true e))
+        its-order false e = first-of _ _ (sym one-found ∙ numbered-append-found number bought sold (mine-in false e))
+        its-order true e = first-of _ _ (sym one-found ∙ numbered-append-none number bought sold (other true e) ∙ numbered-found number sold (mine-in true e))
 
     -- ---- a cancel of it would be accepted
 
-    removal-passes : removalRefused (listingAt x c .contract) false ≡ false
-    unfolding listingIn
-    removal-passes = rw (listing-is st′) (sym (in-continuous (getD (s .contracts) c noContract) false (phase-is st′)))
+    -- it is the account's own
+    another : not (eqb (r .order .account) (placeOf account)) ≡ false
+    unfolding ofAnother
+    another = rw found at (its .1 .0)
 
     cancel-code : codeOf x (Cancel account contract false number) ≡ 0
-    unfolding codeOf kindOf cancelRefusals firstOf ofAnother noSuchOrder
-    cancel-code = rw (no-account m f account, tests st′ .0, no-contract m f contract, tests st′ .1 .0, removal-passes, one-resting, its .1 .0)
+    unfolding codeOf kindOf cancelRefusals pullRefusals firstOf ofAnother noSuchOrder
+    cancel-code =
+        sym (first-there (pullRefusals x account contract false) (ownerRefusals (placeOf account) resting) (omega arith) (pulls w account contract named))
+        ∙ rw (one-resting, another) refl
 
     gone-is : stepIn m (Cancel account contract false number) .memory ≡ put m (gone x k)
     unfolding stepIn decide kindOf cancelled removed gone
@@ -349,15 +283,15 @@ module _ {s : State} {buys sells trades : List ℕ} (w : WellFormedState s buys 
         (pick side buys (removedIn buys c (count false) (r .place))) (pick side (removedIn sells c (count true) (r .place)) sells)
     unfolding kindOf cancelled
     as-cancelled true e =
-        removal-accepted w account contract false (none st′) refl (hasNumber number) (other-removed true e) (own-removed true e)
+        removal-accepted w account contract false (pulls w account contract named) refl (hasNumber number) (other-removed true e) (own-removed true e)
         (Cancel account contract false number) cancel-code refl refl (omega arith) refl
     as-cancelled false e =
-        removal-accepted w account contract false (none st′) refl (hasNumber number) (own-removed false e) (other-removed false e)
+        removal-accepted w account contract false (pulls w account contract named) refl (hasNumber number) (own-removed false e) (other-removed false e)
         (Cancel account contract false number) cancel-code refl refl (omega arith) refl
 
     pub can-take-out : {place : ℕ} → place ≡ c
-        → (place < 4) × (r .place < sideCount (r .sell) s place) × (firstWord place (sideCount (r .sell) s place) ≤ length (sideArea (r .sell) buys sells))
-    can-take-out is = rw is (contract-fits st′ refl, place-in, room (r .sell))
+        → (place < maxContracts) × (r .place < sideCount (r .sell) s place) × (firstWord place (sideCount (r .sell) s place) ≤ length (sideArea (r .sell) buys sells))
+    can-take-out is = rw is (contract-fits w account contract named refl, place-in, room (r .sell))
 
     pub taken-out : {place : ℕ} → place ≡ c → {t : State} → t ≡ takenOut s place r → {buys′ sells′ : List ℕ}
         → buys′ ≡ pick (r .sell) buys (removedIn buys place (sideCount false s place) (r .place))
@@ -424,7 +358,7 @@ module _ {s : State} {buys sells trades : List ℕ} (w : WellFormedState s buys 
         unfolding listingIn
         less-lies =
             rw (listing-is st′)
-            (put-queues m f c (here st′) (lessened number lots bought) (lessened number lots sold) (less-few false) (less-few true)
+            (put-queues m f c (contract-here w account contract named) (lessened number lots bought) (lessened number lots sold) (less-few false) (less-few true)
             ∙ rw (
               less-length number lots bought,
               less-length number lots sold,
@@ -474,7 +408,7 @@ module _ {s : State} {buys sells trades : List ℕ} (w : WellFormedState s buys 
         gone-lies : put m (gone x k)
             ≡ memory (withCountsIn s (set (s .buycounts) c (length (left false))) (set (s .sellcounts) c (length (left true)))) (putQueue buys c (count false) (left false)) (putQueue sells c (count true) (left true)) trades
         unfolding gone listingIn
-        gone-lies = rw (listing-is st′) (put-queues m f c (here st′) (left false) (left true) (left-few false) (left-few true))
+        gone-lies = rw (listing-is st′) (put-queues m f c (contract-here w account contract named) (left false) (left true) (left-few false) (left-few true))
 
         gone-state : t .state ≡ withCountsIn s (set (s .buycounts) c (length (left false))) (set (s .sellcounts) c (length (left true)))
         gone-state = ap (λ (n : Memory). n .state) (lies ∙ gone-lies)
@@ -501,16 +435,16 @@ module _ {s : State} {buys sells trades : List ℕ} (w : WellFormedState s buys 
         gone-formed = record { declared = gone-declared; formed = rw (taken .memory) (step-in-keeps m (w .formed) (Cancel account contract false number)) }
 
         -- the order as it arrives again
-        module _ {o : NewOrder} (eo : o ≡ arrivingFor account contract r lots price) where
+        module _ {o : NewOrder} (eo : o ≡ dayLimitOrder account contract (r .sell) (eqb (r .order .close) 1) lots price) where
           its-order : o ≡ arriving x k
           its-order = eo ∙ sym arriving-is
 
           pub gone-present : Present (t .state) o
           gone-present =
               rw (eo, gone-state)
-              (record { account-low = account-low st′; account = account-here st′; contract-low = contract-low st′; contract = here st′ })
+              (record { account-low = account-low w account contract named; account = account-here w account contract named; contract-low = contract-low w account contract named; contract = contract-here w account contract named })
 
-          pub gone-lots : o .lots ≤ 1_000
+          pub gone-lots : o .lots ≤ maxLots
           gone-lots = rw eo few-lots
 
           pub gone-owner : {place : ℕ} → place ≡ placeOf account → {who : Account} → who ≡ getD (s .accounts) place noAccount → getD (t .state .accounts) (o .account - 1) noAccount ≡ who
@@ -527,10 +461,10 @@ module _ {s : State} {buys sells trades : List ℕ} (w : WellFormedState s buys 
               kept-other side e = rw (without-none (hasNumber number) (queue (not side)) (other side e)) (put-queue (area (not side)) c (count (not side)) (room (not side)))
 
               counts-in : c < length (s .buycounts)
-              counts-in = omega (arith, w .declared .buys, here st′, f .contracts-high)
+              counts-in = omega (arith, w .declared .buys, contract-here w account contract named, f .contracts-high)
 
               counts-in-sells : c < length (s .sellcounts)
-              counts-in-sells = omega (arith, w .declared .sells, here st′, f .contracts-high)
+              counts-in-sells = omega (arith, w .declared .sells, contract-here w account contract named, f .contracts-high)
 
               count-is : (side : Bool) → r .sell ≡ side → sideCount side (t .state) c ≡ count side - 1
               count-is true e = rw gone-state (getD-set-same (s .sellcounts) c (length (left true)) 0 counts-in-sells ∙ out-length true e)
@@ -540,8 +474,8 @@ module _ {s : State} {buys sells trades : List ℕ} (w : WellFormedState s buys 
               less-one = en ∙ rw is (count-is (r .sell) refl)
 
               wide : (side : Bool) → length (sideArea side buys′ sells′) ≡ length (area side)
-              wide true = ap length gone-sells ∙ length-putQueue sells c (count true) (left true) (few true) (left-few true) (omega (arith, f .sells-room, here st′))
-              wide false = ap length gone-buys ∙ length-putQueue buys c (count false) (left false) (few false) (left-few false) (omega (arith, f .buys-room, here st′))
+              wide true = ap length gone-sells ∙ length-putQueue sells c (count true) (left true) (few true) (left-few true) (omega (arith, f .sells-room, contract-here w account contract named))
+              wide false = ap length gone-buys ∙ length-putQueue buys c (count false) (left false) (few false) (left-few false) (omega (arith, f .buys-room, contract-here w account contract named))
 
               pub can-put-back : (r .place ≤ count₁) × (firstWord place count₁ + orderStride ≤ length (sideArea (r .sell) buys′ sells′))
               can-put-back = rw is (omega (arith, less-one, place-in), omega (arith, less-one, place-in, wide (r .sell), room (r .sell)))
@@ -597,7 +531,6 @@ module _ {s : State} {buys sells trades : List ℕ} (w : WellFormedState s buys 
               after-counted = subst (λ (v : Effect). Each Counted (v .stages)) lost-is (change-counted x (f .contents) k refusals-zero (sound m (w .formed) .counts)) .1 .0
 
               reentry : Failed (reentryRefusals (exchangeOf m′) number o)
-              unfolding reentryRefusals
               reentry = failed (reentryRefusals (exchangeOf m′) number o) (omega arith) (sym ec ∙ clear)
 
               x-next : x .next ≡ s .next
@@ -624,11 +557,10 @@ module _ {s : State} {buys sells trades : List ℕ} (w : WellFormedState s buys 
                   few-after m′ (formed gone-formed) (placeOf (o .contract)) _ _ (t .state .next) (exchangeOf m′ .nextstamp + 1) (gone-present .contract) entered-keeps entered-counted side
 
               stamp-left : t .state .nextstamp < numbersEnd
-              unfolding reentryRefusals exchangeOf
+              unfolding exchangeOf
               stamp-left = leb-false _ _ (reentry .1 .1 .0)
 
               trades-room : rules.tradesRefused (exchangeOf m′) number o ≡ false
-              unfolding reentryRefusals
               trades-room = reentry .1 .1 .1 .0
 
               pub lost-enterable : Enterable (t .state) buys′ sells′ trades o number 0 (t .state .next)

@@ -1,22 +1,26 @@
 -- The order with a number in one queue: found there, taken out and put back, and its lots written. Assumes nothing.
-use mathlib.Core.Bool.{Bool, true, false, false≢true}
+use mathlib.Core.Bool.{Bool, true, false, not, false≢true, _&&_}
 use mathlib.Core.List.{List, [], _∷_, _++_}
 use mathlib.Core.Path.{_≡_, refl, sym, ap, _∙_}
 use Prim.Native.Nat.{ℕ, zero, suc, _-_, _<_, _≤_, max}
 use native.Mathlib.Nat.{eq-or-lt-of-le, le-of-suc-le-suc}
 use mathlib.Core.Logic.{⊎-elim}
 use native.Mathlib.Omega.{arith}
+use lib.Dec.{eqb, ltb}
 use lib.ListN.{length, getD, set, drop}
+use Rattle.laws.specs.Choice.{pick}
 use Rattle.areas.specs.Lists.{insertAt, removeAt}
 use Rattle.areas.proofs.Lists.{length-removeAt}
-use Rattle.rules.specs.Answers.{noSuchOrder, numbered}
-use Rattle.rules.specs.Change.{lessened, unmarked}
+use Rattle.rules.specs.Answers.{firstOf, noSuchOrder, numbered, ofAnother, ownerRefusals}
+use Rattle.rules.specs.Bounds.{allowedToday, maxLots}
+use Rattle.rules.specs.Change.{lessened, newFieldsRefusals, unmarked}
 use Rattle.rules.specs.Exchange.{noOrder}
 use Rattle.rules.specs.Matching.{withLots}
 use Rattle.rules.specs.Memory.{firstWord, orderFrom, putQueue, queueIn}
 use Rattle.book.specs.Places.{indexOf}
 use Rattle.rules.specs.Step.{hasNumber}
 use Rattle.rules.specs.WellFormed.{listed, numbers, usedOnce}
+use Rattle.rules.specs.declared.Contract.{Contract}
 use Rattle.rules.specs.declared.Order.{Order}
 use Rattle.rules.proofs.Codecs.{length-queue, order-at, put-queue, putQueue-putQueue, queue-put}
 use Rattle.rules.proofs.Queue.{once-append}
@@ -40,8 +44,7 @@ module _ (number : ℕ) (buys sells : List ℕ) (c bids offers : ℕ) where
         let l : indexOf number bought < length bought = rw (← eb, length-queue buys c bids) h in
         let is : getD bought (indexOf number bought) noOrder ≡ o = rw (← eb) (order-at buys c bids bid h ∙ sym eo) in
         record {
-          found = sym (rw (numbered-append-found number bought sold l));
-          order = λ e. numbered-append-found number bought sold l ∙ ap (λ (p : Order). p ∷ []) is;
+          order = numbered-append-found number bought sold l ∙ ap (λ (p : Order). p ∷ []) is;
           sell = λ e. sym (rw (numbered-found number bought l));
           place = λ e. eb;
           within = λ e. rw (length-queue buys c bids) h;
@@ -60,8 +63,7 @@ module _ (number : ℕ) (buys sells : List ℕ) (c bids offers : ℕ) where
           let its : numbered number (bought ++ sold) ≡ o ∷ [] =
           numbered-append-none number bought sold (missing past) ∙ numbered-found number sold l ∙ ap (λ (p : Order). p ∷ []) is in
           record {
-            found = sym (rw its);
-            order = λ e. its;
+            order = its;
             sell = λ e. sym (rw (numbered-none number bought (missing past)));
             place = λ e. es;
             within = λ e. rw (length-queue sells c offers) h;
@@ -74,12 +76,22 @@ module _ (number : ℕ) (buys sells : List ℕ) (c bids offers : ℕ) where
           numbered-append-none number bought sold (missing past)
           ∙ numbered-none number sold (omega (arith, es, length-queue sells c offers, first-within (hasNumber number) sold)) in
           record {
-            found = sym (rw none);
-            order = λ e. absurd (false≢true e);
+            order = none;
             sell = λ e. absurd (false≢true e);
             place = λ e. absurd (false≢true e);
             within = λ e. absurd (false≢true e);
           }
+
+-- 14, 15, 5 and 7 as the code tries them: `found` and `order` are the order found
+pub resting-tests : (found : Bool) (order : Order) (terms : Contract) (account lots price : ℕ) →
+    firstOf (ownerRefusals account (pick found (order ∷ []) []) ++ newFieldsRefusals terms lots price)
+    ≡ pick (not found) 14
+    (pick (not (eqb (order .account) account)) 15
+    (pick (ltb maxLots lots) 5
+    (pick (not (eqb lots 0) && not (allowedToday terms price)) 7 0)))
+unfolding firstOf noSuchOrder ofAnother
+resting-tests true order terms account lots price = refl
+resting-tests false order terms account lots price = refl
 
 -- the other way round: where no order has the number, the search ends past the last
 pub missing-of : (number : ℕ) (os : List Order) → noSuchOrder (numbered number os) ≡ true → indexOf number os ≡ length os

@@ -1,78 +1,45 @@
--- A resting order as the code finds it, a change's refusals in the parts in which the code tries them, and what is written of one
--- queue. Together the parts are the rules' list (proofs/Changing.antt). Assumes nothing.
-use mathlib.Core.Bool.{Bool, true, false, not, _&&_, _||_}
+-- A resting order as the code finds it, what a change of it has passed before its place may be lost, and what is written of one queue.
+-- Assumes nothing.
+use mathlib.Core.Bool.{true, false}
 use mathlib.Core.List.{List, [], _∷_, _++_}
 use mathlib.Core.Path.{_≡_}
 use Prim.Native.Nat.{ℕ, _-_, _<_}
-use lib.Dec.{eqb, ltb}
 use lib.ListN.{length, getD, set}
 use Rattle.laws.specs.Choice.{pick}
 use Rattle.areas.specs.Lists.{insertAt, removeAt}
-use Rattle.rules.specs.Answers.{Refusal, _when_, firstOf, noSuchOrder, numbered}
-use Rattle.rules.specs.Bounds.{allowedToday, continuous, maxLots}
-use Rattle.rules.specs.Change.{unmarked}
-use Rattle.rules.specs.Exchange.{noContract, noOrder, placeOf, isAbsent}
+use Rattle.rules.specs.Answers.{Refusal, firstOf, namedRefusals, noSuchOrder, notContinuous, numbered, ownerRefusals}
+use Rattle.rules.specs.Change.{newFieldsRefusals, unmarked}
+use Rattle.rules.specs.Exchange.{noContract, noOrder, placeOf}
 use Rattle.rules.specs.Matching.{withLots}
-use Rattle.rules.specs.Memory.{putQueue, queueIn}
+use Rattle.rules.specs.Memory.{exchangeOf, memory, putQueue, queueIn}
 use Rattle.book.specs.Places.{indexOf}
 use Rattle.rules.specs.declared.Contract.{Contract}
-use Rattle.rules.specs.declared.NewOrder.{NewOrder}
 use Rattle.rules.specs.declared.Order.{Order}
-use Rattle.rules.specs.declared.PriceCondition.the-variants.{Limit}
 use Rattle.rules.specs.declared.State.{State}
-use Rattle.rules.specs.declared.TimeCondition.the-variants.{GoodForDay}
 use Rattle.engine.specs.Outcome.{withCountsIn}
 use Rattle.refusals.specs.Insertion.{sideCount}
 use Rattle.changing.specs.declared.Resting.{Resting}
 
+-- the order found, as a list of one or none
+abbrev pub foundIn : Resting → List Order
+foundIn r = pick (r .found) (r .order ∷ []) []
+
 -- the order with a number among a contract's, its side, and its place there
 pub record RestingIs (number : ℕ) (buys sells : List Order) (r : Resting) : Type 0 where
-  pub found : not (r .found) ≡ noSuchOrder (numbered number (buys ++ sells))
-  pub order : r .found ≡ true → numbered number (buys ++ sells) ≡ r .order ∷ []
+  pub order : numbered number (buys ++ sells) ≡ foundIn r
   pub sell : r .found ≡ true → r .sell ≡ noSuchOrder (numbered number buys)
   pub place : r .found ≡ true → r .place ≡ indexOf number (pick (r .sell) sells buys)
   pub within : r .found ≡ true → r .place < length (pick (r .sell) sells buys)
 
--- 2, 3 and 4
-abbrev pub stateRefusals : State → ℕ → ℕ → List Refusal
-stateRefusals s account contract =
-    (2 when isAbsent account (s .accountcount))
-    ∷ (3 when isAbsent contract (s .contractcount))
-    ∷ (4 when not (eqb (getD (s .contracts) (placeOf contract) noContract .phase) continuous))
-    ∷ []
-
 -- 14, 15, 5 and 7, of the order found; `account` is the account's place
-abbrev pub orderRefusals : Contract → ℕ → Resting → ℕ → ℕ → List Refusal
-orderRefusals c account r lots price =
-    (14 when not (r .found))
-    ∷ (15 when not (eqb (r .order .account) account))
-    ∷ (5 when ltb maxLots lots)
-    ∷ (7 when (not (eqb lots 0) && not (allowedToday c price)))
-    ∷ []
+abbrev pub restingRefusals : Contract → ℕ → Resting → ℕ → ℕ → List Refusal
+restingRefusals terms account r lots price = ownerRefusals account (foundIn r) ++ newFieldsRefusals terms lots price
 
--- the order found, and none of these refusals holds
-pub record Changeable (s : State) (buys sells : List ℕ) (account contract number lots price : ℕ) (r : Resting) : Type 0 where
-  pub state : firstOf (stateRefusals s account contract) ≡ 0
+-- the order found, and a change that is refused neither for its account and contract nor for these
+pub record Changeable (s : State) (buys sells trades : List ℕ) (account contract number lots price : ℕ) (r : Resting) : Type 0 where
+  pub state : firstOf (namedRefusals (exchangeOf (memory s buys sells trades)) notContinuous account contract) ≡ 0
   pub resting : RestingIs number (queueIn buys (placeOf contract) (getD (s .buycounts) (placeOf contract) 0)) (queueIn sells (placeOf contract) (getD (s .sellcounts) (placeOf contract) 0)) r
-  pub order : firstOf (orderRefusals (getD (s .contracts) (placeOf contract) noContract) (placeOf account) r lots price) ≡ 0
-
--- "more lots or another price lose it"
-abbrev pub loses : Order → ℕ → ℕ → Bool
-loses o lots price = ltb (o .lots) lots || not (eqb price (o .price))
-
--- the order as it arrives again
-abbrev pub arrivingFor : ℕ → ℕ → Resting → ℕ → ℕ → NewOrder
-arrivingFor account contract r lots price =
-    record {
-      account = account;
-      contract = contract;
-      sell = r .sell;
-      close = eqb (r .order .close) 1;
-      lots = lots;
-      price = price;
-      condition = Limit price;
-      time = GoodForDay;
-    }
+  pub order : firstOf (restingRefusals (getD (s .contracts) (placeOf contract) noContract) (placeOf account) r lots price) ≡ 0
 
 -- ---- one queue written: other lots and no mark at a place, an order taken out of one, and put back
 

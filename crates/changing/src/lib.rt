@@ -2,28 +2,27 @@
 ghost use mathlib.Core.Bool.{true, false};
 ghost use mathlib.Core.Path.{_≡_};
 ghost use Prim.Native.Nat.{_+_, _<_, _≤_};
+ghost use lib.Dec.{eqb};
 ghost use lib.ListN.{length};
 ghost use Rattle.laws.specs.Choice.{pick};
 ghost use Rattle.rules.specs.Answers as answer;
-ghost use Rattle.rules.specs.Bounds.{termsInRange};
+ghost use Rattle.rules.specs.Change.{loses};
+ghost use Rattle.rules.specs.Bounds.{termsInRange, maxContracts};
 ghost use Rattle.rules.specs.Memory.{memory, queueIn, stepIn, firstWord, orderStride, WellFormedState};
 ghost use Rattle.rules.specs.declared.Command.the-variants.{Change};
 ghost use Rattle.engine.specs.Outcome.{OutcomeIs};
 ghost use Rattle.refusals.specs.Insertion.{sideArea, sideCount};
-ghost use Rattle.changing.specs.Resting.{RestingIs, Changeable, stateRefusals, orderRefusals, loses, arrivingFor, lessenedIn, putBackIn, removedIn, takenOut};
+ghost use Rattle.changing.specs.Resting.{RestingIs, Changeable, restingRefusals, lessenedIn, putBackIn, removedIn, takenOut};
 use book::queue;
 use engine::answers;
 use engine::answers::Outcome;
 use engine::removal;
 use refusals::codes;
 use refusals::orders;
-use rules::CONTINUOUS;
 use rules::Contract;
 use rules::NewOrder;
 use rules::Order;
-use rules::PriceCondition;
 use rules::State;
-use rules::TimeCondition;
 
 // The order with a number as it rests: whether there is one, its side, its place in the queue, the order itself.
 struct Resting {
@@ -81,30 +80,10 @@ fn resting_order<'a>(
     }
 }
 
-// Codes 2, 3 and 4, 0 where none holds: "in continuous only". Requires at most 4 contracts.
-fn state_code(state: State, account: u32, contract: u32) -> u32
-    requires { ⌜ state .contractcount ≤ 4 ⌝ }
-    ensures { λ r. ⌜ r ≡ answer.firstOf (stateRefusals state account contract) ⌝ }
-{
-    if answers::is_absent(account, state.accountcount) {
-        return 2;
-    }
-    if answers::is_absent(contract, state.contractcount) {
-        return 3;
-    }
-    let place = laws::place_of(contract);
-    let contracts = state.contracts;
-    let terms = contracts[place];
-    if terms.phase != CONTINUOUS {
-        return 4;
-    }
-    0
-}
-
 // Codes 14, 15, 5 and 7, 0 where none holds. `account` is the account's place.
-fn order_code(terms: Contract, account: u32, r: Resting, lots: u32, price: u32) -> u32
+fn resting_code(terms: Contract, account: u32, r: Resting, lots: u32, price: u32) -> u32
     requires { ⌜ termsInRange terms ≡ true ⌝ }
-    ensures { λ code. ⌜ code ≡ answer.firstOf (orderRefusals terms account r lots price) ⌝ }
+    ensures { λ code. ⌜ code ≡ answer.firstOf (restingRefusals terms account r lots price) ⌝ }
 {
     if !r.found {
         return 14;
@@ -135,21 +114,12 @@ fn loses_place(order: Order, lots: u32, price: u32) -> bool
     price != order.price
 }
 
-// The order as it arrives again: a good-for-day limit order, to open or close as before.
+// The order as it arrives again, to open or close as before.
 fn arriving(account: u32, contract: u32, r: Resting, lots: u32, price: u32) -> NewOrder
-    ensures { λ o. ⌜ o ≡ arrivingFor account contract r lots price ⌝ }
+    ensures { λ o. ⌜ o ≡ answer.dayLimitOrder account contract (r .sell) (eqb (r .order .close) 1) lots price ⌝ }
 {
     let order = r.order;
-    NewOrder {
-        account,
-        contract,
-        sell: r.sell,
-        close: order.close == 1,
-        lots,
-        price,
-        condition: PriceCondition::Limit(price),
-        time: TimeCondition::GoodForDay,
-    }
+    orders::day_limit(account, contract, r.sell, order.close == 1, lots, price)
 }
 
 // Fewer lots: that order's lots alone, and its mark. `count` is the number of orders on its side.
@@ -183,7 +153,7 @@ fn put_back(buys: &mut [u32], sells: &mut [u32], c: usize, count: usize, r: Rest
 
 // The order is taken out of its queue. The state after it.
 fn take_out(state: State, buys: &mut [u32], sells: &mut [u32], c: usize, r: Resting) -> State
-    requires { ⌜ (c < 4) × (r .place < sideCount (r .sell) state c) × (firstWord c (sideCount (r .sell) state c) ≤ length (sideArea (r .sell) (now buys) (now sells))) ⌝ }
+    requires { ⌜ (c < maxContracts) × (r .place < sideCount (r .sell) state c) × (firstWord c (sideCount (r .sell) state c) ≤ length (sideArea (r .sell) (now buys) (now sells))) ⌝ }
     ensures { λ t. ⌜ t ≡ takenOut state c r ⌝ }
     ensures { λ _. ⌜ now (buys .exit) ≡ pick (r .sell) (now (buys .entry)) (removedIn (now (buys .entry)) c (sideCount false state c) (r .place)) ⌝ }
     ensures { λ _. ⌜ now (sells .exit) ≡ pick (r .sell) (removedIn (now (sells .entry)) c (sideCount true state c) (r .place)) (now (sells .entry)) ⌝ }
@@ -212,7 +182,7 @@ fn lose_place(
     price: u32,
     r: Resting,
 ) -> Outcome
-    requires { ⌜ WellFormedState state (now buys) (now sells) (now trades) × Changeable state (now buys) (now sells) account contract number lots price r × (lots ≡ 0 → ⊥) × (loses (r .order) lots price ≡ true) ⌝ }
+    requires { ⌜ WellFormedState state (now buys) (now sells) (now trades) × Changeable state (now buys) (now sells) (now trades) account contract number lots price r × (lots ≡ 0 → ⊥) × (loses (r .order) lots price ≡ true) ⌝ }
     ensures { λ o. ⌜ OutcomeIs (stepIn (memory state (now (buys .entry)) (now (sells .entry)) (now (trades .entry))) (Change account contract number lots price)) o (now (buys .exit)) (now (sells .exit)) (now (trades .exit)) ⌝ }
 {
     let c = laws::place_of(contract);
@@ -247,7 +217,7 @@ pub fn change(
     requires { ⌜ WellFormedState state (now buys) (now sells) (now trades) ⌝ }
     ensures { λ r. ⌜ OutcomeIs (stepIn (memory state (now (buys .entry)) (now (sells .entry)) (now (trades .entry))) (Change account contract number lots price)) r (now (buys .exit)) (now (sells .exit)) (now (trades .exit)) ⌝ }
 {
-    let early = state_code(state, account, contract);
+    let early = codes::continuous_code(state, account, contract);
     if early != 0 {
         return answers::refused(state, early);
     }
@@ -257,7 +227,7 @@ pub fn change(
     let bids = orders::side_count(false, state, c);
     let offers = orders::side_count(true, state, c);
     let r = resting_order(&buys[..], bids, &sells[..], offers, c, number);
-    let code = order_code(terms, account - 1, r, lots, price);
+    let code = resting_code(terms, account - 1, r, lots, price);
     if code != 0 {
         return answers::refused(state, code);
     }

@@ -7,7 +7,7 @@ use lib.IntN.{pos}
 use lib.ListN.{length, getD}
 use Rattle.laws.specs.Choice.{pick, all}
 use Rattle.laws.specs.Tabulate.{tabulate}
-use Rattle.rules.specs.Bounds.{within}
+use Rattle.rules.specs.Bounds.{within, maxContracts}
 use Rattle.rules.specs.Exchange.{Exchange, holdingAt, noTrade, placeOf}
 use Rattle.rules.specs.Holdings.{bookTrades, neverBelowZero, startOfDay}
 use Rattle.rules.specs.Memory.{used}
@@ -37,13 +37,16 @@ pub record Clients : Type 0 where
   pub starts : List ℕ
   pub postings : List ℕ
 
--- Eight words for each client: for each of four contracts the long lots, then the short ones. A word past the end is 0, and words
--- of contracts past the count are not looked at.
+-- Two words for each contract of each client: the long lots, then the short ones. A word past the end is 0, and words of contracts
+-- past the count are not looked at.
+abbrev pub startsStride : ℕ
+startsStride = 2 * maxContracts
+
 abbrev pub startLong : List ℕ → ℕ → ℕ → ℕ
-startLong starts k c = getD starts (8 * k + 2 * c) 0
+startLong starts k c = getD starts (startsStride * k + 2 * c) 0
 
 abbrev pub startShort : List ℕ → ℕ → ℕ → ℕ
-startShort starts k c = getD starts (8 * k + 2 * c + 1) 0
+startShort starts k c = getD starts (startsStride * k + 2 * c + 1) 0
 
 -- "Each order of one account is posted to one of up to 16 clients": two words for each posting, the order's number and the
 -- client's. A single word at the end is no posting.
@@ -63,6 +66,10 @@ isPosted clients postings number = eqb (length (posted postings number)) 1 && wi
 -- the place behind the clients' stands for every other account
 abbrev pub others : ℕ
 others = maxClients
+
+-- the clients' places and the others'
+abbrev pub clientPlaces : ℕ
+clientPlaces = suc maxClients
 
 -- the place of the client to whom an order is posted
 unfoldable pub clientPlace : ℕ → List ℕ → ℕ → ℕ
@@ -96,7 +103,7 @@ startHolding starts k c =
 
 -- what stands at place k: a client, or, past the clients, no lots
 unfoldable pub clientAccount : Clients → ℕ → Account
-clientAccount b k = record { balance = pos 0; maker = 0; holdings = tabulate 4 (startHolding (pick (ltb k (b .count)) (b .starts) []) k) }
+clientAccount b k = record { balance = pos 0; maker = 0; holdings = tabulate maxContracts (startHolding (pick (ltb k (b .count)) (b .starts) []) k) }
 
 -- Contracts, quotes and trade prices are the day's, so the settlement price due is too. A client's closing and holding profit are then
 -- document 01's `closingProfit` and `holdingProfit`, Article 32, of this exchange, and its holdings are the replay's.
@@ -104,7 +111,7 @@ unfoldable pub clientExchange : Exchange → ℕ → Clients → Exchange
 clientExchange x a b =
     record {
       listings = x .listings;
-      accounts = used (length (x .listings)) (suc maxClients) (tabulate (suc maxClients) (clientAccount b));
+      accounts = used (length (x .listings)) clientPlaces (tabulate clientPlaces (clientAccount b));
       trades = map (clientTrade a (b .count) (b .postings)) (x .trades);
       next = x .next;
       nextstamp = x .nextstamp;

@@ -7,11 +7,15 @@ ghost use lib.Dec.{eqb};
 ghost use lib.ListN.{length};
 ghost use Rattle.laws.specs.Choice.{pick};
 ghost use Rattle.clients.specs.Parts.{PostingIs};
-ghost use Rattle.clients.specs.Clients.{clientPlace, clientTrade, isClient, legsIn};
+ghost use Rattle.clients.specs.Clients.{clientPlace, clientTrade, isClient, legsIn, maxClients, others};
 ghost use Rattle.rules.specs.Bounds.{maxTrades};
 ghost use Rattle.rules.specs.Memory.{tradeStride};
+use crate::MAX_CLIENTS;
 use book::trades;
 use rules::Trade;
+
+// The place behind the clients' stands for every other account.
+const OTHERS: u32 = MAX_CLIENTS;
 
 // Whether the account's legs all have clients, and how many legs there are.
 pub struct Posting {
@@ -19,7 +23,7 @@ pub struct Posting {
     pub legs: usize,
 }
 
-// The place of the client to whom an order is posted; 16 where it is unposted, posted twice or posted to an unknown client.
+// The place of the client to whom an order is posted; the others' where it is unposted, posted twice or posted to an unknown client.
 fn client_place(postings: &[u32], number: u32, clients: u32) -> u32
     ensures { λ r. ⌜ r ≡ clientPlace clients (now (postings .entry)) number ⌝ }
 {
@@ -38,23 +42,23 @@ fn client_place(postings: &[u32], number: u32, clients: u32) -> u32
         i += 1;
     }
     if times != 1 {
-        return 16;
+        return OTHERS;
     }
     if client < 1 {
-        return 16;
+        return OTHERS;
     }
     if clients < client {
-        return 16;
+        return OTHERS;
     }
     client - 1
 }
 
 // The place of a leg: its client's, or the others'.
 fn leg_place(account: u32, a: u32, number: u32, postings: &[u32], clients: u32) -> u32
-    ensures { λ r. ⌜ r ≡ pick (eqb account a) (clientPlace clients (now (postings .entry)) number) 16 ⌝ }
+    ensures { λ r. ⌜ r ≡ pick (eqb account a) (clientPlace clients (now (postings .entry)) number) others ⌝ }
 {
     if account != a {
-        return 16;
+        return OTHERS;
     }
     client_place(postings, number, clients)
 }
@@ -93,13 +97,13 @@ fn client_trade(t: Trade, a: u32, postings: &[u32], clients: u32) -> Trade
 fn legs_in(t: Trade) -> usize
     ensures { λ r. ⌜ (r ≡ legsIn t) × (r ≤ 2) ⌝ }
 {
-    if t.buyer < 16 {
-        if t.seller < 16 {
+    if t.buyer < MAX_CLIENTS {
+        if t.seller < MAX_CLIENTS {
             return 2;
         }
         return 1;
     }
-    if t.seller < 16 {
+    if t.seller < MAX_CLIENTS {
         return 1;
     }
     0
@@ -112,7 +116,7 @@ fn has_client(account: u32, a: u32, place: u32) -> bool
     if account != a {
         return true;
     }
-    place < 16
+    place < MAX_CLIENTS
 }
 
 // Whether the account's legs in a trade have clients; u is the trade with clients in the account's place.
@@ -134,7 +138,7 @@ pub fn post_trades(
     clients: u32,
     area: &mut [u32],
 ) -> Posting
-    requires { ⌜ (clients ≤ 16) × (count ≤ maxTrades) × (tradeStride * count ≤ length (now trades)) × (tradeStride * count ≤ length (now area)) ⌝ }
+    requires { ⌜ (clients ≤ maxClients) × (count ≤ maxTrades) × (tradeStride * count ≤ length (now trades)) × (tradeStride * count ≤ length (now area)) ⌝ }
     ensures { λ r. ⌜ PostingIs a clients (now (postings .entry)) (now (trades .entry)) count (now (area .entry)) r (now (area .exit)) ⌝ }
 {
     let mut legs: usize = 0;

@@ -7,11 +7,15 @@ ghost use lib.Dec.{eqb, ltb};
 ghost use lib.ListN.{getD};
 ghost use Rattle.laws.specs.Choice.{pick, all};
 ghost use Rattle.laws.specs.Tabulate.{tabulate};
+ghost use Rattle.rules.specs.Bounds.{maxContracts, maxAccounts};
 ghost use Rattle.rules.specs.Exchange.{noHolding};
 ghost use Rattle.clients.specs.Parts.{clientsWith};
-ghost use Rattle.clients.specs.Clients.{clientAccount, startHolding, startLong, startShort, total};
+ghost use Rattle.clients.specs.Clients.{clientAccount, startHolding, startLong, startShort, total, maxClients, startsStride};
 use rules::Account;
 use rules::Holding;
+
+// Two words for each contract of a client: long and short lots.
+const STARTS_STRIDE: usize = 2 * rules::MAX_CONTRACTS;
 
 // A word of the area, 0 past its end.
 fn word_at(starts: &[u32], at: usize) -> u32
@@ -22,13 +26,13 @@ fn word_at(starts: &[u32], at: usize) -> u32
 
 // What stands `first` words behind each client's first word, added up.
 fn sum(starts: &[u32], first: usize, clients: usize) -> u64
-    requires { ⌜ (first < 8) × (clients ≤ 16) ⌝ }
-    ensures { λ r. ⌜ r ≡ total clients (λ k. getD (now (starts .entry)) (8 * k + first) 0) ⌝ }
+    requires { ⌜ (first < startsStride) × (clients ≤ maxClients) ⌝ }
+    ensures { λ r. ⌜ r ≡ total clients (λ k. getD (now (starts .entry)) (startsStride * k + first) 0) ⌝ }
 {
     let mut lots: u64 = 0;
     let mut k: usize = 0;
     while k < clients {
-        let word = word_at(starts, 8 * k + first);
+        let word = word_at(starts, STARTS_STRIDE * k + first);
         lots += laws::wide64(word);
         k += 1;
     }
@@ -42,7 +46,7 @@ pub fn add_up(
     holdings: [Holding; rules::MAX_CONTRACTS],
     contracts: usize,
 ) -> bool
-    requires { ⌜ (clients ≤ 16) × (contracts ≤ 4) ⌝ }
+    requires { ⌜ (clients ≤ maxClients) × (contracts ≤ maxContracts) ⌝ }
     ensures { λ r. ⌜ r ≡ all (λ c. eqb (total clients (λ k. startLong (now (starts .entry)) k c)) (getD holdings c noHolding .startlong) && eqb (total clients (λ k. startShort (now (starts .entry)) k c)) (getD holdings c noHolding .startshort)) contracts ⌝ }
 {
     let mut c: usize = 0;
@@ -63,7 +67,7 @@ pub fn add_up(
 
 // The lots in contract c of the client at place k; past the clients, none.
 fn start_holding(starts: &[u32], clients: usize, k: usize, c: usize) -> Holding
-    requires { ⌜ (k < 32) × (c < 4) ⌝ }
+    requires { ⌜ (k < maxAccounts) × (c < maxContracts) ⌝ }
     ensures { λ r. ⌜ r ≡ startHolding (pick (ltb k clients) (now (starts .entry)) []) k c ⌝ }
 {
     if clients <= k {
@@ -74,8 +78,8 @@ fn start_holding(starts: &[u32], clients: usize, k: usize, c: usize) -> Holding
             startshort: 0,
         };
     }
-    let long = word_at(starts, 8 * k + 2 * c);
-    let short = word_at(starts, 8 * k + 2 * c + 1);
+    let long = word_at(starts, STARTS_STRIDE * k + 2 * c);
+    let short = word_at(starts, STARTS_STRIDE * k + 2 * c + 1);
     Holding {
         long,
         short,
@@ -85,7 +89,7 @@ fn start_holding(starts: &[u32], clients: usize, k: usize, c: usize) -> Holding
 }
 
 fn client_account(starts: &[u32], clients: usize, k: usize) -> Account
-    requires { ⌜ k < 32 ⌝ }
+    requires { ⌜ k < maxAccounts ⌝ }
     ensures { λ r. ⌜ r ≡ clientAccount (clientsWith clients (now (starts .entry))) k ⌝ }
 {
     let first = start_holding(starts, clients, k, 0);
@@ -101,7 +105,7 @@ fn client_account(starts: &[u32], clients: usize, k: usize) -> Account
 
 // The clients as accounts.
 pub fn client_accounts(starts: &[u32], clients: usize) -> [Account; rules::MAX_ACCOUNTS]
-    ensures { λ r. ⌜ r ≡ tabulate 32 (clientAccount (clientsWith clients (now (starts .entry)))) ⌝ }
+    ensures { λ r. ⌜ r ≡ tabulate maxAccounts (clientAccount (clientsWith clients (now (starts .entry)))) ⌝ }
 {
     let none = client_account(starts, 0, 0);
     let mut accounts: [Account; rules::MAX_ACCOUNTS] = [none; rules::MAX_ACCOUNTS];

@@ -307,11 +307,17 @@ pub fn kind_of(command: Command) -> u32
 pub fn is_malformed(command: Command) -> bool
     ensures { λ r. ⌜ r ≡ isMalformed command ⌝ }
 {
-    kind_of(command) == 0
+    match command {
+        Command::Malformed => true,
+        _ => false,
+    }
 }
 
 pub fn is_settle(command: Command) -> bool
     ensures { λ r. ⌜ r ≡ isSettle command ⌝ }
 {
-    kind_of(command) == 7
+    match command {
+        Command::Settle => true,
+        _ => false,
+    }
 }

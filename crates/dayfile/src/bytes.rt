@@ -5,7 +5,7 @@ ghost use Prim.Native.Nat.{_+_, _%_, _≤_};
 ghost use lib.Dec.{leb};
 ghost use lib.ListN.{length};
 ghost use Rattle.laws.specs.Choice.{pick};
-ghost use Rattle.rules.specs.DayFile.{u64At, contractFrom, makerBit};
+ghost use Rattle.rules.specs.DayFile.{u64At, contractFrom, makerBit, contractWidth, accountWidth};
 use endian::reading::u16_at;
 use endian::reading::u32_at;
 use endian::reading::u64_at;
@@ -16,7 +16,7 @@ const MAKER_BIT: u64 = 9223372036854775808;
 
 // An account's opening balance: the other 63 bits.
 pub fn balance_at(file: &[u8], at: usize) -> u64
-    requires { ⌜ at + 8 ≤ length (now file) ⌝ }
+    requires { ⌜ at + accountWidth ≤ length (now file) ⌝ }
     ensures { λ r. ⌜ r ≡ u64At (now (file .entry)) at % makerBit ⌝ }
 {
     u64_at(file, at) % MAKER_BIT
@@ -24,7 +24,7 @@ pub fn balance_at(file: &[u8], at: usize) -> u64
 
 // 1 for a maker, 0 for another account.
 pub fn maker_at(file: &[u8], at: usize) -> u64
-    requires { ⌜ at + 8 ≤ length (now file) ⌝ }
+    requires { ⌜ at + accountWidth ≤ length (now file) ⌝ }
     ensures { λ r. ⌜ r ≡ pick (leb makerBit (u64At (now (file .entry)) at)) 1 0 ⌝ }
 {
     if MAKER_BIT <= u64_at(file, at) {
@@ -35,7 +35,7 @@ pub fn maker_at(file: &[u8], at: usize) -> u64
 
 // "A contract is 20 bytes", the last two of them its pairing method
 pub fn contract_at(file: &[u8], at: usize) -> Contract
-    requires { ⌜ at + 20 ≤ length (now file) ⌝ }
+    requires { ⌜ at + contractWidth ≤ length (now file) ⌝ }
     ensures { λ r. ⌜ r ≡ contractFrom (now (file .entry)) at ⌝ }
 {
     let multiplier = u16_at(file, at) as u32;
@@ -53,7 +53,7 @@ pub fn contract_at(file: &[u8], at: usize) -> Contract
         limit: limit,
         rate: rate,
         method: method,
-        phase: 0,
+        phase: rules::PRE_OPEN,
         last: reference,
     }
 }

@@ -22,10 +22,10 @@ pub fn sound(file: &[u8]) -> bool
         return false;
     }
     let end = head_end(file);
-    file.len() == end + 24 * commands
+    file.len() == end + rules::COMMAND_WIDTH * commands
 }
 
-// Where the first command's record begins; the k-th after it begins 24 * k bytes further. For the crates of this repository:
+// Where the first command's record begins; the k-th after it begins k commands' widths further. For the crates of this repository:
 // requires a sound file.
 pub fn first_command(file: &[u8]) -> usize
     requires { ⌜ DayFile·sound (now file) ≡ true ⌝ }
@@ -48,5 +48,5 @@ pub fn record_of(file: &[u8], first: usize, k: usize) -> Record
     requires { ⌜ (DayFile·sound (now file) ≡ true) × (first ≡ commandPlace (now file) 0) × (k < commandsIn (now file)) ⌝ }
     ensures { λ r. ⌜ r ≡ recordFrom (now (file .entry)) (commandPlace (now (file .entry)) k) ⌝ }
 {
-    record_at(file, first + 24 * k)
+    record_at(file, first + rules::COMMAND_WIDTH * k)
 }

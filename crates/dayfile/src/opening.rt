@@ -1,12 +1,14 @@
 // The state that a sound file's run opens with: the file's contracts and accounts in the first places, zeros in the others.
 ghost use mathlib.Core.Bool.{true};
 ghost use mathlib.Core.Path.{_≡_};
-ghost use Prim.Native.Nat.{_≤_, _^_};
+ghost use Prim.Native.Nat.{_≤_};
+ghost use Rattle.rules.specs.Bounds.{maxBalance};
 ghost use Rattle.rules.specs.DayFile.{sound, contractsIn, accountsIn, accountPlace};
 ghost use Rattle.dayfile.specs.Opening.{accountWith, openingContracts, openingAccounts, openingState};
 use super::bytes::balance_at;
 use super::bytes::contract_at;
 use super::bytes::maker_at;
+use super::head::TWO_COUNTS;
 use super::head::account_count;
 use super::head::contract_count;
 use rules::Account;
@@ -32,14 +34,14 @@ fn opening_contracts(file: &[u8], contracts: usize) -> [Contract; rules::MAX_CON
     let mut places = [none; rules::MAX_CONTRACTS];
     let mut c = 0;
     while c < contracts {
-        places[c] = contract_at(file, 4 + 20 * c);
+        places[c] = contract_at(file, rules::COUNT_WIDTH + rules::CONTRACT_WIDTH * c);
         c += 1;
     }
     places
 }
 
 fn account_with(balance: u64, maker: u64) -> Account
-    requires { ⌜ balance ≤ 10 ^ 18 ⌝ }
+    requires { ⌜ balance ≤ maxBalance ⌝ }
     ensures { λ r. ⌜ r ≡ accountWith balance maker ⌝ }
 {
     let none = Holding {
@@ -65,8 +67,8 @@ fn opening_accounts(file: &[u8], start: usize, accounts: usize) -> [Account; rul
     let mut places = [none; rules::MAX_ACCOUNTS];
     let mut a = 0;
     while a < accounts {
-        let balance = balance_at(file, start + 8 * a);
-        let maker = maker_at(file, start + 8 * a);
+        let balance = balance_at(file, start + rules::ACCOUNT_WIDTH * a);
+        let maker = maker_at(file, start + rules::ACCOUNT_WIDTH * a);
         places[a] = account_with(balance, maker);
         a += 1;
     }
@@ -81,7 +83,11 @@ pub fn opening_state(file: &[u8]) -> State
     let contracts = contract_count(file);
     let accounts = account_count(file, contracts);
     let terms = opening_contracts(file, contracts);
-    let holders = opening_accounts(file, 8 + 20 * contracts, accounts);
+    let holders = opening_accounts(
+        file,
+        TWO_COUNTS + rules::CONTRACT_WIDTH * contracts,
+        accounts,
+    );
     State {
         contracts: terms,
         accounts: holders,

@@ -1,3 +1,4 @@
+-- The laws that the proofs of this crate apply. Assumes nothing.
 pub mod Trading
 pub mod Quoting
 pub mod FirstIn

@@ -131,12 +131,18 @@ pub record Passing (Told : ℕ → Bool → List Leg → ℕ → ℕ → Type 0)
   pub within : i ≤ count
   pub kept : Kept Told (legsTo area i) us vs
 
-module _ (area : List ℕ) (count : ℕ) (g : PlacedTrades area count) (i : ℕ) (lt : i < count) (t : Trade) (e : t ≡ tradeFrom (drop (tradeStride * i) area)) where
+-- the trade that a turn reads
+pub record TradeRead (area : List ℕ) (count i : ℕ) (t : Trade) : Type 0 where
+  pub placed : PlacedTrades area count
+  pub here : i < count
+  pub read : t ≡ tradeFrom (drop (tradeStride * i) area)
+
+module _ {area : List ℕ} {count i : ℕ} {t : Trade} (r : TradeRead area count i t) where
   its-size : Sized t
-  its-size = sized-at area count (g .trades) i t lt e
+  its-size = sized-at area count (r .placed .trades) i t (r .here) (r .read)
 
   its-places : Placed t
-  its-places = rw (e, ← trade-at area count i lt) (g .placed i lt)
+  its-places = rw (r .read, ← trade-at area count i (r .here)) (r .placed .placed i (r .here))
 
   module _ {close : Bool} {Told : ℕ → Bool → List Leg → ℕ → ℕ → Type 0} {F G : ℕ → ℕ → ℕ → ℕ → ℕ} (pass : Pass close Told F G) {us vs : List ℕ} (w : Passing Told area count us vs i) where
     abbrev closes : Bool → Bool
@@ -144,7 +150,7 @@ module _ (area : List ℕ) (count : ℕ) (g : PlacedTrades area count) (i : ℕ)
 
     pub buy-addable : Addable us vs (legSlot false t) t
     buy-addable =
-        leg-addable pass (w .kept) false t its-places its-size (λ a c s. omega (arith, value-reach area count (g .trades) i (w .within) a c s close))
+        leg-addable pass (w .kept) false t its-places its-size (λ a c s. omega (arith, value-reach area count (r .placed .trades) i (w .within) a c s close))
 
     module _ {us′ vs′ : List ℕ} (p : us′ ≡ changed (closes false) us (legSlot false t) (F (getD us (legSlot false t) 0) (getD vs (legSlot false t) 0) (t .price) (t .lots)))
         (q : vs′ ≡ changed (closes false) vs (legSlot false t) (G (getD us (legSlot false t) 0) (getD vs (legSlot false t) 0) (t .price) (t .lots))) where
@@ -152,22 +158,22 @@ module _ (area : List ℕ) (count : ℕ) (g : PlacedTrades area count) (i : ℕ)
       bought = leg-more pass (w .kept) false t its-places us′ vs′ p q
 
       pub sell-addable : Addable us′ vs′ (legSlot true t) t
-      sell-addable = leg-addable pass bought true t its-places its-size (λ a c s. value-reach-leg area count (g .trades) i (w .within) a c s close false t its-size)
+      sell-addable = leg-addable pass bought true t its-places its-size (λ a c s. value-reach-leg area count (r .placed .trades) i (w .within) a c s close false t its-size)
 
-      pub passing-more : (us″ vs″ : List ℕ) → us″ ≡ changed (closes true) us′ (legSlot true t) (F (getD us′ (legSlot true t) 0) (getD vs′ (legSlot true t) 0) (t .price) (t .lots))
+      pub passing-more : {us″ vs″ : List ℕ} → us″ ≡ changed (closes true) us′ (legSlot true t) (F (getD us′ (legSlot true t) 0) (getD vs′ (legSlot true t) 0) (t .price) (t .lots))
           → vs″ ≡ changed (closes true) vs′ (legSlot true t) (G (getD us′ (legSlot true t) 0) (getD vs′ (legSlot true t) 0) (t .price) (t .lots)) → Passing Told area count us″ vs″ (i + 1)
-      passing-more us″ vs″ p′ q′ =
-          record { within = omega arith; kept = trade-more area i t us″ vs″ e (leg-more pass bought true t its-places us″ vs″ p′ q′) }
+      passing-more {us″} {vs″} p′ q′ =
+          record { within = omega (arith, r .here); kept = trade-more area i t us″ vs″ (r .read) (leg-more pass bought true t its-places us″ vs″ p′ q′) }
 
   -- lots are added too
   module _ (close : Bool) {us vs : List ℕ} (w : Passing (Added close) area count us vs i) where
     pub buy-lots : getD us (legSlot false t) 0 ≤ 2_000_000
     buy-lots =
-        omega (arith, w .kept .tells (t .buyer) (t .contract) false (its-places .buyer) (its-places .contract) .0, lots-reach area count (g .trades) i (w .within) (t .buyer) (t .contract) false close)
+        omega (arith, w .kept .tells (t .buyer) (t .contract) false (its-places .buyer) (its-places .contract) .0, lots-reach area count (r .placed .trades) i (w .within) (t .buyer) (t .contract) false close)
 
     pub sell-lots : {us′ vs′ : List ℕ} → Kept (Added close) (λ a c. legsTo area i a c ++ legOf false t a c) us′ vs′ → getD us′ (legSlot true t) 0 ≤ 2_000_000
     sell-lots b =
-        omega (arith, b .tells (t .seller) (t .contract) true (its-places .seller) (its-places .contract) .0, lots-reach-leg area count (g .trades) i (w .within) (t .seller) (t .contract) true close false t its-size)
+        omega (arith, b .tells (t .seller) (t .contract) true (its-places .seller) (its-places .contract) .0, lots-reach-leg area count (r .placed .trades) i (w .within) (t .seller) (t .contract) true close false t its-size)
 
 -- before the first trade and after the last
 

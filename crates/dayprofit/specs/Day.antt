@@ -4,7 +4,7 @@ use mathlib.Core.List.{List, [], _∷_}
 use mathlib.Core.Path.{_≡_}
 use Prim.Native.Nat.{ℕ, _*_, _<_, _≤_}
 use lib.ListN.{length}
-use Rattle.rules.specs.Bounds.{maxPrice, maxLots, maxTrades}
+use Rattle.rules.specs.Bounds.{maxPrice, maxLots, maxTrades, maxContracts}
 use Rattle.rules.specs.Matching.{tradedLots}
 use Rattle.rules.specs.Memory.{recordedTrades, tradeStride, firstWord}
 use Rattle.rules.specs.Settlement.{tradedValue}
@@ -39,6 +39,6 @@ pub record Quotes (buys : List ℕ) (buycount : ℕ) (sells : List ℕ) (sellcou
 -- all that the settlement price of contract c is worked out from
 pub record Priceable (contract : Contract) (buys : List ℕ) (buycount : ℕ) (sells : List ℕ) (sellcount : ℕ) (area : List ℕ) (count c : ℕ) : Type 0 where
   pub tick : 0 < contract .tick
-  pub place : c < 4
+  pub place : c < maxContracts
   pub trades : SizedTrades area count
   pub quotes : Quotes buys buycount sells sellcount c

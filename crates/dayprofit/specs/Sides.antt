@@ -3,11 +3,12 @@
 use mathlib.Core.Bool.{Bool, true, false, not, _&&_}
 use mathlib.Core.List.{List, [], _∷_, _++_}
 use mathlib.Core.Path.{_≡_}
-use Prim.Native.Nat.{ℕ, _+_, _-_, _*_, _≤_, min}
+use Prim.Native.Nat.{ℕ, _+_, _-_, _*_, _^_, _≤_, min}
 use lib.IntN.{ℤ, pos, _-ℤ_}
 use Rattle.laws.specs.Bound.{Within}
 use Rattle.laws.specs.Choice.{pick}
 use Rattle.laws.specs.Sums.{sumOf}
+use Rattle.rules.specs.Bounds.{maxTrades, maxLots, maxPrice, maxLimit}
 use Rattle.rules.specs.Memory.{recordedTrades}
 use Rattle.rules.specs.Settlement.{Leg, leg, Batch, Day, dayStart, afterLegs, legs}
 use Rattle.rules.specs.declared.Holding.{Holding}
@@ -64,10 +65,10 @@ dayOver reference h a c ts = afterLegs (dayStart reference (h .startlong) (h .st
 -- what an account's profit in a contract asks for: values in range, and closes that find their lots
 pub record Profitable (ref : ℕ) (h : Holding) (a c : ℕ) (area : List ℕ) (count p : ℕ) : Type 0 where
   pub trades : SizedTrades area count
-  pub reference : ref ≤ 1_000_000
-  pub long : h .startlong ≤ 100_000
-  pub short : h .startshort ≤ 100_000
-  pub price : p ≤ 1_000_000
+  pub reference : ref ≤ maxPrice
+  pub long : h .startlong ≤ maxLimit
+  pub short : h .startshort ≤ maxLimit
+  pub price : p ≤ maxPrice
   pub covered : AllCovered (dayStart ref (h .startlong) (h .startshort)) (legs a c (recordedTrades area count))
 
 -- ---- the profit from sums of legs
@@ -90,24 +91,41 @@ closingFrom long short = pos (long .closes + short .closed) -ℤ pos (long .clos
 abbrev pub holdingFrom : ℕ → Side → Side → ℤ
 holdingFrom price long short = pos (price * long .lots + short .opened) -ℤ pos (long .opened + price * short .lots)
 
--- sums of 1,024 trades of at most 1,000 lots at 1,000,000, whose closes found their lots
+-- the lots of a day, 1,024 trades of at most 1,000, and of a side with what it held at the start; each at most at the largest price
+abbrev pub dayLotsMost : ℕ
+dayLotsMost = maxTrades * maxLots
+
+abbrev pub dayValueMost : ℕ
+dayValueMost = maxPrice * dayLotsMost
+
+abbrev pub sideLotsMost : ℕ
+sideLotsMost = maxLimit + dayLotsMost
+
+abbrev pub sideValueMost : ℕ
+sideValueMost = maxPrice * sideLotsMost
+
+-- sums of a day's trades, whose closes found their lots
 pub record SumsSmall (ref start : ℕ) (s : Sums) : Type 0 where
-  pub reference : ref ≤ 1_000_000
-  pub first : start ≤ 100_000
+  pub reference : ref ≤ maxPrice
+  pub first : start ≤ maxLimit
   pub covered : s .closed ≤ start + s .opened
-  pub opened : s .opened ≤ 1_024_000
-  pub closes : s .closes ≤ 1_024_000_000_000
-  pub opens : s .opens ≤ 1_024_000_000_000
+  pub opened : s .opened ≤ dayLotsMost
+  pub closes : s .closes ≤ dayValueMost
+  pub opens : s .opens ≤ dayValueMost
   pub used : s .used ≤ s .opens
 
 pub record SideSmall (r : Side) : Type 0 where
-  pub closes : r .closes ≤ 1_124_000_000_000
-  pub closed : r .closed ≤ 1_124_000_000_000
-  pub lots : r .lots ≤ 1_124_000
-  pub opened : r .opened ≤ 1_124_000_000_000
+  pub closes : r .closes ≤ sideValueMost
+  pub closed : r .closed ≤ sideValueMost
+  pub lots : r .lots ≤ sideLotsMost
+  pub opened : r .opened ≤ sideValueMost
+
+-- a part of an account's profit in a contract, before the multiplier: two sides' values (accounting's `maxContractProfit`) rounded up
+abbrev pub profitMost : ℕ
+profitMost = 4 * 10 ^ 12
 
 pub record ProfitFrom (long short : Side) (price : ℕ) (r : Profit) : Type 0 where
   pub closing : r .closing ≡ closingFrom long short
   pub holding : r .holding ≡ holdingFrom price long short
-  pub closing-small : Within 4_000_000_000_000 (r .closing)
-  pub holding-small : Within 4_000_000_000_000 (r .holding)
+  pub closing-small : Within profitMost (r .closing)
+  pub holding-small : Within profitMost (r .holding)

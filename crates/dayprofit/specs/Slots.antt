@@ -7,6 +7,7 @@ use lib.Dec.{eqb}
 use lib.ListN.{length, getD, set}
 use Rattle.laws.specs.Choice.{pick}
 use Rattle.laws.specs.Sums.{sumOf}
+use Rattle.rules.specs.Bounds.{maxContracts, maxAccounts, maxPrice}
 use Rattle.rules.specs.Exchange.{noTrade}
 use Rattle.rules.specs.Memory.{recordedTrades}
 use Rattle.rules.specs.Settlement.{legs, firstLots}
@@ -17,9 +18,15 @@ use Rattle.dayprofit.specs.Sides.{lotsIf, valueIf, openedToday, cost, si
 use Rattle.dayprofit.specs.declared.profit.Profit.{Profit}
 use Rattle.dayprofit.specs.declared.profit.Sums.{Sums}
 
--- an account's buys or sells in a contract
+-- an account's buys or sells in a contract: two slots for each contract
+abbrev pub accountSlots : ℕ
+accountSlots = 2 * maxContracts
+
+abbrev pub slots : ℕ
+slots = accountSlots * maxAccounts
+
 abbrev pub slotOf : ℕ → ℕ → Bool → ℕ
-slotOf a c sell = 8 * a + 2 * c + pick sell 1 0
+slotOf a c sell = accountSlots * a + 2 * c + pick sell 1 0
 
 -- the account of a trade's buy or sell leg, and whether it closes
 abbrev pub partyOf : Bool → Trade → ℕ
@@ -37,42 +44,49 @@ changed here xs at x = pick here (set xs at x) xs
 
 -- a trade whose legs have slots
 pub record Placed (t : Trade) : Type 0 where
-  pub contract : t .contract < 4
-  pub buyer : t .buyer < 32
-  pub seller : t .seller < 32
+  pub contract : t .contract < maxContracts
+  pub buyer : t .buyer < maxAccounts
+  pub seller : t .seller < maxAccounts
 
 pub record PlacedTrades (area : List ℕ) (count : ℕ) : Type 0 where
   pub trades : SizedTrades area count
   pub placed : (i : ℕ) → i < count → Placed (getD (recordedTrades area count) i noTrade)
 
+-- what a slot may have before a trade is added: the lots and the value of a day's trades rounded up
+abbrev pub slotLotsMost : ℕ
+slotLotsMost = 2_000_000
+
+abbrev pub slotValueMost : ℕ
+slotValueMost = maxPrice * slotLotsMost
+
 -- two arrays of slots, and room for a trade's value in the slot of a leg
 pub record Addable (lots value : List ℕ) (at : ℕ) (t : Trade) : Type 0 where
-  pub lots-room : length lots ≡ 256
-  pub value-room : length value ≡ 256
+  pub lots-room : length lots ≡ slots
+  pub value-room : length value ≡ slots
   pub placed : Placed t
   pub sized : Sized t
-  pub small : getD value at 0 ≤ 2_000_000_000_000
+  pub small : getD value at 0 ≤ slotValueMost
 
 -- ---- what the passes leave
 
 -- the lots and the value of the legs that close, or that open
 pub record SumsAre (close : Bool) (ts : List Trade) (lots value : List ℕ) : Type 0 where
-  pub lots-are : (a c : ℕ) (sell : Bool) → a < 32 → c < 4 → getD lots (slotOf a c sell) 0 ≡ sumOf (lotsIf sell close) (legs a c ts)
-  pub value-is : (a c : ℕ) (sell : Bool) → a < 32 → c < 4 → getD value (slotOf a c sell) 0 ≡ sumOf (valueIf sell close) (legs a c ts)
+  pub lots-are : (a c : ℕ) (sell : Bool) → a < maxAccounts → c < maxContracts → getD lots (slotOf a c sell) 0 ≡ sumOf (lotsIf sell close) (legs a c ts)
+  pub value-is : (a c : ℕ) (sell : Bool) → a < maxAccounts → c < maxContracts → getD value (slotOf a c sell) 0 ≡ sumOf (valueIf sell close) (legs a c ts)
 
 -- what the first lots of a side's opening legs were opened for, as many as its slot said
 pub record UsedAre (ts : List Trade) (left used : List ℕ) : Type 0 where
-  pub each : (a c : ℕ) (short : Bool) → a < 32 → c < 4
+  pub each : (a c : ℕ) (short : Bool) → a < maxAccounts → c < maxContracts
       → getD used (slotOf a c short) 0 ≡ cost (firstLots (getD left (slotOf a c short) 0) (openedToday short (legs a c ts)))
 
 -- ---- an account's day in a contract, from its slots
 
 pub record Rooms (closed closes opened opens used : List ℕ) : Type 0 where
-  pub closed-room : length closed ≡ 256
-  pub closes-room : length closes ≡ 256
-  pub opened-room : length opened ≡ 256
-  pub opens-room : length opens ≡ 256
-  pub used-room : length used ≡ 256
+  pub closed-room : length closed ≡ slots
+  pub closes-room : length closes ≡ slots
+  pub opened-room : length opened ≡ slots
+  pub opens-room : length opens ≡ slots
+  pub used-room : length used ≡ slots
 
 -- sells close long lots and open short ones, buys the other way round
 abbrev pub sumsAt : List ℕ → List ℕ → List ℕ → List ℕ → List ℕ → ℕ → ℕ → Bool → Sums
@@ -86,12 +100,12 @@ sumsAt closed closes opened opens used a c short =
     }
 
 pub record DaySmall (closed closes opened opens used : List ℕ) (a c reference : ℕ) (h : Holding) (price : ℕ) : Type 0 where
-  pub account : a < 32
-  pub contract : c < 4
+  pub account : a < maxAccounts
+  pub contract : c < maxContracts
   pub rooms : Rooms closed closes opened opens used
   pub long : SumsSmall reference (h .startlong) (sumsAt closed closes opened opens used a c false)
   pub short : SumsSmall reference (h .startshort) (sumsAt closed closes opened opens used a c true)
-  pub marked : price ≤ 1_000_000
+  pub marked : price ≤ maxPrice
 
 abbrev pub DayFrom : List ℕ → List ℕ → List ℕ → List ℕ → List ℕ → ℕ → ℕ → ℕ → Holding → ℕ → Profit → Type 0
 DayFrom closed closes opened opens used a c reference h price r =

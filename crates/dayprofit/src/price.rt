@@ -3,6 +3,7 @@
 ghost use mathlib.Core.Path.{_≡_};
 ghost use mathlib.Core.List.{[], _∷_};
 ghost use Prim.Native.Nat.{_+_, _*_, _/_, _<_, _≤_};
+ghost use Rattle.rules.specs.Bounds.{maxPrice};
 ghost use Rattle.rules.specs.Memory.{queueIn, recordedTrades};
 ghost use Rattle.rules.specs.Settlement.{quotedPrice, priceFrom, tradesIn};
 ghost use Rattle.dayprofit.specs.Day.{Sized, SizedTrades, TurnoverIs, Quotes, Priceable};
@@ -52,7 +53,7 @@ fn traded(area: &[u32], count: usize, contract: u32) -> Turnover
 
 // "weighted by lots, rounded down, then down to a tick"
 fn weighted(value: u64, lots: u64, tick: u32) -> u32
-    requires { ⌜ (0 < lots) × (0 < tick) × (value ≤ 1000000 * lots) ⌝ }
+    requires { ⌜ (0 < lots) × (0 < tick) × (value ≤ maxPrice * lots) ⌝ }
     ensures { λ r. ⌜ r ≡ value / lots / tick * tick ⌝ }
 {
     let average = value / lots;

@@ -5,8 +5,9 @@ ghost use mathlib.Core.Bool.{true, false};
 ghost use mathlib.Core.Path.{_≡_};
 ghost use Prim.Native.Nat.{_<_, _≤_};
 ghost use lib.IntN.{pos, _-ℤ_};
+ghost use Rattle.rules.specs.Bounds.{maxContracts, maxAccounts, maxPrice};
 ghost use Rattle.dayprofit.specs.Slots.{Rooms, sumsAt, DaySmall, DayFrom};
-ghost use Rattle.dayprofit.specs.Sides.{SumsSmall, sideFrom, SideSmall, ProfitFrom};
+ghost use Rattle.dayprofit.specs.Sides.{SumsSmall, sideFrom, SideSmall, ProfitFrom, profitMost};
 use crate::sums;
 use rules::Holding;
 
@@ -44,7 +45,7 @@ fn sums_at<'a>(
     c: usize,
     short: bool,
 ) -> Sums
-    requires { ⌜ (a < 32) × (c < 4) × Rooms (now closed) (now closes) (now opened) (now opens) (now used) ⌝ }
+    requires { ⌜ (a < maxAccounts) × (c < maxContracts) × Rooms (now closed) (now closes) (now opened) (now opens) (now used) ⌝ }
     ensures { λ r. ⌜ r ≡ sumsAt (now (closed .entry)) (now (closes .entry)) (now (opened .entry)) (now (opens .entry)) (now (used .entry)) a c short ⌝ }
 {
     let closing = sums::slot(a, c, !short);
@@ -78,7 +79,7 @@ fn side_of(s: Sums, reference: u32, start: u32) -> Side
 
 // One sum less another.
 fn difference(gains: u64, losses: u64) -> i64
-    requires { ⌜ (gains ≤ 4000000000000) × (losses ≤ 4000000000000) ⌝ }
+    requires { ⌜ (gains ≤ profitMost) × (losses ≤ profitMost) ⌝ }
     ensures { λ r. ⌜ r ≡ pos gains -ℤ pos losses ⌝ }
 {
     gains as i64 - losses as i64
@@ -87,7 +88,7 @@ fn difference(gains: u64, losses: u64) -> i64
 // "closing and holding parts, start-of-day lots against the reference, today's against their opening price": what the closes of
 // long lots brought less what those lots were opened for, and the other way round for short ones; the open lots at `price`.
 fn profit_of(long: Side, short: Side, price: u32) -> Profit
-    requires { ⌜ SideSmall long × SideSmall short × (price ≤ 1000000) ⌝ }
+    requires { ⌜ SideSmall long × SideSmall short × (price ≤ maxPrice) ⌝ }
     ensures { λ r. ⌜ ProfitFrom long short price r ⌝ }
 {
     let mark = price as u64;

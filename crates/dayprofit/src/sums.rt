@@ -7,14 +7,17 @@ ghost use mathlib.Core.Path.{_≡_};
 ghost use Prim.Native.Nat.{_+_, _-_, _*_, _<_, _≤_, min};
 ghost use lib.ListN.{length, getD, set, replicate};
 ghost use Rattle.laws.specs.Choice.{pick};
+ghost use Rattle.rules.specs.Bounds.{maxContracts, maxAccounts};
 ghost use Rattle.rules.specs.Memory.{recordedTrades};
 ghost use Rattle.dayprofit.specs.Sides.{same};
-ghost use Rattle.dayprofit.specs.Slots.{slotOf, closeOf, legSlot, changed, Placed, PlacedTrades, Addable, SumsAre, UsedAre};
+ghost use Rattle.dayprofit.specs.Slots.{slotOf, closeOf, legSlot, changed, Placed, PlacedTrades, Addable, SumsAre, UsedAre, slots, slotLotsMost};
 use book::trades;
 use rules::Trade;
 
-// For 32 accounts, 4 contracts, and buys and sells.
-pub const SLOTS: usize = 256;
+// Buys and sells in each contract, for one account and for all.
+const ACCOUNT_SLOTS: usize = 2 * rules::MAX_CONTRACTS;
+
+pub const SLOTS: usize = ACCOUNT_SLOTS * rules::MAX_ACCOUNTS;
 
 fn side(sell: bool) -> usize
     ensures { λ r. ⌜ (r ≡ pick sell 1 0) × (r < 2) ⌝ }
@@ -24,10 +27,10 @@ fn side(sell: bool) -> usize
 
 // Where an account's buys or sells in a contract are added up.
 pub fn slot(a: usize, c: usize, sell: bool) -> usize
-    requires { ⌜ (a < 32) × (c < 4) ⌝ }
-    ensures { λ r. ⌜ (r ≡ slotOf a c sell) × (r < 256) ⌝ }
+    requires { ⌜ (a < maxAccounts) × (c < maxContracts) ⌝ }
+    ensures { λ r. ⌜ (r ≡ slotOf a c sell) × (r < slots) ⌝ }
 {
-    8 * a + 2 * c + side(sell)
+    ACCOUNT_SLOTS * a + 2 * c + side(sell)
 }
 
 // The account of a trade's buy or sell leg.
@@ -55,7 +58,7 @@ fn is_kind(t: Trade, sell: bool, close: bool) -> bool
 // Where that leg is added up.
 fn leg_slot(t: Trade, sell: bool) -> usize
     requires { ⌜ Placed t ⌝ }
-    ensures { λ r. ⌜ (r ≡ legSlot sell t) × (r < 256) ⌝ }
+    ensures { λ r. ⌜ (r ≡ legSlot sell t) × (r < slots) ⌝ }
 {
     let a = laws::wide(party(t, sell));
     let c = laws::wide(t.contract);
@@ -63,7 +66,7 @@ fn leg_slot(t: Trade, sell: bool) -> usize
 }
 
 fn add_leg(lots: &mut [u32], value: &mut [u64], t: Trade, sell: bool, close: bool)
-    requires { ⌜ Addable (now lots) (now value) (legSlot sell t) t × (getD (now lots) (legSlot sell t) 0 ≤ 2000000) ⌝ }
+    requires { ⌜ Addable (now lots) (now value) (legSlot sell t) t × (getD (now lots) (legSlot sell t) 0 ≤ slotLotsMost) ⌝ }
     ensures { λ _. ⌜ (now (lots .exit) ≡ changed (same close (closeOf sell t)) (now (lots .entry)) (legSlot sell t) (getD (now (lots .entry)) (legSlot sell t) 0 + t .lots)) × (now (value .exit) ≡ changed (same close (closeOf sell t)) (now (value .entry)) (legSlot sell t) (getD (now (value .entry)) (legSlot sell t) 0 + t .price * t .lots)) ⌝ }
 {
     if !is_kind(t, sell, close) {
@@ -78,7 +81,7 @@ fn add_leg(lots: &mut [u32], value: &mut [u64], t: Trade, sell: bool, close: boo
 
 // The lots and the value of the legs that close, or that open.
 pub fn add_up(area: &[u32], count: usize, close: bool, lots: &mut [u32], value: &mut [u64])
-    requires { ⌜ PlacedTrades (now area) count × (now lots ≡ replicate 256 0) × (now value ≡ replicate 256 0) ⌝ }
+    requires { ⌜ PlacedTrades (now area) count × (now lots ≡ replicate slots 0) × (now value ≡ replicate slots 0) ⌝ }
     ensures { λ _. ⌜ SumsAre close (recordedTrades (now (area .entry)) count) (now (lots .exit)) (now (value .exit)) ⌝ }
 {
     let mut i: usize = 0;
@@ -92,7 +95,7 @@ pub fn add_up(area: &[u32], count: usize, close: bool, lots: &mut [u32], value: 
 
 // How many of today's lots the closes of a side took: start-of-day lots go first. Sells close long lots, buys short ones.
 pub fn put_due(closed: &[u32], left: &mut [u32], a: usize, c: usize, short: bool, start: u32)
-    requires { ⌜ (a < 32) × (c < 4) × (length (now closed) ≡ 256) × (length (now left) ≡ 256) ⌝ }
+    requires { ⌜ (a < maxAccounts) × (c < maxContracts) × (length (now closed) ≡ slots) × (length (now left) ≡ slots) ⌝ }
     ensures { λ _. ⌜ now (left .exit) ≡ set (now (left .entry)) (slotOf a c short) (getD (now (closed .entry)) (slotOf a c (not short)) 0 - start) ⌝ }
 {
     let closes = slot(a, c, !short);
@@ -119,7 +122,7 @@ fn take_leg(left: &mut [u32], used: &mut [u64], t: Trade, sell: bool)
 
 // "today's in trade order": what the first lots opened on each side were opened for, as many as `left` says.
 pub fn take_first(area: &[u32], count: usize, left: &mut [u32], used: &mut [u64])
-    requires { ⌜ PlacedTrades (now area) count × (length (now left) ≡ 256) × (now used ≡ replicate 256 0) ⌝ }
+    requires { ⌜ PlacedTrades (now area) count × (length (now left) ≡ slots) × (now used ≡ replicate slots 0) ⌝ }
     ensures { λ _. ⌜ UsedAre (recordedTrades (now (area .entry)) count) (now (left .entry)) (now (used .exit)) ⌝ }
 {
     let mut i: usize = 0;

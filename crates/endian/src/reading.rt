@@ -2,7 +2,7 @@
 ghost use mathlib.Core.Path.{_≡_};
 ghost use Prim.Native.Nat.{_+_, _<_, _≤_};
 ghost use lib.ListN.{length};
-ghost use Rattle.rules.specs.DayFile.{u8At, u16At, u32At, u64At, recordFrom};
+ghost use Rattle.rules.specs.DayFile.{u8At, u16At, u32At, u64At, recordFrom, commandWidth};
 use rules::Record;
 
 // A cast as a call: where a list's element is cast in place, the proof is asked that the element fits.
@@ -48,7 +48,7 @@ pub fn u64_at(file: &[u8], at: usize) -> u64
 
 // "A command is 24 bytes"
 pub fn record_at(file: &[u8], at: usize) -> Record
-    requires { ⌜ at + 24 ≤ length (now file) ⌝ }
+    requires { ⌜ at + commandWidth ≤ length (now file) ⌝ }
     ensures { λ r. ⌜ r ≡ recordFrom (now (file .entry)) at ⌝ }
 {
     let kind = u8_at(file, at);

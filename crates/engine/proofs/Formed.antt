@@ -3,7 +3,7 @@
 use mathlib.Core.Bool.{true, false}
 use mathlib.Core.List.{List, [], _∷_}
 use mathlib.Core.Path.{_≡_, ap}
-use Prim.Native.Nat.{ℕ, _-_, _*_, _<_, _≤_, _^_}
+use Prim.Native.Nat.{ℕ, _-_, _*_, _<_, _≤_}
 use native.Mathlib.Omega.{arith}
 use borrow.Author.Tests.{leb-true}
 use lib.Dec.{leb}
@@ -11,7 +11,7 @@ use lib.ListN.{length, getD, set}
 use Rattle.laws.specs.Bound.{Within, within-abs, within-le}
 use Rattle.laws.specs.Choice.{all, all-at, both-true}
 use Rattle.laws.specs.Chains.{passed}
-use Rattle.rules.specs.Bounds.{within, maxContracts, maxAccounts, maxResting, maxTrades}
+use Rattle.rules.specs.Bounds.{within, maxContracts, maxAccounts, maxResting, maxTrades, balanceMost}
 use Rattle.rules.specs.Exchange.{absent, accountAt, holdingAt, listingAt, isAbsent}
 use Rattle.rules.specs.Memory.{Memory, Declared, exchangeOf, inUse, listingIn, putAccounts, countsInRange, hasRoom, wellFormedMemory, memory, WellFormedState, queueStride, tradeStride}
 use Rattle.rules.specs.WellFormed.{wellFormedContents}
@@ -24,9 +24,9 @@ use Rattle.engine.proofs.Tests.{place-below}
 
 pub record Formed (m : Memory) : Type 0 where
   pub contracts-low : 1 ≤ m .state .contractcount
-  pub contracts-high : m .state .contractcount ≤ 4
+  pub contracts-high : m .state .contractcount ≤ maxContracts
   pub accounts-low : 1 ≤ m .state .accountcount
-  pub accounts-high : m .state .accountcount ≤ 32
+  pub accounts-high : m .state .accountcount ≤ maxAccounts
   pub trades-high : m .state .tradecount ≤ maxTrades
   pub buys-high : (c : ℕ) → c < m .state .contractcount → getD (m .state .buycounts) c 0 ≤ maxResting
   pub sells-high : (c : ℕ) → c < m .state .contractcount → getD (m .state .sellcounts) c 0 ≤ maxResting
@@ -104,7 +104,7 @@ module _ (m : Memory) (f : Formed m) where
   pub listing-at : (c : ℕ) → c < m .state .contractcount → listingAt (exchangeOf m) c ≡ listingIn m c
   listing-at = listing-in-use m
 
-  pub balance-within : (a : ℕ) → a < m .state .accountcount → Within (2 * 10 ^ 18) (accountAt (m .state .accounts) a .balance)
+  pub balance-within : (a : ℕ) → a < m .state .accountcount → Within balanceMost (accountAt (m .state .accounts) a .balance)
   balance-within a h =
       let b = f .contents .balance a (rw accounts-count h) in
       let s = f .contents .settlements in
@@ -123,8 +123,8 @@ module _ (m : Memory) (f : Formed m) where
 -- ---- the place of a number that is not absent is one of the arrays'
 
 module _ {s : State} {buys sells trades : List ℕ} (w : WellFormedState s buys sells trades) (number : ℕ) {place : ℕ} (is : place ≡ number - 1) where
-  pub account-fits : isAbsent number (s .accountcount) ≡ false → place < 32
+  pub account-fits : isAbsent number (s .accountcount) ≡ false → place < maxAccounts
   account-fits present = omega (arith, is, place-below number (s .accountcount) present .1, formed w .accounts-high)
 
-  pub contract-fits : isAbsent number (s .contractcount) ≡ false → place < 4
+  pub contract-fits : isAbsent number (s .contractcount) ≡ false → place < maxContracts
   contract-fits present = omega (arith, is, place-below number (s .contractcount) present .1, formed w .contracts-high)

@@ -1,12 +1,13 @@
+-- The laws that the proofs of this crate apply. Assumes nothing.
 pub mod Accounts
 pub mod Changes
 pub mod Declared
 pub mod Formed
 pub mod Margins
+pub mod Named
 pub mod Outcomes
 pub mod Paying
 pub mod Puts
-pub mod Refusals
 pub mod Removals
 pub mod Tests
 pub mod Traded

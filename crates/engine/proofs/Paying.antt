@@ -2,7 +2,7 @@
 use mathlib.Core.Bool.{true, false, _||_}
 use mathlib.Core.List.{List}
 use mathlib.Core.Path.{_≡_, refl, ap, _∙_}
-use Prim.Native.Nat.{ℕ, _-_, _*_, _<_, _≤_, _^_}
+use Prim.Native.Nat.{ℕ, _-_, _<_, _≤_, _^_}
 use native.Mathlib.Omega.{arith}
 use borrow.Author.Tests.{leb-true, not-false}
 use lib.Dec.{leb}
@@ -13,7 +13,7 @@ use Rattle.laws.specs.Bound.{Within}
 use Rattle.laws.specs.Choice.{both-true, pick}
 use Rattle.rules.specs.Kinds.{codeOf, kindOf}
 use Rattle.rules.specs.Answers.{amountRefused, depositRefusals, firstOf, leavesTooLittle, liftsTooHigh, withdrawRefusals}
-use Rattle.rules.specs.Bounds.{within, maxAmount}
+use Rattle.rules.specs.Bounds.{within, maxAmount, balanceMost}
 use Rattle.rules.specs.Exchange.{accountAt, noAccount, isAbsent}
 use Rattle.rules.specs.Margin.{charged}
 use Rattle.rules.specs.Memory.{Memory, exchangeOf, inUse, put, stepIn, memory, WellFormedState, written}
@@ -32,7 +32,7 @@ use Rattle.engine.proofs.Puts.{put-accounts}
 use Rattle.engine.proofs.Tests.{place-below}
 
 -- an amount that is not refused
-pub amount-high : (amount : ℕ) → amountRefused amount ≡ false → amount ≤ 10 ^ 15
+pub amount-high : (amount : ℕ) → amountRefused amount ≡ false → amount ≤ maxAmount
 unfolding amountRefused
 amount-high amount e = leb-true amount maxAmount (both-true (leb 1 amount) (leb amount maxAmount) (not-false (within 1 maxAmount amount) e) .1)
 
@@ -64,7 +64,7 @@ module _ {s : State} {buys sells trades : List ℕ} (w : WellFormedState s buys 
         (rw read (account-put m f (account - 1) v here refl))
 
     module _ {place : ℕ} (is : place ≡ account - 1) where
-      pub balance-fits : Within (2 * 10 ^ 18) (getD (s .accounts) place noAccount .balance)
+      pub balance-fits : Within balanceMost (getD (s .accounts) place noAccount .balance)
       unfolding accountAt
       balance-fits = rw is (balance-within m f (account - 1) here)
 

@@ -15,9 +15,9 @@ use Rattle.laws.specs.Sums.{sumOf-bound}
 use Rattle.areas.specs.Lists.{removeAt}
 use Rattle.areas.proofs.Lists.{length-removeAt}
 use Rattle.rules.specs.Kinds.{codeOf, done, kindOf}
-use Rattle.rules.specs.Answers.{_when_, cancelRefusals, firstOf, noSuchOrder, numbered, ofAnother, pullRefusals, removalRefused, restingOrder}
-use Rattle.rules.specs.Bounds.{maxLots, inAuction, maxResting}
-use Rattle.rules.specs.Exchange.{Listing, listingAt, lotsWhere, noContract, noListing, noOrder, isAbsent}
+use Rattle.rules.specs.Answers.{Refusal, cancelRefusals, firstOf, noSuchOrder, numbered, ofAnother, ownerRefusals, pullRefusals, removalRefused, restingOrder}
+use Rattle.rules.specs.Bounds.{maxLots, inAuction, maxResting, maxContracts}
+use Rattle.rules.specs.Exchange.{Listing, listingAt, lotsWhere, noListing, noOrder, isAbsent}
 use Rattle.rules.specs.Memory.{Memory, exchangeOf, listingIn, orderFrom, put, putQueue, queueIn, stepIn, memory, WellFormedState, firstWord}
 use Rattle.book.specs.Places.{firstWhere, indexOf}
 use Rattle.rules.specs.Step.{Effect, answerOf, cancelled, hasNumber, isOf, listingWithout, pulled, removed, withListing, without}
@@ -29,19 +29,18 @@ use Rattle.rules.specs.declared.Order.{Order}
 use Rattle.rules.specs.declared.State.{State}
 use Rattle.rules.proofs.Codecs.{length-queue, order-at, put-queue}
 use Rattle.rules.proofs.Queue.{length-without, once-append}
+use Rattle.rules.proofs.Refusals.{failed, first-append}
 use Rattle.book.proofs.Places.{index-apart, index-notIn, first-within, lots-none, lots-number, numbered-found, numbered-none, numbered-append-found, numbered-append-none, without-none, without-number}
 use Rattle.book.specs.Removal.{PulledIs}
 use Rattle.book.specs.declared.removal.Pulled.{Pulled}
-use Rattle.invariants.proofs.Accepted.{failed}
 use Rattle.invariants.proofs.Clauses.{ListingOk, OrderOk, order-ok}
 use Rattle.engine.specs.Outcome.{OutcomeIs, refusedWith, acceptedWith, withCountsIn}
-use Rattle.engine.specs.Removal.{removalCode, cancelCode, RemovedIs, CancelledIs}
+use Rattle.engine.specs.Removal.{RemovedIs, CancelledIs}
 use Rattle.engine.specs.declared.answers.Outcome.{Outcome}
 use Rattle.engine.specs.declared.removal.Cancelled.{Cancelled}
 use Rattle.engine.proofs.Formed.{Formed, formed, contracts-count, listing-at, no-account, no-contract}
 use Rattle.engine.proofs.Outcomes.{refusal, acceptance}
 use Rattle.engine.proofs.Puts.{put-queues}
-use Rattle.engine.proofs.Refusals.{first-append}
 use Rattle.engine.proofs.Tests.{place-below}
 
 -- ---- 4, by the contract's state
@@ -70,7 +69,7 @@ module _ (account number : ℕ) (area : List ℕ) (c n : ℕ) where
   queue = queueIn area c n
 
   pub cancel-none : indexOf number queue ≡ n → CancelledIs account number area c n (record { code = 14; count = n; lots = 0 }) area
-  unfolding cancelCode firstOf noSuchOrder
+  unfolding firstOf noSuchOrder
   cancel-none h =
       record {
         code = rw (numbered-none number queue (h ∙ sym (length-queue area c n)));
@@ -90,7 +89,7 @@ module _ (account number : ℕ) (area : List ℕ) (c n : ℕ) where
     order-found = numbered-found number queue found-in ∙ ap (λ (o : Order). o ∷ []) (rw (← is) (order-at area c n i found))
 
     pub cancel-another : (orderFrom (drop (firstWord c i) area) .account ≡ account → ⊥) → CancelledIs account number area c n (record { code = 15; count = n; lots = 0 }) area
-    unfolding cancelCode firstOf noSuchOrder ofAnother
+    unfolding firstOf noSuchOrder ofAnother
     cancel-another h =
         record {
           code = rw (order-found, ne-eqb (orderFrom (drop (firstWord c i) area) .account) account h);
@@ -107,7 +106,7 @@ module _ (account number : ℕ) (area : List ℕ) (c n : ℕ) where
 
       pub cancel-done : {area′ : List ℕ} → orderFrom (drop (firstWord c i) area) .account ≡ account → area′ ≡ putQueue area c n (removeAt i queue)
           → CancelledIs account number area c n (record { code = 0; count = n - 1; lots = orderFrom (drop (firstWord c i) area) .lots }) area′
-      unfolding cancelCode firstOf noSuchOrder ofAnother
+      unfolding firstOf noSuchOrder ofAnother
       cancel-done h e =
           record {
             code = rw (order-found, eq-eqb (orderFrom (drop (firstWord c i) area) .account) account h);
@@ -135,11 +134,11 @@ removed-none test area c n room h =
 index-cases : (n : ℕ) (os : List Order) → (indexOf n os ≡ length os) ⊎ (indexOf n os < length os)
 index-cases n os = eq-or-lt-of-le (first-within (hasNumber n) os)
 
-found-code : (a n : ℕ) (os : List Order) → cancelCode a (numbered n os) ≢ 14 → indexOf n os < length os
-unfolding cancelCode firstOf noSuchOrder
+found-code : (a n : ℕ) (os : List Order) → firstOf (ownerRefusals a (numbered n os)) ≢ 14 → indexOf n os < length os
+unfolding firstOf noSuchOrder
 found-code a n os h = ⊎-elim (λ e. absurd (h (rw (numbered-none n os e)))) (λ l. l) (index-cases n os)
 
-missing-code : (a n : ℕ) (os : List Order) → cancelCode a (numbered n os) ≢ 0 → cancelCode a (numbered n os) ≢ 15 → indexOf n os ≡ length os
+missing-code : (a n : ℕ) (os : List Order) → firstOf (ownerRefusals a (numbered n os)) ≢ 0 → firstOf (ownerRefusals a (numbered n os)) ≢ 15 → indexOf n os ≡ length os
 missing-code a n os h k =
     ⊎-elim (λ e. e) (λ l. absurd (either (getD os (indexOf n os) noOrder) (rw (numbered-found n os l) at h) (rw (numbered-found n os l) at k))) (index-cases n os)
   where
@@ -147,8 +146,8 @@ missing-code a n os h k =
     code true h k = k refl
     code false h k = h refl
 
-    either : (o : Order) → cancelCode a (o ∷ []) ≢ 0 → cancelCode a (o ∷ []) ≢ 15 → ⊥
-    either o h k = unfold cancelCode firstOf noSuchOrder ofAnother in code (not (eqb (o .account) a)) h k
+    either : (o : Order) → firstOf (ownerRefusals a (o ∷ [])) ≢ 0 → firstOf (ownerRefusals a (o ∷ [])) ≢ 15 → ⊥
+    either o h k = unfold firstOf noSuchOrder ofAnother in code (not (eqb (o .account) a)) h k
 
 -- "buys first"
 numbered-first : (n : ℕ) (os ps : List Order) → indexOf n os < length os → numbered n (os ++ ps) ≡ numbered n os
@@ -179,10 +178,6 @@ lots-high accounts next nextstamp contract test os h =
 
 -- ---- the whole state
 
--- "2, 3, 4"
-abbrev codes : Bool → Bool → Bool → ℕ
-codes two three four = pick two 2 (pick three 3 (pick four 4 0))
-
 module _ {s : State} {buys sells trades : List ℕ} (w : WellFormedState s buys sells trades) (account contract : ℕ) (operator : Bool) where
   abbrev m : Memory
   m = memory s buys sells trades
@@ -190,44 +185,28 @@ module _ {s : State} {buys sells trades : List ℕ} (w : WellFormedState s buys 
   f : Formed m
   f = formed w
 
-  pub few-contracts : s .contractcount ≤ 4
-  few-contracts = f .contracts-high
-
   -- ---- the tests that both kinds make first
 
-  shared-code : firstOf (pullRefusals (exchangeOf m) account contract operator) ≡ removalCode s account contract operator
-  unfolding firstOf pullRefusals removalCode listingIn
-  shared-code = rw (no-account m f account, no-contract m f contract) (by-absent-contract (isAbsent contract (s .contractcount)) refl)
-    where
-      by-absent-contract : (b : Bool) → isAbsent contract (s .contractcount) ≡ b
-          → codes (isAbsent account (s .accountcount)) b (removalRefused (listingAt (exchangeOf m) (contract - 1) .contract) operator)
-          ≡ codes (isAbsent account (s .accountcount)) b (removalRefused (getD (s .contracts) (contract - 1) noContract) operator)
-      by-absent-contract true e = refl
-      by-absent-contract false e = rw (listing-at m f (contract - 1) (place-below contract (s .contractcount) e .1))
-
-  pull-code : codeOf (exchangeOf m) (Pull account contract operator) ≡ removalCode s account contract operator
-  unfolding codeOf kindOf
-  pull-code = shared-code
+  abbrev shared : List Refusal
+  shared = pullRefusals (exchangeOf m) account contract operator
 
   cancel-code : (number : ℕ) → codeOf (exchangeOf m) (Cancel account contract operator number)
-      ≡ pick (eqb (removalCode s account contract operator) 0) (cancelCode (account - 1) (restingOrder (listingAt (exchangeOf m) (contract - 1)) number)) (removalCode s account contract operator)
-  unfolding codeOf kindOf cancelRefusals pullRefusals cancelCode
-  cancel-code number =
-      let l : Listing = listingAt (exchangeOf m) (contract - 1) in
-      first-append (pullRefusals (exchangeOf m) account contract operator)
-      ((14 when noSuchOrder (restingOrder l number)) ∷ (15 when ofAnother (account - 1) (restingOrder l number)) ∷ []) (omega arith)
-      ∙ rw shared-code
+      ≡ pick (eqb (firstOf shared) 0) (firstOf (ownerRefusals (account - 1) (restingOrder (listingAt (exchangeOf m) (contract - 1)) number))) (firstOf shared)
+  unfolding codeOf kindOf cancelRefusals pullRefusals
+  cancel-code number = first-append shared (ownerRefusals (account - 1) (restingOrder (listingAt (exchangeOf m) (contract - 1)) number)) (omega arith)
+
+  pull-code : codeOf (exchangeOf m) (Pull account contract operator) ≡ firstOf shared
+  unfolding codeOf kindOf
+  pull-code = refl
 
   -- ---- the queues of the contract
 
-  module _ (none : removalCode s account contract operator ≡ 0) where
+  module _ (none : firstOf shared ≡ 0) where
     tests : (isAbsent account (s .accountcount) ≡ false) × (isAbsent contract (s .contractcount) ≡ false)
-    unfolding removalCode
+    unfolding pullRefusals
     tests =
-        let t = failed
-        ((2 when isAbsent account (s .accountcount)) ∷ (3 when isAbsent contract (s .contractcount)) ∷ (4 when removalRefused (getD (s .contracts) (contract - 1) noContract) operator) ∷ [])
-        (omega arith) none in
-        (t .0, t .1 .0)
+        let t = failed shared (omega arith) none in
+        (sym (no-account m f account) ∙ t .0, sym (no-contract m f contract) ∙ t .1 .0)
 
     pub account-low : 1 ≤ account
     account-low = place-below account (s .accountcount) (tests .0) .0
@@ -239,8 +218,8 @@ module _ {s : State} {buys sells trades : List ℕ} (w : WellFormedState s buys 
       here : place < s .contractcount
       here = rw is (place-below contract (s .contractcount) (tests .1) .1)
 
-      pub contract-fits : place < 4
-      contract-fits = omega (arith, here, few-contracts)
+      pub contract-fits : place < maxContracts
+      contract-fits = omega (arith, here, f .contracts-high)
 
       listing-is : listingAt (exchangeOf m) (contract - 1) ≡ listingIn m place
       listing-is = rw (← is) (listing-at m f place here)
@@ -311,7 +290,7 @@ module _ {s : State} {buys sells trades : List ℕ} (w : WellFormedState s buys 
         CancelIs r buys′ sells′ = OutcomeIs (stepIn m (Cancel account contract operator number)) r buys′ sells′ trades
 
         -- the first of the two queues that has the order decides
-        cancel-is : codeOf (exchangeOf m) (Cancel account contract operator number) ≡ cancelCode (account - 1) (numbered number (orders false ++ orders true))
+        cancel-is : codeOf (exchangeOf m) (Cancel account contract operator number) ≡ firstOf (ownerRefusals (account - 1) (numbered number (orders false ++ orders true)))
         unfolding restingOrder listingIn
         cancel-is = cancel-code number ∙ rw (none, listing-is)
 
@@ -320,7 +299,7 @@ module _ {s : State} {buys sells trades : List ℕ} (w : WellFormedState s buys 
           bid-code : bid .code ≢ 14 → codeOf (exchangeOf m) (Cancel account contract operator number) ≡ bid .code
           bid-code h =
               cancel-is
-              ∙ ap (cancelCode (account - 1)) (numbered-first number (orders false) (orders true) (found-code (account - 1) number (orders false) (λ e. h (b .code ∙ e))))
+              ∙ ap (λ (found : List Order). firstOf (ownerRefusals (account - 1) found)) (numbered-first number (orders false) (orders true) (found-code (account - 1) number (orders false) (λ e. h (b .code ∙ e))))
               ∙ sym (b .code)
 
           pub bid-done : {r : Outcome} {next : State} → bid .code ≡ 0
@@ -340,7 +319,7 @@ module _ {s : State} {buys sells trades : List ℕ} (w : WellFormedState s buys 
             missing = missing-code (account - 1) number (orders false) (λ e. p (b .code ∙ e)) (λ e. q (b .code ∙ e))
 
             offer-code : codeOf (exchangeOf m) (Cancel account contract operator number) ≡ offer .code
-            offer-code = cancel-is ∙ ap (cancelCode (account - 1)) (numbered-append-none number (orders false) (orders true) missing) ∙ sym (o .code)
+            offer-code = cancel-is ∙ ap (λ (found : List Order). firstOf (ownerRefusals (account - 1) found)) (numbered-append-none number (orders false) (orders true) missing) ∙ sym (o .code)
 
             pub offer-refused : {r : Outcome} → offer .code ≢ 0 → r ≡ refusedWith s (offer .code) → CancelIs r buys′ sells′
             offer-refused e a = rw (b .kept p, o .kept e) (refusal s buys sells trades (Cancel account contract operator number) (offer .code) (omega arith) offer-code a)
@@ -360,12 +339,12 @@ module _ {s : State} {buys sells trades : List ℕ} (w : WellFormedState s buys 
       unfolding exchangeOf
       in-range = rw (listing-at m f place here) at (f .contents .listing place (rw (contracts-count m f) here))
 
-      side-lots : (sell : Bool) (test : Order → Bool) → lotsWhere test (orders sell) ≤ 64_000
+      side-lots : (sell : Bool) (test : Order → Bool) → lotsWhere test (orders sell) ≤ maxResting * maxLots
       unfolding listingIn
       side-lots false test = omega (arith, lots-high _ _ _ _ test (orders false) (in-range .orders false), length-queue buys place (count false), side-few false)
       side-lots true test = omega (arith, lots-high _ _ _ _ test (orders true) (in-range .orders true), length-queue sells place (count true), side-few true)
 
-      pub pulled-high : (sell : Bool) {p : Pulled} {area′ : List ℕ} → PulledIs (isOf (account - 1)) (area sell) place (count sell) p area′ → p .lots ≤ 64_000
+      pub pulled-high : (sell : Bool) {p : Pulled} {area′ : List ℕ} → PulledIs (isOf (account - 1)) (area sell) place (count sell) p area′ → p .lots ≤ maxResting * maxLots
       pulled-high sell b = rw (b .lots) (side-lots sell (isOf (account - 1)))
 
       pub pull-accepted : {r : Outcome} {next : State} {lots : ℕ} {bid offer : Pulled} {buys′ sells′ : List ℕ}
@@ -379,11 +358,11 @@ module _ {s : State} {buys sells trades : List ℕ} (w : WellFormedState s buys 
 
   -- ---- refused by one of the tests that both kinds make first
 
-  pub pull-refused : {code : ℕ} {r : Outcome} → code ≡ removalCode s account contract operator → code ≢ 0 → r ≡ refusedWith s code
+  pub pull-refused : {code : ℕ} {r : Outcome} → code ≡ firstOf shared → code ≢ 0 → r ≡ refusedWith s code
       → OutcomeIs (stepIn m (Pull account contract operator)) r buys sells trades
   pull-refused {code} e h a = refusal s buys sells trades (Pull account contract operator) code (omega arith) (pull-code ∙ sym e) a
 
-  pub cancel-refused : (number : ℕ) {code : ℕ} {r : Outcome} → code ≡ removalCode s account contract operator → code ≢ 0 → r ≡ refusedWith s code
+  pub cancel-refused : (number : ℕ) {code : ℕ} {r : Outcome} → code ≡ firstOf shared → code ≢ 0 → r ≡ refusedWith s code
       → OutcomeIs (stepIn m (Cancel account contract operator number)) r buys sells trades
   cancel-refused number {code} e h a =
       refusal s buys sells trades (Cancel account contract operator number) code (omega arith) (rw (cancel-code number, ← e, ne-eqb code 0 h)) a

@@ -7,9 +7,10 @@ use lib.Dec.{eqb}
 use lib.IntN.{ℤ}
 use lib.ListN.{getD, set}
 use Rattle.rules.specs.Bounds.{continuous, inAuction}
-use Rattle.rules.specs.Exchange.{isAbsent, noAccount, noContract, placeOf}
+use Rattle.rules.specs.Answers.{Refusal, firstOf}
+use Rattle.rules.specs.Exchange.{Exchange, isAbsent, noAccount, noContract, placeOf}
 use Rattle.rules.specs.Step.{answerOf, withBalance, withPhase}
-use Rattle.rules.specs.Memory.{AfterCommand, memory}
+use Rattle.rules.specs.Memory.{AfterCommand, Declared, exchangeOf, memory}
 use Rattle.rules.specs.declared.Account.{Account}
 use Rattle.rules.specs.declared.Contract.{Contract}
 use Rattle.rules.specs.declared.State.{State}
@@ -19,6 +20,10 @@ use Rattle.engine.specs.declared.answers.Outcome.{Outcome}
 pub record OutcomeIs (response : AfterCommand) (r : Outcome) (buys sells trades : List ℕ) : Type 0 where
   pub answer : r .answer ≡ response .answer
   pub memory : memory (r .state) buys sells trades ≡ response .memory
+
+-- a code that is the first of some refusals on a state, whatever the areas lent with it hold: they are not read
+abbrev pub CodeIn : State → (Exchange → List Refusal) → ℕ → Type 0
+CodeIn s refusals code = Declared s → (buys sells trades : List ℕ) → code ≡ firstOf (refusals (exchangeOf (memory s buys sells trades)))
 
 -- a change of a contract's state that makes a match: from auction to continuous
 unfoldable pub isMatch : State → ℕ → ℕ → Bool

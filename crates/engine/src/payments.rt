@@ -2,7 +2,8 @@
 ghost use mathlib.Core.Path.{_≡_};
 ghost use lib.IntN.{pos, _+ℤ_};
 ghost use lib.Signed.{ltZ};
-ghost use Prim.Native.Nat.{_<_, _≤_, _^_, _*_};
+ghost use Prim.Native.Nat.{_<_, _≤_};
+ghost use Rattle.rules.specs.Bounds.{balanceMost, maxAmount, maxAccounts, maxBalance};
 ghost use Rattle.rules.specs.Answers.{amountRefused};
 ghost use Rattle.rules.specs.Memory.{stepIn, memory, WellFormedState};
 ghost use Rattle.rules.specs.declared.Command.the-variants.{Deposit, Withdraw};
@@ -23,15 +24,15 @@ fn amount_refused(amount: u64) -> bool
 
 // "deposit lifts the balance above 10^18"
 fn lifts_too_high(balance: i64, amount: u64) -> bool
-    requires { ⌜ Within (2 * 10 ^ 18) balance × (amount ≤ 10 ^ 15) ⌝ }
-    ensures { λ r. ⌜ r ≡ ltZ (pos (10 ^ 18)) (balance +ℤ pos amount) ⌝ }
+    requires { ⌜ Within balanceMost balance × (amount ≤ maxAmount) ⌝ }
+    ensures { λ r. ⌜ r ≡ ltZ (pos maxBalance) (balance +ℤ pos amount) ⌝ }
 {
     (rules::MAX_BALANCE as i64) < balance + amount as i64
 }
 
 // The state with another balance at one account's place.
 fn with_balance(state: State, place: usize, balance: i64) -> State
-    requires { ⌜ place < 32 ⌝ }
+    requires { ⌜ place < maxAccounts ⌝ }
     ensures { λ r. ⌜ r ≡ withBalanceAt state place balance ⌝ }
 {
     let mut next = state;

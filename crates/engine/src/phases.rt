@@ -2,6 +2,7 @@
 ghost use mathlib.Core.Bool.{false};
 ghost use mathlib.Core.Path.{_≡_};
 ghost use Prim.Native.Nat.{_<_, _≤_};
+ghost use Rattle.rules.specs.Bounds.{maxContracts};
 ghost use Rattle.rules.specs.Answers.{changeListed};
 ghost use Rattle.rules.specs.Command.{phaseKnown};
 ghost use Rattle.rules.specs.Memory.{stepIn, memory, WellFormedState};
@@ -47,7 +48,7 @@ fn is_known(phase: u32) -> bool
 
 // Whether a change is the one that makes a match: from auction to continuous. Requires at most 4 contracts.
 pub fn is_match(state: State, contract: u32, phase: u32) -> bool
-    requires { ⌜ state .contractcount ≤ 4 ⌝ }
+    requires { ⌜ state .contractcount ≤ maxContracts ⌝ }
     ensures { λ r. ⌜ r ≡ isMatch state contract phase ⌝ }
 {
     if phase != CONTINUOUS {
@@ -64,7 +65,7 @@ pub fn is_match(state: State, contract: u32, phase: u32) -> bool
 
 // The state with another phase at one contract's place.
 fn with_phase(state: State, place: usize, phase: u32) -> State
-    requires { ⌜ place < 4 ⌝ }
+    requires { ⌜ place < maxContracts ⌝ }
     ensures { λ r. ⌜ r ≡ withPhaseAt state place phase ⌝ }
 {
     let mut next = state;

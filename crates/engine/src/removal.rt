@@ -3,12 +3,13 @@ ghost use mathlib.Core.Bool.{true};
 ghost use mathlib.Core.Path.{_≡_};
 ghost use Prim.Native.Nat.{_+_, _<_, _≤_};
 ghost use lib.ListN.{length, set};
-ghost use Rattle.rules.specs.Answers.{removalRefused};
+ghost use Rattle.rules.specs.Bounds.{maxContracts, maxAccounts};
+ghost use Rattle.rules.specs.Answers.{pullRefusals, removalRefused};
 ghost use Rattle.rules.specs.Memory.{queueIn, stepIn, memory, WellFormedState, firstWord};
 ghost use Rattle.rules.specs.WellFormed.{numbers, usedOnce};
 ghost use Rattle.rules.specs.declared.Command.the-variants.{Cancel, Pull};
-ghost use Rattle.engine.specs.Outcome.{OutcomeIs, withCountsIn};
-ghost use Rattle.engine.specs.Removal.{removalCode, CancelledIs};
+ghost use Rattle.engine.specs.Outcome.{OutcomeIs, CodeIn, withCountsIn};
+ghost use Rattle.engine.specs.Removal.{CancelledIs};
 use crate::answers;
 use crate::answers::Outcome;
 use rules::AUCTION;
@@ -31,10 +32,10 @@ fn is_refused(terms: Contract, operator: bool) -> bool
     true
 }
 
-// The tests that cancel and pull share: 2, 3 or 4, and 0 where none refuses. Requires at most 4 contracts.
+// The tests that cancel and pull share: 2, 3 or 4, and 0 where none refuses. Requires at most 4 contracts and 32 accounts.
 fn refusal(state: State, account: u32, contract: u32, operator: bool) -> u32
-    requires { ⌜ state .contractcount ≤ 4 ⌝ }
-    ensures { λ r. ⌜ r ≡ removalCode state account contract operator ⌝ }
+    requires { ⌜ (state .contractcount ≤ maxContracts) × (state .accountcount ≤ maxAccounts) ⌝ }
+    ensures { λ r. ⌜ CodeIn state (λ x. pullRefusals x account contract operator) r ⌝ }
 {
     if answers::is_absent(account, state.accountcount) {
         return 2;
@@ -53,7 +54,7 @@ fn refusal(state: State, account: u32, contract: u32, operator: bool) -> u32
 
 // The state with other counts of resting orders at one contract's place. Another crate takes orders out too.
 pub fn with_counts(state: State, c: usize, bought: usize, sold: usize) -> State
-    requires { ⌜ c < 4 ⌝ }
+    requires { ⌜ c < maxContracts ⌝ }
     ensures { λ r. ⌜ r ≡ withCountsIn state (set (state .buycounts) c bought) (set (state .sellcounts) c sold) ⌝ }
 {
     let mut next = state;

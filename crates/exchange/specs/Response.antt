@@ -21,7 +21,7 @@ use Rattle.exchange.specs.declared.settling.Report.{Report}
 use Rattle.exchange.specs.declared.settling.Response.{Response}
 
 abbrev pub noReport : Report
-noReport = record { prices = replicate 4 0; closing = replicate 32 (pos 0); holding = replicate 32 (pos 0); charged = replicate 32 0 }
+noReport = record { prices = replicate maxContracts 0; closing = replicate maxAccounts (pos 0); holding = replicate maxAccounts (pos 0); charged = replicate maxAccounts 0 }
 
 abbrev pub withReport : Outcome → Report → Response
 withReport o report = record { answer = o .answer; state = o .state; report = report }

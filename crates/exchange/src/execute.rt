@@ -51,7 +51,7 @@ pub fn execute(
     buys: &mut [u32],
     sells: &mut [u32],
     trades: &mut [u32],
-    bytes: [u8; 24],
+    bytes: [u8; rules::COMMAND_WIDTH],
 ) -> Response
     ensures { λ r. ⌜ ExecutedIs (memory state (now (buys .entry)) (now (sells .entry)) (now (trades .entry))) (commandFrom bytes 0) r (now (buys .exit)) (now (sells .exit)) (now (trades .exit)) ⌝ }
 {

@@ -18,11 +18,18 @@ pub fn run(
     if !audit::well_formed(state, &buys[..], &sells[..], &trades[..]) {
         return state;
     }
-    let n = bytes.len() / 24;
+    let n = bytes.len() / rules::COMMAND_WIDTH;
     let mut current = state;
     let mut k: usize = 0;
     while k < n {
-        let r = step::step_at(current, buys, sells, trades, bytes, 24 * k);
+        let r = step::step_at(
+            current,
+            buys,
+            sells,
+            trades,
+            bytes,
+            rules::COMMAND_WIDTH * k,
+        );
         current = r.state;
         k += 1;
     }

@@ -4,6 +4,7 @@ ghost use Prim.Native.Nat.{_≤_};
 ghost use lib.Dec.{eqb};
 ghost use lib.ListN.{getD};
 ghost use Rattle.laws.specs.Choice.{all};
+ghost use Rattle.rules.specs.Bounds.{maxContracts, closed};
 ghost use Rattle.rules.specs.Kinds.{codeOf};
 ghost use Rattle.rules.specs.Exchange.{noContract};
 ghost use Rattle.rules.specs.Memory.{exchangeOf, memory, WellFormedState};
@@ -53,13 +54,13 @@ pub fn plain(o: Outcome) -> Response
 
 // Whether the first n contracts are closed.
 fn all_closed(contracts: [Contract; rules::MAX_CONTRACTS], n: usize) -> bool
-    requires { ⌜ n ≤ 4 ⌝ }
-    ensures { λ r. ⌜ r ≡ all (λ c. eqb (getD contracts c noContract .phase) 3) n ⌝ }
+    requires { ⌜ n ≤ maxContracts ⌝ }
+    ensures { λ r. ⌜ r ≡ all (λ c. eqb (getD contracts c noContract .phase) closed) n ⌝ }
 {
     let mut c: usize = 0;
     while c < n {
         let contract = contracts[c];
-        if contract.phase != 3 {
+        if contract.phase != rules::CLOSED {
             return false;
         }
         c += 1;

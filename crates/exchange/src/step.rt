@@ -1,7 +1,7 @@
 // One command on a well-formed state, as such and as 24 bytes. For our own crates.
 ghost use Prim.Native.Nat.{_+_, _≤_};
 ghost use lib.ListN.{length};
-ghost use Rattle.rules.specs.DayFile.{commandFrom};
+ghost use Rattle.rules.specs.DayFile.{commandFrom, commandWidth};
 ghost use Rattle.rules.specs.Memory.{memory, WellFormedState};
 ghost use Rattle.exchange.specs.Response.{ResponseIs};
 use crate::settling;
@@ -119,7 +119,7 @@ pub fn step_at(
     bytes: &[u8],
     at: usize,
 ) -> Response
-    requires { ⌜ WellFormedState state (now buys) (now sells) (now trades) × (at + 24 ≤ length (now bytes)) ⌝ }
+    requires { ⌜ WellFormedState state (now buys) (now sells) (now trades) × (at + commandWidth ≤ length (now bytes)) ⌝ }
     ensures { λ r. ⌜ ResponseIs (memory state (now (buys .entry)) (now (sells .entry)) (now (trades .entry))) (commandFrom (now (bytes .entry)) at) r (now (buys .exit)) (now (sells .exit)) (now (trades .exit)) ⌝ }
 {
     let record = endian::reading::record_at(bytes, at);

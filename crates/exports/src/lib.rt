@@ -5,6 +5,7 @@ ghost use mathlib.Core.Path.{_≡_};
 ghost use Prim.Native.Nat.{_/_};
 ghost use lib.ListN.{length};
 ghost use Rattle.rules.specs.Command.{commandOf};
+ghost use Rattle.rules.specs.DayFile.{commandWidth};
 ghost use Rattle.rules.specs.Memory.{memory, wellFormedMemory};
 ghost use Rattle.exchange.specs.Response.{ExecutedIs};
 ghost use Rattle.exchange.specs.Run.{wholeCommands};
@@ -115,7 +116,7 @@ pub extern "C" fn zelvorm_bundle(
     commands: &[u8],
     answers: &mut [u32],
 ) -> Receipt
-    ensures { λ r. ⌜ BundleIs (memory state (now (buys .entry)) (now (sells .entry)) (now (trades .entry))) (wholeCommands (now (commands .entry))) (length (now (commands .entry)) / 24) (now (answers .entry)) r (memory (r .state) (now (buys .exit)) (now (sells .exit)) (now (trades .exit))) (now (answers .exit)) ⌝ }
+    ensures { λ r. ⌜ BundleIs (memory state (now (buys .entry)) (now (sells .entry)) (now (trades .entry))) (wholeCommands (now (commands .entry))) (length (now (commands .entry)) / commandWidth) (now (answers .entry)) r (memory (r .state) (now (buys .exit)) (now (sells .exit)) (now (trades .exit))) (now (answers .exit)) ⌝ }
 {
     baskets::basket::submit_bytes(state, buys, sells, trades, commands, answers)
 }

@@ -2,9 +2,10 @@
 ghost use mathlib.Core.Path.{_≡_};
 ghost use Prim.Native.Nat.{_-_, _<_, _≤_};
 ghost use lib.ListN.{getD};
+ghost use Rattle.rules.specs.Bounds.{maxContracts, maxLots};
 ghost use Rattle.rules.specs.Exchange.{noHolding};
 ghost use Rattle.rules.specs.Holdings.{afterLeg, withHolding};
-ghost use Rattle.holdings.specs.Bounds.{HoldingWithin};
+ghost use Rattle.holdings.specs.Bounds.{HoldingWithin, bookedMost};
 use rules::Account;
 use rules::Holding;
 
@@ -17,7 +18,7 @@ fn lowered(held: u32, lots: u32) -> u32
 
 // Buy open adds long, sell open adds short, sell close lowers long, buy close lowers short.
 pub fn after_leg(h: Holding, sell: bool, close: u32, lots: u32) -> Holding
-    requires { ⌜ (lots ≤ 1000) × HoldingWithin 2000000 h ⌝ }
+    requires { ⌜ (lots ≤ maxLots) × HoldingWithin bookedMost h ⌝ }
     ensures { λ r. ⌜ r ≡ afterLeg h sell close lots ⌝ }
 {
     let mut x = h;
@@ -41,7 +42,7 @@ pub fn after_leg(h: Holding, sell: bool, close: u32, lots: u32) -> Holding
 
 // One changed place of an account's holdings.
 pub fn book_leg(a: Account, c: usize, sell: bool, close: u32, lots: u32) -> Account
-    requires { ⌜ (c < 4) × (lots ≤ 1000) × HoldingWithin 2000000 (getD (a .holdings) c noHolding) ⌝ }
+    requires { ⌜ (c < maxContracts) × (lots ≤ maxLots) × HoldingWithin bookedMost (getD (a .holdings) c noHolding) ⌝ }
     ensures { λ r. ⌜ r ≡ withHolding a c (afterLeg (getD (a .holdings) c noHolding) sell close lots) ⌝ }
 {
     let mut b = a;

@@ -9,7 +9,7 @@ use borrow.Author.Tests.{le-ltb, ltb-false}
 use lib.ListN.{length, getD}
 use Rattle.laws.specs.Choice.{ap-pick, pick, pick-false}
 use Rattle.rules.specs.Answers.{insertRefusals, listingOf, orderRefusals, takerOf, tradesNeeded, tradesRefused, takerFor}
-use Rattle.rules.specs.Bounds.{inAuction, maxResting, maxTrades}
+use Rattle.rules.specs.Bounds.{inAuction, maxResting, maxTrades, maxContracts, numbersEnd}
 use Rattle.rules.specs.Exchange.{Exchange, Listing, opposite, own, placeOf, withQueues}
 use Rattle.rules.specs.Kinds.{codeOf, decide, kindOf}
 use Rattle.rules.specs.Matching.{Entered, enter, sweep}
@@ -22,11 +22,11 @@ use Rattle.rules.specs.declared.Order.{Order}
 use Rattle.rules.specs.declared.State.{State}
 use Rattle.rules.proofs.AuctionSteps.{trades-needed as trades-entered}
 use Rattle.rules.proofs.Terms.{terms}
+use Rattle.rules.proofs.Refusals.{failed}
 use Rattle.prices.proofs.Methods.{method-has-tick}
 use Rattle.matching.specs.Entry.{EntryIs}
 use Rattle.matching.specs.Sweep.{SweepReady}
 use Rattle.matching.specs.declared.entry.Entry.{Entry}
-use Rattle.invariants.proofs.Accepted.{failed}
 use Rattle.invariants.proofs.Clauses.{Counted, WellFormed, well-formed, well-formed-test}
 use Rattle.invariants.proofs.Insert.{entered-counted, entered-keeps}
 use Rattle.invariants.proofs.InsertAccepted.{Given, Passes, next-given, numbered, passes}
@@ -171,7 +171,7 @@ module _ {s : State} {buys sells trades : List ℕ} (w : WellFormedState s buys 
             };
       }
 
-  pub arrives : (1 ≤ o .contract) × (placeOf (o .contract) < 4)
+  pub arrives : (1 ≤ o .contract) × (placeOf (o .contract) < maxContracts)
   arrives = (here .contract-low, omega (arith, here .contract, f .contracts-high))
 
   pub ready : {a : Arrival} → a ≡ arrivalOf s o number quote → Ready (s .accounts) a buys sells trades
@@ -186,7 +186,7 @@ module _ {s : State} {buys sells trades : List ℕ} (w : WellFormedState s buys 
         sweeps = sweeps;
       })
 
-  pub leaves-room : {a : Arrival} → a ≡ arrivalOf s o number quote → (a .place < 4) × (s .nextstamp < 1_000_000)
+  pub leaves-room : {a : Arrival} → a ≡ arrivalOf s o number quote → (a .place < maxContracts) × (s .nextstamp < numbersEnd)
   leaves-room is = (rw is (arrives .1), g .stamp)
 
   -- ---- written into the memory
@@ -280,7 +280,7 @@ module _ {s : State} {buys sells trades : List ℕ} (w : WellFormedState s buys 
   unfolding codeOf kindOf
   passed = passes x′ o accepted
 
-  pub next-low : s .next < 1_000_000
+  pub next-low : s .next < numbersEnd
   unfolding codeOf kindOf exchangeOf
   next-low = numbered x′ o accepted
 

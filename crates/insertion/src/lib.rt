@@ -5,6 +5,7 @@
 // accounts and not the whole state: a call that takes the state and gives it back copies it twice.
 ghost use Prim.Native.Nat.{_<_, _≤_};
 ghost use mathlib.Core.Path.{_≡_};
+ghost use Rattle.rules.specs.Bounds.{maxContracts, numbersEnd};
 ghost use Rattle.laws.specs.Choice.{pick};
 ghost use Rattle.rules.specs.Exchange.{placeOf};
 ghost use Rattle.rules.specs.Memory.{stepIn, memory, WellFormedState};
@@ -39,7 +40,7 @@ pub struct Arrival {
 
 // Requires a contract's number whose place exists.
 pub fn arrival_of(state: State, o: NewOrder, number: u32, quote: u32) -> Arrival
-    requires { ⌜ (1 ≤ o .contract) × (placeOf (o .contract) < 4) ⌝ }
+    requires { ⌜ (1 ≤ o .contract) × (placeOf (o .contract) < maxContracts) ⌝ }
     ensures { λ r. ⌜ r ≡ arrivalOf state o number quote ⌝ }
 {
     let place = laws::place_of(o.contract);
@@ -145,7 +146,7 @@ fn by_side(sell: bool, selling: usize, buying: usize) -> usize
 
 // The state after it: one time stamp more is used, and `next` is the next number. Requires a place that exists and a time stamp.
 pub fn with_entry(state: State, a: Arrival, e: Entry, next: u32) -> State
-    requires { ⌜ (a .place < 4) × (state .nextstamp < 1000000) ⌝ }
+    requires { ⌜ (a .place < maxContracts) × (state .nextstamp < numbersEnd) ⌝ }
     ensures { λ r. ⌜ r ≡ withEntry state a e next ⌝ }
 {
     let o = a.order;

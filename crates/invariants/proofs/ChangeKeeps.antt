@@ -13,9 +13,9 @@ use lib.ListN.{length, getD, set, length-set}
 use lib.Seq.{getD-set-same}
 use Rattle.laws.specs.Choice.{pick, allOf, allOf-append, both-true, true-both, either-false}
 use Rattle.laws.specs.Sums.{sumOf, sumOf-append, sumOf-at, sumOf-set}
-use Rattle.rules.specs.Answers.{firstOf, holdingRefused, listingOf, noSuchOrder, numbered, restingOrder, stampsUsedUp, tradesRefused}
+use Rattle.rules.specs.Answers.{Refusal, firstOf, listingOf, namedRefusals, noSuchOrder, notContinuous, numbered, ownerRefusals, restingOrder, tradesRefused}
 use Rattle.rules.specs.Bounds.{allowedToday, maxLots, maxResting, numbersEnd}
-use Rattle.rules.specs.Change.{Asked, arriving, changeRefusals, changed, gone, isSell, lessened, listingFor, listingLessened, losesPlace, oldOrder, placeKept, placeLost, reentered, unchanged, unmarked}
+use Rattle.rules.specs.Change.{Asked, arriving, changeRefusals, changed, gone, isSell, lessened, listingFor, listingLessened, losesPlace, newFieldsRefusals, oldOrder, placeKept, placeLost, reentered, reentryRefusals, unchanged, unmarked}
 use Rattle.rules.specs.Exchange.{Exchange, Listing, listingAt, noListing, noOrder, own, placeOf, lotsWhere, resting}
 use Rattle.rules.specs.Kinds.{lastOf}
 use Rattle.rules.specs.Matching.{withLots}
@@ -26,7 +26,7 @@ use Rattle.rules.specs.declared.Order.{Order}
 use Rattle.rules.proofs.Changes.{changed-either}
 use Rattle.rules.proofs.Lessened.{fits, less-all, less-length, less-sorted, less-sum, less-uncrossed, same-sum}
 use Rattle.rules.proofs.Stages.{Each}
-use Rattle.invariants.proofs.Accepted.{Failed, failed, present}
+use Rattle.rules.proofs.Refusals.{Failed, both-zero, failed, present}
 use Rattle.invariants.proofs.Clauses.{ListingOk, HoldingOk, MarksOk, WellFormed, Counted, order-ok, order-test}
 use Rattle.invariants.proofs.Insert.{entered-counted, entered-keeps}
 use Rattle.invariants.proofs.InsertAccepted.{Given, Passes, both-failed, close-lots, open-lots}
@@ -137,31 +137,38 @@ module _ (x : Exchange) (w : WellFormed x) (k : Asked) (e : firstOf (changeRefus
 
   -- ---- what it has passed
 
-  tests : Failed (changeRefusals x k)
-  unfolding changeRefusals
-  tests = failed (changeRefusals x k) (omega arith) e
+  -- before the loss of its place
+  before-loss : List Refusal
+  before-loss =
+      namedRefusals x notContinuous (k .account) (k .contract)
+      ++ ownerRefusals (placeOf (k .account)) (restingOrder listing number)
+      ++ newFieldsRefusals (listing .contract) (k .lots) (k .price)
+
+  passed : Failed before-loss × (firstOf (pick (losesPlace x k) (reentryRefusals (gone x k) number (arriving x k)) []) ≡ 0)
+  unfolding changeRefusals before-loss
+  passed = both-zero before-loss (pick (losesPlace x k) (reentryRefusals (gone x k) number (arriving x k)) []) (omega arith) e
 
   account-there : placeOf (k .account) < length (x .accounts)
-  unfolding changeRefusals
-  account-there = present (k .account) (x .accounts) (tests .0)
+  unfolding before-loss
+  account-there = present (k .account) (x .accounts) (passed .0 .0)
 
   there : place < length (x .listings)
-  unfolding changeRefusals
-  there = present (k .contract) (x .listings) (tests .1 .0)
+  unfolding before-loss
+  there = present (k .contract) (x .listings) (passed .0 .1 .0)
 
   rests : noSuchOrder (numbered number (listing .buys ++ listing .sells)) ≡ false
-  unfolding changeRefusals restingOrder
-  rests = tests .1 .1 .1 .0
+  unfolding before-loss restingOrder
+  rests = passed .0 .1 .1 .1 .0
 
   lots-high : k .lots ≤ maxLots
-  unfolding changeRefusals
-  lots-high = ltb-false _ _ (tests .1 .1 .1 .1 .1 .0)
+  unfolding before-loss
+  lots-high = ltb-false _ _ (passed .0 .1 .1 .1 .1 .1 .0)
 
   price-allowed : eqb (k .lots) 0 ≡ false → allowedToday (listing .contract) (k .price) ≡ true
-  unfolding changeRefusals
+  unfolding before-loss
   price-allowed some =
       not-false (allowedToday (listing .contract) (k .price))
-      (both-failed (not (eqb (k .lots) 0)) (not (allowedToday (listing .contract) (k .price))) (tests .1 .1 .1 .1 .1 .1 .0) (ap not some))
+      (both-failed (not (eqb (k .lots) 0)) (not (allowedToday (listing .contract) (k .price))) (passed .0 .1 .1 .1 .1 .1 .1 .0) (ap not some))
 
   -- ---- the order as it rests
 
@@ -246,17 +253,12 @@ module _ (x : Exchange) (w : WellFormed x) (k : Asked) (e : firstOf (changeRefus
     unfolding losesPlace
     some = not-true (eqb (k .lots) 0) (both-true (not (eqb (k .lots) 0)) _ lost .0)
 
-    holding-passed : holdingRefused (gone x k) (arriving x k) ≡ false
-    unfolding changeRefusals
-    holding-passed = both-failed (losesPlace x k) (holdingRefused (gone x k) (arriving x k)) (tests .1 .1 .1 .1 .1 .1 .1 .0) lost
+    reentry-passed : Failed (reentryRefusals (gone x k) number (arriving x k))
+    reentry-passed = failed (reentryRefusals (gone x k) number (arriving x k)) (omega arith) (rw lost at (passed .1))
 
     stamps-left : x .nextstamp < numbersEnd
-    unfolding changeRefusals
-    stamps-left = leb-false _ _ (both-failed (losesPlace x k) (stampsUsedUp x) (tests .1 .1 .1 .1 .1 .1 .1 .1 .1 .0) lost)
-
-    trades-passed : tradesRefused (gone x k) number (arriving x k) ≡ false
-    unfolding changeRefusals
-    trades-passed = both-failed (losesPlace x k) (tradesRefused (gone x k) number (arriving x k)) (tests .1 .1 .1 .1 .1 .1 .1 .1 .1 .1 .0) lost
+    unfolding gone
+    stamps-left = leb-false _ _ (reentry-passed .1 .1 .0)
 
     mine-left : (b : Bool) → own b left ≡ without (hasNumber number) (own b listing)
     mine-left true = refl
@@ -282,10 +284,10 @@ module _ (x : Exchange) (w : WellFormed x) (k : Asked) (e : firstOf (changeRefus
           limited = λ g. refl;
           rests = λ a. refl;
           price = λ limit q. subst (λ (p : ℕ). allowedToday (listingOf (gone x k) (arriving x k) .contract) p ≡ true) (ap limitOf q) its-price;
-          opens = open-lots (gone x k) (arriving x k) holding-passed;
-          closes = close-lots (gone x k) (arriving x k) holding-passed;
+          opens = open-lots (gone x k) (arriving x k) (reentry-passed .0);
+          closes = close-lots (gone x k) (arriving x k) (reentry-passed .0);
           stamp = stamps-left;
-          trades = ltb-false _ _ trades-passed;
+          trades = ltb-false _ _ (reentry-passed .1 .1 .1 .0);
           room = λ g full. absurd (omega (arith, has-room n, full));
         }
 

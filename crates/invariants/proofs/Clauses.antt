@@ -435,3 +435,8 @@ pub record Counted (x : Exchange) : Type 0 where
   pub contracts : length (x .listings) ≤ maxContracts
   pub trades : length (x .trades) ≤ maxTrades
   pub queues : (c : ℕ) (sell : Bool) → c < length (x .listings) → length (own sell (listingAt x c)) ≤ maxResting
+
+-- a state that is well formed, with its counts in range
+pub record Sound (x : Exchange) : Type 0 where
+  pub contents : WellFormed x
+  pub counts : Counted x

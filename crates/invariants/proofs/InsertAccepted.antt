@@ -1,14 +1,14 @@
 -- What an order that is entered has passed, and the number that it has, as facts with names: an accepted insert. Assumes nothing.
 use mathlib.Core.Bool.{Bool, true, false, not, _&&_, _||_, true≢false, false≢true}
 use mathlib.Core.List.{List}
-use mathlib.Core.Path.{_≡_, refl, sym, _∙_}
+use mathlib.Core.Path.{_≡_, refl, sym, _∙_, ap}
 use Prim.Native.Nat.{ℕ, _+_, _<_, _≤_}
 use native.Mathlib.Omega.{arith}
 use borrow.Author.Tests.{leb-true, leb-false, ltb-false, le-leb, not-false}
 use lib.Dec.{leb, ltb}
 use lib.ListN.{length}
 use Rattle.laws.specs.Choice.{pick, pick-true, pick-false, both-true, true-both, either-false}
-use Rattle.rules.specs.Answers.{firstOf, insertRefusals, orderRefusals, isGoodForDay, isLimit, listingOf, priceRefusedBy, holdingRefused, overLimit, overHolding, fillableLots, tradesNeeded, tradesRefused, numbersUsedUp, stampsUsedUp, conditionsRefused, dayWithoutLimit}
+use Rattle.rules.specs.Answers.{firstOf, insertRefusals, orderRefusals, isGoodForDay, isLimit, listingOf, priceRefusedBy, holdingRefused, lotsRefused, mark, fillableLots, tradesNeeded, tradesRefused, numbersUsedUp, stampsUsedUp, conditionsRefused, dayWithoutLimit}
 use Rattle.rules.specs.Bounds.{within, allowedToday, numbersEnd, maxLots, maxTrades, maxResting, inAuction}
 use Rattle.rules.specs.Exchange.{Exchange, listingAt, placeOf, own, holdingAt, restingOpens, restingCloses}
 use Rattle.rules.specs.WellFormed.{allNumbers, numberOf}
@@ -18,7 +18,7 @@ use Rattle.rules.specs.declared.NewOrder.{NewOrder}
 use Rattle.rules.specs.declared.Order.{Order}
 use Rattle.rules.specs.declared.PriceCondition.{PriceCondition}
 use Rattle.rules.specs.declared.PriceCondition.the-variants.{Limit}
-use Rattle.invariants.proofs.Accepted.{Failed, failed, present}
+use Rattle.rules.proofs.Refusals.{Failed, failed, present}
 use Rattle.invariants.proofs.Clauses.{held, WellFormed}
 use Rattle.invariants.proofs.Numbers.{occurs, given-unused}
 
@@ -111,12 +111,16 @@ has-room c day queue lots fillable e g l =
 module _ (x : Exchange) (o : NewOrder) (e : holdingRefused x o ≡ false) where
   pub open-lots : o .close ≡ false →
       held (o .sell) (itsHolding x o) + restingOpens (placeOf (o .account)) (itsQueue x o) + o .lots ≤ listingOf x o .contract .limit
-  unfolding holdingRefused overLimit
-  open-lots q = ltb-false _ _ (sym (pick-false (o .close) _ _ q) ∙ e)
+  unfolding holdingRefused lotsRefused
+  open-lots q =
+      let opens : mark (o .close) ≡ 0 = ap mark q in
+      ltb-false _ _ (rw opens at (sym (pick-false (o .close) _ _ q) ∙ e))
 
   pub close-lots : o .close ≡ true → restingCloses (placeOf (o .account)) (itsQueue x o) + o .lots ≤ held (not (o .sell)) (itsHolding x o)
-  unfolding holdingRefused overHolding
-  close-lots q = rw (← other-side (o .sell) (itsHolding x o)) (ltb-false _ _ (sym (pick-true (o .close) _ _ q) ∙ e))
+  unfolding holdingRefused lotsRefused
+  close-lots q =
+      let closes : mark (o .close) ≡ 1 = ap mark q in
+      rw (← other-side (o .sell) (itsHolding x o)) (ltb-false _ _ (rw closes at (sym (pick-true (o .close) _ _ q) ∙ e)))
 
 -- 10 failed
 counters : (x : Exchange) → (numbersUsedUp x || stampsUsedUp x) ≡ false → (x .next < numbersEnd) × (x .nextstamp < numbersEnd)

@@ -1,5 +1,5 @@
+-- The theorems on the state and its memory, and the laws beneath them. Assumes nothing.
 pub mod Clauses
-pub mod Accepted
 pub mod Replay
 pub mod Carry
 pub mod Marks
@@ -27,8 +27,8 @@ pub mod QuoteKeeps
 pub mod Singly
 pub mod QuoteAsOrders
 pub mod Makers
-pub mod Keeps
 pub mod Stamps
+pub mod EachKind
 pub mod MemoryRoom
 pub mod MemoryLaws
 pub mod MemoryKeeps

@@ -15,8 +15,8 @@ use Rattle.rules.proofs.Codecs.{length-queue, length-trades}
 use Rattle.rules.proofs.Stages.{Each, decided}
 use Rattle.accounting.proofs.EachKind.{kind-shape}
 use Rattle.accounting.proofs.StepShape.{SameShape, shape-trans, shape-sym}
-use Rattle.invariants.proofs.Clauses.{Counted, WellFormed, well-formed, well-formed-test}
-use Rattle.invariants.proofs.Keeps.{Sound, kind-keeps, kind-counted}
+use Rattle.invariants.proofs.Clauses.{Counted, Sound, WellFormed, well-formed, well-formed-test}
+use Rattle.invariants.proofs.EachKind.{kind-keeps, kind-counted}
 use Rattle.invariants.proofs.MemoryLaws.{exchange-put, length-buys, length-sells, length-tradeArea, put-room, put-counts}
 use Rattle.invariants.proofs.MemoryRoom.{CountsOk, RoomOk, memory-ok, memory-test}
 

@@ -17,9 +17,8 @@ use Rattle.rules.specs.Holdings.{startHolding, startAccount}
 use Rattle.rules.specs.WellFormed.{contractInRange, wellFormedContents}
 use Rattle.rules.specs.declared.Holding.{Holding}
 use Rattle.rules.proofs.Terms.{terms, multiple-test}
-use Rattle.invariants.proofs.Clauses.{well-formed-test}
+use Rattle.invariants.proofs.Clauses.{Sound, well-formed-test}
 use Rattle.invariants.proofs.FreshDay.{fresh-day, fresh-counted}
-use Rattle.invariants.proofs.Keeps.{Sound}
 
 no-lots : (n c : ℕ) → getD (replicate n noHolding) c noHolding ≡ noHolding
 no-lots zero c = refl

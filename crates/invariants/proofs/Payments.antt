@@ -23,7 +23,7 @@ use Rattle.rules.specs.Margin.{charged}
 use Rattle.rules.specs.Step.{withBalance, paid, deposited, withdrawn}
 use Rattle.rules.specs.declared.Account.{Account}
 use Rattle.rules.specs.declared.Holding.{Holding}
-use Rattle.invariants.proofs.Accepted.{failed, present}
+use Rattle.rules.proofs.Refusals.{failed, present}
 use Rattle.invariants.proofs.Carry.{trades-carried}
 use Rattle.invariants.proofs.Clauses.{WellFormed, Counted}
 use Rattle.invariants.proofs.Marks.{marks-carried}

@@ -31,7 +31,7 @@ use Rattle.rules.proofs.AuctionTaken.{Taken}
 use Rattle.rules.proofs.AuctionTrades.{match-contract, match-prices}
 use Rattle.rules.proofs.AuctionUncrossed.{hasLots}
 use Rattle.rules.proofs.Holdings.{booked-start-holding}
-use Rattle.invariants.proofs.Accepted.{failed, present}
+use Rattle.rules.proofs.Refusals.{failed, present}
 use Rattle.invariants.proofs.Carry.{Allows, orders-carried}
 use Rattle.invariants.proofs.Clauses.{order-ok, ListingOk, HoldingOk, MarksOk, WellFormed, Counted}
 use Rattle.invariants.proofs.InsertListing.{contract-traded}

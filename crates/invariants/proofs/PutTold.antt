@@ -28,7 +28,7 @@ use Rattle.accounting.proofs.EachKind.{kind-shape}
 use Rattle.accounting.proofs.StepShape.{SameShape, same-shape}
 use Rattle.invariants.specs.ByPlace.{Told, areaOf, byPlace, countsOf, inOne, known, listed, made, rests}
 use Rattle.invariants.proofs.Clauses.{Counted}
-use Rattle.invariants.proofs.Keeps.{kind-counted}
+use Rattle.invariants.proofs.EachKind.{kind-counted}
 use Rattle.invariants.proofs.MemoryKeeps.{Writable, both-each, counted, shaped-as, sound}
 use Rattle.invariants.proofs.MemoryLaws.{exchange-put, length-buys, length-sells, length-tradeArea, put-counts, put-first-at, put-room, put-same}
 use Rattle.invariants.proofs.MemoryRoom.{CountsOk, RoomOk, memory-ok}

@@ -6,13 +6,13 @@ use mathlib.Core.List.{List, [], _∷_, _++_, append-nil, map}
 use mathlib.Core.Path.{_≡_, refl, sym, ap, _∙_}
 use Prim.Native.Nat.{ℕ, _+_, _<_, _≤_}
 use native.Mathlib.Omega.{arith}
-use borrow.Author.Tests.{eqb-true, eqb-false, ne-eqb}
+use borrow.Author.Tests.{eqb-true, eqb-false}
 use lib.Dec.{ltb, eqb}
 use lib.ListN.{length, length-set}
 use lib.Seq.{getD-set-same, set-getD, set-set}
 use Rattle.laws.specs.Choice.{pick, allOf, allOf-append, both-true}
 use Rattle.laws.specs.Sums.{sumOf-append, sumOf-at}
-use Rattle.rules.specs.Answers.{Refusal, _when_, cancelRefusals, firstOf, insertRefusals, listingOf, orderRefusals, removalRefused, restingOrder, takesOrders}
+use Rattle.rules.specs.Answers.{cancelRefusals, firstOf, insertRefusals, listingOf, orderRefusals, pullRefusals, removalRefused, restingOrder, takesOrders}
 use Rattle.rules.specs.Bounds.{continuous}
 use Rattle.rules.specs.Exchange.{Exchange, Listing, absent, accountAt, listingAt, noListing, placeOf}
 use Rattle.rules.specs.Kinds.{codeOf, decide, kindOf, lastOf, step}
@@ -27,7 +27,7 @@ use Rattle.rules.specs.declared.NewOrder.{NewOrder}
 use Rattle.rules.specs.declared.Order.{Order}
 use Rattle.rules.proofs.Holdings.{length-bookTrades}
 use Rattle.rules.proofs.WithoutMarks.{after-unmarked, entered-unmarked, plainEntered, refusals-unmarked, withoutMarks}
-use Rattle.invariants.proofs.Accepted.{Coded, present}
+use Rattle.rules.proofs.Refusals.{Coded, first-append, present}
 use Rattle.invariants.proofs.Clauses.{WellFormed, well-formed}
 use Rattle.invariants.proofs.Numbers.{all-uses, once-count, uses, usesIn}
 use Rattle.invariants.proofs.Removal.{removed-keeps}
@@ -164,7 +164,7 @@ module _ (x : Exchange) (w : WellFormed x) (q : Offered) (p : Passes24 x q) wher
     its-own = first-satisfies (isQuoteOf account) o os both left-both (used-once (o .number))
 
     cancel-code : codeOf x (cancelOf q o) ≡ 0
-    unfolding codeOf kindOf cancelRefusals firstOf restingOrder removalRefused
+    unfolding codeOf kindOf cancelRefusals pullRefusals firstOf restingOrder removalRefused
     cancel-code =
         rw (
           p .account,
@@ -221,20 +221,13 @@ cancels q (o ∷ os) x w p e ds =
 
 -- ---- the inserts
 
--- of two lists of refusals, one after the other
-first-append : (rs ss : List Refusal) → Coded rs → firstOf (rs ++ ss) ≡ pick (eqb (firstOf rs) 0) (firstOf ss) (firstOf rs)
-unfolding firstOf
-first-append [] ss k = refl
-first-append ((code when true) ∷ rs) ss k = rw (ne-eqb code 0 (λ (e : code ≡ 0). omega (arith, k .0))) refl
-first-append ((code when false) ∷ rs) ss k = first-append rs ss (k .1)
-
 order-coded : (x : Exchange) (o : NewOrder) → Coded (orderRefusals x o)
 unfolding orderRefusals
 order-coded x o = omega arith
 
 insert-code : (x : Exchange) (o : NewOrder) → absent (o .account) (x .accounts) ≡ false → absent (o .contract) (x .listings) ≡ false → eqb (listingOf x o .contract .phase) continuous ≡ true →
     codeOf x (Insert o) ≡ firstOf (orderRefusals x o)
-unfolding codeOf kindOf insertRefusals firstOf takesOrders
+unfolding codeOf kindOf insertRefusals firstOf takesOrders listingOf
 insert-code x o a c h = rw (a, c, h) refl
 
 abbrev insertedTo : Exchange → ℕ → NewOrder → Exchange

@@ -23,7 +23,7 @@ use Rattle.rules.proofs.AuctionSteps.{entered-either}
 use Rattle.rules.proofs.Holdings.{booked-maker, length-bookTrades}
 use Rattle.rules.proofs.Rest.{rest-sum}
 use Rattle.rules.proofs.Stages.{Each}
-use Rattle.invariants.proofs.Accepted.{Failed, failed, failed-both, present}
+use Rattle.rules.proofs.Refusals.{Failed, failed, failed-both, present}
 use Rattle.invariants.proofs.Clauses.{WellFormed, Counted}
 use Rattle.invariants.proofs.Insert.{entered-counted, entered-keeps}
 use Rattle.invariants.proofs.InsertAccepted.{Given, Passes, next-given, numbers-left, order-passes}

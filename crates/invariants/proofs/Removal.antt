@@ -19,7 +19,7 @@ use Rattle.rules.specs.declared.Order.{Order}
 use Rattle.rules.specs.declared.Holding.{Holding}
 use Rattle.rules.proofs.Queue.{length-without}
 use Rattle.rules.proofs.Sorted.{sorted-tail}
-use Rattle.invariants.proofs.Accepted.{failed, present}
+use Rattle.rules.proofs.Refusals.{failed, present}
 use Rattle.invariants.proofs.Clauses.{ListingOk, HoldingOk, MarksOk, WellFormed, Counted}
 use Rattle.invariants.proofs.Marks.{markOf, marks-left}
 use Rattle.invariants.proofs.Numbers.{uses, usesIn}
@@ -123,7 +123,7 @@ module _ (test : Order → Bool) where
 module _ (x : Exchange) (account contract : ℕ) (operator : Bool) where
   module _ (number : ℕ) (e : firstOf (cancelRefusals x account contract operator number) ≡ 0) where
     cancel-there : placeOf contract < length (x .listings)
-    unfolding cancelRefusals
+    unfolding cancelRefusals pullRefusals
     cancel-there = present contract (x .listings) (failed (cancelRefusals x account contract operator number) (omega arith) e .1 .0)
 
     pub cancel-keeps : WellFormed x → WellFormed (lastOf x (cancelled x (placeOf contract) number .stages))

@@ -26,8 +26,8 @@ use Rattle.rules.specs.declared.Order.{Order}
 use Rattle.rules.specs.declared.Trade.{Trade}
 use Rattle.rules.proofs.Prices.{middle-any}
 use Rattle.rules.proofs.Terms.{Terms, terms, terms-test, Multiple}
+use Rattle.rules.proofs.Refusals.{failed}
 use Rattle.accounting.proofs.ProfitBound.{settled-balance-bound}
-use Rattle.invariants.proofs.Accepted.{failed}
 use Rattle.invariants.proofs.Clauses.{order-ok, ListingOk, TradeOk, trade-ok, WellFormed, Counted, well-formed-test}
 use Rattle.invariants.proofs.FreshDay.{fresh-counted, fresh-day}
 use Rattle.invariants.proofs.Ticks.{allowed-multiple, weighted-multiple}

@@ -1,10 +1,9 @@
--- ORDER NUMBERS STAY, AND TIME STAMPS ARE NEVER GIVEN TWICE IN A DAY (document 02, ticket 8): after every command but a settlement an
--- order that rests did so before with its number and its time stamp, or is the one that the command entered, with the next time stamp:
--- an insert's with the next order number, a changed one with the number that it had, a quote's two with the next numbers and time
--- stamps. Where every time stamp is the order's number, it stays so under every command but a change. Assumes nothing.
-use mathlib.Core.Bool.{Bool, true, false, not, _&&_, _||_, true≢false, false≢true}
+-- Which orders may rest after a command, and with which time stamps: those that rested before with their numbers and time stamps, and those
+-- that it enters. What each kind enters stands in `EachKind`. Where every time stamp is the order's number, price and time stamp are price
+-- and number. Assumes nothing.
+use mathlib.Core.Bool.{Bool, true, false, not, _&&_, _||_, false≢true}
 use mathlib.Core.List.{List, [], _∷_}
-use mathlib.Core.Path.{_≡_, refl, sym, ap, _∙_}
+use mathlib.Core.Path.{_≡_, refl, sym, _∙_}
 use Prim.Native.Nat.{ℕ, zero, suc, _+_, _≤_}
 use native.Mathlib.Nat.{le-refl}
 use native.Mathlib.Omega.{arith}
@@ -15,17 +14,14 @@ use Rattle.laws.specs.Choice.{pick, allOf, allOf-imp, both-true, true-both, tru
 use Rattle.laws.specs.Tabulate.{tabulate}
 use Rattle.rules.specs.Answers.{listingOf, numbersUsedUp, stampsUsedUp, takerOf}
 use Rattle.rules.specs.Auction.{Matched, matchAt, matchOf}
-use Rattle.rules.specs.Change.{Asked, arriving, asked, changed, gone, listingFor, listingLessened, placeKept, placeLost, reentered, unchanged}
-use Rattle.rules.specs.Command.{isSettle, kindNumber}
+use Rattle.rules.specs.Change.{Asked, arriving, changed, gone, listingFor, listingLessened, placeKept, placeLost, reentered, unchanged}
 use Rattle.rules.specs.Exchange.{Exchange, Listing, listingAt, noListing, opposite, own, placeOf, worse}
-use Rattle.rules.specs.Kinds.{kindOf, lastOf, step}
+use Rattle.rules.specs.Kinds.{lastOf}
 use Rattle.rules.specs.Matching.{enter, remainder, restLots, restWhole}
-use Rattle.rules.specs.Quote.{Offered, buyOf, offered, quoted, sellOf, withBuy, withSell, withoutQuote}
+use Rattle.rules.specs.Quote.{Offered, buyOf, quoted, sellOf, withBuy, withSell, withoutQuote}
 use Rattle.rules.specs.Settlement.{settled, settledListing}
-use Rattle.rules.specs.Step.{cancelled, deposited, enteredOf, exchangeAfter, exchangeMatched, hasNumber, inserted, isOf, limitOf, listingAfter, listingMatched, listingWithout, paid, phaseChanged, pulled, removed, settledAll, withListing, withdrawn}
+use Rattle.rules.specs.Step.{cancelled, enteredOf, exchangeAfter, exchangeMatched, hasNumber, limitOf, listingAfter, listingMatched, listingWithout, removed, withListing}
 use Rattle.rules.specs.WellFormed.{ahead, isQuoteOf}
-use Rattle.rules.specs.declared.Command.{Command}
-use Rattle.rules.specs.declared.Command.the-variants.{Malformed, Deposit, Withdraw, Insert, Cancel, Pull, Phase, Settle, Quote, Change}
 use Rattle.rules.specs.declared.NewOrder.{NewOrder}
 use Rattle.rules.specs.declared.Order.{Order}
 use Rattle.rules.proofs.AuctionOutcome.{auction-either}
@@ -35,7 +31,6 @@ use Rattle.rules.proofs.AuctionTurns.{match-ind}
 use Rattle.rules.proofs.Changes.{changed-either}
 use Rattle.rules.proofs.Lessened.{same-all}
 use Rattle.rules.proofs.Rest.{rest-all}
-use Rattle.rules.proofs.Stages.{decided}
 use Rattle.invariants.proofs.InsertQueues.{other-own, rested-all}
 use Rattle.invariants.proofs.Removal.{without-all}
 
@@ -62,18 +57,9 @@ follows x new c sell o = restsIn (own sell (listingAt x c)) (o .number) (o .stam
 abbrev pub Follow : Exchange → List Arrival → Exchange → Type 0
 Follow x new y = (c : ℕ) (sell : Bool) → allOf (follows x new c sell) (own sell (listingAt y c)) ≡ true
 
--- the numbers and time stamps of the orders that a command enters
-abbrev pub enters : Exchange → Command → List Arrival
-enters x Malformed = []
-enters x (Deposit account amount) = []
-enters x (Withdraw account amount) = []
-enters x (Insert o) = (x .next stamped x .nextstamp) ∷ []
-enters x (Cancel account contract operator number) = []
-enters x (Pull account contract operator) = []
-enters x (Phase contract phase) = []
-enters x Settle = []
-enters x (Quote account contract lots buy sell) = (x .next stamped x .nextstamp) ∷ (x .next + 1 stamped x .nextstamp + 1) ∷ []
-enters x (Change account contract number lots price) = (number stamped x .nextstamp) ∷ []
+-- .. and the next time stamp does not fall
+abbrev pub Onward : Exchange → List Arrival → Exchange → Type 0
+Onward x new y = Follow x new y × (x .nextstamp ≤ y .nextstamp)
 
 among-first : (n s : ℕ) (gs : List Arrival) → among ((n stamped s) ∷ gs) n s ≡ true
 unfolding among
@@ -96,7 +82,7 @@ all-rest (o ∷ os) =
     (λ p h. either-true (eqb (o .number) (p .number) && eqb (o .stamp) (p .stamp)) (restsIn os (p .number) (p .stamp)) h) (all-rest os))
 
 module _ (x : Exchange) (new : List Arrival) where
-  same-follow : Follow x new x
+  pub same-follow : Follow x new x
   same-follow c sell =
       allOf-imp (λ o. restsIn (own sell (listingAt x c)) (o .number) (o .stamp)) (follows x new c sell) (own sell (listingAt x c))
       (λ o h. true-either (restsIn (own sell (listingAt x c)) (o .number) (o .stamp)) (among new (o .number) (o .stamp)) h) (all-rest (own sell (listingAt x c)))
@@ -121,7 +107,7 @@ module _ (x : Exchange) (new : List Arrival) where
 
   -- ---- orders taken out
 
-  without-follow : (d : ℕ) (test : Order → Bool) → Follow x new (withListing x d (listingWithout test (listingAt x d)))
+  pub without-follow : (d : ℕ) (test : Order → Bool) → Follow x new (withListing x d (listingWithout test (listingAt x d)))
   without-follow d test =
       relisted-follow x (withListing x d (listingWithout test (listingAt x d))) d (listingWithout test (listingAt x d)) refl same-follow by-side
     where
@@ -176,7 +162,7 @@ module _ (x : Exchange) (new : List Arrival) where
       (λ bs ss a g h. (g, h))
       (λ b bs s ss m f r ih g h. ih (less-kept _ b bs p k g) (less-kept _ s ss q l h))
 
-  match-follow : (d phase : ℕ) → Follow x new (exchangeMatched x d phase (matchOf x d))
+  pub match-follow : (d phase : ℕ) → Follow x new (exchangeMatched x d phase (matchOf x d))
   unfolding exchangeMatched listingMatched
   match-follow d phase =
       relisted-follow x (exchangeMatched x d phase (matchOf x d)) d (listingMatched (listingAt x d) phase (matchOf x d)) refl same-follow (by-side both-sides)
@@ -216,77 +202,44 @@ module _ (x : Exchange) (new : List Arrival) where
         by-side true = rw (same-all (k .number) (k .lots) (follows x new (placeOf (k .contract)) true) (λ o. refl) (listingFor x k .sells)) (same-follow (placeOf (k .contract)) true)
         by-side false = rw (same-all (k .number) (k .lots) (follows x new (placeOf (k .contract)) false) (λ o. refl) (listingFor x k .buys)) (same-follow (placeOf (k .contract)) false)
 
-change-follow : (x : Exchange) (k : Asked) → Follow x ((k .number stamped x .nextstamp) ∷ []) (lastOf x (changed x k .stages))
-unfolding cancelled removed placeLost unchanged reentered
-change-follow x k =
-    changed-either x k (λ ts e. Follow x new (lastOf x (e .stages)))
-    (λ e. without-follow x new (placeOf (k .contract)) (hasNumber (k .number)))
-    (λ e. entered-follow x new (gone x k) (gone-follow x new k) (k .number) 0 (rw (gone-stamps x new k) (among-first (k .number) (x .nextstamp) [])) (arriving x k) (x .next))
-    (λ e f. same-follow x new)
-    (λ e f g. kept-follow x new k)
+-- ---- what an insert, a change and a quote enter
+
+pub insert-onward : (x : Exchange) (o : NewOrder) → Onward x ((x .next stamped x .nextstamp) ∷ []) (exchangeAfter x o (enteredOf x (x .next) 0 o) (x .next + 1))
+unfolding exchangeAfter
+insert-onward x o = (entered-follow x new x (same-follow x new) (x .next) 0 (among-first (x .next) (x .nextstamp) []) o (x .next + 1), omega arith)
+  where
+    new : List Arrival
+    new = (x .next stamped x .nextstamp) ∷ []
+
+pub change-onward : (x : Exchange) (k : Asked) → Onward x ((k .number stamped x .nextstamp) ∷ []) (lastOf x (changed x k .stages))
+unfolding cancelled removed placeLost unchanged reentered placeKept exchangeAfter gone
+change-onward x k =
+    changed-either x k (λ ts e. Onward x new (lastOf x (e .stages)))
+    (λ e. (without-follow x new (placeOf (k .contract)) (hasNumber (k .number)), le-refl (x .nextstamp)))
+    (λ e. (entered-follow x new (gone x k) (gone-follow x new k) (k .number) 0 (rw (gone-stamps x new k) (among-first (k .number) (x .nextstamp) [])) (arriving x k) (x .next), omega arith))
+    (λ e f. (same-follow x new, le-refl (x .nextstamp)))
+    (λ e f g. (kept-follow x new k, le-refl (x .nextstamp)))
   where
     new : List Arrival
     new = (k .number stamped x .nextstamp) ∷ []
 
 -- a quote: the old one gone, the buy entered, the sell entered
-quote-follow : (x : Exchange) (q : Offered) → Follow x ((x .next stamped x .nextstamp) ∷ (x .next + 1 stamped x .nextstamp + 1) ∷ []) (lastOf x (quoted x q .stages))
+pub quote-onward : (x : Exchange) (q : Offered) → Onward x ((x .next stamped x .nextstamp) ∷ (x .next + 1 stamped x .nextstamp + 1) ∷ []) (lastOf x (quoted x q .stages))
 unfolding quoted withSell withBuy withoutQuote exchangeAfter
-quote-follow x q =
-    entered-follow x new (withBuy x q)
-    (entered-follow x new (withoutQuote x q) (without-follow x new (placeOf (q .contract)) (isQuoteOf (placeOf (q .account)))) (x .next) 1
-    (among-first (x .next) (x .nextstamp) _) (buyOf q) (x .next + 1))
-    (x .next + 1) 1 (among-later (x .next stamped x .nextstamp) (x .next + 1) (x .nextstamp + 1) _ (among-first (x .next + 1) (x .nextstamp + 1) [])) (sellOf q) (x .next + 1 + 1)
+quote-onward x q = (sell-follow, omega arith)
   where
     new : List Arrival
     new = (x .next stamped x .nextstamp) ∷ (x .next + 1 stamped x .nextstamp + 1) ∷ []
 
--- ---- every kind
+    buy-follow : Follow x new (withBuy x q)
+    buy-follow =
+        entered-follow x new (withoutQuote x q) (without-follow x new (placeOf (q .contract)) (isQuoteOf (placeOf (q .account)))) (x .next) 1
+        (among-first (x .next) (x .nextstamp) _) (buyOf q) (x .next + 1)
 
-kind-follow : (x : Exchange) (command : Command) → isSettle command ≡ false → Follow x (enters x command) (lastOf x (kindOf x command .effect .stages))
-unfolding kindOf deposited withdrawn inserted cancelled pulled removed phaseChanged paid listingAt
-kind-follow x Malformed n = same-follow x []
-kind-follow x (Deposit account amount) n = same-follow x []
-kind-follow x (Withdraw account amount) n = same-follow x []
-kind-follow x (Insert o) n =
-    entered-follow x ((x .next stamped x .nextstamp) ∷ []) x (same-follow x ((x .next stamped x .nextstamp) ∷ [])) (x .next) 0 (among-first (x .next) (x .nextstamp) []) o (x .next + 1)
-kind-follow x (Cancel account contract operator number) n = without-follow x [] (placeOf contract) (hasNumber number)
-kind-follow x (Pull account contract operator) n = without-follow x [] (placeOf contract) (isOf (placeOf account))
-kind-follow x (Phase contract phase) n = match-follow x [] (placeOf contract) phase
-kind-follow x Settle n = absurd (true≢false n)
-kind-follow x (Quote account contract lots buy sell) n = quote-follow x (offered account contract lots buy sell)
-kind-follow x (Change account contract number lots price) n = change-follow x (asked account contract number lots price)
-
-change-rises : (x : Exchange) (k : Asked) → x .nextstamp ≤ lastOf x (changed x k .stages) .nextstamp
-unfolding cancelled removed placeLost unchanged placeKept exchangeAfter gone
-change-rises x k =
-    changed-either x k (λ ts e. x .nextstamp ≤ lastOf x (e .stages) .nextstamp)
-    (λ e. le-refl (x .nextstamp)) (λ e. omega arith) (λ e f. le-refl (x .nextstamp)) (λ e f g. le-refl (x .nextstamp))
-
-kind-rises : (x : Exchange) (command : Command) → isSettle command ≡ false → x .nextstamp ≤ lastOf x (kindOf x command .effect .stages) .nextstamp
-unfolding kindOf deposited withdrawn inserted cancelled pulled removed phaseChanged paid exchangeAfter exchangeMatched
-kind-rises x Malformed n = le-refl (x .nextstamp)
-kind-rises x (Deposit account amount) n = le-refl (x .nextstamp)
-kind-rises x (Withdraw account amount) n = le-refl (x .nextstamp)
-kind-rises x (Insert o) n = omega arith
-kind-rises x (Cancel account contract operator number) n = le-refl (x .nextstamp)
-kind-rises x (Pull account contract operator) n = le-refl (x .nextstamp)
-kind-rises x (Phase contract phase) n = le-refl (x .nextstamp)
-kind-rises x Settle n = absurd (true≢false n)
-kind-rises x (Quote account contract lots buy sell) n = unfold quoted withSell withBuy withoutQuote in omega arith
-kind-rises x (Change account contract number lots price) n = change-rises x (asked account contract number lots price)
-
--- NUMBERS STAY: every order resting after a command but a settlement rested before, with its number and its time stamp, or was entered
--- by it, with the number and the time stamp of `enters`
-pub numbers-stay : (x : Exchange) (command : Command) → isSettle command ≡ false → Follow x (enters x command) (step x command)
-unfolding step
-numbers-stay x command n =
-    decided (λ d. Follow x (enters x command) (lastOf x (d .stages))) x command (λ e. kind-follow x command n) (λ e. same-follow x (enters x command))
-
--- .. and the next time stamp never falls within a day, so that none is given twice
-pub stamps-rise : (x : Exchange) (command : Command) → isSettle command ≡ false → x .nextstamp ≤ step x command .nextstamp
-unfolding step
-stamps-rise x command n =
-    decided (λ d. x .nextstamp ≤ lastOf x (d .stages) .nextstamp) x command (λ e. kind-rises x command n) (λ e. le-refl (x .nextstamp))
+    sell-follow : Follow x new (withSell x q)
+    sell-follow =
+        entered-follow x new (withBuy x q) buy-follow (x .next + 1) 1
+        (among-later (x .next stamped x .nextstamp) (x .next + 1) (x .nextstamp + 1) _ (among-first (x .next + 1) (x .nextstamp + 1) [])) (sellOf q) (x .next + 1 + 1)
 
 -- ---- where every time stamp is the order's number
 
@@ -296,9 +249,6 @@ stampIsNumber o = eqb (o .stamp) (o .number)
 pub record StampsAsNumbers (x : Exchange) : Type 0 where
   pub next : x .nextstamp ≡ x .next
   pub orders : (c : ℕ) (sell : Bool) → allOf stampIsNumber (own sell (listingAt x c)) ≡ true
-
-abbrev pub isChange : Command → Bool
-isChange command = eqb (kindNumber command) 9
 
 rests-stamped : (queue : List Order) (number stamp : ℕ) → allOf stampIsNumber queue ≡ true → restsIn queue number stamp ≡ true → eqb stamp number ≡ true
 unfolding allOf restsIn
@@ -316,7 +266,7 @@ rests-stamped (o ∷ os) number stamp h e = by-number-and-stamp (eqb (o .number)
     by-number-and-stamp false f ih e = ih e
 
 -- each number given is its time stamp
-abbrev Alike : List Arrival → Type 0
+abbrev pub Alike : List Arrival → Type 0
 Alike [] = Unit {0}
 Alike ((n stamped s) ∷ gs) = (s ≡ n) × Alike gs
 
@@ -347,7 +297,7 @@ settled-none zero f c false h = refl
 settled-none (suc n) f zero sell h = h zero
 settled-none (suc n) f (suc c) sell h = settled-none n (λ i. f (suc i)) c sell (λ i. h (suc i))
 
-settled-stamped : (x : Exchange) → StampsAsNumbers (settled x)
+pub settled-stamped : (x : Exchange) → StampsAsNumbers (settled x)
 unfolding settled settledListing listingAt allOf
 settled-stamped x =
     record { next = refl; orders = λ c sell. rw (settled-none (length (x .listings)) (settledListing x) c sell (λ i. none sell)) refl }
@@ -356,33 +306,11 @@ settled-stamped x =
     none true = refl
     none false = refl
 
-entered-stamped : (x y : Exchange) → StampsAsNumbers x → y .nextstamp ≡ y .next → (new : List Arrival) → Alike new → Follow x new y → StampsAsNumbers y
-entered-stamped x y h e new alike f = record { next = e; orders = follow-stamped x y h new alike f }
+-- where each order enters with one number for both, it stays so
+pub entered-stamped : (x y : Exchange) → StampsAsNumbers x → (new : List Arrival) → (y .nextstamp ≡ y .next) × Alike new → Follow x new y → StampsAsNumbers y
+entered-stamped x y h new alike f = record { next = alike .0; orders = follow-stamped x y h new (alike .1) f }
 
-quote-stamped : (x : Exchange) (q : Offered) → StampsAsNumbers x → StampsAsNumbers (lastOf x (quoted x q .stages))
-unfolding quoted withSell withBuy withoutQuote exchangeAfter
-quote-stamped x q h =
-    entered-stamped x (withSell x q) h (ap (λ (i : ℕ). i + 1 + 1) (h .next)) _ (h .next, (ap (λ (i : ℕ). i + 1) (h .next), tt)) (quote-follow x q)
-
-kind-stamped : (x : Exchange) (command : Command) → isChange command ≡ false → StampsAsNumbers x → StampsAsNumbers (lastOf x (kindOf x command .effect .stages))
-unfolding kindOf deposited withdrawn inserted cancelled pulled removed phaseChanged settledAll paid exchangeAfter exchangeMatched
-kind-stamped x Malformed n h = h
-kind-stamped x (Deposit account amount) n h = entered-stamped x _ h (h .next) [] tt (kind-follow x (Deposit account amount) refl)
-kind-stamped x (Withdraw account amount) n h = entered-stamped x _ h (h .next) [] tt (kind-follow x (Withdraw account amount) refl)
-kind-stamped x (Insert o) n h = entered-stamped x _ h (ap (λ (i : ℕ). i + 1) (h .next)) _ (h .next, tt) (kind-follow x (Insert o) refl)
-kind-stamped x (Cancel account contract operator number) n h = entered-stamped x _ h (h .next) [] tt (kind-follow x (Cancel account contract operator number) refl)
-kind-stamped x (Pull account contract operator) n h = entered-stamped x _ h (h .next) [] tt (kind-follow x (Pull account contract operator) refl)
-kind-stamped x (Phase contract phase) n h = entered-stamped x _ h (h .next) [] tt (kind-follow x (Phase contract phase) refl)
-kind-stamped x Settle n h = settled-stamped x
-kind-stamped x (Quote account contract lots buy sell) n h = quote-stamped x (offered account contract lots buy sell) h
-kind-stamped x (Change account contract number lots price) n h = absurd (true≢false n)
-
--- EVERY COMMAND BUT A CHANGE LEAVES TIME STAMPS AS NUMBERS
-pub stamps-as-numbers : (x : Exchange) (command : Command) → isChange command ≡ false → StampsAsNumbers x → StampsAsNumbers (step x command)
-unfolding step
-stamps-as-numbers x command n h = decided (λ d. StampsAsNumbers (lastOf x (d .stages))) x command (λ e. kind-stamped x command n h) (λ e. h)
-
--- .. and there price and time stamp are price and number, and 10 falls where it did
+-- there price and time stamp are price and number, and 10 falls where it did
 pub ahead-by-number : (sell : Bool) (o p : Order) → stampIsNumber o ≡ true → stampIsNumber p ≡ true →
     ahead sell o p ≡ (worse sell (p .price) (o .price) || eqb (o .price) (p .price) && ltb (o .number) (p .number))
 unfolding ahead

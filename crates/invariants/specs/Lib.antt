@@ -1,2 +1,3 @@
+-- What is claimed of the memory beside the rules: what is in use, and what a write leaves at each place. Assumes nothing.
 pub mod InUse
 pub mod ByPlace

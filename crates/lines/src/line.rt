@@ -2,26 +2,43 @@
 ghost use mathlib.Core.List.{[], _∷_};
 ghost use Prim.Native.Nat.{_+_, _≤_};
 ghost use lib.ListN.{length};
-ghost use Rattle.rules.specs.Lines.{decimal, signed, fieldsOf, answerLine, tradeLine, brokenLine};
+ghost use Rattle.rules.specs.Lines.{decimal, signed, fieldsOf, answerLine, tradeLine, brokenLine, space};
 ghost use Rattle.endian.specs.Written.{Written};
-ghost use Rattle.lines.specs.Tables.{priceLine, accountLine};
+ghost use Rattle.lines.specs.Tables.{priceLine, accountLine, fieldMost, signedFieldMost, answerLineMost, tradeLineMost, priceLineMost, accountLineMost, brokenLineMost};
+use super::number::DIGITS_MOST;
 use super::number::put_decimal;
 use super::number::put_signed;
 use endian::writing::put_byte;
 use rules::Answer;
 use rules::Trade;
 
+// How many bytes a field may have, a space and twenty digits, and one with a sign.
+const FIELD_MOST: usize = 1 + DIGITS_MOST;
+
+const SIGNED_FIELD_MOST: usize = 1 + FIELD_MOST;
+
+// How many bytes a line may have: its letter, its fields, a newline.
+pub const ANSWER_LINE_MOST: usize = 1 + 5 * FIELD_MOST + 1;
+
+pub const TRADE_LINE_MOST: usize = 1 + 6 * FIELD_MOST + 1;
+
+pub const PRICE_LINE_MOST: usize = 1 + 2 * FIELD_MOST + 1;
+
+pub const ACCOUNT_LINE_MOST: usize = 1 + 2 * FIELD_MOST + 3 * SIGNED_FIELD_MOST + 1;
+
+pub const BROKEN_LINE_MOST: usize = 1 + FIELD_MOST + 1;
+
 pub fn put_field(out: &mut [u8], at: usize, n: u64) -> usize
-    requires { ⌜ at + 21 ≤ length (now out) ⌝ }
-    ensures { λ r. ⌜ Written 21 (now (out .entry)) at (32 ∷ decimal n) (now (out .exit)) r ⌝ }
+    requires { ⌜ at + fieldMost ≤ length (now out) ⌝ }
+    ensures { λ r. ⌜ Written fieldMost (now (out .entry)) at (space ∷ decimal n) (now (out .exit)) r ⌝ }
 {
     let next = put_byte(out, at, b' ');
     put_decimal(out, next, n)
 }
 
 pub fn put_signed_field(out: &mut [u8], at: usize, x: i64) -> usize
-    requires { ⌜ at + 22 ≤ length (now out) ⌝ }
-    ensures { λ r. ⌜ Written 22 (now (out .entry)) at (32 ∷ signed x) (now (out .exit)) r ⌝ }
+    requires { ⌜ at + signedFieldMost ≤ length (now out) ⌝ }
+    ensures { λ r. ⌜ Written signedFieldMost (now (out .entry)) at (space ∷ signed x) (now (out .exit)) r ⌝ }
 {
     let next = put_byte(out, at, b' ');
     put_signed(out, next, x)
@@ -29,8 +46,8 @@ pub fn put_signed_field(out: &mut [u8], at: usize, x: i64) -> usize
 
 // A line's letter and its first field.
 fn put_first(out: &mut [u8], at: usize, letter: u8, n: u64) -> usize
-    requires { ⌜ at + 22 ≤ length (now out) ⌝ }
-    ensures { λ r. ⌜ Written 22 (now (out .entry)) at (letter ∷ 32 ∷ decimal n) (now (out .exit)) r ⌝ }
+    requires { ⌜ at + (1 + fieldMost) ≤ length (now out) ⌝ }
+    ensures { λ r. ⌜ Written (1 + fieldMost) (now (out .entry)) at (letter ∷ space ∷ decimal n) (now (out .exit)) r ⌝ }
 {
     let next = put_byte(out, at, letter);
     put_field(out, next, n)
@@ -38,8 +55,8 @@ fn put_first(out: &mut [u8], at: usize, letter: u8, n: u64) -> usize
 
 // A line's last field and the newline.
 fn put_last(out: &mut [u8], at: usize, n: u64) -> usize
-    requires { ⌜ at + 22 ≤ length (now out) ⌝ }
-    ensures { λ r. ⌜ Written 22 (now (out .entry)) at (fieldsOf (decimal n ∷ [])) (now (out .exit)) r ⌝ }
+    requires { ⌜ at + (fieldMost + 1) ≤ length (now out) ⌝ }
+    ensures { λ r. ⌜ Written (fieldMost + 1) (now (out .entry)) at (fieldsOf (decimal n ∷ [])) (now (out .exit)) r ⌝ }
 {
     let next = put_field(out, at, n);
     put_byte(out, next, b'\n')
@@ -47,8 +64,8 @@ fn put_last(out: &mut [u8], at: usize, n: u64) -> usize
 
 // "C: command, code, order, traded, rested or removed."
 pub fn put_answer(out: &mut [u8], at: usize, k: u64, a: Answer) -> usize
-    requires { ⌜ at + 107 ≤ length (now out) ⌝ }
-    ensures { λ r. ⌜ Written 107 (now (out .entry)) at (answerLine k a) (now (out .exit)) r ⌝ }
+    requires { ⌜ at + answerLineMost ≤ length (now out) ⌝ }
+    ensures { λ r. ⌜ Written answerLineMost (now (out .entry)) at (answerLine k a) (now (out .exit)) r ⌝ }
 {
     let command = put_first(out, at, b'C', k);
     let code = put_field(out, command, a.code as u64);
@@ -59,8 +76,8 @@ pub fn put_answer(out: &mut [u8], at: usize, k: u64, a: Answer) -> usize
 
 // "T: trade of the day, contract, price, lots, buy order, sell order."
 pub fn put_trade(out: &mut [u8], at: usize, k: u64, t: Trade) -> usize
-    requires { ⌜ at + 128 ≤ length (now out) ⌝ }
-    ensures { λ r. ⌜ Written 128 (now (out .entry)) at (tradeLine k t) (now (out .exit)) r ⌝ }
+    requires { ⌜ at + tradeLineMost ≤ length (now out) ⌝ }
+    ensures { λ r. ⌜ Written tradeLineMost (now (out .entry)) at (tradeLine k t) (now (out .exit)) r ⌝ }
 {
     let trade = put_first(out, at, b'T', k);
     let contract = put_field(out, trade, t.contract as u64 + 1);
@@ -72,8 +89,8 @@ pub fn put_trade(out: &mut [u8], at: usize, k: u64, t: Trade) -> usize
 
 // "P: contract, settlement price." c is the contract's place.
 pub fn put_price(out: &mut [u8], at: usize, c: u32, price: u32) -> usize
-    requires { ⌜ at + 44 ≤ length (now out) ⌝ }
-    ensures { λ r. ⌜ Written 44 (now (out .entry)) at (priceLine c price) (now (out .exit)) r ⌝ }
+    requires { ⌜ at + priceLineMost ≤ length (now out) ⌝ }
+    ensures { λ r. ⌜ Written priceLineMost (now (out .entry)) at (priceLine c price) (now (out .exit)) r ⌝ }
 {
     let contract = put_first(out, at, b'P', c as u64 + 1);
     put_last(out, contract, price as u64)
@@ -89,8 +106,8 @@ pub fn put_account(
     balance: i64,
     charged: u64,
 ) -> usize
-    requires { ⌜ at + 110 ≤ length (now out) ⌝ }
-    ensures { λ r. ⌜ Written 110 (now (out .entry)) at (accountLine a closing holding balance charged) (now (out .exit)) r ⌝ }
+    requires { ⌜ at + accountLineMost ≤ length (now out) ⌝ }
+    ensures { λ r. ⌜ Written accountLineMost (now (out .entry)) at (accountLine a closing holding balance charged) (now (out .exit)) r ⌝ }
 {
     let account = put_first(out, at, b'B', a as u64 + 1);
     let closed = put_signed_field(out, account, closing);
@@ -101,8 +118,8 @@ pub fn put_account(
 
 // "A broken file prints `X 20`."
 pub fn put_broken(out: &mut [u8], at: usize) -> usize
-    requires { ⌜ at + 23 ≤ length (now out) ⌝ }
-    ensures { λ r. ⌜ Written 23 (now (out .entry)) at brokenLine (now (out .exit)) r ⌝ }
+    requires { ⌜ at + brokenLineMost ≤ length (now out) ⌝ }
+    ensures { λ r. ⌜ Written brokenLineMost (now (out .entry)) at brokenLine (now (out .exit)) r ⌝ }
 {
     let letter = put_byte(out, at, b'X');
     put_last(out, letter, 20)

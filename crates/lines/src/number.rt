@@ -3,8 +3,9 @@ ghost use mathlib.Core.Path.{_≡_};
 ghost use Prim.Native.Nat.{_+_, _≤_};
 ghost use lib.IntN.{natAbs};
 ghost use lib.ListN.{length};
-ghost use Rattle.rules.specs.Lines.{digits, decimal, signed};
+ghost use Rattle.rules.specs.Lines.{digits, decimal, signed, digitsMost};
 ghost use Rattle.endian.specs.Written.{Written};
+ghost use Rattle.lines.specs.Tables.{signedMost};
 use endian::writing::put_byte;
 
 // The last `places` digits of n, or fewer where n has fewer.
@@ -24,11 +25,13 @@ fn put_digits(out: &mut [u8], at: usize, places: usize, n: u64) -> usize
 }
 
 // Twenty digits hold every u64.
+pub const DIGITS_MOST: usize = 20;
+
 pub fn put_decimal(out: &mut [u8], at: usize, n: u64) -> usize
-    requires { ⌜ at + 20 ≤ length (now out) ⌝ }
-    ensures { λ r. ⌜ Written 20 (now (out .entry)) at (decimal n) (now (out .exit)) r ⌝ }
+    requires { ⌜ at + digitsMost ≤ length (now out) ⌝ }
+    ensures { λ r. ⌜ Written digitsMost (now (out .entry)) at (decimal n) (now (out .exit)) r ⌝ }
 {
-    put_digits(out, at, 20, n)
+    put_digits(out, at, DIGITS_MOST, n)
 }
 
 // How far x is from 0. The smallest i64 has no opposite, so one is added before the sign is turned, and after.
@@ -45,8 +48,8 @@ pub fn magnitude(x: i64) -> u64
 }
 
 pub fn put_signed(out: &mut [u8], at: usize, x: i64) -> usize
-    requires { ⌜ at + 21 ≤ length (now out) ⌝ }
-    ensures { λ r. ⌜ Written 21 (now (out .entry)) at (signed x) (now (out .exit)) r ⌝ }
+    requires { ⌜ at + signedMost ≤ length (now out) ⌝ }
+    ensures { λ r. ⌜ Written signedMost (now (out .entry)) at (signed x) (now (out .exit)) r ⌝ }
 {
     let n = magnitude(x);
     if x < 0 {

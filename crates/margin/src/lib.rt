@@ -5,7 +5,7 @@ ghost use Prim.Native.Nat.{_*_, _≤_, max};
 ghost use lib.IntN.{pos};
 ghost use lib.Signed.{ltZ};
 ghost use Rattle.rules.specs.Margin as margin;
-ghost use Rattle.margin.specs.Charge.{ChargeTerms, ChargeableIn, Chargeable, ChargedIs, listingOf};
+ghost use Rattle.margin.specs.Charge.{ChargeTerms, ChargeableIn, Chargeable, ChargedIs, listingOf, marginMost};
 use book::scan;
 use rules::Contract;
 use rules::Holding;
@@ -81,7 +81,7 @@ pub fn charged<'a>(
 
 // Whether a balance is less than the charged margin.
 pub fn too_little(balance: i64, charged: u64) -> bool
-    requires { ⌜ charged ≤ 1000000000000000 ⌝ }
+    requires { ⌜ charged ≤ marginMost ⌝ }
     ensures { λ r. ⌜ r ≡ ltZ balance (pos charged) ⌝ }
 {
     balance < charged as i64

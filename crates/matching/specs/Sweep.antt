@@ -4,13 +4,14 @@ use mathlib.Core.Path.{_≡_}
 use Prim.Native.Nat.{ℕ, _+_, _*_, _<_, _≤_}
 use lib.ListN.{length, take, getD}
 use Rattle.areas.specs.Records.{store}
+use Rattle.rules.specs.Bounds.{maxContracts, maxAccounts, maxLots}
 use Rattle.rules.specs.Exchange.{noOrder}
 use Rattle.rules.specs.Holdings.{bookTrades}
 use Rattle.rules.specs.Matching.{Swept, sweep, tradedLots, lastPrice}
 use Rattle.rules.specs.Memory.{queueIn, putQueue, tradeWords, tradeStride, firstWord}
 use Rattle.rules.specs.declared.Account.{Account}
 use Rattle.rules.specs.declared.Taker.{Taker}
-use Rattle.holdings.specs.Bounds.{HeldWithin}
+use Rattle.holdings.specs.Bounds.{HeldWithin, heldMost}
 use Rattle.prices.specs.Methods.{HasTick}
 use Rattle.matching.specs.declared.sweep.Filled.{Filled}
 
@@ -18,7 +19,7 @@ use Rattle.matching.specs.declared.sweep.Filled.{Filled}
 -- contract on either side
 pub record Parties (b : ℕ) (t : Taker) (held : List Account) (queues : List ℕ) (count : ℕ) : Type 0 where
   pub used : ℕ
-  pub few : used ≤ 32
+  pub few : used ≤ maxAccounts
   pub taker : t .account < used
   pub resting : (i : ℕ) → i < count → getD (queueIn queues (t .contract) count) i noOrder .account < used
   pub holdings : HeldWithin b used (t .contract) held
@@ -27,12 +28,12 @@ pub record Parties (b : ℕ) (t : Taker) (held : List Account) (queues : List �
 -- holdings are not near their width
 pub record SweepReady
     (t : Taker) (lots last : ℕ) (held : List Account) (queues : List ℕ) (count : ℕ) (area : List ℕ) (before : ℕ) : Type 0 where
-  pub contract : t .contract < 4
+  pub contract : t .contract < maxContracts
   pub method : HasTick (t .method)
-  pub size : lots ≤ 1_000
+  pub size : lots ≤ maxLots
   pub queue : firstWord (t .contract) count ≤ length queues
   pub room : tradeStride * (before + length (sweep t lots last (queueIn queues (t .contract) count) .trades)) ≤ length area
-  pub parties : Parties 1_000_000 t held queues count
+  pub parties : Parties heldMost t held queues count
 
 -- the answer, and both areas: the trades at the next free places, the rest of the queue behind its filled orders
 pub record FilledIs

@@ -12,7 +12,7 @@ use borrow.Author.Tests.{leb-false, lt-ltb, le-ltb, ne-eqb}
 use Rattle.areas.specs.Lists.{over}
 use Rattle.laws.specs.Choice.{pick}
 use Rattle.endian.specs.Written.{Written}
-use Rattle.endian.proofs.Writes.{then, length-four, length-eight}
+use Rattle.endian.proofs.Writes.{then, length-four, length-eight, length-part}
 use Rattle.rules.specs.Answers.{firstOf}
 use Rattle.rules.specs.Command.{commandOf, isMalformed}
 use Rattle.rules.specs.DayFile.{commandPlace, recordFrom}
@@ -80,26 +80,16 @@ module _ (file : List ℕ) (first : ℕ) where
         length-last (partialRecord file first),
       )
 
--- ---- what is written
+pub dropped-most : (file : List ℕ) (first : ℕ) → droppedCount file first ≤ wholeRecords file first + 1
+dropped-most file first = by-partial (partialRecord file first)
+  where
+    by-partial : (t : Bool) → wholeRecords file first - kept file first (wholeRecords file first) + pick t 1 0 ≤ wholeRecords file first + 1
+    by-partial true = omega arith
+    by-partial false = omega arith
 
-pub file-written : {before m₁ m₂ after : List ℕ} {j₁ j₂ next : ℕ} (file : List ℕ) (first n m : ℕ) → first ≡ commandPlace file 0
-    → n ≡ wholeRecords file first → m ≡ kept file first n → Written (first - 4) before 0 (take (first - 4) (drop 0 file)) m₁ j₁
-    → Written 4 m₁ j₁ (four m) m₂ j₂ → Written (24 * n) m₂ j₂ (keptBytes file first n) after next
-    → after ≡ over before 0 (mendedFile file)
-unfolding mendedFile
-file-written file first n m e f g w v u = rw (← e, ← f, ← g) (then w (then v u) .content)
-
-module _ {before m₁ m₂ : List ℕ} {j₁ j₂ : ℕ} (file : List ℕ) (first n d : ℕ) (e : n ≡ wholeRecords file first)
-    (f : d ≡ droppedCount file first) (w : Written 8 before 0 (eight d) m₁ j₁)
-    (v : Written (9 * n) m₁ j₁ (dropped file first n) m₂ j₂) where
-  pub list-whole : (length file - first) % 24 ≡ 0 → m₂ ≡ over before 0 (listFrom file first)
-  unfolding listFrom
-  list-whole z = rw (← f, ← e, z) (rw (append-nil (dropped file first n)) (then w v .content))
-
-  pub list-partial : {after : List ℕ} {next : ℕ} → ((length file - first) % 24 ≡ 0 → ⊥) → Written 9 m₂ j₂ (entry n 2) after next
-      → after ≡ over before 0 (listFrom file first)
-  unfolding listFrom
-  list-partial z u = rw (← f, ← e, ne-eqb ((length file - first) % 24) 0 z) (then w (then v u) .content)
+pub place-most : (file : List ℕ) → headSound file ≡ true → commandPlace file 0 ≤ 348
+place-most file sound =
+    omega (arith, sound-head file sound .contracts, sound-head file sound .accounts, command-place file 0)
 
 module _ (file : List ℕ) (first n m : ℕ) (e : n ≡ wholeRecords file first) (g : m ≡ kept file first n) where
   pub count-whole : (length file - first) % 24 ≡ 0 → n - m ≡ droppedCount file first
@@ -108,80 +98,146 @@ module _ (file : List ℕ) (first n m : ℕ) (e : n ≡ wholeRecords file first)
   pub count-partial : ((length file - first) % 24 ≡ 0 → ⊥) → n - m + 1 ≡ droppedCount file first
   count-partial z = rw (← e, ← g, ne-eqb ((length file - first) % 24) 0 z)
 
+-- ---- a mended file: its head is sound, `first` is the place behind it, n whole records follow, m of them are kept
+
+pub record Found (file : List ℕ) (first n m : ℕ) : Type 0 where
+  pub sound : headSound file ≡ true
+  pub place : first ≡ commandPlace file 0
+  pub records : n ≡ wholeRecords file first
+  pub keeps : m ≡ kept file first n
+
+module _ {file : List ℕ} {first n m : ℕ} (f : Found file first n m) where
+  pub first-within : (12 ≤ first) × (first ≤ length file)
+  first-within = (omega (arith, f .place, place-least file (f .sound)), omega (arith, f .place, place-within file (f .sound)))
+
+  all-within : first + 24 * n ≤ length file
+  all-within = omega (arith, f .records, whole-within file first (first-within .1))
+
+  mended-is : length (mendedFile file) ≡ first + 24 * m
+  mended-is = rw (f .keeps, f .records, f .place) (length-mended file (f .sound))
+
+  pub mended-most : first + 24 * m ≤ 48_348
+  mended-most = omega (arith, f .place, place-most file (f .sound), f .keeps, kept-limit file first n)
+
+  -- what is not shorter than what the code counts is room for it
+  pub mended-fits : {room : ℕ} → first + 24 * m ≤ room → length (mendedFile file) ≤ room
+  mended-fits h = omega (arith, mended-is)
+
+  pub head-fits : {room : ℕ} → length (mendedFile file) ≤ room → first ≤ room
+  head-fits h = omega (arith, mended-is)
+
+  -- behind its head there is room for the count, and behind that for the kept records
+  module _ {before m₁ : List ℕ} {j₁ : ℕ} (w : Written (first - 4) before 0 (take (first - 4) (drop 0 file)) m₁ j₁) (room : length (mendedFile file) ≤ length before) where
+    count-place : j₁ + 4 ≡ first
+    count-place = let h = first-within in omega (arith, w .ends, length-part file 0 (first - 4) (omega arith))
+
+    pub count-room : j₁ + 4 ≤ length m₁
+    count-room = omega (arith, count-place, w .kept, head-fits room)
+
+    pub kept-room : {m₂ : List ℕ} {j₂ : ℕ} → Written 4 m₁ j₁ (four m) m₂ j₂ → (first + 24 * n ≤ length file) × (j₂ + 24 * kept file first n ≤ length m₂)
+    kept-room v = (all-within, omega (arith, count-place, v .ends, v .kept, w .kept, length-four m, mended-is, f .keeps))
+
+  pub file-written : {before m₁ m₂ after : List ℕ} {j₁ j₂ next : ℕ} → Written (first - 4) before 0 (take (first - 4) (drop 0 file)) m₁ j₁
+      → Written 4 m₁ j₁ (four m) m₂ j₂ → Written (24 * n) m₂ j₂ (keptBytes file first n) after next
+      → after ≡ over before 0 (mendedFile file)
+  unfolding mendedFile
+  file-written w v u = rw (← f .place, ← f .records, ← f .keeps) (then w (then v u) .content)
+
+-- ---- a list: behind `first` stand n whole records, and d are dropped, a partial one among them
+
+pub record Listed (file : List ℕ) (first n d : ℕ) : Type 0 where
+  pub within : first ≤ length file
+  pub records : n ≡ wholeRecords file first
+  pub drops : d ≡ droppedCount file first
+
+module _ {file : List ℕ} {first n d : ℕ} (l : Listed file first n d) where
+  pub listed-within : first + 24 * n ≤ length file
+  listed-within = omega (arith, l .records, whole-within file first (l .within))
+
+  list-is : length (listFrom file first) ≡ 8 + 9 * d
+  list-is = omega (arith, length-list file first, l .drops)
+
+  pub list-fits : {room : ℕ} → 8 + 9 * d ≤ room → length (listFrom file first) ≤ room
+  list-fits h = omega (arith, list-is)
+
+  pub number-fits : {room : ℕ} → length (listFrom file first) ≤ room → 8 ≤ room
+  number-fits h = omega (arith, list-is)
+
+  pub listed-most : 8 + 9 * d ≤ length file + 17
+  listed-most = omega (arith, l .drops, l .records, dropped-most file first, listed-within)
+
+  whole-dropped : 9 * (n - kept file first n) ≤ 9 * d
+  whole-dropped = rw (l .records, l .drops) (omega arith)
+
+  -- behind the number there is room for the whole records' entries, and behind them for a partial one's
+  module _ {before m₁ : List ℕ} {j₁ : ℕ} (w : Written 8 before 0 (eight d) m₁ j₁) where
+    pub entries-room : length (listFrom file first) ≤ length before → (first + 24 * n ≤ length file) × (j₁ + 9 * (n - kept file first n) ≤ length m₁)
+    entries-room room = (listed-within, omega (arith, w .ends, w .kept, length-eight d, list-is, whole-dropped))
+
+    module _ {m₂ : List ℕ} {j₂ : ℕ} (v : Written (9 * n) m₁ j₁ (dropped file first n) m₂ j₂) where
+      pub list-whole : (length file - first) % 24 ≡ 0 → m₂ ≡ over before 0 (listFrom file first)
+      unfolding listFrom
+      list-whole z = rw (← l .drops, ← l .records, z) (rw (append-nil (dropped file first n)) (then w v .content))
+
+      module _ (z : (length file - first) % 24 ≡ 0 → ⊥) where
+        pub last-room : length (listFrom file first) ≤ length before → j₂ + 9 ≤ length m₂
+        last-room room =
+            omega (
+              arith,
+              w .ends,
+              w .kept,
+              v .ends,
+              v .kept,
+              length-eight d,
+              length-dropped file first n,
+              list-is,
+              l .drops,
+              count-partial file first n (kept file first n) (l .records) refl z,
+            )
+
+        pub list-partial : {after : List ℕ} {next : ℕ} → Written 9 m₂ j₂ (entry n 2) after next → after ≡ over before 0 (listFrom file first)
+        unfolding listFrom
+        list-partial u = rw (← l .drops, ← l .records, ne-eqb ((length file - first) % 24) 0 z) (then w (then v u) .content)
+
 -- ---- the ways out of the call
 
-module _ (file out list : List ℕ) where
-  pub head-broken : headSound file ≡ false → MendIs file out list (record { code = 20; length = 0; listed = 0 }) out list
-  unfolding mendCode firstOf
-  head-broken h = record { code = rw h; out-is = refl; list-is = refl; length-is = refl; listed-is = refl }
+pub head-broken : (file out list : List ℕ) → headSound file ≡ false → MendIs file out list (record { code = 20; length = 0; listed = 0 }) out list
+unfolding mendCode firstOf
+head-broken file out list h = record { code = rw h; out-is = refl; list-is = refl; length-is = refl; listed-is = refl }
 
-  module _ (sound : headSound file ≡ true) where
-    pub out-short : length out < commandPlace file 0 + 24 * keptCount file
-        → MendIs file out list (record { code = 29; length = 0; listed = 0 }) out list
+module _ {file : List ℕ} {first n m d : ℕ} (f : Found file first n m) (k : d ≡ droppedCount file first) where
+  pub listed : Listed file first n d
+  listed = record { within = first-within f .1; records = f .records; drops = k }
+
+  length-dropped-list : length (droppedList file) ≡ 8 + 9 * d
+  length-dropped-list = ap (λ (j : ℕ). length (listFrom file j)) (sym (f .place)) ∙ list-is listed
+
+  module _ (out list : List ℕ) where
+    pub out-short : length out < first + 24 * m → MendIs file out list (record { code = 29; length = 0; listed = 0 }) out list
     unfolding mendCode firstOf
     out-short h =
-        let e = lt-ltb (length out) (length (mendedFile file)) (omega (arith, length-mended file sound)) in
-        record { code = rw (sound, e); out-is = refl; list-is = refl; length-is = refl; listed-is = refl }
+        let e = lt-ltb (length out) (length (mendedFile file)) (omega (arith, mended-is f)) in
+        record { code = rw (f .sound, e); out-is = refl; list-is = refl; length-is = refl; listed-is = refl }
 
-    module _ (room : commandPlace file 0 + 24 * keptCount file ≤ length out) where
+    module _ (room : first + 24 * m ≤ length out) where
       fits-out : ltb (length out) (length (mendedFile file)) ≡ false
-      fits-out = le-ltb (length out) (length (mendedFile file)) (omega (arith, length-mended file sound))
+      fits-out = le-ltb (length out) (length (mendedFile file)) (mended-fits f room)
 
-      pub list-short : length list < 8 + 9 * droppedCount file (commandPlace file 0)
-          → MendIs file out list (record { code = 29; length = 0; listed = 0 }) out list
+      pub list-short : length list < 8 + 9 * d → MendIs file out list (record { code = 29; length = 0; listed = 0 }) out list
       unfolding mendCode firstOf
       list-short h =
-          let e = lt-ltb (length list) (length (droppedList file)) (omega (arith, length-list file (commandPlace file 0))) in
-          record { code = rw (sound, fits-out, e); out-is = refl; list-is = refl; length-is = refl; listed-is = refl }
+          let e = lt-ltb (length list) (length (droppedList file)) (omega (arith, length-dropped-list)) in
+          record { code = rw (f .sound, fits-out, e); out-is = refl; list-is = refl; length-is = refl; listed-is = refl }
 
-      pub mended : {out′ list′ : List ℕ} {n d : ℕ} → 8 + 9 * droppedCount file (commandPlace file 0) ≤ length list
-          → out′ ≡ over out 0 (mendedFile file) → list′ ≡ over list 0 (droppedList file)
-          → n ≡ commandPlace file 0 + 24 * keptCount file → d ≡ 8 + 9 * droppedCount file (commandPlace file 0)
-          → MendIs file out list (record { code = 0; length = n; listed = d }) out′ list′
+      pub mended : {out′ list′ : List ℕ} → 8 + 9 * d ≤ length list → out′ ≡ over out 0 (mendedFile file) → list′ ≡ over list 0 (listFrom file first)
+          → MendIs file out list (record { code = 0; length = first + 24 * m; listed = 8 + 9 * d }) out′ list′
       unfolding mendCode firstOf
-      mended h o l en ed =
-          let e = le-ltb (length list) (length (droppedList file)) (omega (arith, length-list file (commandPlace file 0))) in
+      mended h o l =
+          let e = le-ltb (length list) (length (droppedList file)) (omega (arith, length-dropped-list)) in
           record {
-            code = rw (sound, fits-out, e);
+            code = rw (f .sound, fits-out, e);
             out-is = o;
-            list-is = l;
-            length-is = en ∙ sym (length-mended file sound);
-            listed-is = ed ∙ sym (length-list file (commandPlace file 0));
+            list-is = l ∙ ap (λ (j : ℕ). over list 0 (listFrom file j)) (f .place);
+            length-is = sym (mended-is f);
+            listed-is = sym length-dropped-list;
           }
-
--- ---- room
-
-module _ (file : List ℕ) (sound : headSound file ≡ true) (first n m : ℕ) (e : first ≡ commandPlace file 0)
-    (f : n ≡ wholeRecords file first) (g : m ≡ kept file first n) where
-  pub mended-is : first + 24 * m ≡ commandPlace file 0 + 24 * keptCount file
-  mended-is = rw (g, f, e)
-
-  pub file-room-all : {room : ℕ} → length (mendedFile file) ≤ room → first + 24 * m ≤ room
-  file-room-all h = omega (arith, mended-is, length-mended file sound)
-
-module _ (file : List ℕ) (first n : ℕ) (f : n ≡ wholeRecords file first) {room : ℕ} (h : length (listFrom file first) ≤ room) where
-  pub list-room-all : 8 + 9 * (n - kept file first n) ≤ room
-  list-room-all = rw f (omega (arith, length-list file first))
-
-  pub list-room-last : ((length file - first) % 24 ≡ 0 → ⊥) → 8 + 9 * (n - kept file first n) + 9 ≤ room
-  list-room-last z = omega (arith, length-list file first, count-partial file first n (kept file first n) f refl z)
-
--- ---- from where the code finds the first record to where the definition says
-
-module _ (file : List ℕ) {first : ℕ} (e : first ≡ commandPlace file 0) where
-  pub dropped-at : {d : ℕ} → d ≡ droppedCount file first → d ≡ droppedCount file (commandPlace file 0)
-  dropped-at f = f ∙ ap (droppedCount file) e
-
-  pub list-at : (list : List ℕ) {list′ : List ℕ} → list′ ≡ over list 0 (listFrom file first) → list′ ≡ over list 0 (droppedList file)
-  list-at list f = f ∙ ap (λ (k : ℕ). over list 0 (listFrom file k)) e
-
-pub place-most : (file : List ℕ) → headSound file ≡ true → commandPlace file 0 ≤ 348
-place-most file sound =
-    omega (arith, sound-head file sound .contracts, sound-head file sound .accounts, command-place file 0)
-
-pub dropped-most : (file : List ℕ) (first : ℕ) → droppedCount file first ≤ wholeRecords file first + 1
-dropped-most file first = by-partial (partialRecord file first)
-  where
-    by-partial : (t : Bool) → wholeRecords file first - kept file first (wholeRecords file first) + pick t 1 0 ≤ wholeRecords file first + 1
-    by-partial true = omega arith
-    by-partial false = omega arith

@@ -11,23 +11,23 @@ use Rattle.endian.specs.Numbers.{four, eight}
 use Rattle.dayfile.specs.FileHead.{headSound}
 use Rattle.rules.specs.Answers.{firstOf, _when_}
 use Rattle.rules.specs.Command.{isMalformed}
-use Rattle.rules.specs.DayFile.{maxCommands, commandPlace, commandFrom}
+use Rattle.rules.specs.DayFile.{maxCommands, countWidth, commandWidth, commandPlace, commandFrom}
 use Rattle.mending.specs.declared.mend.Mended.{Mended}
 
 -- ---- the records, the first of which begins at `first`
 
 -- all bytes behind the head are records: the whole ones, and whether a partial one follows
 abbrev pub wholeRecords : List ℕ → ℕ → ℕ
-wholeRecords file first = (length file - first) / 24
+wholeRecords file first = (length file - first) / commandWidth
 
 abbrev pub partialRecord : List ℕ → ℕ → Bool
-partialRecord file first = not (eqb ((length file - first) % 24) 0)
+partialRecord file first = not (eqb ((length file - first) % commandWidth) 0)
 
 -- "a reason (1): 1 malformed, 2 partial, 3 surplus": of whole record k, counted from 0, where n are kept before it; 0 for a
 -- record that is kept
 unfoldable pub reason : List ℕ → ℕ → ℕ → ℕ → ℕ
 reason file first k n =
-    pick (isMalformed (commandFrom file (first + 24 * k))) 1 (pick (leb maxCommands n) 3 0)
+    pick (isMalformed (commandFrom file (first + commandWidth * k))) 1 (pick (leb maxCommands n) 3 0)
 
 -- how many of the first k records are kept
 unfoldable pub kept : List ℕ → ℕ → ℕ → ℕ
@@ -39,7 +39,14 @@ unfoldable pub keptBytes : List ℕ → ℕ → ℕ → List ℕ
 keptBytes file first zero = []
 keptBytes file first (suc k) =
     keptBytes file first k
-    ++ pick (eqb (reason file first k (kept file first k)) 0) (take 24 (drop (first + 24 * k) file)) []
+    ++ pick (eqb (reason file first k (kept file first k)) 0) (take commandWidth (drop (first + commandWidth * k) file)) []
+
+-- "The list is an 8-byte count, then each dropped record in file order": the widths in bytes
+abbrev pub listCountWidth : ℕ
+listCountWidth = 8
+
+abbrev pub entryWidth : ℕ
+entryWidth = 9
 
 -- "its place from 1 (8) and a reason (1)"
 abbrev pub entry : ℕ → ℕ → List ℕ
@@ -60,7 +67,7 @@ keptCount file = kept file (commandPlace file 0) (wholeRecords file (commandPlac
 -- "the stored command count is ignored and rewritten"
 unfoldable pub mendedFile : List ℕ → List ℕ
 mendedFile file =
-    take (commandPlace file 0 - 4) file
+    take (commandPlace file 0 - countWidth) file
     ++ (four (keptCount file) ++ keptBytes file (commandPlace file 0) (wholeRecords file (commandPlace file 0)))
 
 abbrev pub droppedCount : List ℕ → ℕ → ℕ

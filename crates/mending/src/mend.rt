@@ -18,6 +18,11 @@ use endian::writing::put_part;
 use endian::writing::put_u32;
 use endian::writing::put_u64;
 
+// How many bytes the list's count takes, and an entry of it.
+const LIST_COUNT_WIDTH: usize = 8;
+
+const ENTRY_WIDTH: usize = 9;
+
 // 0, or the code that refuses, and how many bytes of the two areas are written.
 #[repr(C)]
 pub struct Mended {
@@ -32,7 +37,7 @@ fn count_dropped(file: &[u8], first: usize, n: usize, kept: usize) -> usize
     ensures { λ r. ⌜ r ≡ droppedCount (now (file .entry)) first ⌝ }
 {
     let rest = file.len() - first;
-    if rest % 24 == 0 {
+    if rest % rules::COMMAND_WIDTH == 0 {
         return n - kept;
     }
     n - kept + 1
@@ -45,7 +50,7 @@ fn put_file(file: &[u8], first: usize, n: usize, kept: usize, out: &mut [u8]) ->
     requires { ⌜ length (mendedFile (now file)) ≤ length (now out) ⌝ }
     ensures { λ r. ⌜ now (out .exit) ≡ over (now (out .entry)) 0 (mendedFile (now (file .entry))) ⌝ }
 {
-    let head = put_part(out, 0, file, 0, first - 4);
+    let head = put_part(out, 0, file, 0, first - rules::COUNT_WIDTH);
     let count = put_u32(out, head, kept as u32);
     put_kept(file, first, n, out, count)
 }
@@ -59,7 +64,7 @@ fn put_list(file: &[u8], first: usize, n: usize, dropped: usize, list: &mut [u8]
     let rest = file.len() - first;
     let count = put_u64(list, 0, dropped as u64);
     let end = put_dropped(file, first, n, list, count);
-    if rest % 24 == 0 {
+    if rest % rules::COMMAND_WIDTH == 0 {
         return end;
     }
     put_entry(list, end, n, 2)
@@ -76,11 +81,11 @@ pub fn mend(file: &[u8], out: &mut [u8], list: &mut [u8]) -> Mended
         };
     }
     let first = head_end(file);
-    let n = (file.len() - first) / 24;
+    let n = (file.len() - first) / rules::COMMAND_WIDTH;
     let kept = count_kept(file, first, n);
     let dropped = count_dropped(file, first, n, kept);
-    let length = first + 24 * kept;
-    let listed = 8 + 9 * dropped;
+    let length = first + rules::COMMAND_WIDTH * kept;
+    let listed = LIST_COUNT_WIDTH + ENTRY_WIDTH * dropped;
     if out.len() < length {
         return Mended {
             code: 29,

@@ -3,8 +3,9 @@
 ghost use mathlib.Core.Path.{_≡_};
 ghost use Prim.Native.Nat.{_+_, _-_, _*_, _≤_};
 ghost use lib.ListN.{length};
+ghost use Rattle.rules.specs.DayFile.{commandWidth};
 ghost use Rattle.endian.specs.Written.{Written};
-ghost use Rattle.mending.specs.Mend.{reason as Mend·reason, kept as Mend·kept, keptBytes, dropped, entry};
+ghost use Rattle.mending.specs.Mend.{reason as Mend·reason, kept as Mend·kept, keptBytes, dropped, entry, entryWidth};
 use commands::command_of;
 use commands::is_malformed;
 use endian::reading::record_at;
@@ -14,10 +15,10 @@ use endian::writing::put_u64;
 
 // Why record k is dropped where n are kept before it, or 0.
 pub fn reason(file: &[u8], first: usize, k: usize, n: usize) -> u8
-    requires { ⌜ first + 24 * k + 24 ≤ length (now file) ⌝ }
+    requires { ⌜ first + commandWidth * k + commandWidth ≤ length (now file) ⌝ }
     ensures { λ r. ⌜ r ≡ Mend·reason (now (file .entry)) first k n ⌝ }
 {
-    let command = command_of(record_at(file, first + 24 * k));
+    let command = command_of(record_at(file, first + rules::COMMAND_WIDTH * k));
     if is_malformed(command) {
         return 1;
     }
@@ -29,7 +30,7 @@ pub fn reason(file: &[u8], first: usize, k: usize, n: usize) -> u8
 
 // How many of the first n records are kept.
 pub fn count_kept(file: &[u8], first: usize, n: usize) -> usize
-    requires { ⌜ first + 24 * n ≤ length (now file) ⌝ }
+    requires { ⌜ first + commandWidth * n ≤ length (now file) ⌝ }
     ensures { λ r. ⌜ r ≡ Mend·kept (now (file .entry)) first n ⌝ }
 {
     let mut kept: usize = 0;
@@ -48,9 +49,9 @@ pub fn count_kept(file: &[u8], first: usize, n: usize) -> usize
 
 // The kept ones of the first n records.
 pub fn put_kept(file: &[u8], first: usize, n: usize, out: &mut [u8], at: usize) -> usize
-    requires { ⌜ first + 24 * n ≤ length (now file) ⌝ }
-    requires { ⌜ at + 24 * Mend·kept (now file) first n ≤ length (now out) ⌝ }
-    ensures { λ r. ⌜ Written (24 * n) (now (out .entry)) at (keptBytes (now (file .entry)) first n) (now (out .exit)) r ⌝ }
+    requires { ⌜ first + commandWidth * n ≤ length (now file) ⌝ }
+    requires { ⌜ at + commandWidth * Mend·kept (now file) first n ≤ length (now out) ⌝ }
+    ensures { λ r. ⌜ Written (commandWidth * n) (now (out .entry)) at (keptBytes (now (file .entry)) first n) (now (out .exit)) r ⌝ }
 {
     let mut next = at;
     let mut kept: usize = 0;
@@ -61,7 +62,13 @@ pub fn put_kept(file: &[u8], first: usize, n: usize, out: &mut [u8], at: usize) 
             k += 1;
             continue;
         }
-        next = put_part(out, next, file, first + 24 * k, 24);
+        next = put_part(
+            out,
+            next,
+            file,
+            first + rules::COMMAND_WIDTH * k,
+            rules::COMMAND_WIDTH,
+        );
         kept += 1;
         k += 1;
     }
@@ -70,8 +77,8 @@ pub fn put_kept(file: &[u8], first: usize, n: usize, out: &mut [u8], at: usize) 
 
 // The list's entry for record k, counted from 0; in the list it is counted from 1.
 pub fn put_entry(list: &mut [u8], at: usize, k: usize, why: u8) -> usize
-    requires { ⌜ (at + 9 ≤ length (now list)) × (k + 1 ≤ 18446744073709551615) ⌝ }
-    ensures { λ r. ⌜ Written 9 (now (list .entry)) at (entry k why) (now (list .exit)) r ⌝ }
+    requires { ⌜ (at + entryWidth ≤ length (now list)) × (k + 1 ≤ 18446744073709551615) ⌝ }
+    ensures { λ r. ⌜ Written entryWidth (now (list .entry)) at (entry k why) (now (list .exit)) r ⌝ }
 {
     let next = put_u64(list, at, k as u64 + 1);
     put_byte(list, next, why)
@@ -79,9 +86,9 @@ pub fn put_entry(list: &mut [u8], at: usize, k: usize, why: u8) -> usize
 
 // The entries of the dropped ones of the first n records.
 pub fn put_dropped(file: &[u8], first: usize, n: usize, list: &mut [u8], at: usize) -> usize
-    requires { ⌜ first + 24 * n ≤ length (now file) ⌝ }
-    requires { ⌜ at + 9 * (n - Mend·kept (now file) first n) ≤ length (now list) ⌝ }
-    ensures { λ r. ⌜ Written (9 * n) (now (list .entry)) at (dropped (now (file .entry)) first n) (now (list .exit)) r ⌝ }
+    requires { ⌜ first + commandWidth * n ≤ length (now file) ⌝ }
+    requires { ⌜ at + entryWidth * (n - Mend·kept (now file) first n) ≤ length (now list) ⌝ }
+    ensures { λ r. ⌜ Written (entryWidth * n) (now (list .entry)) at (dropped (now (file .entry)) first n) (now (list .exit)) r ⌝ }
 {
     let mut next = at;
     let mut kept: usize = 0;

@@ -3,6 +3,7 @@
 ghost use mathlib.Core.Bool.{true};
 ghost use mathlib.Core.Path.{_≡_};
 ghost use Prim.Native.Nat.{_<_};
+ghost use Rattle.rules.specs.Bounds.{maxContracts};
 ghost use Rattle.rules.specs.Memory.{WellFormedState, memory, stepIn};
 ghost use Rattle.rules.specs.declared.Command.the-variants.{Phase};
 ghost use Rattle.engine.specs.Outcome.{OutcomeIs, isMatch};
@@ -16,12 +17,9 @@ use engine::phases;
 use rules::CONTINUOUS;
 use rules::State;
 
-// "Trades: 1,024 a day."
-const MAX_TRADES: usize = 1024;
-
 // The state after the match: the contract trades on.
 fn with_match(state: State, c: usize, m: Match) -> State
-    requires { ⌜ c < 4 ⌝ }
+    requires { ⌜ c < maxContracts ⌝ }
     ensures { λ r. ⌜ r ≡ withMatch state c m ⌝ }
 {
     let mut contracts = state.contracts;
@@ -68,7 +66,7 @@ fn leave_auction(
     let terms = contracts[c];
     let chosen = price::chosen(&buys[..], bought, &sells[..], sold, c, terms.last);
     let needed = matched::trades_needed(&buys[..], bought, &sells[..], sold, c, chosen);
-    if MAX_TRADES < state.tradecount + needed {
+    if rules::MAX_TRADES < state.tradecount + needed {
         return answers::refused(state, 12);
     }
     let accounts = state.accounts;

@@ -22,7 +22,7 @@ use Rattle.rules.proofs.Fillable.{swept-fillable}
 use Rattle.engine.proofs.Formed.{Formed, formed, no-account, no-contract}
 use Rattle.refusals.specs.Insertion.{Facing, Present, QueueRoom, sideArea, sideCount}
 use Rattle.refusals.proofs.Sides.{contract-is, opposite-facing, opposite-is}
-use Rattle.query.specs.Gettable.{GatheredIs, askRefusals, gettableNow, lotsNow, orderReading, orderRefusals, readNow, readingWith, refusedReading}
+use Rattle.query.specs.Gettable.{GatheredIs, askRefusals, gettableNow, lotsNow, orderReading, questionRefusals, readNow, readingWith, refusedReading}
 use Rattle.query.specs.declared.Reading.{Reading}
 use Rattle.query.specs.declared.scan.Gathered.{Gathered}
 
@@ -41,8 +41,8 @@ module _ {s : State} {buys sells trades : List ℕ} (w : WellFormedState s buys 
   abbrev c : ℕ
   c = placeOf (o .contract)
 
-  in-parts : firstOf (orderRefusals x o) ≡ pick (isAbsent (o .account) (s .accountcount)) 2 (pick (isAbsent (o .contract) (s .contractcount)) 3 (firstOf (fieldsRefusals (dayWithoutLimit (o .condition) (o .time)) (listingOf x o .contract) o)))
-  unfolding firstOf orderRefusals
+  in-parts : firstOf (questionRefusals x o) ≡ pick (isAbsent (o .account) (s .accountcount)) 2 (pick (isAbsent (o .contract) (s .contractcount)) 3 (firstOf (fieldsRefusals (dayWithoutLimit (o .condition) (o .time)) (listingOf x o .contract) o)))
+  unfolding firstOf questionRefusals
   in-parts = rw (no-account m f (o .account), no-contract m f (o .contract))
 
   pub no-such-account : isAbsent (o .account) (s .accountcount) ≡ true → refusedReading 2 ≡ orderReading x o
@@ -56,7 +56,7 @@ module _ {s : State} {buys sells trades : List ℕ} (w : WellFormedState s buys 
 
     module _ (g : isAbsent (o .contract) (s .contractcount) ≡ false) (p : Present s o) {place : ℕ} (is : place ≡ o .contract - 1) {fields : ℕ}
         (ef : fields ≡ firstOf (fieldsRefusals (dayWithoutLimit (o .condition) (o .time)) (getD (s .contracts) place noContract) o)) where
-      code-is : firstOf (orderRefusals x o) ≡ fields
+      code-is : firstOf (questionRefusals x o) ≡ fields
       unfolding listingOf
       code-is = in-parts ∙ rw (e, g, ef, is, contract-is m f c (p .contract))
 

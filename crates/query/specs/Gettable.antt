@@ -1,15 +1,14 @@
 -- How much could I get? What an order would trade now, and how many resting orders are read to know it (document 02, ticket 3).
 -- The contract's state plays no part, nor does the time condition beyond code 6. Assumes nothing.
 use mathlib.Core.Bool.{not}
-use mathlib.Core.List.{List, [], _∷_}
+use mathlib.Core.List.{List, [], _∷_, _++_}
 use mathlib.Core.Path.{_≡_}
 use Prim.Native.Nat.{ℕ, _+_, _-_, min}
 use lib.Dec.{eqb, ltb}
 use Rattle.laws.specs.Choice.{pick}
-use Rattle.rules.specs.Answers.{Refusal, _when_, dayWithoutLimit, fillableLots, firstOf, listingOf, priceRefused, takerOf}
-use Rattle.rules.specs.Bounds.{maxLots, within}
+use Rattle.rules.specs.Answers.{Refusal, _when_, absentRefusals, dayWithoutLimit, fieldsRefusals, fillableLots, firstOf, listingOf, takerOf}
 use Rattle.rules.specs.Command.{commandOf, isInsert, newOrder}
-use Rattle.rules.specs.Exchange.{Exchange, absent, opposite}
+use Rattle.rules.specs.Exchange.{Exchange, opposite}
 use Rattle.rules.specs.Matching.{counterpart, fillable}
 use Rattle.rules.specs.Memory.{Memory, exchangeOf, wellFormedMemory}
 use Rattle.rules.specs.declared.NewOrder.{NewOrder}
@@ -37,18 +36,11 @@ readNow x o = ordersRead (takerOf x (x .next) 0 o) (o .lots) (opposite (o .sell)
 
 -- ---- the refusals, "as for insert, in that order, with no state test"
 
-unfoldable pub orderRefusals : Exchange → NewOrder → List Refusal
-orderRefusals x o =
-    -- "account 0 or absent"; "contract 0 or absent"
-    (2 when absent (o .account) (x .accounts))
-    ∷ (3 when absent (o .contract) (x .listings))
-    -- "lots outside 1 to 1,000"
-    ∷ (5 when not (within 1 maxLots (o .lots)))
-    -- "market or best with good for day", "in every state": auction's own 6 is no part of it (02, ticket 4)
-    ∷ (6 when dayWithoutLimit (o .condition) (o .time))
-    -- "limit price off tick or outside low to high; market or best with a price not 0"
-    ∷ (7 when priceRefused (listingOf x o .contract) o)
-    ∷ []
+unfoldable pub questionRefusals : Exchange → NewOrder → List Refusal
+questionRefusals x o =
+    absentRefusals x (o .account) (o .contract)
+    -- 5 to 7; its 6 is "market or best with good for day" in every state, auction's own is no part of it (02, ticket 4)
+    ++ fieldsRefusals (dayWithoutLimit (o .condition) (o .time)) (listingOf x o .contract) o
 
 -- "21, 1, 2, 3, 5, 6, 7"
 unfoldable pub askRefusals : Memory → Record → List Refusal
@@ -56,7 +48,7 @@ askRefusals m r =
     (21 when not (wellFormedMemory m))
     -- "kind, flag value or unused field is wrong": the 24 bytes are those that would insert the order, another kind is a wrong one
     ∷ (1 when not (isInsert (commandOf r)))
-    ∷ orderRefusals (exchangeOf m) (newOrder r)
+    ∷ questionRefusals (exchangeOf m) (newOrder r)
 
 -- ---- the answer
 
@@ -70,7 +62,7 @@ readingWith code x o = pick (eqb code 0) (record { code = 0; lots = lotsNow x o;
 
 -- an order on a well-formed state
 unfoldable pub orderReading : Exchange → NewOrder → Reading
-orderReading x o = readingWith (firstOf (orderRefusals x o)) x o
+orderReading x o = readingWith (firstOf (questionRefusals x o)) x o
 
 -- THE WHOLE ANSWER, on any state and any 24 bytes
 unfoldable pub gettableNow : Memory → Record → Reading

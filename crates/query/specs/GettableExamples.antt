@@ -26,7 +26,7 @@ use Rattle.rules.specs.declared.PriceCondition.the-variants.{Limit, Market, Bes
 use Rattle.rules.specs.declared.Record.{Record}
 use Rattle.rules.specs.declared.TimeCondition.{TimeCondition}
 use Rattle.rules.specs.declared.TimeCondition.the-variants.{GoodForDay, ImmediateOrCancel, FillOrKill}
-use Rattle.query.specs.Gettable.{askRefusals, gettableNow, lotsNow, orderReading, orderRefusals, ordersRead, readNow, readingWith}
+use Rattle.query.specs.Gettable.{askRefusals, gettableNow, lotsNow, orderReading, questionRefusals, ordersRead, readNow, readingWith}
 use Rattle.query.specs.declared.Reading.{Reading}
 
 order : ℕ → ℕ → ℕ → Order
@@ -176,5 +176,5 @@ table =
     ∷ []
 
 pub gettable-examples : allRight table ≡ true
-unfolding allRight table order book sells asking buyAt sellAt market best from now′ memoryOf bytes absent accountAt afterLeg ahead aheadOfFirst all allListed allOf allowedToday askRefusals balanceInRange bestPrice bits bookLeg bookTrade bookTrades commandOf contractInRange countersInRange countsInRange dayHigh dayLow decode exchangeOf fillable fillableLots firstOf gettableNow hasRoom holdingAt holdingInRange holdingsInRange insertFlags insertOf legCovered listingAt listingIn rangesKept queuesSorted ordersInRange restingInRange listingOf lotsNow lotsWhere meets neverBelowZero newOrder listed onTick orderInRange orderReading orderRefusals ordersRead priceCondition priceRefusedBy pullOf queueIn readNow readingWith recordedTrades records replays resting sameHoldings sameLots sorted startOfDay sumOf tabulate takerOf termsInRange tickMultiple timeCondition tradeInRange uncrossed usedOnce quotes markAllowed queueQuoted listingQuoted markInRange wellFormedContents wellFormedMemory zeros
+unfolding allRight table order book sells asking buyAt sellAt market best from now′ memoryOf bytes absent accountAt afterLeg ahead aheadOfFirst all allListed allOf allowedToday askRefusals balanceInRange bestPrice bits bookLeg bookTrade bookTrades commandOf contractInRange countersInRange countsInRange dayHigh dayLow decode exchangeOf fillable fillableLots firstOf gettableNow hasRoom holdingAt holdingInRange holdingsInRange insertFlags insertOf legCovered listingAt listingIn rangesKept queuesSorted ordersInRange restingInRange listingOf lotsNow lotsWhere meets neverBelowZero newOrder listed onTick orderInRange orderReading questionRefusals ordersRead priceCondition priceRefusedBy pullOf queueIn readNow readingWith recordedTrades records replays resting sameHoldings sameLots sorted startOfDay sumOf tabulate takerOf termsInRange tickMultiple timeCondition tradeInRange uncrossed usedOnce quotes markAllowed queueQuoted listingQuoted markInRange wellFormedContents wellFormedMemory zeros
 gettable-examples = refl

@@ -110,7 +110,7 @@ pub fn gettable<'a>(
     buys: &'a [u32],
     sells: &'a [u32],
     trades: &'a [u32],
-    bytes: [u8; 24],
+    bytes: [u8; rules::COMMAND_WIDTH],
 ) -> Reading
     ensures { λ r. ⌜ r ≡ gettableNow (memory state (now (buys .entry)) (now (sells .entry)) (now (trades .entry))) (recordFrom bytes 0) ⌝ }
 {

@@ -7,6 +7,7 @@ use native.Mathlib.Omega.{arith}
 use borrow.Author.Tests.{eqb-true, ne-eqb}
 use lib.Dec.{eqb}
 use lib.ListN.{length}
+use Rattle.rules.specs.Bounds.{maxAccounts, numbersEnd}
 use Rattle.laws.specs.Choice.{pick}
 use Rattle.rules.specs.Answers.{firstOf, orderRefusals}
 use Rattle.rules.specs.Exchange.{Exchange, placeOf}
@@ -14,7 +15,7 @@ use Rattle.rules.specs.Kinds.{refused}
 use Rattle.rules.specs.Memory.{Memory, AfterCommand, WellFormedState, exchangeOf, inMemory, memory}
 use Rattle.rules.specs.declared.NewOrder.{NewOrder}
 use Rattle.rules.specs.declared.State.{State}
-use Rattle.invariants.proofs.Accepted.{Failed, failed}
+use Rattle.rules.proofs.Refusals.{Failed, failed}
 use Rattle.invariants.proofs.InsertAccepted.{Passes, next-given, numbers-left, order-passes}
 use Rattle.invariants.proofs.Marks.{Marks}
 use Rattle.engine.specs.Outcome.{OutcomeIs, refusedWith}
@@ -22,7 +23,7 @@ use Rattle.engine.specs.declared.answers.Outcome.{Outcome}
 use Rattle.engine.proofs.Formed.{Formed, accounts-count, contracts-count, formed}
 use Rattle.insertion.specs.Arrival.{Enterable, enteredIn}
 use Rattle.insertion.proofs.Entering.{may-enter}
-use Rattle.quoting.specs.Placing.{Markable, markedIn}
+use Rattle.quoting.specs.Placing.{Quotable, markedIn}
 
 -- a code that is told, whichever way it went
 told-either : (code : ℕ) (entered : AfterCommand) (m : Memory) → entered .answer .code ≡ 0 → pick (eqb code 0) entered (inMemory m (refused code)) .answer .code ≡ code
@@ -45,7 +46,7 @@ module _ (m : Memory) (o : NewOrder) {r : Outcome} {buys′ sells′ trades′ :
   pub entered-so : r .answer .code ≡ 0 → OutcomeIs (enteredIn m o (m .state .next) 1 (m .state .next + 1)) r buys′ sells′ trades′
   entered-so clear = rw (sym told ∙ clear) at is
 
-module _ {s : State} {buys sells trades : List ℕ} (w : WellFormedState s buys sells trades) (o : NewOrder) (g : Markable s buys sells trades o) where
+module _ {s : State} {buys sells trades : List ℕ} (w : WellFormedState s buys sells trades) (o : NewOrder) (g : Quotable s buys sells trades o) where
   abbrev m : Memory
   m = memory s buys sells trades
 
@@ -58,7 +59,7 @@ module _ {s : State} {buys sells trades : List ℕ} (w : WellFormedState s buys 
   pub marked-low : 1 ≤ o .account
   marked-low = g .present .account-low
 
-  pub marked-fits : {place : ℕ} → place ≡ o .account - 1 → place < 32
+  pub marked-fits : {place : ℕ} → place ≡ o .account - 1 → place < maxAccounts
   marked-fits e = omega (arith, g .present .account, f .accounts-high)
 
   module _ {code : ℕ} (ec : code ≡ firstOf (orderRefusals x o)) where
@@ -84,7 +85,7 @@ module _ {s : State} {buys sells trades : List ℕ} (w : WellFormedState s buys 
       marks : Marks x 1 o
       marks = record { low = omega arith; allowed = rw (g .maker, g .opens) refl; single = omega (arith, g .single) }
 
-      pub numbers-low : s .next < 1_000_000
+      pub numbers-low : s .next < numbersEnd
       unfolding exchangeOf
       numbers-low = numbers-left x o tests
 

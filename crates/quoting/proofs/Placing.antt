@@ -5,19 +5,18 @@ use mathlib.Core.List.{List, [], _∷_, _++_}
 use mathlib.Core.Path.{_≡_, refl, sym, ap, _∙_, subst}
 use Prim.Native.Nat.{ℕ, _+_, _*_, _<_, _≤_}
 use native.Mathlib.Omega.{arith}
-use borrow.Author.Tests.{eqb-true, ne-eqb, not-false}
+use borrow.Author.Tests.{eqb-true, eq-eqb, le-ltb, lt-ltb, ne-eqb, not-false}
 use lib.Dec.{eqb, ltb}
-use lib.ListN.{length, getD, set, take, drop, length-append}
+use lib.ListN.{length, getD, set, length-append}
 use Rattle.laws.specs.Choice.{pick}
-use Rattle.areas.specs.Lists.{over}
 use Rattle.areas.specs.Records.{store}
-use Rattle.rules.specs.Answers.{Refusal, _when_, firstOf, isGoodForDay, listingOf, orderRefusals, takerOf, tradesNeeded}
-use Rattle.rules.specs.Bounds.{continuous, inAuction, maxLots, maxResting, maxTrades}
-use Rattle.rules.specs.Exchange.{Exchange, Listing, absent, accountAt, listingAt, noAccount, noContract, opposite, own, placeOf, isAbsent}
+use Rattle.rules.specs.Answers.{Refusal, dayLimitOrder, firstOf, isGoodForDay, listingOf, namedRefusals, notContinuous, orderRefusals, pullRefusals, takerOf, tradesNeeded, tradesAgainst}
+use Rattle.rules.specs.Bounds.{inAuction, maxLots, maxResting, maxTrades, maxAccounts}
+use Rattle.rules.specs.Exchange.{Exchange, Listing, accountAt, holderOf, noAccount, opposite, own, placeOf}
 use Rattle.rules.specs.Kinds.{codeOf, done, kindOf}
 use Rattle.rules.specs.Matching.{enter, restWhole, restedLots, sweep, tradedLots}
 use Rattle.rules.specs.Memory.{Declared, Memory, WellFormedState, exchangeOf, listingIn, memory, put, putQueue, putState, queueIn, queueStride, stepIn, tradeStride, tradeWords, wellFormedMemory, written}
-use Rattle.rules.specs.Quote.{Offered, offered, half, buyOf, sellOf, buyEntered, sellEntered, withoutQuote, withBuy, withSell, quoteRefusals, quoted}
+use Rattle.rules.specs.Quote.{Offered, offerRefusals, offered, half, buyOf, sellOf, buyEntered, sellEntered, withoutQuote, withBuy, withSell, quoteRefusals, quoted}
 use Rattle.rules.specs.Step.{answerOf, enteredOf, exchangeAfter, listingAfter, withTrades, without}
 use Rattle.rules.specs.WellFormed.{isQuoteOf}
 use Rattle.rules.specs.declared.Command.{Command}
@@ -28,39 +27,38 @@ use Rattle.rules.specs.declared.State.{State}
 use Rattle.rules.specs.declared.Trade.{Trade}
 use Rattle.rules.proofs.AuctionSteps.{entered-either, trades-needed}
 use Rattle.rules.proofs.Codecs.{length-queue}
+use Rattle.rules.proofs.InUse.{account-in-use}
 use Rattle.rules.proofs.Fillable.{swept-at-most, traded-nil}
 use Rattle.book.proofs.EarlyStop.{trades-counted}
 use Rattle.rules.proofs.Queue.{length-without}
 use Rattle.rules.proofs.Stages.{Each}
+use Rattle.rules.proofs.Refusals.{Failed, both-zero, failed, first-append, first-here, first-there}
 use Rattle.book.specs.Removal.{PulledIs}
 use Rattle.book.specs.declared.removal.Pulled.{Pulled}
 use Rattle.accounting.proofs.Declared.{stage-declared}
 use Rattle.accounting.proofs.QuoteMoves.{quoted-shape}
 use Rattle.accounting.proofs.StepShape.{SameShape, shape-sym, shape-trans}
-use Rattle.invariants.proofs.Accepted.{Failed, failed}
 use Rattle.invariants.proofs.Clauses.{Counted, WellFormed}
 use Rattle.invariants.proofs.MemoryKeeps.{sound, stage-keeps, stage-read}
 use Rattle.invariants.proofs.QuoteKeeps.{buy-counted, buy-keeps, buy-passes, buy-sells, gone-accounts, gone-counted, gone-keeps, none-marked, sells-unmarked, still-maker}
 use Rattle.engine.specs.Outcome.{OutcomeIs, acceptedWith, refusedWith, withCountsIn}
-use Rattle.engine.specs.Removal.{removalCode}
 use Rattle.engine.specs.declared.answers.Outcome.{Outcome}
-use Rattle.engine.proofs.Formed.{Formed, account-at, accounts-count, contracts-count, formed, listing-at, no-account, no-contract}
+use Rattle.engine.proofs.Formed.{Formed, accounts-count, contracts-count, formed, listing-at}
 use Rattle.engine.proofs.Outcomes.{acceptance, refusal}
 use Rattle.engine.proofs.Puts.{put-queues, trades-count}
-use Rattle.engine.proofs.Refusals.{first-append}
-use Rattle.engine.proofs.Removals.{in-continuous, lies}
-use Rattle.engine.proofs.Tests.{place-below}
+use Rattle.engine.proofs.Removals.{lies}
 use Rattle.engine.proofs.Traded.{few-after, put-traded}
 use Rattle.refusals.proofs.Arrivals.{count-within}
-use Rattle.refusals.proofs.Sides.{contract-is}
+use Rattle.refusals.proofs.Continuous as first
+use Rattle.engine.proofs.Named.{account-there}
 use Rattle.insertion.specs.Arrival.{enteredIn}
-use Rattle.quoting.specs.Placing.{Markable, PlacedIs, Undoable, earlyRefusals, goneIn, halfFor, madeFrom, markedIn}
+use Rattle.quoting.specs.Placing.{Quotable, PlacedIs, Undoable, earlyRefusals, goneIn, madeFrom, markedIn}
 use Rattle.quoting.proofs.Marking.{entered-so, nothing-moved, told}
 use Rattle.quoting.proofs.Undo.{made-room, undo-both, undo-nothing, undo-queue, undo-trades}
 
 -- an order trades at most once with each order that it meets
 needed-few : (y : Exchange) (number : ℕ) (o : NewOrder) → tradesNeeded y number o ≤ length (opposite (o .sell) (listingOf y o))
-unfolding tradesNeeded
+unfolding tradesNeeded tradesAgainst
 needed-few y number o = by-auction (inAuction (listingOf y o .contract))
   where
     by-auction : (b : Bool) → pick b 0 (length (sweep (takerOf y number 0 o) (o .lots) (listingOf y o .contract .last) (opposite (o .sell) (listingOf y o)) .trades)) ≤ length (opposite (o .sell) (listingOf y o))
@@ -80,13 +78,53 @@ entered-lots y number mark o =
     (λ h. (swept-at-most (takerOf y number mark o) (o .lots) (listingOf y o .contract .last) (opposite (o .sell) (listingOf y o)), rested-lots (isGoodForDay (o .time)) (o .lots) _))
 
 -- what the code takes out of the two queues is the account's old quote
-pub gone-written : {s : State} {buys sells trades : List ℕ} (w : WellFormedState s buys sells trades) (account contract : ℕ) → removalCode s account contract false ≡ 0 → {place : ℕ} → place ≡ placeOf contract
+pub gone-written : {s : State} {buys sells trades : List ℕ} (w : WellFormedState s buys sells trades) (account contract : ℕ) → firstOf (pullRefusals (exchangeOf (memory s buys sells trades)) account contract false) ≡ 0 → {place : ℕ} → place ≡ placeOf contract
     → {r : State} {bid offer : Pulled} {buys′ sells′ : List ℕ}
     → PulledIs (isQuoteOf (placeOf account)) buys place (getD (s .buycounts) place 0) bid buys′ → PulledIs (isQuoteOf (placeOf account)) sells place (getD (s .sellcounts) place 0) offer sells′
     → r ≡ withCountsIn s (set (s .buycounts) place (bid .count)) (set (s .sellcounts) place (offer .count)) → memory r buys′ sells′ trades ≡ goneIn (memory s buys sells trades) account contract
 gone-written w account contract none is b o e =
     rw e
     (sym (lies w account contract false none is (isQuoteOf (placeOf account)) (record { queue = b .queue; count = b .count; lots = b .lots }) (record { queue = o .queue; count = o .count; lots = o .lots })))
+
+-- ---- 2, 3 and 4, then 23 and 24, as the code tries them
+
+pub named-passed : (x : Exchange) (account contract buy sell : ℕ) → firstOf (earlyRefusals x account contract buy sell) ≡ 0 → Failed (namedRefusals x notContinuous account contract)
+named-passed x account contract buy sell e =
+    both-zero (namedRefusals x notContinuous account contract) (offerRefusals (holderOf x account) buy sell) (omega arith) e .0
+
+module _ {s : State} (d : Declared s) (few : s .accountcount ≤ maxAccounts) (buys sells trades : List ℕ) (account contract buy sell : ℕ) {named : ℕ}
+    (en : named ≡ firstOf (namedRefusals (exchangeOf (memory s buys sells trades)) notContinuous account contract)) where
+  abbrev y : Exchange
+  y = exchangeOf (memory s buys sells trades)
+
+  abbrev code : ℕ
+  code = firstOf (earlyRefusals y account contract buy sell)
+
+  pub early-named : (named ≡ 0 → ⊥) → named ≡ code
+  early-named some = en ∙ first-here (namedRefusals y notContinuous account contract) (offerRefusals (holderOf y account) buy sell) (λ e. some (en ∙ e))
+
+  -- the account as it lies
+  module _ (none : named ≡ 0) {place : ℕ} (is : place ≡ placeOf account) where
+    in-use : placeOf account < s .accountcount
+    in-use = account-there d few buys sells trades notContinuous account contract (failed (namedRefusals y notContinuous account contract) (omega arith) (sym en ∙ none)) .1
+
+    maker-is : holderOf y account .maker ≡ getD (s .accounts) place noAccount .maker
+    unfolding accountAt
+    maker-is = rw is (ap (λ v. v .maker) (account-in-use (memory s buys sells trades) (placeOf account) in-use))
+
+    maker-first : code ≡ pick (not (eqb (getD (s .accounts) place noAccount .maker) 1)) 23 (pick (not (ltb buy sell)) 24 0)
+    unfolding firstOf
+    maker-first = sym (first-there (namedRefusals y notContinuous account contract) (offerRefusals (holderOf y account) buy sell) (omega arith) (sym en ∙ none)) ∙ rw maker-is refl
+
+    pub early-maker : (getD (s .accounts) place noAccount .maker ≡ 1 → ⊥) → 23 ≡ code
+    early-maker e = sym (maker-first ∙ rw (ne-eqb _ _ e) refl)
+
+    module _ (maker : getD (s .accounts) place noAccount .maker ≡ 1) where
+      pub early-prices : sell ≤ buy → 24 ≡ code
+      early-prices h = sym (maker-first ∙ rw (eq-eqb _ _ maker, le-ltb _ _ h) refl)
+
+      pub early-none : buy < sell → 0 ≡ code
+      early-none h = sym (maker-first ∙ rw (eq-eqb _ _ maker, lt-ltb _ _ h) refl)
 
 module _ {s : State} {buys sells trades : List ℕ} (w : WellFormedState s buys sells trades) (account contract lots buy sell : ℕ) where
   abbrev m : Memory
@@ -112,45 +150,15 @@ module _ {s : State} {buys sells trades : List ℕ} (w : WellFormedState s buys 
 
   -- ---- 2, 3, 4, 23, 24
 
-  pub few-contracts : s .contractcount ≤ 4
-  few-contracts = f .contracts-high
-
-  pub few-accounts : s .accountcount ≤ 32
-  few-accounts = f .accounts-high
-
   abbrev early : List Refusal
-  early = earlyRefusals s account contract buy sell
-
-  abbrev rulesEarly : List Refusal
-  rulesEarly =
-      (2 when absent account (x .accounts))
-      ∷ (3 when absent contract (x .listings))
-      ∷ (4 when not (eqb (listingAt x c .contract .phase) continuous))
-      ∷ (23 when not (eqb (accountAt (x .accounts) a .maker) 1))
-      ∷ (24 when not (ltb buy sell))
-      ∷ []
-
-  maker-is : a < s .accountcount → accountAt (x .accounts) a .maker ≡ getD (s .accounts) a noAccount .maker
-  unfolding accountAt
-  maker-is h = ap (λ v. v .maker) (account-at m f a h)
-
-  early-same : firstOf rulesEarly ≡ firstOf early
-  unfolding firstOf
-  early-same = rw (no-account m f account, no-contract m f contract) (by-absence (isAbsent account (s .accountcount)) refl (isAbsent contract (s .contractcount)) refl)
-    where
-      by-absence : (b : Bool) → isAbsent account (s .accountcount) ≡ b → (d : Bool) → isAbsent contract (s .contractcount) ≡ d
-          → _≡_ {A = ℕ} (pick b 2 (pick d 3 (pick (not (eqb (listingAt x c .contract .phase) continuous)) 4 (pick (not (eqb (accountAt (x .accounts) a .maker) 1)) 23 (pick (not (ltb buy sell)) 24 0)))))
-          (pick b 2 (pick d 3 (pick (not (eqb (getD (s .contracts) c noContract .phase) continuous)) 4 (pick (not (eqb (getD (s .accounts) a noAccount .maker) 1)) 23 (pick (not (ltb buy sell)) 24 0)))))
-      by-absence true e d h = refl
-      by-absence false e true h = refl
-      by-absence false e false h = rw (contract-is m f c (place-below contract (s .contractcount) h .1), maker-is (place-below account (s .accountcount) e .1)) refl
+  early = earlyRefusals x account contract buy sell
 
   abbrev orderCodes : List Refusal
   orderCodes = orderRefusals (withoutQuote x q) (buyOf q) ++ orderRefusals (withBuy x q) (sellOf q)
 
   in-parts : codeOf x command ≡ pick (eqb (firstOf early) 0) (firstOf orderCodes) (firstOf early)
   unfolding codeOf kindOf quoteRefusals
-  in-parts = first-append rulesEarly orderCodes (omega arith) ∙ rw early-same
+  in-parts = first-append early orderCodes (omega arith)
 
   pub early-refused : {e : ℕ} {r : Outcome} → e ≡ firstOf early → (e ≡ 0 → ⊥) → r ≡ refusedWith s e → OutcomeIs (stepIn m command) r buys sells trades
   early-refused {e} ee some t = refusal s buys sells trades command e (omega arith) (in-parts ∙ rw (← ee, ne-eqb e 0 some)) t
@@ -159,19 +167,20 @@ module _ {s : State} {buys sells trades : List ℕ} (w : WellFormedState s buys 
     tests : Failed early
     tests = failed early (omega arith) none
 
+    named : Failed (namedRefusals x notContinuous account contract)
+    named = named-passed x account contract buy sell none
+
     holder-here : a < s .accountcount
-    holder-here = place-below account (s .accountcount) (tests .0) .1
+    holder-here = first.account-here w account contract named
 
     pub here : c < s .contractcount
-    here = place-below contract (s .contractcount) (tests .1 .0) .1
+    here = first.contract-here w account contract named
 
     pub contract-low : 1 ≤ contract
-    contract-low = place-below contract (s .contractcount) (tests .1 .0) .0
+    contract-low = first.contract-low w account contract named
 
-    pub removable : removalCode s account contract false ≡ 0
-    unfolding removalCode firstOf
-    removable =
-        rw (tests .0, tests .1 .0, ← in-continuous (getD (s .contracts) c noContract) false (eqb-true _ 1 (not-false _ (tests .1 .1 .0)))) refl
+    pub removable : firstOf (pullRefusals x account contract false) ≡ 0
+    removable = first.pulls w account contract named
 
     holder : a < length (x .accounts)
     holder = rw (accounts-count m f) holder-here
@@ -180,7 +189,7 @@ module _ {s : State} {buys sells trades : List ℕ} (w : WellFormedState s buys 
     listed = rw (contracts-count m f) here
 
     is-maker : accountAt (x .accounts) a .maker ≡ 1
-    is-maker = maker-is holder-here ∙ eqb-true _ 1 (not-false _ (tests .1 .1 .1 .0))
+    is-maker = eqb-true _ 1 (not-false _ (tests .1 .1 .1 .0))
 
     counts : Counted x
     counts = sound m (w .formed) .counts
@@ -262,21 +271,21 @@ module _ {s : State} {buys sells trades : List ℕ} (w : WellFormedState s buys 
 
       -- ---- the buy
 
-      module _ {bid : NewOrder} (eb : bid ≡ halfFor account contract lots buy false) where
+      module _ {bid : NewOrder} (eb : bid ≡ dayLimitOrder account contract false false lots buy) where
         bid-is : bid ≡ buyOf q
         unfolding half
         bid-is = eb
 
-        pub buy-markable : Markable gone buys₁ sells₁ trades bid
+        pub buy-quotable : Quotable gone buys₁ sells₁ trades bid
         unfolding listingOf
-        buy-markable =
+        buy-quotable =
             rw eb
             (record {
               present =
                   record {
-                    account-low = place-below account (s .accountcount) (tests .0) .0;
+                    account-low = first.account-low w account contract named;
                     account = rw (gone-counts .0) holder-here;
-                    contract-low = place-below contract (s .contractcount) (tests .1 .0) .0;
+                    contract-low = contract-low;
                     contract = rw (gone-counts .1) here;
                   };
               opens = refl;
@@ -419,21 +428,21 @@ module _ {s : State} {buys sells trades : List ℕ} (w : WellFormedState s buys 
 
             -- ---- the sell
 
-            module _ {offer : NewOrder} (eo : offer ≡ halfFor account contract lots sell true) where
+            module _ {offer : NewOrder} (eo : offer ≡ dayLimitOrder account contract true false lots sell) where
               offer-is : offer ≡ sellOf q
               unfolding half
               offer-is = eo
 
-              pub sell-markable : Markable (r₁ .state) buys₂ sells₂ trades₂ offer
+              pub sell-quotable : Quotable (r₁ .state) buys₂ sells₂ trades₂ offer
               unfolding listingOf
-              sell-markable =
+              sell-quotable =
                   rw eo
                   (record {
                     present =
                         record {
-                          account-low = place-below account (s .accountcount) (tests .0) .0;
+                          account-low = first.account-low w account contract named;
                           account = rw (bought-counts .0, gone-counts .0) holder-here;
-                          contract-low = place-below contract (s .contractcount) (tests .1 .0) .0;
+                          contract-low = contract-low;
                           contract = rw (bought-counts .1, gone-counts .1) here;
                         };
                     opens = refl;
@@ -532,29 +541,9 @@ module _ {s : State} {buys sells trades : List ℕ} (w : WellFormedState s buys 
                         trades-back = λ z. absurd (z zero-told);
                       }
 
-    -- ---- what is kept and put back; n is the room of the copy
-
-    pub traded-few : s .tradecount ≤ maxTrades
-    traded-few = f .trades-high
-
-    pub buys-room : {place n : ℕ} → place ≡ placeOf contract → n ≡ queueStride → queueStride * place + n ≤ length buys
-    buys-room is en = rw (is, en) room-buys
-
-    pub sells-room : {place n : ℕ} → place ≡ placeOf contract → n ≡ queueStride → queueStride * place + n ≤ length sells
-    sells-room is en = rw (is, en) room-sells
-
-    pub kept-room : {at n : ℕ} → at ≡ madeFrom (s .tradecount) → n ≡ tradeStride * maxResting → at + n ≤ length trades
-    kept-room ea en = rw (ea, en) trades-room
-
-    module _ {r : Outcome} {buys′ sells′ trades′ : List ℕ} (p : PlacedIs s buys sells trades account contract lots buy sell r buys′ sells′ trades′) (some : r .answer .code ≡ 0 → ⊥) where
-      pub buys-again : {place n : ℕ} → place ≡ placeOf contract → n ≡ queueStride → {kept buys″ : List ℕ} → kept ≡ take n (drop (queueStride * place) buys) → buys″ ≡ over buys′ (queueStride * place) kept → buys″ ≡ buys
-      buys-again is en e h = h ∙ rw (e, is, en) (p .buys-back some .back)
-
-      pub sells-again : {place n : ℕ} → place ≡ placeOf contract → n ≡ queueStride → {kept sells″ : List ℕ} → kept ≡ take n (drop (queueStride * place) sells) → sells″ ≡ over sells′ (queueStride * place) kept → sells″ ≡ sells
-      sells-again is en e h = h ∙ rw (e, is, en) (p .sells-back some .back)
-
-      pub trades-again : {at n : ℕ} → at ≡ madeFrom (s .tradecount) → n ≡ tradeStride * maxResting → {kept trades″ : List ℕ} → kept ≡ take n (drop at trades) → trades″ ≡ over trades′ at kept → trades″ ≡ trades
-      trades-again ea en e h = h ∙ rw (e, ea, en) (p .trades-back some .back)
-
-      pub quote-undone : {buys″ sells″ trades″ : List ℕ} → buys″ ≡ buys → sells″ ≡ sells → trades″ ≡ trades → OutcomeIs (stepIn m command) r buys″ sells″ trades″
-      quote-undone b o t = rw (b, o, t) (p .refused some)
+-- refused, with every area as it was
+pub quote-undone : {s : State} {buys sells trades : List ℕ} {account contract lots buy sell : ℕ} {r : Outcome} {buys′ sells′ trades′ : List ℕ}
+    → PlacedIs s buys sells trades account contract lots buy sell r buys′ sells′ trades′ → (r .answer .code ≡ 0 → ⊥)
+    → {buys″ sells″ trades″ : List ℕ} → buys″ ≡ buys → sells″ ≡ sells → trades″ ≡ trades
+    → OutcomeIs (stepIn (memory s buys sells trades) (Quote account contract lots buy sell)) r buys″ sells″ trades″
+quote-undone p some b o t = rw (b, o, t) (p .refused some)

@@ -16,10 +16,12 @@ use Rattle.areas.proofs.Lists.{length-over, over-append, over-inside, over-nil,
 use Rattle.areas.proofs.Records.{length-encode, store-over}
 use Rattle.rules.specs.Bounds.{maxResting, maxTrades}
 use Rattle.rules.specs.Exchange.{noOrder}
-use Rattle.rules.specs.Memory.{orderWords, putQueue, queueStride, tradeStride, tradeWords}
+use Rattle.rules.specs.Memory.{WellFormedState, orderWords, putQueue, queueStride, tradeStride, tradeWords}
 use Rattle.rules.specs.declared.Order.{Order}
+use Rattle.rules.specs.declared.State.{State}
 use Rattle.rules.specs.declared.Trade.{Trade}
 use Rattle.rules.proofs.Codecs.{order-codec, trade-codec}
+use Rattle.engine.proofs.Formed.{formed}
 use Rattle.quoting.specs.Placing.{Undoable, madeFrom}
 
 part-length : (a : List ℕ) (at n : ℕ) → at + n ≤ length a → length (take n (drop at a)) ≡ n
@@ -121,3 +123,20 @@ module _ (a : List ℕ) (at : ℕ) (kept : List ℕ) (room : at + length kept �
   keep-all =
       let l : length (take (length kept) (drop at a)) ≡ length kept = part-length a at (length kept) room in
       rw (take-all (length kept) (take (length kept) (drop at a)) (omega arith)) (over-tail kept 0 (take (length kept) (drop at a)) (omega arith))
+
+-- ---- what is kept before a quote is placed, and put back where it is refused
+
+module _ {s : State} {buys sells trades : List ℕ} (w : WellFormedState s buys sells trades) where
+  -- a queue of a contract in use
+  pub queue-room : {c : ℕ} → c < s .contractcount → (side : Bool) {place n : ℕ} → place ≡ c → n ≡ queueStride → queueStride * place + n ≤ length (pick side sells buys)
+  queue-room here true is en = rw (is, en) (omega (arith, formed w .sells-room))
+  queue-room here false is en = rw (is, en) (omega (arith, formed w .buys-room))
+
+  -- the trades that one order can make
+  pub kept-room : {at n : ℕ} → at ≡ madeFrom (s .tradecount) → n ≡ tradeStride * maxResting → at + n ≤ length trades
+  kept-room ea en = rw (ea, en) (omega (arith, made-room (s .tradecount), formed w .trades-room))
+
+-- an area is as it was once the words kept of it are put back
+pub undone : {at n : ℕ} {before after : List ℕ} → Undoable at n before after → {at′ n′ : ℕ} → at′ ≡ at → n′ ≡ n
+    → {kept back : List ℕ} → kept ≡ take n′ (drop at′ before) → back ≡ over after at′ kept → back ≡ before
+undone u ea en e h = h ∙ rw (e, ea, en) (u .back)

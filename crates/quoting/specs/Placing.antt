@@ -1,44 +1,33 @@
 -- A quote as the code places it: the tests on the state alone, the old quote gone, an order of it entered or refused, and what has to
 -- be put back where it is refused. Assumes nothing.
-use mathlib.Core.Bool.{Bool, false, not}
-use mathlib.Core.List.{List, [], _∷_}
+use mathlib.Core.Bool.{false}
+use mathlib.Core.List.{List, _++_}
 use mathlib.Core.Path.{_≡_}
 use Prim.Native.Nat.{ℕ, _+_, _-_, _*_}
-use lib.Dec.{eqb, leb, ltb}
-use lib.ListN.{length, getD, take, drop}
+use lib.Dec.{eqb, leb}
+use lib.ListN.{length, take, drop}
 use Rattle.areas.specs.Lists.{over}
 use Rattle.laws.specs.Choice.{pick}
-use Rattle.rules.specs.Answers.{Refusal, _when_, firstOf, listingOf, orderRefusals}
-use Rattle.rules.specs.Bounds.{continuous, maxResting, maxTrades}
-use Rattle.rules.specs.Exchange.{accountAt, listingAt, noAccount, noContract, own, placeOf, isAbsent}
+use Rattle.rules.specs.Answers.{Refusal, firstOf, listingOf, namedRefusals, notContinuous, orderRefusals}
+use Rattle.rules.specs.Bounds.{maxResting, maxTrades}
+use Rattle.rules.specs.Exchange.{Exchange, accountAt, holderOf, listingAt, own, placeOf}
 use Rattle.rules.specs.Kinds.{refused}
 use Rattle.rules.specs.Memory.{Memory, AfterCommand, exchangeOf, inMemory, memory, put, queueStride, stepIn, tradeStride}
+use Rattle.rules.specs.Quote.{offerRefusals}
 use Rattle.rules.specs.Step.{listingWithout, withListing}
 use Rattle.rules.specs.WellFormed.{isQuoteOf, quotes}
 use Rattle.rules.specs.declared.Command.the-variants.{Quote}
 use Rattle.rules.specs.declared.NewOrder.{NewOrder}
-use Rattle.rules.specs.declared.PriceCondition.the-variants.{Limit}
 use Rattle.rules.specs.declared.State.{State}
-use Rattle.rules.specs.declared.TimeCondition.the-variants.{GoodForDay}
 use Rattle.engine.specs.Outcome.{OutcomeIs}
 use Rattle.engine.specs.declared.answers.Outcome.{Outcome}
 use Rattle.refusals.specs.Insertion.{Present}
 use Rattle.insertion.specs.Arrival.{enteredIn}
 
 -- 2, 3, 4, 23, 24: what a quote is refused for before its orders are looked at
-abbrev pub earlyRefusals : State → ℕ → ℕ → ℕ → ℕ → List Refusal
-earlyRefusals s account contract buy sell =
-    (2 when isAbsent account (s .accountcount))
-    ∷ (3 when isAbsent contract (s .contractcount))
-    ∷ (4 when not (eqb (getD (s .contracts) (placeOf contract) noContract .phase) continuous))
-    ∷ (23 when not (eqb (getD (s .accounts) (placeOf account) noAccount .maker) 1))
-    ∷ (24 when not (ltb buy sell))
-    ∷ []
-
--- one of its two orders
-abbrev pub halfFor : ℕ → ℕ → ℕ → ℕ → Bool → NewOrder
-halfFor account contract lots price sell =
-    record { account = account; contract = contract; sell = sell; close = false; lots = lots; price = price; condition = Limit price; time = GoodForDay }
+abbrev pub earlyRefusals : Exchange → ℕ → ℕ → ℕ → ℕ → List Refusal
+earlyRefusals x account contract buy sell =
+    namedRefusals x notContinuous account contract ++ offerRefusals (holderOf x account) buy sell
 
 -- the account's old quote taken out of the contract's queues
 abbrev pub goneIn : Memory → ℕ → ℕ → Memory
@@ -48,7 +37,7 @@ goneIn m account contract =
 -- ---- an order of a quote, on the state that the step before it leaves
 
 -- a maker's open, with no marked order of its account on its side
-pub record Markable (s : State) (buys sells trades : List ℕ) (o : NewOrder) : Type 0 where
+pub record Quotable (s : State) (buys sells trades : List ℕ) (o : NewOrder) : Type 0 where
   pub present : Present s o
   pub opens : o .close ≡ false
   pub maker : accountAt (exchangeOf (memory s buys sells trades) .accounts) (placeOf (o .account)) .maker ≡ 1

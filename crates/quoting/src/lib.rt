@@ -7,40 +7,29 @@ ghost use Prim.Native.Nat.{_+_, _≤_};
 ghost use lib.ListN.{length, take, drop};
 ghost use Rattle.areas.specs.Lists.{over};
 ghost use Rattle.rules.specs.Answers as answer;
-ghost use Rattle.rules.specs.Bounds.{maxTrades};
-ghost use Rattle.rules.specs.Memory.{memory, stepIn, WellFormedState};
+ghost use Rattle.rules.specs.Bounds.{maxAccounts, maxContracts, maxTrades};
+ghost use Rattle.rules.specs.Memory.{exchangeOf, memory, stepIn, WellFormedState};
 ghost use Rattle.rules.specs.declared.Command.the-variants.{Quote};
-ghost use Rattle.engine.specs.Outcome.{OutcomeIs};
-ghost use Rattle.engine.specs.Removal.{removalCode};
-ghost use Rattle.quoting.specs.Placing.{earlyRefusals, halfFor, goneIn, Markable, markedIn, PlacedIs, madeFrom};
+ghost use Rattle.engine.specs.Outcome.{OutcomeIs, CodeIn};
+ghost use Rattle.quoting.specs.Placing.{earlyRefusals, goneIn, Quotable, markedIn, PlacedIs, madeFrom};
 use engine::answers;
 use engine::answers::Outcome;
 use refusals::codes;
-use rules::CONTINUOUS;
+use refusals::orders;
 use rules::NewOrder;
-use rules::PriceCondition;
 use rules::State;
-use rules::TimeCondition;
 
 // The words of the trades that one order can make: at most one with each order that it meets.
 const MADE: usize = rules::TRADE_STRIDE * rules::MAX_RESTING;
 
 // Codes 2, 3, 4, 23 and 24, 0 where none holds. Requires at most 4 contracts and 32 accounts.
 fn early_code(state: State, account: u32, contract: u32, buy: u32, sell: u32) -> u32
-    requires { ⌜ (state .contractcount ≤ 4) × (state .accountcount ≤ 32) ⌝ }
-    ensures { λ r. ⌜ r ≡ answer.firstOf (earlyRefusals state account contract buy sell) ⌝ }
+    requires { ⌜ (state .contractcount ≤ maxContracts) × (state .accountcount ≤ maxAccounts) ⌝ }
+    ensures { λ r. ⌜ CodeIn state (λ x. earlyRefusals x account contract buy sell) r ⌝ }
 {
-    if answers::is_absent(account, state.accountcount) {
-        return 2;
-    }
-    if answers::is_absent(contract, state.contractcount) {
-        return 3;
-    }
-    let c = laws::place_of(contract);
-    let contracts = state.contracts;
-    let terms = contracts[c];
-    if terms.phase != CONTINUOUS {
-        return 4;
+    let named = codes::continuous_code(state, account, contract);
+    if named != 0 {
+        return named;
     }
     let a = laws::place_of(account);
     let who = state.accounts[a];
@@ -53,22 +42,6 @@ fn early_code(state: State, account: u32, contract: u32, buy: u32, sell: u32) ->
     0
 }
 
-// "a buy and a sell good-for-day limit open with equal lots"
-fn half(account: u32, contract: u32, lots: u32, price: u32, sell: bool) -> NewOrder
-    ensures { λ o. ⌜ o ≡ halfFor account contract lots price sell ⌝ }
-{
-    NewOrder {
-        account,
-        contract,
-        sell,
-        close: false,
-        lots,
-        price,
-        condition: PriceCondition::Limit(price),
-        time: TimeCondition::GoodForDay,
-    }
-}
-
 // What is left of the account's old quote is taken out.
 fn remove_quote(
     state: State,
@@ -78,7 +51,7 @@ fn remove_quote(
     account: u32,
     contract: u32,
 ) -> State
-    requires { ⌜ WellFormedState state (now buys) (now sells) (now trades) × (removalCode state account contract false ≡ 0) ⌝ }
+    requires { ⌜ WellFormedState state (now buys) (now sells) (now trades) × (answer.firstOf (answer.pullRefusals (exchangeOf (memory state (now buys) (now sells) (now trades))) account contract false) ≡ 0) ⌝ }
     ensures { λ r. ⌜ memory r (now (buys .exit)) (now (sells .exit)) (now (trades .entry)) ≡ goneIn (memory state (now (buys .entry)) (now (sells .entry)) (now (trades .entry))) account contract ⌝ }
 {
     let c = laws::place_of(contract);
@@ -99,7 +72,7 @@ fn enter_marked(
     trades: &mut [u32],
     o: NewOrder,
 ) -> Outcome
-    requires { ⌜ WellFormedState state (now buys) (now sells) (now trades) × Markable state (now buys) (now sells) (now trades) o ⌝ }
+    requires { ⌜ WellFormedState state (now buys) (now sells) (now trades) × Quotable state (now buys) (now sells) (now trades) o ⌝ }
     ensures { λ r. ⌜ OutcomeIs (markedIn (memory state (now (buys .entry)) (now (sells .entry)) (now (trades .entry))) o) r (now (buys .exit)) (now (sells .exit)) (now (trades .exit)) ⌝ }
 {
     let a = laws::place_of(o.account);
@@ -129,18 +102,19 @@ fn place(
     buy: u32,
     sell: u32,
 ) -> Outcome
-    requires { ⌜ WellFormedState state (now buys) (now sells) (now trades) × (answer.firstOf (earlyRefusals state account contract buy sell) ≡ 0) ⌝ }
+    requires { ⌜ WellFormedState state (now buys) (now sells) (now trades) × (answer.firstOf (earlyRefusals (exchangeOf (memory state (now buys) (now sells) (now trades))) account contract buy sell) ≡ 0) ⌝ }
     ensures { λ r. ⌜ PlacedIs state (now (buys .entry)) (now (sells .entry)) (now (trades .entry)) account contract lots buy sell r (now (buys .exit)) (now (sells .exit)) (now (trades .exit)) ⌝ }
 {
     let gone = remove_quote(state, buys, sells, &trades[..], account, contract);
-    let bid = half(account, contract, lots, buy, false);
+    // "a buy and a sell good-for-day limit open with equal lots"
+    let bid = orders::day_limit(account, contract, false, false, lots, buy);
     let bought = enter_marked(gone, buys, sells, trades, bid);
     let first = bought.answer;
     if first.code != 0 {
         return answers::refused(state, first.code);
     }
     let after = bought.state;
-    let offer = half(account, contract, lots, sell, true);
+    let offer = orders::day_limit(account, contract, true, false, lots, sell);
     let sold = enter_marked(after, buys, sells, trades, offer);
     let second = sold.answer;
     if second.code != 0 {

@@ -2,12 +2,13 @@
 use mathlib.Core.Bool.{Bool, true, false}
 use mathlib.Core.List.{List}
 use mathlib.Core.Path.{_≡_, refl, ap, _∙_}
-use Prim.Native.Nat.{ℕ, _+_, _-_, _*_, _<_, _≤_, _^_}
+use Prim.Native.Nat.{ℕ, _+_, _-_, _<_, _≤_}
 use native.Mathlib.Omega.{arith}
 use lib.IntN.{pos}
 use lib.ListN.{length, getD, set}
 use lib.Seq.{getD-set-same}
 use lib.Signed.{ltZ}
+use Rattle.rules.specs.Bounds.{maxLots, balanceMost}
 use Rattle.laws.specs.Bound.{Within}
 use Rattle.laws.specs.Lists.{at-set}
 use Rattle.rules.specs.Answers.{moneyRefused}
@@ -85,7 +86,7 @@ module _ {s : State} {buys sells trades : List ℕ} (w : WellFormedState s buys 
   unfolding accountAt
   in-place = omega (arith, p .contract, p .account, f .contracts-high, f .accounts-high, f .declared .holdings a (omega (arith, p .account, f .accounts-high)))
 
-  with-lots : o .lots ≤ 1_000 → (i : ℕ) → i < s .contractcount
+  with-lots : o .lots ≤ maxLots → (i : ℕ) → i < s .contractcount
       → ChargeableIn (getD (s .contracts) i noContract) buys (getD (s .buycounts) i 0) sells (getD (s .sellcounts) i 0) i a (getD (set holdings c after) i noHolding)
   with-lots few i li =
       let leg = open-leg (getD holdings c noHolding) (o .sell) (o .lots) in
@@ -101,13 +102,13 @@ module _ {s : State} {buys sells trades : List ℕ} (w : WellFormedState s buys 
   held-after = ap (λ (u : Account). u .holdings) (getD-set-same (s .accounts) a _ noAccount (omega (arith, p .account, few-accounts m f)))
 
   -- the places of the contract and of the account
-  module _ (few : o .lots ≤ 1_000) {place holder : ℕ} (is : place ≡ o .contract - 1) (whose : holder ≡ o .account - 1) {who : Account} (ew : getD (s .accounts) (o .account - 1) noAccount ≡ who) where
+  module _ (few : o .lots ≤ maxLots) {place holder : ℕ} (is : place ≡ o .contract - 1) (whose : holder ≡ o .account - 1) {who : Account} (ew : getD (s .accounts) (o .account - 1) noAccount ≡ who) where
     pub can-hold : HoldingWithin 2_000_000 (getD (who .holdings) place noHolding)
     can-hold =
         let g = chargeable m f a (p .account) .each c (p .contract) in
         rw (is, ← ew) (record { long = omega (arith, g .long); short = omega (arith, g .short) })
 
-    pub balance-fits : Within (2 * 10 ^ 18) (who .balance)
+    pub balance-fits : Within balanceMost (who .balance)
     unfolding accountAt
     balance-fits = rw (← ew) (balance-within m f a (p .account))
 

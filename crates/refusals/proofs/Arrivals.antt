@@ -9,16 +9,18 @@ use borrow.Author.Tests.{le-ltb}
 use lib.Dec.{ltb}
 use lib.ListN.{length, getD, drop}
 use Rattle.laws.specs.Choice.{pick}
-use Rattle.rules.specs.Bounds.{maxResting, maxTrades}
+use Rattle.rules.specs.Answers.{noRoomFor, tradesAgainst}
+use Rattle.rules.specs.Bounds.{inAuction, maxResting, maxTrades}
 use Rattle.book.specs.EarlyStop.{countTrades, fillableFront}
 use Rattle.rules.specs.Exchange.{bestPrice, noOrder}
 use Rattle.rules.specs.Matching.{counterpart, fillable}
 use Rattle.rules.specs.Memory.{orderFrom, queueIn, firstWord}
+use Rattle.rules.specs.declared.Contract.{Contract}
 use Rattle.rules.specs.declared.Order.{Order}
 use Rattle.rules.specs.declared.Taker.{Taker}
 use Rattle.rules.proofs.Codecs.{length-queue, order-at}
-use Rattle.book.proofs.EarlyStop.{front-fillable}
-use Rattle.refusals.specs.Insertion.{Facing, QueueRoom, tradesRefused}
+use Rattle.book.proofs.EarlyStop.{front-fillable, trades-counted}
+use Rattle.refusals.specs.Insertion.{Facing, QueueRoom}
 
 -- ---- the best price
 
@@ -50,16 +52,28 @@ count-within t left (o ∷ os) = by-trade (ltb 0 left && counterpart t o) (count
     by-trade true h = omega arith
     by-trade false h = omega arith
 
-module _ (t : Taker) (lots : ℕ) {area : List ℕ} {c count : ℕ} (room : QueueRoom area c count) where
-  pub few-trades : countTrades t lots (queueIn area c count) ≤ maxResting
-  few-trades = omega (arith, count-within t lots (queueIn area c count), length-queue area c count, room .few)
+-- 12: in auction there are none; up to 960 recorded trades there is room for one with each order
+module _ (terms : Contract) (t : Taker) (lots : ℕ) {area : List ℕ} {c count : ℕ} (room : QueueRoom area c count) where
+  abbrev queue : List Order
+  queue = queueIn area c count
 
-  pub trades-fit : (recorded : ℕ) → recorded ≤ maxTrades - maxResting → tradesRefused false recorded t (queueIn area c count) lots ≡ false
-  trades-fit recorded h = le-ltb maxTrades (recorded + countTrades t lots (queueIn area c count)) (omega (arith, few-trades))
+  pub few-trades : countTrades t lots queue ≤ maxResting
+  few-trades = omega (arith, count-within t lots queue, length-queue area c count, room .few)
 
--- in auction there are none
-pub trades-none : (recorded : ℕ) → recorded ≤ maxTrades → ltb maxTrades (recorded + 0) ≡ false
-trades-none recorded h = le-ltb maxTrades (recorded + 0) (omega arith)
+  pub trades-none : (recorded : ℕ) → recorded ≤ maxTrades → inAuction terms ≡ true → false ≡ noRoomFor recorded (tradesAgainst terms t lots queue)
+  unfolding tradesAgainst
+  trades-none recorded h e = sym (rw e (le-ltb maxTrades (recorded + 0) (omega arith)))
+
+  module _ (elsewhere : inAuction terms ≡ false) where
+    trades-are : tradesAgainst terms t lots queue ≡ countTrades t lots queue
+    unfolding tradesAgainst
+    trades-are = rw elsewhere (trades-counted t lots (terms .last) queue)
+
+    pub trades-fit : (recorded : ℕ) → recorded ≤ maxTrades - maxResting → false ≡ noRoomFor recorded (tradesAgainst terms t lots queue)
+    trades-fit recorded h = sym (rw trades-are (le-ltb maxTrades (recorded + countTrades t lots queue) (omega (arith, few-trades))))
+
+    pub trades-told : (recorded : ℕ) {n : ℕ} → n ≡ countTrades t lots queue → ltb maxTrades (recorded + n) ≡ noRoomFor recorded (tradesAgainst terms t lots queue)
+    trades-told recorded e = rw (trades-are, e) refl
 
 -- ---- the lots that can be filled
 

@@ -8,7 +8,7 @@ use native.Mathlib.Omega.{arith}
 use lib.ListN.{length, getD}
 use Rattle.laws.specs.Choice.{allOf, allOf-at}
 use Rattle.rules.specs.Answers.{mark, takerFor}
-use Rattle.rules.specs.Bounds.{termsInRange, maxResting}
+use Rattle.rules.specs.Bounds.{termsInRange, maxResting, maxLimit}
 use Rattle.rules.specs.Exchange.{Exchange, Listing, holdingAt, listingAt, noContract, noOrder, opposite, own, resting}
 use Rattle.rules.specs.Memory.{Memory, exchangeOf, listingIn, queueIn, firstWord}
 use Rattle.rules.specs.WellFormed.{orderInRange, sorted}
@@ -17,7 +17,7 @@ use Rattle.rules.specs.declared.NewOrder.{NewOrder}
 use Rattle.rules.specs.declared.Order.{Order}
 use Rattle.rules.proofs.Codecs.{length-queue}
 use Rattle.rules.proofs.Terms.{terms, terms-passed}
-use Rattle.holdings.specs.Bounds.{HoldingWithin}
+use Rattle.holdings.specs.Bounds.{HoldingWithin, heldMost}
 use Rattle.invariants.proofs.Clauses.{HoldingOk, ListingOk, order-ok}
 use Rattle.refusals.specs.Insertion.{Facing, QueueRoom, sideArea, sideCount}
 use Rattle.engine.proofs.Formed.{Formed, accounts-count, contracts-count, holding-at, listing-at}
@@ -78,7 +78,7 @@ module _ (m : Memory) (f : Formed m) (c : ℕ) (h : c < m .state .contractcount)
   pub contract-terms : termsInRange (getD (m .state .contracts) c noContract) ≡ true
   contract-terms = rw (← contract-is) (terms-passed (listingAt x c .contract) (listing .contract))
 
-  limit-high : listingAt x c .contract .limit ≤ 100_000
+  limit-high : listingAt x c .contract .limit ≤ maxLimit
   limit-high = rw contract-is (terms (getD (m .state .contracts) c noContract) contract-terms .limit-high)
 
   -- ---- what an account in use holds and has resting
@@ -87,12 +87,12 @@ module _ (m : Memory) (f : Formed m) (c : ℕ) (h : c < m .state .contractcount)
     holding : HoldingOk (listingAt x c) a (holdingAt (m .state .accounts) a c)
     holding = rw (← holding-at m f a c l h) (f .contents .holding a c (rw (accounts-count m f) l) there)
 
-    pub held-low : HoldingWithin 1_000_000 (holdingAt (m .state .accounts) a c)
+    pub held-low : HoldingWithin heldMost (holdingAt (m .state .accounts) a c)
     held-low =
         let bought = holding .opens false in
         let sold = holding .opens true in
         record { long = omega (arith, limit-high); short = omega (arith, limit-high) }
 
-    pub resting-low : (side close : Bool) → resting (mark close) a (queueOf side) ≤ 1_000_000
+    pub resting-low : (side close : Bool) → resting (mark close) a (queueOf side) ≤ maxLimit
     resting-low side false = rw (← side-is side) (omega (arith, holding .opens side, limit-high))
     resting-low side true = rw (← side-is side) (omega (arith, holding .closes side, holding .opens (not side), limit-high))

@@ -1,19 +1,20 @@
 // The code of an insert: the refusals 3 to 13 in their order, those from 5 on as a call of its own; and of an order that is entered
 // again, which some of them test. For our own crates: `code_of`, `order_code` and `reentry_code` ask for a well-formed state and an
-// order whose account is in use, the others for what they read of it.
+// order whose account is in use, the others for what they read of it; `continuous_code` gives 2, 3 and 4 of a quote and of a change.
 ghost use mathlib.Core.Bool.{true, _&&_, _||_};
 ghost use mathlib.Core.Path.{_≡_};
 ghost use Prim.Native.Nat.{_-_, _≤_};
 ghost use lib.Dec.{leb, ltb};
 ghost use lib.ListN.{getD};
 ghost use Rattle.rules.specs.Answers as answer;
-ghost use Rattle.rules.specs.Bounds.{inAuction, termsInRange, maxTrades, numbersEnd};
-ghost use Rattle.rules.specs.Exchange.{noAccount};
+ghost use Rattle.rules.specs.Bounds.{termsInRange, maxContracts, maxLots, maxTrades, numbersEnd, maxAccounts, maxLimit};
+ghost use Rattle.rules.specs.Exchange.{Exchange, noAccount};
 ghost use Rattle.rules.specs.Matching as matching;
 ghost use Rattle.rules.specs.Kinds.{codeOf};
 ghost use Rattle.rules.specs.Memory.{exchangeOf, queueIn, memory, WellFormedState};
 ghost use Rattle.rules.specs.declared.Command.the-variants.{Insert};
-ghost use Rattle.refusals.specs.Insertion.{lotsRefused, tradesRefused, bookTests, reentryRefusals, Present, OwnedBy, QueueRoom, Facing};
+ghost use Rattle.rules.specs.Change.{reentryRefusals};
+ghost use Rattle.refusals.specs.Insertion.{Present, OwnedBy, QueueRoom, Facing, MeetsQueue, ContinuousIs};
 use crate::orders;
 use engine::answers;
 use rules::AUCTION;
@@ -103,8 +104,8 @@ pub fn fields_code(terms: Contract, conditions: bool, o: NewOrder) -> u32
 // 8: an open may not lift holding and resting opens above the limit, a close may not exceed what is held less resting closes.
 // `rested` are the account's resting lots on the order's side, opens of an open and closes of a close.
 fn lots_refused(terms: Contract, h: Holding, rested: u64, o: NewOrder) -> bool
-    requires { ⌜ rested ≤ 1000000 ⌝ }
-    ensures { λ r. ⌜ r ≡ lotsRefused terms h rested o ⌝ }
+    requires { ⌜ rested ≤ maxLimit ⌝ }
+    ensures { λ r. ⌜ r ≡ answer.lotsRefused terms h rested o ⌝ }
 {
     let lots = laws::wide64(o.lots);
     let close = o.close;
@@ -126,7 +127,7 @@ fn money_refused<'a>(
     trades: &'a [u32],
     o: NewOrder,
 ) -> bool
-    requires { ⌜ WellFormedState state (now buys) (now sells) (now trades) × Present state o × (o .lots ≤ 1000) × (getD (state .accounts) (o .account - 1) noAccount ≡ who) ⌝ }
+    requires { ⌜ WellFormedState state (now buys) (now sells) (now trades) × Present state o × (o .lots ≤ maxLots) × (getD (state .accounts) (o .account - 1) noAccount ≡ who) ⌝ }
     ensures { λ r. ⌜ r ≡ answer.moneyRefused (exchangeOf (memory state (now (buys .entry)) (now (sells .entry)) (now (trades .entry)))) o ⌝ }
 {
     if o.close {
@@ -162,7 +163,7 @@ fn account_code<'a>(
     trades: &'a [u32],
     o: NewOrder,
 ) -> u32
-    requires { ⌜ WellFormedState state (now buys) (now sells) (now trades) × Present state o × (o .lots ≤ 1000) × (getD (state .accounts) (o .account - 1) noAccount ≡ who) ⌝ }
+    requires { ⌜ WellFormedState state (now buys) (now sells) (now trades) × Present state o × (o .lots ≤ maxLots) × (getD (state .accounts) (o .account - 1) noAccount ≡ who) ⌝ }
     ensures { λ r. ⌜ r ≡ answer.firstOf (answer.accountRefusals (exchangeOf (memory state (now (buys .entry)) (now (sells .entry)) (now (trades .entry)))) o) ⌝ }
 {
     let c = laws::place_of(o.contract);
@@ -210,7 +211,7 @@ fn kill_refused(
 // 12: more trades than the day has room for. An order trades at most once with each order of the opposite queue, so up to 960
 // recorded trades nothing needs to be counted. In auction it makes no trades.
 fn trades_refused(
-    auction: bool,
+    terms: Contract,
     recorded: usize,
     area: &[u32],
     c: usize,
@@ -219,9 +220,9 @@ fn trades_refused(
     lots: u32,
 ) -> bool
     requires { ⌜ QueueRoom (now area) c count × (recorded ≤ maxTrades) ⌝ }
-    ensures { λ r. ⌜ r ≡ tradesRefused auction recorded t (queueIn (now (area .entry)) c count) lots ⌝ }
+    ensures { λ r. ⌜ r ≡ answer.noRoomFor recorded (answer.tradesAgainst terms t lots (queueIn (now (area .entry)) c count)) ⌝ }
 {
-    if auction {
+    if terms.phase == AUCTION {
         return false;
     }
     if recorded <= rules::MAX_TRADES - rules::MAX_RESTING {
@@ -267,7 +268,8 @@ fn used_up(next: u32, nextstamp: u32) -> bool
     rules::NUMBERS_END <= nextstamp
 }
 
-// Codes 10 to 13, 0 where none holds: the order as it meets the opposite queue, with so many orders on its own side.
+// Codes 10 to 13, 0 where none holds, in any exchange in which the order meets the opposite queue so, with so many orders on its own
+// side.
 fn book_code(
     state: State,
     terms: Contract,
@@ -279,7 +281,7 @@ fn book_code(
     o: NewOrder,
 ) -> u32
     requires { ⌜ Facing t (now area) c count × (state .tradecount ≤ maxTrades) ⌝ }
-    ensures { λ r. ⌜ r ≡ answer.firstOf (bookTests (inAuction terms) (state .next) (state .nextstamp) (state .tradecount) own t (queueIn (now (area .entry)) c count) o) ⌝ }
+    ensures { λ r. ⌜ ((x : Exchange) → MeetsQueue x o state terms own t (queueIn (now (area .entry)) c count) → r ≡ answer.firstOf (answer.bookRefusals x o)) ⌝ }
 {
     let time = o.time;
     let lots = o.lots;
@@ -290,7 +292,7 @@ fn book_code(
     if kill_refused(area, c, count, t, lots, time) {
         return 11;
     }
-    if trades_refused(auction, state.tradecount, area, c, count, t, lots) {
+    if trades_refused(terms, state.tradecount, area, c, count, t, lots) {
         return 12;
     }
     if full_refused(auction, own, area, c, count, t, lots, time) {
@@ -367,7 +369,7 @@ pub fn reentry_code<'a>(
     o: NewOrder,
     number: u32,
 ) -> u32
-    requires { ⌜ WellFormedState state (now buys) (now sells) (now trades) × Present state o × (o .lots ≤ 1000) × (getD (state .accounts) (o .account - 1) noAccount ≡ who) ⌝ }
+    requires { ⌜ WellFormedState state (now buys) (now sells) (now trades) × Present state o × (o .lots ≤ maxLots) × (getD (state .accounts) (o .account - 1) noAccount ≡ who) ⌝ }
     ensures { λ r. ⌜ r ≡ answer.firstOf (reentryRefusals (exchangeOf (memory state (now (buys .entry)) (now (sells .entry)) (now (trades .entry)))) number o) ⌝ }
 {
     let account = account_code(state, who, buys, sells, trades, o);
@@ -383,9 +385,28 @@ pub fn reentry_code<'a>(
     let area = orders::side_area(!o.sell, buys, sells);
     let count = orders::side_count(!o.sell, state, c);
     let t = orders::taker_of(number, 0, state.nextstamp, terms, area, count, o);
-    let auction = terms.phase == AUCTION;
-    if trades_refused(auction, state.tradecount, area, c, count, t, o.lots) {
+    if trades_refused(terms, state.tradecount, area, c, count, t, o.lots) {
         return 12;
+    }
+    0
+}
+
+// Codes 2, 3 and 4 of a quote and of a change, 0 where none holds: "in continuous only". Requires at most 4 contracts and 32 accounts.
+pub fn continuous_code(state: State, account: u32, contract: u32) -> u32
+    requires { ⌜ (state .contractcount ≤ maxContracts) × (state .accountcount ≤ maxAccounts) ⌝ }
+    ensures { λ r. ⌜ ContinuousIs state account contract r ⌝ }
+{
+    if answers::is_absent(account, state.accountcount) {
+        return 2;
+    }
+    if answers::is_absent(contract, state.contractcount) {
+        return 3;
+    }
+    let place = laws::place_of(contract);
+    let contracts = state.contracts;
+    let terms = contracts[place];
+    if terms.phase != CONTINUOUS {
+        return 4;
     }
     0
 }

@@ -2,6 +2,7 @@
 // room.
 ghost use mathlib.Core.Path.{_≡_};
 ghost use Prim.Native.Nat.{_-_, _<_, _≤_};
+ghost use Rattle.rules.specs.Bounds.{maxContracts};
 ghost use Rattle.laws.specs.Choice.{pick};
 ghost use Rattle.rules.specs.Answers as answer;
 ghost use Rattle.rules.specs.Exchange as exchange;
@@ -72,6 +73,29 @@ pub fn by_side(sell: bool, selling: u32, buying: u32) -> u32
     if sell { selling } else { buying }
 }
 
+// A good-for-day limit order, as a change and a quote send it.
+pub fn day_limit(
+    account: u32,
+    contract: u32,
+    sell: bool,
+    close: bool,
+    lots: u32,
+    price: u32,
+) -> NewOrder
+    ensures { λ r. ⌜ r ≡ answer.dayLimitOrder account contract sell close lots price ⌝ }
+{
+    NewOrder {
+        account,
+        contract,
+        sell,
+        close,
+        lots,
+        price,
+        condition: PriceCondition::Limit(price),
+        time: TimeCondition::GoodForDay,
+    }
+}
+
 // The area of a side.
 pub fn side_area<'a>(sell: bool, buys: &'a [u32], sells: &'a [u32]) -> &'a [u32]
     ensures { λ r. ⌜ now r ≡ sideArea sell (now (buys .entry)) (now (sells .entry)) ⌝ }
@@ -84,7 +108,7 @@ pub fn side_area<'a>(sell: bool, buys: &'a [u32], sells: &'a [u32]) -> &'a [u32]
 
 // How many orders rest on a side of the contract at a place.
 pub fn side_count(sell: bool, state: State, c: usize) -> usize
-    requires { ⌜ c < 4 ⌝ }
+    requires { ⌜ c < maxContracts ⌝ }
     ensures { λ r. ⌜ r ≡ sideCount sell state c ⌝ }
 {
     let bids = state.buycounts;

@@ -5,7 +5,7 @@ use mathlib.Core.Path.{_≡_}
 use Prim.Native.Nat.{ℕ, _*_, _<_, _≤_}
 use lib.ListN.{length, getD}
 use Rattle.laws.specs.Choice.{pick}
-use Rattle.rules.specs.Bounds.{maxTrades}
+use Rattle.rules.specs.Bounds.{maxTrades, maxContracts, maxAccounts, maxLots, maxLimit}
 use Rattle.rules.specs.Exchange.{holdingAt, noTrade}
 use Rattle.rules.specs.Holdings.{bookTrades, neverBelowZero}
 use Rattle.rules.specs.Memory.{recordedTrades, used, tradeStride}
@@ -18,16 +18,16 @@ pub record Booked (contracts accounts : ℕ) (t : Trade) : Type 0 where
   pub contract : t .contract < contracts
   pub buyer : t .buyer < accounts
   pub seller : t .seller < accounts
-  pub lots : t .lots ≤ 1_000
+  pub lots : t .lots ≤ maxLots
 
 -- accounts as they stand before the first of the trades, the first `holders` of them in use
 pub record Replayable (accounts : List Account) (contracts holders : ℕ) (area : List ℕ) (count : ℕ) : Type 0 where
-  pub few : contracts ≤ 4
-  pub fit : holders ≤ 32
+  pub few : contracts ≤ maxContracts
+  pub fit : holders ≤ maxAccounts
   pub trades : count ≤ maxTrades
   pub room : tradeStride * count ≤ length area
   pub each : (i : ℕ) → i < count → Booked contracts holders (getD (recordedTrades area count) i noTrade)
-  pub held : (a c : ℕ) → a < holders → c < contracts → (holdingAt accounts a c .long ≤ 100_000) × (holdingAt accounts a c .short ≤ 100_000)
+  pub held : (a c : ℕ) → a < holders → c < contracts → (holdingAt accounts a c .long ≤ maxLimit) × (holdingAt accounts a c .short ≤ maxLimit)
 
 -- Whether no close is of more than is held; all accounts after the trades, or those given where one is. Of the accounts and the
 -- contracts in use that is the rules' replay.

@@ -3,6 +3,7 @@
 ghost use mathlib.Core.List.{[], _∷_};
 ghost use mathlib.Core.Path.{_≡_};
 ghost use Prim.Native.Nat.{_<_};
+ghost use Rattle.rules.specs.Bounds.{maxContracts};
 ghost use Rattle.rules.specs.Holdings.{legCovered};
 ghost use Rattle.replaying.specs.Parts.{Replayable, ReplayIs};
 use book::trades;
@@ -16,7 +17,7 @@ pub struct Held {
 
 // A close of no more than is held.
 fn is_covered(a: Account, c: usize, sell: bool, close: u32, lots: u32) -> bool
-    requires { ⌜ c < 4 ⌝ }
+    requires { ⌜ c < maxContracts ⌝ }
     ensures { λ r. ⌜ r ≡ legCovered (a ∷ []) 0 c sell close lots ⌝ }
 {
     if close == 0 {

@@ -7,7 +7,7 @@ use Prim.Native.Nat.{ℕ, _-_, min}
 use lib.Dec.{ltb}
 use lib.ListN.{length}
 use Rattle.laws.specs.Choice.{pick, pick-either, pick-true, pick-false}
-use Rattle.rules.specs.Answers.{isGoodForDay, listingOf, takerOf, tradesNeeded}
+use Rattle.rules.specs.Answers.{isGoodForDay, listingOf, takerOf, tradesNeeded, tradesAgainst}
 use Rattle.rules.specs.Auction.{Matched, auctionMatch, matchOf, unmatched}
 use Rattle.rules.specs.Bounds.{inAuction}
 use Rattle.rules.specs.Exchange.{Exchange, listingAt, opposite, own}
@@ -57,7 +57,7 @@ module _ (x : Exchange) (number quote : ℕ) (o : NewOrder) where
 
   -- 12 counts the trades that are made
   pub trades-needed : tradesNeeded x number o ≡ length (enteredOf x number quote o .trades)
-  unfolding tradesNeeded enteredOf restWhole enter
+  unfolding tradesNeeded tradesAgainst enteredOf restWhole enter
   trades-needed = cases (inAuction (listingOf x o .contract))
     where
       cases : (b : Bool)

@@ -2,23 +2,19 @@
 use mathlib.Core.Bool.{Bool, true, false, _&&_, false≢true}
 use mathlib.Core.List.{List, [], _∷_, _++_, map}
 use mathlib.Core.Path.{_≡_, refl, sym, ap, ap₂, _∙_}
-use Prim.Native.Nat.{ℕ, zero, suc, _+_, _-_, _*_, _<_, _≤_}
-use native.Mathlib.Nat.{mul-suc}
-use native.Mathlib.Omega.{arith}
+use Prim.Native.Nat.{ℕ, zero, suc, _+_, _-_, _<_, _≤_}
 use borrow.Author.Tests.{eqb-true, eq-eqb, ne-eqb, leb-true, le-leb}
-use lib.Dec.{eqb, leb}
+use lib.Dec.{eqb}
 use lib.IntN.{ℤ}
 use lib.ListN.{length, getD, set, drop, length-set, List·getD-map}
 use lib.Seq.{getD-set-same, getD-set-other, map-set-same}
-use Rattle.laws.specs.Choice.{pick, pick-same, allOf, both-true}
+use Rattle.laws.specs.Choice.{pick, pick-same, both-true}
 use Rattle.laws.specs.Lists.{kept-at}
 use Rattle.rules.specs.Exchange.{accountAt, holdingAt, noAccount, noHolding}
 use Rattle.rules.specs.Holdings.{withLong, withShort, afterLeg, withHolding, bookLeg, bookBuyer, bookTrade, bookTrades, legCovered, neverBelowZero, startHolding, startAccount, startOfDay, sameLots, sameHoldings}
-use Rattle.rules.specs.Matching.{tradedLots}
 use Rattle.rules.specs.declared.Account.{Account}
 use Rattle.rules.specs.declared.Holding.{Holding}
 use Rattle.rules.specs.declared.Trade.{Trade}
-use Rattle.rules.proofs.Fillable.{traded-nil, traded-cons}
 
 -- ---- one place of a list replaced
 
@@ -170,80 +166,6 @@ start-holding l b d =
 pub booked-start-holding : (l : List Account) (ts : List Trade) (b d : ℕ)
     → startHolding (holdingAt (bookTrades l ts) b d) ≡ startHolding (holdingAt l b d)
 booked-start-holding l ts b d = start-holding (bookTrades l ts) b d ∙ rw (booked-start l ts) (sym (start-holding l b d))
-
--- ---- bounds
-
--- no account holds more than so many lots, long or short, in any contract
-pub record HeldWithin (long short : ℕ) (l : List Account) : Type 0 where
-  pub longs : (b d : ℕ) → holdingAt l b d .long ≤ long
-  pub shorts : (b d : ℕ) → holdingAt l b d .short ≤ short
-
-pub held-more : {m n m′ n′ : ℕ} {l : List Account} → HeldWithin m n l → m ≤ m′ → n ≤ n′ → HeldWithin m′ n′ l
-held-more w h k = record { longs = λ b d. omega (arith, w .longs b d); shorts = λ b d. omega (arith, w .shorts b d) }
-
--- what holds of every holding, and of the one that a leg makes, holds of every holding after it
-pub each-leg : (P : Holding → Type 0) (l : List Account) (a c : ℕ) (sell : Bool) (close lots : ℕ) → ((b d : ℕ) → P (holdingAt l b d))
-    → P (afterLeg (holdingAt l a c) sell close lots)
-    → (b d : ℕ) → P (holdingAt (bookLeg l a c sell close lots) b d)
-unfolding bookLeg holdingAt accountAt
-each-leg P l a c sell close lots h p =
-    each-set (λ x. (d : ℕ) → P (getD (x .holdings) d noHolding)) l a _ noAccount h (each-set P (getD l a noAccount .holdings) c _ noHolding (h a) p)
-
--- a buy leg adds to long holdings alone, a sell leg to short ones, and no more than its lots
-after-leg-long : (h : Holding) (sell : Bool) (close lots : ℕ) → afterLeg h sell close lots .long ≤ h .long + pick sell 0 lots
-unfolding afterLeg
-after-leg-long h sell close lots = by-leg sell (eqb close 0)
-  where
-    by-leg : (s o : Bool)
-        → pick s (pick o (withShort h (h .short + lots)) (withLong h (h .long - lots))) (pick o (withLong h (h .long + lots)) (withShort h (h .short - lots))) .long ≤ h .long + pick s 0 lots
-    by-leg true true = omega arith
-    by-leg true false = omega arith
-    by-leg false true = omega arith
-    by-leg false false = omega arith
-
-after-leg-short : (h : Holding) (sell : Bool) (close lots : ℕ) → afterLeg h sell close lots .short ≤ h .short + pick sell lots 0
-unfolding afterLeg
-after-leg-short h sell close lots = by-leg sell (eqb close 0)
-  where
-    by-leg : (s o : Bool)
-        → pick s (pick o (withShort h (h .short + lots)) (withLong h (h .long - lots))) (pick o (withLong h (h .long + lots)) (withShort h (h .short - lots))) .short ≤ h .short + pick s lots 0
-    by-leg true true = omega arith
-    by-leg true false = omega arith
-    by-leg false true = omega arith
-    by-leg false false = omega arith
-
-pub held-leg : {m n : ℕ} (l : List Account) (a c : ℕ) (sell : Bool) (close lots : ℕ) → HeldWithin m n l
-    → HeldWithin (m + pick sell 0 lots) (n + pick sell lots 0) (bookLeg l a c sell close lots)
-held-leg {m} {n} l a c sell close lots w =
-    record {
-      longs =
-          each-leg (λ h. h .long ≤ m + pick sell 0 lots) l a c sell close lots (λ b d. omega (arith, w .longs b d))
-          (omega (arith, after-leg-long (holdingAt l a c) sell close lots, w .longs a c));
-      shorts =
-          each-leg (λ h. h .short ≤ n + pick sell lots 0) l a c sell close lots (λ b d. omega (arith, w .shorts b d))
-          (omega (arith, after-leg-short (holdingAt l a c) sell close lots, w .shorts a c));
-    }
-
-pub held-trade : {m n : ℕ} (l : List Account) (t : Trade) → HeldWithin m n l → HeldWithin (m + t .lots) (n + t .lots) (bookTrade l t)
-unfolding bookTrade
-held-trade l t w =
-    held-more
-    (held-leg (bookBuyer l t) (t .seller) (t .contract) true (t .sellclose) (t .lots) (held-leg l (t .buyer) (t .contract) false (t .buyclose) (t .lots) w))
-    (omega arith) (omega arith)
-
--- so trades add no more than the lots traded
-pub held-trades : {m n : ℕ} (l : List Account) (ts : List Trade) → HeldWithin m n l
-    → HeldWithin (m + tradedLots ts) (n + tradedLots ts) (bookTrades l ts)
-unfolding bookTrades
-held-trades l [] w = held-more w (omega arith) (omega arith)
-held-trades l (t ∷ ts) w = held-more (held-trades (bookTrade l t) ts (held-trade l t w)) (omega (arith, traded-cons t ts)) (omega (arith, traded-cons t ts))
-
-pub traded-bound : (k : ℕ) (ts : List Trade) → allOf (λ t. leb (t .lots) k) ts ≡ true → tradedLots ts ≤ k * length ts
-unfolding allOf
-traded-bound k [] h = omega (arith, traded-nil)
-traded-bound k (t ∷ ts) h =
-    let b = both-true (leb (t .lots) k) (allOf (λ t. leb (t .lots) k) ts) h in
-    omega (arith, traded-cons t ts, traded-bound k ts (b .1), leb-true (t .lots) k (b .0), mul-suc k (length ts))
 
 -- ---- the replay
 

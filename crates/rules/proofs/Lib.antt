@@ -1,3 +1,4 @@
+-- What follows from the rules' definitions, the lower laws first. Assumes nothing.
 pub mod Codecs
 pub mod PutByPlace
 pub mod Sweep
@@ -11,6 +12,7 @@ pub mod Rest
 pub mod InUse
 pub mod Terms
 pub mod LotsIncluded
+pub mod Refusals
 pub mod Stages
 pub mod EachKind
 pub mod AuctionTurns

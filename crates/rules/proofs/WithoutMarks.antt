@@ -9,7 +9,7 @@ use lib.ListN.{length, length-map, List·getD-map}
 use Rattle.laws.specs.Choice.{pick}
 use Rattle.laws.specs.Lists.{map-set}
 use Rattle.laws.specs.Sums.{sumOf}
-use Rattle.rules.specs.Answers.{fillableLots, holdingRefused, isGoodForDay, listingOf, moneyRefused, orderRefusals, overHolding, overLimit, takerOf, tradesNeeded, tradesRefused}
+use Rattle.rules.specs.Answers.{fillableLots, holdingRefused, isGoodForDay, listingOf, moneyRefused, orderRefusals, mark, takerOf, tradesNeeded, tradesRefused, tradesAgainst}
 use Rattle.rules.specs.Bounds.{inAuction}
 use Rattle.rules.specs.Change.{unmarked}
 use Rattle.rules.specs.Exchange.{Exchange, Listing, bestPrice, listingAt, lotsWhere, noListing, opposite, own, placeOf, resting, worse}
@@ -215,14 +215,14 @@ module _ (x : Exchange) where
         ∙ rw (plain-opposite (o .sell) (listingOf x o)) (plain-counterparts (takerOf x (x .next) 0 o) (opposite (o .sell) (listingOf x o)))
 
     plain-trades : (number : ℕ) → tradesNeeded (withoutMarks x) number o ≡ tradesNeeded x number o
-    unfolding tradesNeeded
+    unfolding tradesNeeded tradesAgainst
     plain-trades number =
         rw (plain-taker number 0, plain-listing-of, plain-opposite (o .sell) (listingOf x o), plain-sweep (takerOf x number 0 o) (o .lots) (listingOf x o .contract .last) (opposite (o .sell) (listingOf x o))) refl
 
     plain-holding : holdingRefused (withoutMarks x) o ≡ holdingRefused x o
-    unfolding holdingRefused overHolding overLimit withoutMarks
+    unfolding holdingRefused withoutMarks
     plain-holding =
-        rw (plain-listing-of, plain-own (o .sell) (listingOf x o), plain-resting 0 (placeOf (o .account)) (own (o .sell) (listingOf x o)), plain-resting 1 (placeOf (o .account)) (own (o .sell) (listingOf x o))) refl
+        rw (plain-listing-of, plain-own (o .sell) (listingOf x o), plain-resting (mark (o .close)) (placeOf (o .account)) (own (o .sell) (listingOf x o))) refl
 
 plain-charged : (x : Exchange) (a n : ℕ) → chargedTo (withoutMarks x) a n ≡ chargedTo x a n
 unfolding chargedTo chargedLots withoutMarks

@@ -11,7 +11,7 @@ use lib.ListN.{length}
 use Rattle.laws.specs.Choice.{pick, allOf}
 use Rattle.rules.specs.Bounds.{within, allowedToday, preOpen, continuous, noTrading, closed, auction, inAuction, maxLots, maxResting, maxTrades, maxSettlements, numbersEnd, maxAmount, maxBalance}
 use Rattle.rules.specs.Auction.{matchOf}
-use Rattle.rules.specs.Exchange.{Exchange, Listing, listingNamed, phaseNow, holderOf, holdingOf, placeOf, absent, own, opposite, bestPrice, restingOpens, restingCloses}
+use Rattle.rules.specs.Exchange.{Exchange, Listing, listingNamed, phaseNow, holderOf, holdingOf, placeOf, absent, own, opposite, bestPrice, resting}
 use Rattle.rules.specs.Margin.{charged, chargedWith}
 use Rattle.rules.specs.Matching.{sweep, fillable, methodOf}
 use Rattle.rules.specs.declared.Contract.{Contract}
@@ -55,6 +55,11 @@ abbrev pub mark : Bool → ℕ
 mark true = 1
 mark false = 0
 
+-- a good-for-day limit order, as a change and a quote send it (02, tickets 8 and 7)
+abbrev pub dayLimitOrder : ℕ → ℕ → Bool → Bool → ℕ → ℕ → NewOrder
+dayLimitOrder account contract sell close lots price =
+    record { account = account; contract = contract; sell = sell; close = close; lots = lots; price = price; condition = Limit price; time = GoodForDay }
+
 unfoldable pub listingOf : Exchange → NewOrder → Listing
 listingOf x o = listingNamed x (o .contract)
 
@@ -89,17 +94,22 @@ takerOf x number quote o = takerFor number quote (x .nextstamp) (listingOf x o .
 unfoldable pub fillableLots : Exchange → NewOrder → ℕ
 fillableLots x o = fillable (takerOf x (x .next) 0 o) (oppositeQueue x o)
 
--- how many trades the order would make: in auction none, since orders "rest without matching" (02, ticket 4)
+-- how many trades so many lots would make with a queue: in auction none, since orders "rest without matching" (02, ticket 4)
+unfoldable pub tradesAgainst : Contract → Taker → ℕ → List Order → ℕ
+tradesAgainst c t lots queue = pick (inAuction c) 0 (length (sweep t lots (c .last) queue .trades))
+
 unfoldable pub tradesNeeded : Exchange → ℕ → NewOrder → ℕ
-tradesNeeded x number o =
-    pick (inAuction (listingOf x o .contract)) 0
-    (length (sweep (takerOf x number 0 o) (o .lots) (listingOf x o .contract .last) (oppositeQueue x o) .trades))
+tradesNeeded x number o = tradesAgainst (listingOf x o .contract) (takerOf x number 0 o) (o .lots) (oppositeQueue x o)
 
 -- ---- the tests of an insert
 
 -- 4: "Insert needs continuous.", and auction (02, ticket 4)
 unfoldable pub takesOrders : Contract → Bool
 takesOrders c = eqb (c .phase) continuous || inAuction c
+
+-- 4 of a quote and of a change: "in continuous only" (02, tickets 7 and 8)
+abbrev pub notContinuous : Contract → Bool
+notContinuous c = not (eqb (c .phase) continuous)
 
 -- 6: "market or best with good for day", whatever the contract's state
 abbrev pub dayWithoutLimit : PriceCondition → TimeCondition → Bool
@@ -119,21 +129,19 @@ priceRefusedBy c Best price = not (eqb price 0)
 abbrev pub priceRefused : Contract → NewOrder → Bool
 priceRefused c o = priceRefusedBy c (o .condition) (o .price)
 
--- 8, open: "holding, resting opens on that side and lots exceed the limit"
-unfoldable pub overLimit : Listing → ℕ → Holding → Bool → ℕ → Bool
-overLimit l a h sell lots =
-    ltb (l .contract .limit) (pick sell (h .short) (h .long) + restingOpens a (own sell l) + lots)
-
--- 8, close: "lots exceed holding less own resting closes on it": a sell closes long lots, a buy short ones
-unfoldable pub overHolding : Listing → ℕ → Holding → Bool → ℕ → Bool
-overHolding l a h sell lots =
-    ltb (pick sell (h .long) (h .short)) (restingCloses a (own sell l) + lots)
+-- 8, open: "holding, resting opens on that side and lots exceed the limit"; close: "lots exceed holding less own resting closes on
+-- it", where a sell closes long lots and a buy short ones. `rested` are the account's lots resting on the order's side: opens of an
+-- open, closes of a close.
+unfoldable pub lotsRefused : Contract → Holding → ℕ → NewOrder → Bool
+lotsRefused c h rested o =
+    pick (o .close)
+    (ltb (pick (o .sell) (h .long) (h .short)) (rested + o .lots))
+    (ltb (c .limit) (pick (o .sell) (h .short) (h .long) + rested + o .lots))
 
 unfoldable pub holdingRefused : Exchange → NewOrder → Bool
 holdingRefused x o =
-    pick (o .close)
-    (overHolding (listingOf x o) (placeOf (o .account)) (holdingOf x (o .account) (o .contract)) (o .sell) (o .lots))
-    (overLimit (listingOf x o) (placeOf (o .account)) (holdingOf x (o .account) (o .contract)) (o .sell) (o .lots))
+    lotsRefused (listingOf x o .contract) (holdingOf x (o .account) (o .contract))
+    (resting (mark (o .close)) (placeOf (o .account)) (ownQueue x o)) o
 
 -- 9, open: "An open passes if all charged margin, its lots included, is at most the balance" (02, ticket 2)
 unfoldable pub moneyRefused : Exchange → NewOrder → Bool
@@ -154,9 +162,12 @@ stampsUsedUp x = leb numbersEnd (x .nextstamp)
 abbrev pub killRefused : ℕ → ℕ → TimeCondition → Bool
 killRefused filled lots time = isFillOrKill time && ltb filled lots
 
--- 12: "it would make more trades than the day has room for"
+-- 12: "it would make more trades than the day has room for": so many are recorded, so many are needed
+abbrev pub noRoomFor : ℕ → ℕ → Bool
+noRoomFor recorded needed = ltb maxTrades (recorded + needed)
+
 unfoldable pub tradesRefused : Exchange → ℕ → NewOrder → Bool
-tradesRefused x number o = ltb maxTrades (length (x .trades) + tradesNeeded x number o)
+tradesRefused x number o = noRoomFor (length (x .trades)) (tradesNeeded x number o)
 
 -- 13: "good for day, own side has 64, fillable lots below lots"; in auction "13 whenever the own side has 64" (02, ticket 4): whether it
 -- is in auction, how many orders rest on its own side, how many lots can be filled
@@ -164,6 +175,18 @@ abbrev pub fullRefused : Bool → ℕ → ℕ → ℕ → TimeCondition → Bool
 fullRefused auctioned rest filled lots time = isGoodForDay time && leb maxResting rest && (auctioned || ltb filled lots)
 
 -- ---- the refusals of each kind, "Order: 21, 1, then .."
+
+-- 2 and 3: "account 0 or absent"; "contract 0 or absent"
+abbrev pub absentRefusals : Exchange → ℕ → ℕ → List Refusal
+absentRefusals x account contract =
+    (2 when absent account (x .accounts))
+    ∷ (3 when absent contract (x .listings))
+    ∷ []
+
+-- and 4, "contract state forbids it", with which the kinds begin that name an account and a contract; `forbids` is the kind's own test
+abbrev pub namedRefusals : Exchange → (Contract → Bool) → ℕ → ℕ → List Refusal
+namedRefusals x forbids account contract =
+    absentRefusals x account contract ++ (4 when forbids (listingNamed x contract .contract)) ∷ []
 
 -- an order's own fields, by its contract's terms; `conditions` is the test of 6
 abbrev pub fieldsRefusals : Bool → Contract → NewOrder → List Refusal
@@ -199,13 +222,7 @@ orderRefusals x o =
 
 -- "for insert 2 to 13 rising"
 unfoldable pub insertRefusals : Exchange → NewOrder → List Refusal
-insertRefusals x o =
-    -- "account 0 or absent"; "contract 0 or absent"
-    (2 when absent (o .account) (x .accounts))
-    ∷ (3 when absent (o .contract) (x .listings))
-    -- "contract state forbids it"
-    ∷ (4 when not (takesOrders (listingOf x o .contract)))
-    ∷ orderRefusals x o
+insertRefusals x o = namedRefusals x (λ c. not (takesOrders c)) (o .account) (o .contract) ++ orderRefusals x o
 
 -- 4: "Cancel and pull need continuous, or no trading with the operator bit (001, table 2)." In auction "cancel and pull work"
 -- (02, ticket 4), with the operator bit or without.
@@ -228,23 +245,23 @@ unfoldable pub ofAnother : ℕ → List Order → Bool
 ofAnother a [] = false
 ofAnother a (o ∷ os) = not (eqb (o .account) a)
 
+-- 14 and 15: "no such resting order in that contract", "resting order of another account"; the order found is a list of one or none, and
+-- `a` the account's place
+abbrev pub ownerRefusals : ℕ → List Order → List Refusal
+ownerRefusals a found =
+    (14 when noSuchOrder found)
+    ∷ (15 when ofAnother a found)
+    ∷ []
+
 -- "cancel 2, 3, 4, 14, 15"
 unfoldable pub cancelRefusals : Exchange → ℕ → ℕ → Bool → ℕ → List Refusal
 cancelRefusals x account contract operator number =
-    (2 when absent account (x .accounts))
-    ∷ (3 when absent contract (x .listings))
-    ∷ (4 when removalRefused (listingNamed x contract .contract) operator)
-    ∷ (14 when noSuchOrder (restingOrder (listingNamed x contract) number))
-    ∷ (15 when ofAnother (placeOf account) (restingOrder (listingNamed x contract) number))
-    ∷ []
+    namedRefusals x (λ c. removalRefused c operator) account contract
+    ++ ownerRefusals (placeOf account) (restingOrder (listingNamed x contract) number)
 
 -- "pull 2, 3, 4"
 unfoldable pub pullRefusals : Exchange → ℕ → ℕ → Bool → List Refusal
-pullRefusals x account contract operator =
-    (2 when absent account (x .accounts))
-    ∷ (3 when absent contract (x .listings))
-    ∷ (4 when removalRefused (listingNamed x contract .contract) operator)
-    ∷ []
+pullRefusals x account contract operator = namedRefusals x (λ c. removalRefused c operator) account contract
 
 -- 16: "amount not 1 to 10^15, or deposit lifts the balance above 10^18"
 unfoldable pub amountRefused : ℕ → Bool
@@ -291,7 +308,7 @@ unfoldable pub phaseRefusals : Exchange → ℕ → ℕ → List Refusal
 phaseRefusals x contract phase =
     (3 when absent contract (x .listings))
     ∷ (17 when not (changeListed (phaseNow x contract) phase))
-    ∷ (12 when ltb maxTrades (length (x .trades) + length (matchOf x (placeOf contract) .trades)))
+    ∷ (12 when noRoomFor (length (x .trades)) (length (matchOf x (placeOf contract) .trades)))
     ∷ []
 
 -- "settle 18, 19"

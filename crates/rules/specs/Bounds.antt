@@ -44,6 +44,24 @@ maxAmount = 10 ^ 15
 abbrev pub maxDayProfit : ℕ
 maxDayProfit = 3 * 10 ^ 15
 
+-- no rule: what every balance of a well-formed state is within, for 250 settlements of 3 x 10^15 add less than 10^18
+abbrev pub balanceMost : ℕ
+balanceMost = 2 * maxBalance
+
+-- "A contract has multiplier 1 to 1,000, tick 1 to 1,000, .."
+abbrev pub maxMultiplier : ℕ
+maxMultiplier = 1_000
+
+abbrev pub maxTick : ℕ
+maxTick = 1_000
+
+-- ".. holding limit 1 to 100,000, margin rate 1 to 10,000 in ten-thousandths."
+abbrev pub maxLimit : ℕ
+maxLimit = 100_000
+
+abbrev pub maxRate : ℕ
+maxRate = 10_000
+
 -- "a pairing method: 0 middle price, 1 average, 2 first-in price"
 abbrev pub maxMethod : ℕ
 maxMethod = 2
@@ -87,12 +105,12 @@ tickMultiple tick n = onTick tick n && within tick maxPrice n
 -- (document 02, ticket 6).
 unfoldable pub termsInRange : Contract → Bool
 termsInRange c =
-    within 1 1_000 (c .multiplier)
-    && within 1 1_000 (c .tick)
+    within 1 maxMultiplier (c .multiplier)
+    && within 1 maxTick (c .tick)
     && tickMultiple (c .tick) (c .reference)
     && tickMultiple (c .tick) (c .band)
-    && within 1 100_000 (c .limit)
-    && within 1 10_000 (c .rate)
+    && within 1 maxLimit (c .limit)
+    && within 1 maxRate (c .rate)
     && leb (c .method) maxMethod
 
 -- "Its day's low is the larger of one tick and reference minus band." (A difference below zero is 0 here, and one tick is

@@ -1,19 +1,18 @@
 -- Changing a resting order (document 02, ticket 8; 001, 4.1.2.3). Assumes nothing.
 use mathlib.Core.Bool.{Bool, not, _&&_, _||_}
-use mathlib.Core.List.{List, [], _∷_}
+use mathlib.Core.List.{List, [], _∷_, _++_}
 use Prim.Native.Nat.{ℕ}
 use lib.Dec.{ltb, eqb}
 use lib.ListN.{getD}
 use Rattle.laws.specs.Choice.{pick}
-use Rattle.rules.specs.Answers.{Refusal, _when_, numbered, restingOrder, noSuchOrder, ofAnother, holdingRefused, moneyRefused, stampsUsedUp, tradesRefused}
-use Rattle.rules.specs.Bounds.{allowedToday, continuous, maxLots}
-use Rattle.rules.specs.Exchange.{Exchange, Listing, listingNamed, phaseNow, absent, placeOf, noOrder}
+use Rattle.rules.specs.Answers.{Refusal, _when_, dayLimitOrder, numbered, restingOrder, noSuchOrder, namedRefusals, notContinuous, ownerRefusals, accountRefusals, stampsUsedUp, tradesRefused}
+use Rattle.rules.specs.Bounds.{allowedToday, maxLots}
+use Rattle.rules.specs.Exchange.{Exchange, Listing, listingNamed, placeOf, noOrder}
 use Rattle.rules.specs.Matching.{Entered, tradedLots, withLots}
 use Rattle.rules.specs.Step.{Effect, accepted, withListing, listingWithout, hasNumber, cancelled, enteredOf, exchangeAfter}
+use Rattle.rules.specs.declared.Contract.{Contract}
 use Rattle.rules.specs.declared.NewOrder.{NewOrder}
 use Rattle.rules.specs.declared.Order.{Order}
-use Rattle.rules.specs.declared.PriceCondition.the-variants.{Limit}
-use Rattle.rules.specs.declared.TimeCondition.the-variants.{GoodForDay}
 use Rattle.rules.specs.declared.Trade.{Trade}
 
 -- "account, contract, order number, the new remaining lots and the price"
@@ -38,9 +37,13 @@ oldOrder x k = getD (restingOrder (listingFor x k) (k .number)) 0 noOrder
 unfoldable pub isSell : Exchange → Asked → Bool
 isSell x k = noSuchOrder (numbered (k .number) (listingFor x k .buys))
 
--- "fewer lots keep the place in the queue; more lots or another price lose it"; zero lots are no loss of place but a removal
+-- "fewer lots keep the place in the queue; more lots or another price lose it"
+abbrev pub loses : Order → ℕ → ℕ → Bool
+loses o lots price = ltb (o .lots) lots || not (eqb price (o .price))
+
+-- zero lots are no loss of place but a removal
 unfoldable pub losesPlace : Exchange → Asked → Bool
-losesPlace x k = not (eqb (k .lots) 0) && (ltb (oldOrder x k .lots) (k .lots) || not (eqb (k .price) (oldOrder x k .price)))
+losesPlace x k = not (eqb (k .lots) 0) && loses (oldOrder x k) (k .lots) (k .price)
 
 -- "as though the old order were gone"
 unfoldable pub gone : Exchange → Asked → Exchange
@@ -48,17 +51,7 @@ gone x k = withListing x (placeOf (k .contract)) (listingWithout (hasNumber (k .
 
 -- "then matched at once": it arrives as a good-for-day limit order of its account, on its side, to open or close as before
 unfoldable pub arriving : Exchange → Asked → NewOrder
-arriving x k =
-    record {
-      account = k .account;
-      contract = k .contract;
-      sell = isSell x k;
-      close = eqb (oldOrder x k .close) 1;
-      lots = k .lots;
-      price = k .price;
-      condition = Limit (k .price);
-      time = GoodForDay;
-    }
+arriving x k = dayLimitOrder (k .account) (k .contract) (isSell x k) (eqb (oldOrder x k .close) 1) (k .lots) (k .price)
 
 -- "The number stays." "In a quote, any other change of an order drops that order's mark."
 unfoldable pub reentered : Exchange → Asked → Entered
@@ -67,23 +60,29 @@ reentered x k = enteredOf (gone x k) (k .number) 0 (arriving x k)
 -- ---- "Refusals: 21, 1, 2, 3, 4, 14, 15; then, unless lots are zero, 5 and 7 as for insert, and where the place is lost 8, 9, 10
 -- (stamps used up ..) and 12. 13 never occurs here."
 
+-- "unless lots are zero, 5 and 7 as for insert", of the new lots and price
+abbrev pub newFieldsRefusals : Contract → ℕ → ℕ → List Refusal
+newFieldsRefusals terms lots price =
+    -- "lots outside 1 to 1,000", zero aside
+    (5 when ltb maxLots lots)
+    ∷ (7 when (not (eqb lots 0) && not (allowedToday terms price)))
+    ∷ []
+
+-- "8, 9, 10 (stamps used up ..) and 12", of an order that arrives again with its number
+abbrev pub reentryRefusals : Exchange → ℕ → NewOrder → List Refusal
+reentryRefusals x number o =
+    accountRefusals x o
+    ++ (10 when stampsUsedUp x)
+    ∷ (12 when tradesRefused x number o)
+    ∷ []
+
 unfoldable pub changeRefusals : Exchange → Asked → List Refusal
 changeRefusals x k =
-    (2 when absent (k .account) (x .accounts))
-    ∷ (3 when absent (k .contract) (x .listings))
-    -- "in continuous only"
-    ∷ (4 when not (eqb (phaseNow x (k .contract)) continuous))
-    ∷ (14 when noSuchOrder (restingOrder (listingFor x k) (k .number)))
-    ∷ (15 when ofAnother (placeOf (k .account)) (restingOrder (listingFor x k) (k .number)))
-    -- "lots outside 1 to 1,000", zero aside
-    ∷ (5 when ltb maxLots (k .lots))
-    ∷ (7 when (not (eqb (k .lots) 0) && not (allowedToday (listingFor x k .contract) (k .price))))
-    -- "A change that loses its place is tested as though the old order were gone"
-    ∷ (8 when (losesPlace x k && holdingRefused (gone x k) (arriving x k)))
-    ∷ (9 when (losesPlace x k && moneyRefused (gone x k) (arriving x k)))
-    ∷ (10 when (losesPlace x k && stampsUsedUp x))
-    ∷ (12 when (losesPlace x k && tradesRefused (gone x k) (k .number) (arriving x k)))
-    ∷ []
+    namedRefusals x notContinuous (k .account) (k .contract)
+    ++ ownerRefusals (placeOf (k .account)) (restingOrder (listingFor x k) (k .number))
+    ++ newFieldsRefusals (listingFor x k .contract) (k .lots) (k .price)
+    -- "where the place is lost", "tested as though the old order were gone"
+    ++ pick (losesPlace x k) (reentryRefusals (gone x k) (k .number) (arriving x k)) []
 
 -- ---- "The answer gives the number, lots traded, and lots now resting (removed, for zero lots)."
 

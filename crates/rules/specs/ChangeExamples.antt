@@ -8,7 +8,7 @@ use lib.IntN.{pos}
 use lib.ListN.{length, getD, replicate}
 use Rattle.laws.specs.Sums.{sumOf}
 use Rattle.laws.specs.Tabulate.{tabulate}
-use Rattle.rules.specs.Answers.{firstOf, holdingRefused, listingOf, moneyRefused, noSuchOrder, numbered, ofAnother, overHolding, overLimit, restingOrder, takerOf, tradesNeeded, tradesRefused}
+use Rattle.rules.specs.Answers.{firstOf, holdingRefused, listingOf, moneyRefused, noSuchOrder, numbered, ofAnother, restingOrder, takerOf, tradesNeeded, tradesRefused, lotsRefused, tradesAgainst}
 use Rattle.rules.specs.Bounds.{allowedToday, auction, closed, continuous, dayHigh, dayLow, noTrading, onTick, preOpen}
 use Rattle.rules.specs.Change.{Asked, arriving, asked, changeRefusals, changeTrades, changed, gone, isSell, lessened, losesPlace, oldOrder, placeKept, placeLost, reentered, unchanged}
 use Rattle.rules.specs.Examples.{Row, _gives_, allRight}
@@ -109,7 +109,7 @@ codes =
     ∷ []
 
 pub change-codes : allRight codes ≡ true
-unfolding allRight codes order account contract state code open′ usedUp absent accountAt afterLeg allowedToday arriving bestPrice bookLeg changeRefusals chargeOf chargedLots chargedTo dayHigh dayLow firstOf gone holdingAt holdingRefused isSell listingAt listingOf losesPlace lotsWhere meets methodOf middle moneyRefused noSuchOrder numbered ofAnother oldOrder onTick overHolding overLimit pairedPrice resting restingOrder stays sumOf sweep tabulate takerOf tradePrice tradeWith tradesNeeded tradesRefused without
+unfolding allRight codes order account contract state code open′ usedUp absent accountAt afterLeg allowedToday arriving bestPrice bookLeg changeRefusals chargeOf chargedLots chargedTo dayHigh dayLow firstOf gone holdingAt holdingRefused isSell listingAt listingOf losesPlace lotsWhere meets methodOf middle moneyRefused noSuchOrder numbered ofAnother oldOrder onTick lotsRefused tradesAgainst pairedPrice resting restingOrder stays sumOf sweep tabulate takerOf tradePrice tradeWith tradesNeeded tradesRefused without
 change-codes = refl
 
 -- ---- effects. Account 1 offers 7 at 110 (number 1) before account 2's 3 at 110 (number 2) and 1 at 112 (number 3); account 2 bids

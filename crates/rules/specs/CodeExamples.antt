@@ -9,7 +9,7 @@ use lib.ListN.{replicate}
 use Rattle.laws.specs.Choice.{all, allOf}
 use Rattle.laws.specs.Sums.{sumOf}
 use Rattle.laws.specs.Tabulate.{tabulate}
-use Rattle.rules.specs.Answers.{amountRefused, cancelRefusals, changeListed, depositRefusals, fillableLots, firstOf, insertRefusals, leavesTooLittle, liftsTooHigh, listingOf, holdingRefused, moneyRefused, noSuchOrder, numbered, ofAnother, overHolding, overLimit, phaseRefusals, priceRefusedBy, pullRefusals, removalRefused, restingOrder, settleRefusals, takerOf, tradesNeeded, tradesRefused, withdrawRefusals, conditionsRefused, takesOrders, orderRefusals}
+use Rattle.rules.specs.Answers.{amountRefused, cancelRefusals, changeListed, depositRefusals, fillableLots, firstOf, insertRefusals, leavesTooLittle, liftsTooHigh, listingOf, holdingRefused, moneyRefused, noSuchOrder, numbered, ofAnother, phaseRefusals, priceRefusedBy, pullRefusals, removalRefused, restingOrder, settleRefusals, takerOf, tradesNeeded, tradesRefused, withdrawRefusals, conditionsRefused, takesOrders, orderRefusals, lotsRefused, tradesAgainst}
 use Rattle.rules.specs.Bounds.{allowedToday, dayHigh, dayLow, onTick, auction, closed, continuous, noTrading, preOpen}
 use Rattle.rules.specs.Auction.{auctionMatch, bestFrom, bestOf, better, chosenPrice, lotsReaching, matchAt, matchIn, matchOf, prices, surplus, tradeAt, volume}
 use Rattle.rules.specs.Change.{changeRefusals}
@@ -238,5 +238,5 @@ codes =
     ∷ []
 
 pub code-examples : allRight codes ≡ true
-unfolding allRight codes contract order rich poor asked open′ stamps buy sell raw paying absent accountAt afterLeg all allOf allowedToday amountRefused bestPrice bits bookLeg cancelRefusals changeListed changeOf changeRefusals chargeOf chargedLots chargedTo codeOf commandOf dayHigh dayLow depositOf depositRefusals fillable fillableLots firstOf holdingAt insertFlags insertOf insertRefusals kindOf leavesTooLittle liftsTooHigh listingAt listingOf holdingRefused lotsWhere meets methodOf middle pairedPrice moneyRefused newOrder noSuchOrder numbered ofAnother onTick overHolding overLimit phaseOf phaseRefusals priceCondition priceRefusedBy pullRefusals removalRefused resting restingOrder settleOf settleRefusals stays sumOf sweep tabulate takerOf timeCondition tradePrice tradeWith tradesNeeded tradesRefused withdrawOf withdrawRefusals zeros crossed auctionMatch bestFrom bestOf better chosenPrice conditionsRefused lotsReaching matchAt matchIn matchOf prices surplus takesOrders tradeAt volume orderRefusals
+unfolding allRight codes contract order rich poor asked open′ stamps buy sell raw paying absent accountAt afterLeg all allOf allowedToday amountRefused bestPrice bits bookLeg cancelRefusals changeListed changeOf changeRefusals chargeOf chargedLots chargedTo codeOf commandOf dayHigh dayLow depositOf depositRefusals fillable fillableLots firstOf holdingAt insertFlags insertOf insertRefusals kindOf leavesTooLittle liftsTooHigh listingAt listingOf holdingRefused lotsWhere meets methodOf middle pairedPrice moneyRefused newOrder noSuchOrder numbered ofAnother onTick lotsRefused tradesAgainst phaseOf phaseRefusals priceCondition priceRefusedBy pullRefusals removalRefused resting restingOrder settleOf settleRefusals stays sumOf sweep tabulate takerOf timeCondition tradePrice tradeWith tradesNeeded tradesRefused withdrawOf withdrawRefusals zeros crossed auctionMatch bestFrom bestOf better chosenPrice conditionsRefused lotsReaching matchAt matchIn matchOf prices surplus takesOrders tradeAt volume orderRefusals
 code-examples = refl

@@ -133,3 +133,6 @@ isInsert command = eqb (kindNumber command) 3
 
 abbrev pub isSettle : Command → Bool
 isSettle command = eqb (kindNumber command) 7
+
+abbrev pub isChange : Command → Bool
+isChange command = eqb (kindNumber command) 9

@@ -29,6 +29,20 @@ u32At file at = u16At file at + 2 ^ 16 * u16At file (at + 2)
 unfoldable pub u64At : List ℕ → ℕ → ℕ
 u64At file at = u32At file at + 2 ^ 32 * u32At file (at + 4)
 
+-- ---- the widths, in bytes: "each after its 4-byte count"; "A contract is 20 bytes"; "An account is 8 bytes"; "A command is 24 bytes"
+
+abbrev pub countWidth : ℕ
+countWidth = 4
+
+abbrev pub contractWidth : ℕ
+contractWidth = 20
+
+abbrev pub accountWidth : ℕ
+accountWidth = 8
+
+abbrev pub commandWidth : ℕ
+commandWidth = 24
+
 -- ---- "Sections in a fixed order, each after its 4-byte count: contracts (1 to 4), accounts (1 to 32), commands (0 to
 -- 2,000)."
 
@@ -39,21 +53,21 @@ unfoldable pub contractsIn : List ℕ → ℕ
 contractsIn file = u32At file 0
 
 unfoldable pub contractPlace : ℕ → ℕ
-contractPlace c = 4 + 20 * c
+contractPlace c = countWidth + contractWidth * c
 
 -- the accounts' count stands behind the contracts
 unfoldable pub accountsIn : List ℕ → ℕ
 accountsIn file = u32At file (contractPlace (contractsIn file))
 
 unfoldable pub accountPlace : List ℕ → ℕ → ℕ
-accountPlace file a = contractPlace (contractsIn file) + 4 + 8 * a
+accountPlace file a = contractPlace (contractsIn file) + countWidth + accountWidth * a
 
 -- the commands' count stands behind the accounts
 unfoldable pub commandsIn : List ℕ → ℕ
 commandsIn file = u32At file (accountPlace file (accountsIn file))
 
 unfoldable pub commandPlace : List ℕ → ℕ → ℕ
-commandPlace file k = accountPlace file (accountsIn file) + 4 + 24 * k
+commandPlace file k = accountPlace file (accountsIn file) + countWidth + commandWidth * k
 
 -- ---- the records
 

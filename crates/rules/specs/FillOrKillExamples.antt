@@ -8,7 +8,7 @@ use lib.IntN.{pos}
 use lib.ListN.{length, getD}
 use Rattle.laws.specs.Choice.{all, allOf}
 use Rattle.laws.specs.Sums.{sumOf}
-use Rattle.rules.specs.Answers.{conditionsRefused, fillableLots, firstOf, holdingRefused, insertRefusals, listingOf, moneyRefused, orderRefusals, overHolding, overLimit, priceRefusedBy, takerOf, takesOrders, tradesNeeded, tradesRefused}
+use Rattle.rules.specs.Answers.{conditionsRefused, fillableLots, firstOf, holdingRefused, insertRefusals, listingOf, moneyRefused, orderRefusals, priceRefusedBy, takerOf, takesOrders, tradesNeeded, tradesRefused, lotsRefused, tradesAgainst}
 use Rattle.rules.specs.Bounds.{allowedToday, dayHigh, dayLow, onTick, termsInRange, tickMultiple}
 use Rattle.rules.specs.Examples.{Row, _gives_, allRight}
 use Rattle.rules.specs.Exchange.{Exchange, absent, accountAt, bestPrice, holdingAt, listingAt, lotsWhere, noHolding, noTrade, resting}
@@ -83,7 +83,7 @@ table =
     ∷ []
 
 pub fill-or-kill-examples : allRight table ≡ true
-unfolding allRight table order account book fillOrKill after absent accountAt afterLeg allowedToday bestPrice bookLeg bookTrade bookTrades chargeOf chargedLots chargedTo codeOf conditionsRefused dayHigh dayLow decide enter enteredOf exchangeAfter fillable fillableLots firstOf holdingAt holdingRefused insertRefusals inserted kindOf lastPrice listingAfter listingAt listingOf lotsWhere meets methodOf middle moneyRefused onTick orderRefusals overHolding overLimit pairedPrice priceRefusedBy remainder restIn restLots restedLots resting stays step sumOf sweep takerOf takesOrders tradePrice tradeWith tradedLots tradesNeeded tradesRefused
+unfolding allRight table order account book fillOrKill after absent accountAt afterLeg allowedToday bestPrice bookLeg bookTrade bookTrades chargeOf chargedLots chargedTo codeOf conditionsRefused dayHigh dayLow decide enter enteredOf exchangeAfter fillable fillableLots firstOf holdingAt holdingRefused insertRefusals inserted kindOf lastPrice listingAfter listingAt listingOf lotsWhere meets methodOf middle moneyRefused onTick orderRefusals lotsRefused tradesAgainst pairedPrice priceRefusedBy remainder restIn restLots restedLots resting stays step sumOf sweep takerOf takesOrders tradePrice tradeWith tradedLots tradesNeeded tradesRefused
 fill-or-kill-examples = refl
 
 -- the state that it is asked of is well formed

@@ -54,8 +54,11 @@ digits zero n = []
 digits (suc places) n = pick (ltb n 10) ((nought + n) ∷ []) (digits places (n / 10) ++ ((nought + n % 10) ∷ []))
 
 -- twenty digits hold every number of 64 bits
+abbrev pub digitsMost : ℕ
+digitsMost = 20
+
 unfoldable pub decimal : ℕ → List ℕ
-decimal n = digits 20 n
+decimal n = digits digitsMost n
 
 unfoldable pub signed : ℤ → List ℕ
 signed (pos n) = decimal n

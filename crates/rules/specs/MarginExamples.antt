@@ -7,7 +7,7 @@ use Prim.Native.Nat.{ℕ}
 use lib.IntN.{ℤ, pos, negsuc}
 use Rattle.laws.specs.Choice.{pick}
 use Rattle.laws.specs.Sums.{sumOf}
-use Rattle.rules.specs.Answers.{amountRefused, fillableLots, firstOf, holdingRefused, insertRefusals, leavesTooLittle, listingOf, moneyRefused, overHolding, overLimit, priceRefusedBy, takerOf, tradesNeeded, tradesRefused, withdrawRefusals, conditionsRefused, takesOrders, orderRefusals}
+use Rattle.rules.specs.Answers.{amountRefused, fillableLots, firstOf, holdingRefused, insertRefusals, leavesTooLittle, listingOf, moneyRefused, priceRefusedBy, takerOf, tradesNeeded, tradesRefused, withdrawRefusals, conditionsRefused, takesOrders, orderRefusals, lotsRefused, tradesAgainst}
 use Rattle.rules.specs.Bounds.{allowedToday, dayHigh, dayLow, onTick, continuous}
 use Rattle.rules.specs.Examples.{Row, _gives_, allRight}
 use Rattle.rules.specs.Exchange.{Exchange, absent, accountAt, bestPrice, holdingAt, listingAt, lotsWhere, noHolding, resting}
@@ -129,5 +129,5 @@ table =
     ∷ []
 
 pub margin-examples : allRight table ≡ true
-unfolding allRight table contract order held account x insert buyOpen sellOpen absent accountAt afterLeg allowedToday amountRefused bestPrice bookLeg chargeOf chargedLots chargedTo codeOf dayHigh dayLow fillable fillableLots firstOf holdingAt holdingRefused insertRefusals kindOf leavesTooLittle listingAt listingOf lotsWhere meets methodOf middle moneyRefused onTick overHolding overLimit pairedPrice priceRefusedBy resting stays sumOf sweep takerOf tradePrice tradeWith tradesNeeded tradesRefused withdrawRefusals conditionsRefused takesOrders orderRefusals
+unfolding allRight table contract order held account x insert buyOpen sellOpen absent accountAt afterLeg allowedToday amountRefused bestPrice bookLeg chargeOf chargedLots chargedTo codeOf dayHigh dayLow fillable fillableLots firstOf holdingAt holdingRefused insertRefusals kindOf leavesTooLittle listingAt listingOf lotsWhere meets methodOf middle moneyRefused onTick lotsRefused tradesAgainst pairedPrice priceRefusedBy resting stays sumOf sweep takerOf tradePrice tradeWith tradesNeeded tradesRefused withdrawRefusals conditionsRefused takesOrders orderRefusals
 margin-examples = refl

@@ -5,7 +5,7 @@ use Prim.Native.Nat.{ℕ}
 use Rattle.laws.specs.Choice.{all, allOf}
 use Rattle.laws.specs.Sums.{sumOf, sumTo}
 use Rattle.laws.specs.Tabulate.{tabulate}
-use Rattle.rules.specs.Answers.{firstOf, listingOf, takerOf, fillableLots, tradesNeeded, tradesRefused, priceRefusedBy, overLimit, overHolding, holdingRefused, moneyRefused, insertRefusals, removalRefused, numbered, restingOrder, noSuchOrder, ofAnother, cancelRefusals, pullRefusals, amountRefused, liftsTooHigh, depositRefusals, leavesTooLittle, withdrawRefusals, changeListed, phaseRefusals, settleRefusals, takesOrders, conditionsRefused, orderRefusals}
+use Rattle.rules.specs.Answers.{firstOf, listingOf, takerOf, fillableLots, tradesNeeded, tradesRefused, priceRefusedBy, holdingRefused, moneyRefused, insertRefusals, removalRefused, numbered, restingOrder, noSuchOrder, ofAnother, cancelRefusals, pullRefusals, amountRefused, liftsTooHigh, depositRefusals, leavesTooLittle, withdrawRefusals, changeListed, phaseRefusals, settleRefusals, takesOrders, conditionsRefused, orderRefusals, lotsRefused, tradesAgainst}
 use Rattle.rules.specs.Auction.{matchOf}
 use Rattle.rules.specs.Bounds.{onTick, tickMultiple, termsInRange, dayLow, dayHigh, allowedToday}
 use Rattle.rules.specs.Command.{zeros, bits, priceCondition, timeCondition, insertFlags, newOrder, depositOf, withdrawOf, insertOf, cancelOf, pullOf, phaseOf, settleOf, commandOf}
@@ -82,5 +82,5 @@ printed =
     ∷ []
 
 pub paper-day : output file ≡ printed
-unfolding file printed all allOf sumOf sumTo tabulate firstOf listingOf takerOf fillableLots tradesNeeded tradesRefused priceRefusedBy overLimit overHolding holdingRefused moneyRefused insertRefusals removalRefused numbered restingOrder noSuchOrder ofAnother cancelRefusals pullRefusals amountRefused liftsTooHigh depositRefusals leavesTooLittle withdrawRefusals changeListed phaseRefusals settleRefusals codeOf onTick tickMultiple termsInRange dayLow dayHigh allowedToday zeros bits priceCondition timeCondition insertFlags newOrder depositOf withdrawOf insertOf cancelOf pullOf phaseOf settleOf commandOf u8At u16At u32At u64At contractsIn contractPlace accountsIn accountPlace commandsIn commandPlace contractFrom contractSound balanceFrom accountSound recordFrom commandsOf sound openingListing openingAccount opening absent listingAt accountAt holdingAt bestPrice lotsWhere resting afterLeg bookLeg bookTrade bookTrades legCovered neverBelowZero startOfDay sameLots sameHoldings digits decimal signed fieldsOf answerLine tradeLine tradeLines priceLines accountLines settlementLines newTrades stepLines runLines output chargeOf chargedLots chargedTo meets fillable methodOf middle pairedPrice tradePrice tradeWith stays sweep tradedLots lastPrice restIn remainder restLots restedLots enter tradesIn tradedValue weightedPrice quotedPrice priceFrom settlementPrice only legs dayStart gain firstLots otherLots afterDayLeg afterLegs dayOf holdingGain closingProfit holdingProfit settledAccount settledContract settledListing settled paid deposited withdrawn enteredOf listingAfter exchangeAfter inserted without removed cancelled pulled phaseChanged settledAll kindOf decide step takesOrders conditionsRefused matchOf listingMatched exchangeMatched orderRefusals makerFrom
+unfolding file printed all allOf sumOf sumTo tabulate firstOf listingOf takerOf fillableLots tradesNeeded tradesRefused priceRefusedBy tradesAgainst lotsRefused holdingRefused moneyRefused insertRefusals removalRefused numbered restingOrder noSuchOrder ofAnother cancelRefusals pullRefusals amountRefused liftsTooHigh depositRefusals leavesTooLittle withdrawRefusals changeListed phaseRefusals settleRefusals codeOf onTick tickMultiple termsInRange dayLow dayHigh allowedToday zeros bits priceCondition timeCondition insertFlags newOrder depositOf withdrawOf insertOf cancelOf pullOf phaseOf settleOf commandOf u8At u16At u32At u64At contractsIn contractPlace accountsIn accountPlace commandsIn commandPlace contractFrom contractSound balanceFrom accountSound recordFrom commandsOf sound openingListing openingAccount opening absent listingAt accountAt holdingAt bestPrice lotsWhere resting afterLeg bookLeg bookTrade bookTrades legCovered neverBelowZero startOfDay sameLots sameHoldings digits decimal signed fieldsOf answerLine tradeLine tradeLines priceLines accountLines settlementLines newTrades stepLines runLines output chargeOf chargedLots chargedTo meets fillable methodOf middle pairedPrice tradePrice tradeWith stays sweep tradedLots lastPrice restIn remainder restLots restedLots enter tradesIn tradedValue weightedPrice quotedPrice priceFrom settlementPrice only legs dayStart gain firstLots otherLots afterDayLeg afterLegs dayOf holdingGain closingProfit holdingProfit settledAccount settledContract settledListing settled paid deposited withdrawn enteredOf listingAfter exchangeAfter inserted without removed cancelled pulled phaseChanged settledAll kindOf decide step takesOrders conditionsRefused matchOf listingMatched exchangeMatched orderRefusals makerFrom
 paper-day = refl

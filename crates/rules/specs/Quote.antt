@@ -4,15 +4,13 @@ use mathlib.Core.List.{List, [], _∷_, _++_}
 use Prim.Native.Nat.{ℕ, _+_}
 use lib.Dec.{ltb, eqb}
 use Rattle.laws.specs.Choice.{pick}
-use Rattle.rules.specs.Answers.{Refusal, _when_, orderRefusals}
-use Rattle.rules.specs.Bounds.{continuous}
-use Rattle.rules.specs.Exchange.{Exchange, listingNamed, phaseNow, holderOf, absent, placeOf}
+use Rattle.rules.specs.Answers.{Refusal, _when_, dayLimitOrder, namedRefusals, notContinuous, orderRefusals}
+use Rattle.rules.specs.Exchange.{Exchange, listingNamed, holderOf, placeOf}
 use Rattle.rules.specs.Matching.{Entered, tradedLots}
 use Rattle.rules.specs.Step.{Effect, withListing, listingWithout, enteredOf, exchangeAfter}
 use Rattle.rules.specs.WellFormed.{isQuoteOf}
+use Rattle.rules.specs.declared.Account.{Account}
 use Rattle.rules.specs.declared.NewOrder.{NewOrder}
-use Rattle.rules.specs.declared.PriceCondition.the-variants.{Limit}
-use Rattle.rules.specs.declared.TimeCondition.the-variants.{GoodForDay}
 use Rattle.rules.specs.declared.Trade.{Trade}
 
 -- account, contract, "equal lots", the buy price and the sell price
@@ -28,17 +26,7 @@ offered account contract lots buy sell = record { account = account; contract = 
 
 -- "a buy and a sell good-for-day limit open with equal lots"
 unfoldable pub half : Offered → Bool → NewOrder
-half q sell =
-    record {
-      account = q .account;
-      contract = q .contract;
-      sell = sell;
-      close = false;
-      lots = q .lots;
-      price = pick sell (q .sell) (q .buy);
-      condition = Limit (pick sell (q .sell) (q .buy));
-      time = GoodForDay;
-    }
+half q sell = dayLimitOrder (q .account) (q .contract) sell false (q .lots) (pick sell (q .sell) (q .buy))
 
 abbrev pub buyOf : Offered → NewOrder
 buyOf q = half q false
@@ -75,15 +63,19 @@ sellEntered x q = enteredMarked (withBuy x q) (sellOf q)
 
 -- ---- "Refusals: after 4, code 23 if not a maker, then 24 if buy is not below sell, then the buy's code from 5 on, then the sell's."
 
+-- 23 and 24, before its orders are looked at
+abbrev pub offerRefusals : Account → ℕ → ℕ → List Refusal
+offerRefusals a buy sell =
+    (23 when not (eqb (a .maker) 1))
+    ∷ (24 when not (ltb buy sell))
+    ∷ []
+
 unfoldable pub quoteRefusals : Exchange → Offered → List Refusal
 quoteRefusals x q =
-    (2 when absent (q .account) (x .accounts))
-    ∷ (3 when absent (q .contract) (x .listings))
-    -- "in continuous only"
-    ∷ (4 when not (eqb (phaseNow x (q .contract)) continuous))
-    ∷ (23 when not (eqb (holderOf x (q .account) .maker) 1))
-    ∷ (24 when not (ltb (q .buy) (q .sell)))
-    ∷ (orderRefusals (withoutQuote x q) (buyOf q) ++ orderRefusals (withBuy x q) (sellOf q))
+    namedRefusals x notContinuous (q .account) (q .contract)
+    ++ offerRefusals (holderOf x (q .account)) (q .buy) (q .sell)
+    ++ orderRefusals (withoutQuote x q) (buyOf q)
+    ++ orderRefusals (withBuy x q) (sellOf q)
 
 -- ---- "The C line gives the buy's number; its lots are summed over both." "a place in use only between the steps is set to zero":
 -- each state is written over the last

@@ -12,7 +12,7 @@ use Rattle.laws.specs.Sums.{sumOf}
 use Rattle.laws.specs.Tabulate.{tabulate}
 use Rattle.areas.specs.Lists.{over, padded}
 use Rattle.areas.specs.Records.{decode, encode, records, store}
-use Rattle.rules.specs.Answers.{conditionsRefused, fillableLots, firstOf, holdingRefused, listingOf, mark, moneyRefused, numbered, orderRefusals, overLimit, priceRefusedBy, restingOrder, takerOf, tradesNeeded, tradesRefused}
+use Rattle.rules.specs.Answers.{conditionsRefused, fillableLots, firstOf, holdingRefused, listingOf, mark, moneyRefused, numbered, orderRefusals, priceRefusedBy, restingOrder, takerOf, tradesNeeded, tradesRefused, lotsRefused, tradesAgainst}
 use Rattle.rules.specs.Bounds.{allowedToday, auction, closed, continuous, dayHigh, dayLow, noTrading, onTick, preOpen}
 use Rattle.rules.specs.Change.{asked, changed, isSell, lessened, losesPlace, oldOrder, placeKept, unchanged}
 use Rattle.rules.specs.Command.{commandOf, quoteOf, zeros}
@@ -160,7 +160,7 @@ codes =
     ∷ []
 
 pub quote-codes : allRight codes ≡ true
-unfolding allRight codes order account contract state rich phased open′ held numbered′ traded′ crowded replacing sent code absent accountAt afterLeg allOf allowedToday bestPrice bookLeg bookTrade bookTrades chargeOf chargedLots chargedTo codeOf commandOf conditionsRefused dayHigh dayLow enter enteredOf exchangeAfter fillable fillableLots firstOf half holdingAt holdingRefused kindOf lastPrice listingAfter listingAt listingOf lotsWhere meets methodOf middle moneyRefused onTick orderRefusals overLimit pairedPrice priceRefusedBy quoteOf quoteRefusals remainder restIn restLots restedLots resting stays sumOf sweep tabulate takerOf tradePrice tradeWith tradedLots tradesNeeded tradesRefused withBuy without withoutQuote zeros
+unfolding allRight codes order account contract state rich phased open′ held numbered′ traded′ crowded replacing sent code absent accountAt afterLeg allOf allowedToday bestPrice bookLeg bookTrade bookTrades chargeOf chargedLots chargedTo codeOf commandOf conditionsRefused dayHigh dayLow enter enteredOf exchangeAfter fillable fillableLots firstOf half holdingAt holdingRefused kindOf lastPrice listingAfter listingAt listingOf lotsWhere meets methodOf middle moneyRefused onTick orderRefusals lotsRefused tradesAgainst pairedPrice priceRefusedBy quoteOf quoteRefusals remainder restIn restLots restedLots resting stays sumOf sweep tabulate takerOf tradePrice tradeWith tradedLots tradesNeeded tradesRefused withBuy without withoutQuote zeros
 quote-codes = refl
 
 -- ---- effects. By ticks of 1. Account 1's quote is half filled: 2 lots to buy at 104 (number 1), 5 to sell at 108 (number 2); it bids
@@ -301,7 +301,7 @@ places =
     ∷ []
 
 pub quote-places : allRight places ≡ true
-unfolding allRight places order account contract lying left absent accountAt afterLeg allowedToday bestPrice bookLeg bookTrade bookTrades chargeOf chargedLots chargedTo codeOf conditionsRefused dayHigh dayLow decide decode encode enter enteredOf exchangeAfter exchangeOf fillable fillableLots firstOf half holdingAt holdingRefused kindOf lastPrice listingAfter listingAt listingIn listingOf lotsWhere meets methodOf middle moneyRefused onTick orderRefusals over overLimit padded pairedPrice priceRefusedBy put putAccounts putQueue putQueues putState putTrades queueIn quoteRefusals quoted records recordedTrades remainder restIn restLots restedLots resting stays stepIn store sumOf sweep tabulate takerOf tradePrice tradeWith tradedLots tradesNeeded tradesRefused withBuy withSell without withoutQuote
+unfolding allRight places order account contract lying left absent accountAt afterLeg allowedToday bestPrice bookLeg bookTrade bookTrades chargeOf chargedLots chargedTo codeOf conditionsRefused dayHigh dayLow decide decode encode enter enteredOf exchangeAfter exchangeOf fillable fillableLots firstOf half holdingAt holdingRefused kindOf lastPrice listingAfter listingAt listingIn listingOf lotsWhere meets methodOf middle moneyRefused onTick orderRefusals over lotsRefused tradesAgainst padded pairedPrice priceRefusedBy put putAccounts putQueue putQueues putState putTrades queueIn quoteRefusals quoted records recordedTrades remainder restIn restLots restedLots resting stays stepIn store sumOf sweep tabulate takerOf tradePrice tradeWith tradedLots tradesNeeded tradesRefused withBuy withSell without withoutQuote
 quote-places = refl
 
 -- ---- "Bit 63 of an account's opening balance in the file marks a maker." A file of one account whose balance has these first and last

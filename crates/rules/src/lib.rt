@@ -22,6 +22,14 @@ pub const MAX_LOTS: u32 = 1000;
 
 pub const MAX_PRICE: u32 = 1000000;
 
+pub const MAX_MULTIPLIER: u32 = 1000;
+
+pub const MAX_TICK: u32 = 1000;
+
+pub const MAX_LIMIT: u32 = 100000;
+
+pub const MAX_RATE: u32 = 10000;
+
 pub const MAX_BALANCE: u64 = 1000000000000000000;
 
 pub const MAX_AMOUNT: u64 = 1000000000000000;
@@ -31,6 +39,15 @@ pub const MAX_DAY_PROFIT: u64 = 3000000000000000;
 pub const MAX_METHOD: u16 = 2;
 
 pub const MAX_COMMANDS: usize = 2000;
+
+// How many bytes the count of a section, a contract, an account and a command take in a day file.
+pub const COUNT_WIDTH: usize = 4;
+
+pub const CONTRACT_WIDTH: usize = 20;
+
+pub const ACCOUNT_WIDTH: usize = 8;
+
+pub const COMMAND_WIDTH: usize = 24;
 
 // How many words an order and a trade take in the lent areas, and all the places of one queue.
 pub const ORDER_STRIDE: usize = 7;

@@ -75,6 +75,25 @@ module _ (file : List ℕ) where
 
 -- ---- the loop: commands from k up to i have been played
 
+-- areas as long as they were
+pub record SameRoom (m m′ : Memory) : Type 0 where
+  pub buys : length (m′ .buys) ≡ length (m .buys)
+  pub sells : length (m′ .sells) ≡ length (m .sells)
+  pub trades : length (m′ .trades) ≡ length (m .trades)
+
+-- and still so after a call that kept them
+pub room-kept : {m m′ m″ : Memory} → SameRoom m m′ → length (m″ .buys) ≡ length (m′ .buys) → length (m″ .sells) ≡ length (m′ .sells)
+    → length (m″ .trades) ≡ length (m′ .trades) → SameRoom m m″
+room-kept r b s t = record { buys = b ∙ r .buys; sells = s ∙ r .sells; trades = t ∙ r .trades }
+
+-- what a part has come to at command i: the memory is the run of the commands from k up to i, and the buffer has their lines
+pub record PlayedTo (file : List ℕ) (k : ℕ) (m : Memory) (before : List ℕ) (i : ℕ) (m′ : Memory) (after : List ℕ) (at : ℕ) : Type 0 where
+  pub onward : k ≤ i
+  pub within : i ≤ commandsIn file
+  pub room : SameRoom m m′
+  pub memory : m′ ≡ run m (part file k i)
+  pub lines : Written (length before) before 0 (runLines (k + 1) (exchangeOf m) (part file k i)) after at
+
 module _ (file : List ℕ) (k : ℕ) {s₀ : State} {buys₀ sells₀ trades₀ out₀ : List ℕ} (p : Playable file k s₀ buys₀ sells₀ trades₀ out₀) where
   abbrev m : Memory
   m = memory s₀ buys₀ sells₀ trades₀
@@ -85,52 +104,65 @@ module _ (file : List ℕ) (k : ℕ) {s₀ : State} {buys₀ sells₀ trades₀ 
   abbrev lines : ℕ → List ℕ
   lines i = runLines (k + 1) (exchangeOf m) (part file k i)
 
-  pub none-played : m ≡ played k
+  none-played : m ≡ played k
   unfolding run
   none-played = sym (ap (run m) (part-none file k))
 
-  pub none-printed : Written (length out₀) out₀ 0 (lines k) out₀ 0
+  none-printed : Written (length out₀) out₀ 0 (lines k) out₀ 0
   unfolding runLines
   none-printed = rw (part-none file k) (looser (no-byte out₀ 0 (omega arith)) (length out₀) (omega arith))
 
-  -- what is played leaves a well-formed state
-  pub still-formed : (i : ℕ) {s : State} {buys sells trades : List ℕ} → memory s buys sells trades ≡ played i → WellFormedState s buys sells trades
-  still-formed i e =
-      record {
-        declared = subst⁻¹ (λ (v : Memory). Declared (v .state)) e (run-declared m (part file k i) (p .formed .declared));
-        formed = subst⁻¹ (λ (v : Memory). wellFormedMemory v ≡ true) e (run-keeps m (part file k i) (p .formed .formed));
-      }
+  pub part-begun : PlayedTo file k m out₀ k m out₀ 0
+  part-begun = record { onward = omega arith; within = p .within; room = record { buys = refl; sells = refl; trades = refl }; memory = none-played; lines = none-printed }
 
-  module _ (i : ℕ) (h : k ≤ i) (l : i < commandsIn file) {s : State} {buys sells trades : List ℕ} (e : memory s buys sells trades ≡ played i)
-      {r : Command} (f : r ≡ commandFrom file (commandPlace file i)) {before after : List ℕ} {at : ℕ} {t : Turn} {m′ : Memory}
-      (is : TurnIs (memory s buys sells trades) r (i + 1) before at t m′ after) where
-    pub one-played : m′ ≡ played (i + 1)
-    unfolding run respond
-    one-played =
-        is .memory ∙ ap (λ (v : Memory). respond v r .memory) e
-        ∙ sym (rw (part-more file k i h l, ← f) (run-append m (part file k i) (r ∷ [])))
+  module _ {i at : ℕ} {s : State} {buys sells trades out : List ℕ} (g : PlayedTo file k m out₀ i (memory s buys sells trades) out at) where
+    -- what is played leaves a well-formed state
+    pub still-formed : WellFormedState s buys sells trades
+    still-formed =
+        record {
+          declared = subst⁻¹ (λ (v : Memory). Declared (v .state)) (g .memory) (run-declared m (part file k i) (p .formed .declared));
+          formed = subst⁻¹ (λ (v : Memory). wellFormedMemory v ≡ true) (g .memory) (run-keeps m (part file k i) (p .formed .formed));
+        }
 
-    lines-more : lines (i + 1) ≡ lines i ++ stepLines (i + 1) (exchangeOf (memory s buys sells trades)) r
-    unfolding runLines
-    lines-more =
-        let n : k + 1 + length (part file k i) ≡ i + 1 = rw (part-length file k i (omega arith)) (omega arith) in
-        rw (part-more file k i h l, ← f, lines-append m (p .formed .formed) (k + 1) (part file k i) (r ∷ []), n, ← e)
-        (ap (λ (b : List ℕ). lines i ++ b) (append-nil (stepLines (i + 1) (exchangeOf (memory s buys sells trades)) r)))
+    -- the command at i is played and printed
+    module _ (l : i < commandsIn file) {r : Command} (f : r ≡ commandFrom file (commandPlace file i)) {buys′ sells′ trades′ after : List ℕ} {t : Turn}
+        (is : TurnIs (memory s buys sells trades) r (i + 1) out at t (memory (t .state) buys′ sells′ trades′) after) where
+      one-played : memory (t .state) buys′ sells′ trades′ ≡ played (i + 1)
+      unfolding run respond
+      one-played =
+          is .memory ∙ ap (λ (v : Memory). respond v r .memory) (g .memory)
+          ∙ sym (rw (part-more file k i (g .onward) l, ← f) (run-append m (part file k i) (r ∷ [])))
 
-    pub one-printed : Written (length out₀) out₀ 0 (lines i) before at → Written (length out₀) out₀ 0 (lines (i + 1)) after (t .end)
-    one-printed v =
-        let u = then v (is .lines) in
-        let g : Written (length out₀) out₀ 0 (lines i ++ stepLines (i + 1) (exchangeOf (memory s buys sells trades)) r) after (t .end) =
-        record { content = u .content; ends = u .ends; short = omega (arith, u .ends, u .inside); kept = u .kept; inside = u .inside } in
-        rw lines-more g
+      lines-more : lines (i + 1) ≡ lines i ++ stepLines (i + 1) (exchangeOf (memory s buys sells trades)) r
+      unfolding runLines
+      lines-more =
+          let n : k + 1 + length (part file k i) ≡ i + 1 = rw (part-length file k i (omega arith)) (omega (arith, g .onward)) in
+          rw (part-more file k i (g .onward) l, ← f, lines-append m (p .formed .formed) (k + 1) (part file k i) (r ∷ []), n, ← g .memory)
+          (ap (λ (b : List ℕ). lines i ++ b) (append-nil (stepLines (i + 1) (exchangeOf (memory s buys sells trades)) r)))
 
-  -- the two ways out: all commands are played, or less room is left than one command can need
-  module _ (i : ℕ) (h : k ≤ i) (l : i ≤ commandsIn file) (s : State) {m′ : Memory} (e : m′ ≡ played i) {after : List ℕ} {at : ℕ}
-      (v : Written (length out₀) out₀ 0 (lines i) after at) where
-    ways-out : (k < commandsIn file → k < i) → PlayedIs file k m out₀ (record { state = s; next = i; end = at }) m′ after
-    ways-out g = record { onward = h; further = g; within = l; memory = e; lines = v }
+      one-printed : Written (length out₀) out₀ 0 (lines (i + 1)) after (t .end)
+      one-printed =
+          let u = then (g .lines) (is .lines) in
+          let w : Written (length out₀) out₀ 0 (lines i ++ stepLines (i + 1) (exchangeOf (memory s buys sells trades)) r) after (t .end) =
+          record { content = u .content; ends = u .ends; short = omega (arith, u .ends, u .inside); kept = u .kept; inside = u .inside } in
+          rw lines-more w
 
-    pub all-played : commandsIn file ≤ i → PlayedIs file k m out₀ (record { state = s; next = i; end = at }) m′ after
+      pub one-more : length buys′ ≡ length buys → length sells′ ≡ length sells → length trades′ ≡ length trades
+          → PlayedTo file k m out₀ (i + 1) (memory (t .state) buys′ sells′ trades′) after (t .end)
+      one-more b o d =
+          record {
+            onward = omega (arith, g .onward);
+            within = omega arith;
+            room = room-kept (g .room) b o d;
+            memory = one-played;
+            lines = one-printed;
+          }
+
+    -- the two ways out: all commands are played, or less room is left than one command can need
+    ways-out : (k < commandsIn file → k < i) → PlayedIs file k m out₀ (record { state = s; next = i; end = at }) (memory s buys sells trades) out
+    ways-out h = record { onward = g .onward; further = h; within = g .within; memory = g .memory; lines = g .lines }
+
+    pub all-played : commandsIn file ≤ i → PlayedIs file k m out₀ (record { state = s; next = i; end = at }) (memory s buys sells trades) out
     all-played d = ways-out (λ (o : k < commandsIn file). omega arith)
 
     none-yet : k ≡ i → at ≡ 0
@@ -138,11 +170,11 @@ module _ (file : List ℕ) (k : ℕ) {s₀ : State} {buys₀ sells₀ trades₀ 
     none-yet q =
         let e : length (lines i) ≡ 0 =
         ap (λ (n : ℕ). length (lines n)) (sym q) ∙ ap (λ (cs : List Command). length (runLines (k + 1) (exchangeOf m) cs)) (part-none file k) in
-        omega (arith, v .ends)
+        omega (arith, g .lines .ends)
 
-    pub room-played : length after - at < commandMost → PlayedIs file k m out₀ (record { state = s; next = i; end = at }) m′ after
+    pub room-played : length out - at < commandMost → PlayedIs file k m out₀ (record { state = s; next = i; end = at }) (memory s buys sells trades) out
     room-played d = ways-out (λ (o : k < commandsIn file). by-none-played (eqb k i) refl)
       where
         by-none-played : (b : Bool) → eqb k i ≡ b → k < i
-        by-none-played true q = absurd (omega (arith, d, none-yet (eqb-true k i q), v .kept, p .room))
-        by-none-played false q = omega (arith, h, eqb-false k i q)
+        by-none-played true q = absurd (omega (arith, d, none-yet (eqb-true k i q), g .lines .kept, p .room))
+        by-none-played false q = omega (arith, g .onward, eqb-false k i q)

@@ -1,12 +1,13 @@
 -- What playing one command gives and leaves, and the room that its lines can need. Assumes nothing.
 use mathlib.Core.List.{List}
 use mathlib.Core.Path.{_≡_}
-use Prim.Native.Nat.{ℕ, _*_, _≤_}
+use Prim.Native.Nat.{ℕ, _+_, _*_, _≤_}
 use lib.ListN.{length}
 use Rattle.rules.specs.Bounds.{maxAccounts, maxContracts, maxTrades}
 use Rattle.rules.specs.Lines.{stepLines}
 use Rattle.rules.specs.Memory.{Memory, exchangeOf, respond, tradeStride}
 use Rattle.rules.specs.declared.Command.{Command}
+use Rattle.lines.specs.Tables.{answerLineMost, tradeLineMost, priceLineMost, accountLineMost}
 use Rattle.exchange.specs.declared.settling.Response.{Response}
 use Rattle.endian.specs.Written.{Written}
 use Rattle.runner.specs.declared.turn.Turn.{Turn}
@@ -14,10 +15,10 @@ use Rattle.runner.specs.declared.turn.Turn.{Turn}
 -- a P line for each contract and a B line for each account; with a C line and a T line for each trade of a day, what one
 -- command can print
 abbrev pub settlementMost : ℕ
-settlementMost = 3_696
+settlementMost = priceLineMost * maxContracts + accountLineMost * maxAccounts
 
 abbrev pub commandMost : ℕ
-commandMost = 134_875
+commandMost = answerLineMost + tradeLineMost * maxTrades + settlementMost
 
 -- a response whose counts are in range, with its trades
 pub record InRange (r : Response) (trades : List ℕ) : Type 0 where

@@ -12,6 +12,7 @@ ghost use Rattle.runner.specs.Day.{Ready, DayIs, PrintedIs, linesTo};
 use crate::play::play;
 use dayfile::file;
 use dayfile::opening::opening_state;
+use lines::line::BROKEN_LINE_MOST;
 use lines::line::put_broken;
 use rules::State;
 
@@ -93,7 +94,7 @@ fn print_broken(fd: i32, file: &[u8]) -> Printed
     requires { ⌜ sound (now file) ≡ false ⌝ }
     ensures { λ r. ⌜ PrintedIs (now (file .entry)) r ⌝ }
 {
-    let mut out = [0u8; 23];
+    let mut out = [0u8; BROKEN_LINE_MOST];
     let end = put_broken(&mut out, 0);
     if !write_output(fd, file, &out, end) {
         return Printed {

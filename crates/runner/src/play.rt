@@ -3,10 +3,16 @@ ghost use Rattle.rules.specs.Memory.{memory};
 ghost use Rattle.runner.specs.Parts.{Playable, PlayedIs};
 use crate::turn::play_record;
 use dayfile::file;
+use lines::line;
 use rules::State;
 
-// The longest lines that one command can print: 107 + 1,024 x 128 + 4 x 44 + 32 x 110 bytes.
-pub const COMMAND_MOST: usize = 134875;
+// The longest lines that one command can print: its C line, a T line for each trade of a day, and a settlement's P and B lines.
+const SETTLEMENT_MOST: usize = line::PRICE_LINE_MOST * rules::MAX_CONTRACTS
+    + line::ACCOUNT_LINE_MOST * rules::MAX_ACCOUNTS;
+
+pub const COMMAND_MOST: usize = line::ANSWER_LINE_MOST
+    + line::TRADE_LINE_MOST * rules::MAX_TRADES
+    + SETTLEMENT_MOST;
 
 // The state after the part, the place of the next command, and the place after the lines.
 pub struct Played {

@@ -2,10 +2,11 @@
 // can print.
 ghost use Prim.Native.Nat.{_+_, _*_, _-_, _≤_};
 ghost use lib.ListN.{length, drop};
-ghost use Rattle.rules.specs.Bounds.{maxTrades};
+ghost use Rattle.rules.specs.Bounds.{maxTrades, maxContracts, maxAccounts};
 ghost use Rattle.rules.specs.Lines.{tradeLines};
 ghost use Rattle.rules.specs.Memory.{recordedTrades, tradeStride};
 ghost use Rattle.endian.specs.Written.{Written};
+ghost use Rattle.lines.specs.Tables.{tradeLineMost, priceLineMost, accountLineMost};
 ghost use Rattle.runner.specs.Rows.{rows, priceRow, accountRow};
 use exchange::settling::Report;
 use lines::line::put_account;
@@ -15,8 +16,8 @@ use rules::Account;
 
 // T lines of the day's trades from place `first` on, `count` of them being recorded: none where there are no more than `first`.
 pub fn put_trades(out: &mut [u8], at: usize, area: &[u32], first: usize, count: usize) -> usize
-    requires { ⌜ (count ≤ maxTrades) × (tradeStride * count ≤ length (now area)) × (at + 128 * (count - first) ≤ length (now out)) ⌝ }
-    ensures { λ r. ⌜ Written (128 * (count - first)) (now (out .entry)) at (tradeLines (first + 1) (drop first (recordedTrades (now (area .entry)) count))) (now (out .exit)) r ⌝ }
+    requires { ⌜ (count ≤ maxTrades) × (tradeStride * count ≤ length (now area)) × (at + tradeLineMost * (count - first) ≤ length (now out)) ⌝ }
+    ensures { λ r. ⌜ Written (tradeLineMost * (count - first)) (now (out .entry)) at (tradeLines (first + 1) (drop first (recordedTrades (now (area .entry)) count))) (now (out .exit)) r ⌝ }
 {
     let mut next = at;
     let mut i = first;
@@ -30,8 +31,8 @@ pub fn put_trades(out: &mut [u8], at: usize, area: &[u32], first: usize, count: 
 
 // P lines of the first n contracts.
 pub fn put_prices(out: &mut [u8], at: usize, prices: [u32; rules::MAX_CONTRACTS], n: usize) -> usize
-    requires { ⌜ (n ≤ 4) × (at + 44 * n ≤ length (now out)) ⌝ }
-    ensures { λ r. ⌜ Written (44 * n) (now (out .entry)) at (rows (priceRow prices) n) (now (out .exit)) r ⌝ }
+    requires { ⌜ (n ≤ maxContracts) × (at + priceLineMost * n ≤ length (now out)) ⌝ }
+    ensures { λ r. ⌜ Written (priceLineMost * n) (now (out .entry)) at (rows (priceRow prices) n) (now (out .exit)) r ⌝ }
 {
     let mut next = at;
     let mut c: usize = 0;
@@ -50,8 +51,8 @@ pub fn put_accounts(
     accounts: [Account; rules::MAX_ACCOUNTS],
     n: usize,
 ) -> usize
-    requires { ⌜ (n ≤ 32) × (at + 110 * n ≤ length (now out)) ⌝ }
-    ensures { λ r. ⌜ Written (110 * n) (now (out .entry)) at (rows (accountRow (report .closing) (report .holding) (report .charged) accounts) n) (now (out .exit)) r ⌝ }
+    requires { ⌜ (n ≤ maxAccounts) × (at + accountLineMost * n ≤ length (now out)) ⌝ }
+    ensures { λ r. ⌜ Written (accountLineMost * n) (now (out .entry)) at (rows (accountRow (report .closing) (report .holding) (report .charged) accounts) n) (now (out .exit)) r ⌝ }
 {
     let closing = report.closing;
     let holding = report.holding;

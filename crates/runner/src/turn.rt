@@ -2,6 +2,7 @@
 // longest lines that it can print, and `play_record` for a well-formed state.
 ghost use Prim.Native.Nat.{_+_, _≤_};
 ghost use lib.ListN.{length};
+ghost use Rattle.rules.specs.Bounds.{maxContracts, maxAccounts};
 ghost use Rattle.rules.specs.Command.{commandOf};
 ghost use Rattle.rules.specs.Memory.{memory, WellFormedState};
 ghost use Rattle.endian.specs.Written.{Written};
@@ -26,7 +27,7 @@ pub struct Turn {
 
 // All P lines, then all B lines.
 fn put_settlement(out: &mut [u8], at: usize, state: State, report: Report) -> usize
-    requires { ⌜ (state .contractcount ≤ 4) × (state .accountcount ≤ 32) × (at + settlementMost ≤ length (now out)) ⌝ }
+    requires { ⌜ (state .contractcount ≤ maxContracts) × (state .accountcount ≤ maxAccounts) × (at + settlementMost ≤ length (now out)) ⌝ }
     ensures { λ r. ⌜ Written settlementMost (now (out .entry)) at (settlementRows state report) (now (out .exit)) r ⌝ }
 {
     let prices = report.prices;
@@ -37,7 +38,7 @@ fn put_settlement(out: &mut [u8], at: usize, state: State, report: Report) -> us
 
 // "After an accepted settlement come all P, then all B, by number."
 fn put_report(out: &mut [u8], at: usize, command: Command, response: Response) -> usize
-    requires { ⌜ (response .state .contractcount ≤ 4) × (response .state .accountcount ≤ 32) × (at + settlementMost ≤ length (now out)) ⌝ }
+    requires { ⌜ (response .state .contractcount ≤ maxContracts) × (response .state .accountcount ≤ maxAccounts) × (at + settlementMost ≤ length (now out)) ⌝ }
     ensures { λ r. ⌜ Written settlementMost (now (out .entry)) at (reportRows command response) (now (out .exit)) r ⌝ }
 {
     if !commands::is_settle(command) {

@@ -1,3 +1,4 @@
+-- That a saved state is read back, and that days joined by its file are one run. Assumes nothing.
 pub mod Again
 pub mod Continued
 pub mod Fields

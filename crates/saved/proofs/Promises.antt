@@ -10,7 +10,7 @@ use Rattle.rules.specs.Answers.{_when_}
 use Rattle.rules.specs.Condition3.{Loaded}
 use Rattle.rules.specs.Exchange.{Exchange}
 use Rattle.rules.specs.Memory.{Declared, Memory, exchangeOf, hasRoom, wellFormedMemory}
-use Rattle.invariants.proofs.Accepted.{failed}
+use Rattle.rules.proofs.Refusals.{failed}
 use Rattle.saved.specs.Saved.{allEqual, loadedFrom, loadedInto, readCode, savedBytes, savedSound, writable, writeCode}
 use Rattle.saved.proofs.Again.{loaded-savable, loaded-writable, sound-parts, write-again}
 use Rattle.saved.proofs.Continued.{loadable, writable-loaded, writes}

@@ -14,7 +14,7 @@ use Rattle.areas.specs.Lists.{over}
 use Rattle.areas.specs.Records.{encode}
 use Rattle.rules.specs.Answers.{firstOf, _when_}
 use Rattle.rules.specs.Bounds.{within, maxContracts, maxAccounts, preOpen}
-use Rattle.rules.specs.DayFile.{u8At, u32At, u64At, contractsIn, contractFrom}
+use Rattle.rules.specs.DayFile.{u8At, u32At, u64At, contractsIn, contractFrom, countWidth, contractWidth}
 use Rattle.rules.specs.Exchange.{Exchange, Listing, noHolding}
 use Rattle.rules.specs.Memory.{Memory, exchangeOf, hasRoom, memory, putState, wellFormedMemory}
 use Rattle.rules.specs.WellFormed.{wellFormedContents}
@@ -23,7 +23,7 @@ use Rattle.rules.specs.declared.Contract.{Contract}
 use Rattle.rules.specs.declared.Holding.{Holding}
 use Rattle.rules.specs.declared.State.{State}
 use Rattle.endian.specs.Numbers.{two, four, eight}
-use Rattle.statements.specs.Statement.{holdingBytes, section, unsigned}
+use Rattle.statements.specs.Statement.{holdingBytes, section, unsigned, holdingWidth}
 
 -- ---- what is written: "Sections in a fixed order, each after its count"
 
@@ -35,9 +35,15 @@ contractBytes c =
     ++ (four (c .reference)
     ++ (four (c .band) ++ (four (c .limit) ++ (two (c .rate) ++ (two (c .method) ++ four (c .last)))))))
 
+abbrev pub savedContractWidth : ℕ
+savedContractWidth = contractWidth + 4
+
 -- "accounts (signed balance 8, maker mark 1, its value 0 or 1)"
 unfoldable pub accountBytes : Account → List ℕ
 accountBytes a = eight (unsigned (a .balance)) ++ (a .maker ∷ [])
+
+abbrev pub savedAccountWidth : ℕ
+savedAccountWidth = 9
 
 -- "holdings (long 4, short 4, by account then contract)"
 unfoldable pub rowBytes : Account → List ℕ
@@ -49,6 +55,9 @@ savedBytes x =
     section (length (x .listings)) (encode (λ l. contractBytes (l .contract)) (x .listings))
     ++ (section (length (x .accounts)) (encode accountBytes (x .accounts))
     ++ (section (length (x .accounts) * length (x .listings)) (encode rowBytes (x .accounts)) ++ section 1 (four (x .settlements))))
+
+abbrev pub settlementsWidth : ℕ
+settlementsWidth = 4
 
 -- ---- "A state is writable exactly when every contract is in pre-open, its long and short totals are equal, no trades or orders
 -- exist and the next order number and stamp are 1."
@@ -70,19 +79,19 @@ writable x =
 -- ---- where the sections of a file stand: the contracts' count at its start, as in a day file
 
 abbrev pub contractPlace : ℕ → ℕ
-contractPlace c = 4 + 24 * c
+contractPlace c = countWidth + savedContractWidth * c
 
 unfoldable pub accountsIn : List ℕ → ℕ
 accountsIn bs = u32At bs (contractPlace (contractsIn bs))
 
 abbrev pub accountPlace : ℕ → ℕ → ℕ
-accountPlace contracts a = contractPlace contracts + 4 + 9 * a
+accountPlace contracts a = contractPlace contracts + countWidth + savedAccountWidth * a
 
 abbrev pub rowPlace : ℕ → ℕ → ℕ → ℕ
-rowPlace contracts accounts a = accountPlace contracts accounts + 4 + 8 * contracts * a
+rowPlace contracts accounts a = accountPlace contracts accounts + countWidth + holdingWidth * contracts * a
 
 abbrev pub settlementsPlace : ℕ → ℕ → ℕ
-settlementsPlace contracts accounts = rowPlace contracts accounts accounts + 4
+settlementsPlace contracts accounts = rowPlace contracts accounts accounts + countWidth
 
 -- ---- what is read
 
@@ -98,7 +107,7 @@ savedContract bs at =
       rate = contractFrom bs at .rate;
       method = contractFrom bs at .method;
       phase = contractFrom bs at .phase;
-      last = u32At bs (at + 20);
+      last = u32At bs (at + contractWidth);
     }
 
 -- a signed number in eight bytes: from 2^63 on, what it is above -2^64
@@ -119,7 +128,7 @@ savedAccount bs contracts at row =
     record {
       balance = signedOf (u64At bs at);
       maker = u8At bs (at + 8);
-      holdings = tabulate contracts (λ c. savedHolding bs (row + 8 * c));
+      holdings = tabulate contracts (λ c. savedHolding bs (row + holdingWidth * c));
     }
 
 unfoldable pub loadedListing : List ℕ → ℕ → Listing
@@ -154,7 +163,7 @@ unfoldable pub shaped : List ℕ → Bool
 shaped bs =
     within 1 maxContracts (contractsIn bs)
     && within 1 maxAccounts (accountsIn bs)
-    && eqb (length bs) (settlementsPlace (contractsIn bs) (accountsIn bs) + 4)
+    && eqb (length bs) (settlementsPlace (contractsIn bs) (accountsIn bs) + settlementsWidth)
     && countsRight bs
 
 -- "maker mark 1, its value 0 or 1"

@@ -6,7 +6,7 @@ use Prim.Native.Nat.{ℕ, _+_, _*_, _≤_, _<_}
 use lib.Dec.{eqb}
 use lib.ListN.{length, getD, take, replicate}
 use Rattle.laws.specs.Choice.{all}
-use Rattle.rules.specs.Bounds.{maxTrades, preOpen}
+use Rattle.rules.specs.Bounds.{maxTrades, preOpen, maxContracts, maxAccounts}
 use Rattle.rules.specs.DayFile.{contractsIn}
 use Rattle.rules.specs.Exchange.{noAccount, noContract}
 use Rattle.rules.specs.Memory.{Memory, memory, tradeStride}
@@ -17,7 +17,7 @@ use Rattle.endian.specs.Numbers.{four}
 use Rattle.clients.specs.Clients.{inRow}
 use Rattle.statements.specs.Parts.{accountsBytes}
 use Rattle.statements.specs.Statement.{section}
-use Rattle.saved.specs.Saved.{accountBytes, accountsIn, contractBytes, settlementsPlace, totalsEqual}
+use Rattle.saved.specs.Saved.{accountBytes, accountsIn, contractBytes, settlementsPlace, totalsEqual, settlementsWidth}
 
 -- ---- the file of a state, section by section
 
@@ -48,8 +48,8 @@ Short c = (c .multiplier < 65_536) × (c .tick < 65_536)
 
 -- what writing a state asks for
 pub record Fitting (s : State) (out : List ℕ) : Type 0 where
-  pub contracts : s .contractcount ≤ 4
-  pub accounts : s .accountcount ≤ 32
+  pub contracts : s .contractcount ≤ maxContracts
+  pub accounts : s .accountcount ≤ maxAccounts
   pub short : (c : ℕ) → c < s .contractcount → Short (getD (s .contracts) c noContract)
   pub marks : (a : ℕ) → a < s .accountcount → getD (s .accounts) a noAccount .maker ≤ 1
   pub room : length (stateBytes s) ≤ length out
@@ -72,9 +72,13 @@ stateWritable s =
 pub record Laid (bs : List ℕ) (contracts accounts : ℕ) : Type 0 where
   pub contracts-are : contracts ≡ contractsIn bs
   pub accounts-are : accounts ≡ accountsIn bs
-  pub few-contracts : contracts ≤ 4
-  pub few-accounts : accounts ≤ 32
-  pub ends : length bs ≡ settlementsPlace contracts accounts + 4
+  pub few-contracts : contracts ≤ maxContracts
+  pub few-accounts : accounts ≤ maxAccounts
+  pub ends : length bs ≡ settlementsPlace contracts accounts + settlementsWidth
+
+-- the longest file: every contract and every account
+abbrev pub savedMost : ℕ
+savedMost = settlementsPlace maxContracts maxAccounts + settlementsWidth
 
 -- areas with room for any state, for the test of one with room aside
 abbrev pub spare : List ℕ

@@ -4,11 +4,17 @@ ghost use mathlib.Core.Path.{_≡_};
 ghost use Prim.Native.Nat.{_+_, _*_, _<_, _≤_};
 ghost use lib.ListN.{length, getD};
 ghost use Rattle.laws.specs.Written.{written};
+ghost use Rattle.rules.specs.Bounds.{maxContracts};
 ghost use Rattle.rules.specs.Exchange.{noAccount};
 ghost use Rattle.rules.specs.Memory.{putAccount};
-ghost use Rattle.saved.specs.Saved.{contractPlace, savedContract, signedOf, savedHolding, savedAccount, loadedAccount, loadedFrom, loadedState};
+ghost use Rattle.statements.specs.Statement.{holdingWidth};
+ghost use Rattle.saved.specs.Saved.{contractPlace, savedContract, signedOf, savedHolding, savedAccount, loadedAccount, loadedFrom, loadedState, savedContractWidth, savedAccountWidth};
 ghost use Rattle.saving.specs.Parts.{Laid};
+use crate::shape::SAVED_ACCOUNT_WIDTH;
+use crate::shape::SAVED_CONTRACT_WIDTH;
+use crate::shape::SETTLEMENTS_WIDTH;
 use dayfile::bytes::contract_at;
+use dayfile::head::TWO_COUNTS;
 use endian::reading::u8_at;
 use endian::reading::u32_at;
 use endian::reading::u64_at;
@@ -17,14 +23,15 @@ use rules::Contract;
 use rules::Holding;
 use rules::State;
 use settlement::reopen::no_orders;
+use statements::writing::HOLDING_WIDTH;
 
 // the day file's contract, with its own last price
 fn contract_from(file: &[u8], at: usize) -> Contract
-    requires { ⌜ at + 24 ≤ length (now file) ⌝ }
+    requires { ⌜ at + savedContractWidth ≤ length (now file) ⌝ }
     ensures { λ r. ⌜ r ≡ savedContract (now (file .entry)) at ⌝ }
 {
     let mut c = contract_at(file, at);
-    c.last = u32_at(file, at + 20);
+    c.last = u32_at(file, at + rules::CONTRACT_WIDTH);
     c
 }
 
@@ -33,13 +40,13 @@ fn contracts_over(
     n: usize,
     places: [Contract; rules::MAX_CONTRACTS],
 ) -> [Contract; rules::MAX_CONTRACTS]
-    requires { ⌜ (n ≤ 4) × (4 + 24 * n ≤ length (now file)) ⌝ }
+    requires { ⌜ (n ≤ maxContracts) × (contractPlace n ≤ length (now file)) ⌝ }
     ensures { λ r. ⌜ r ≡ written (λ c. savedContract (now (file .entry)) (contractPlace c)) places n ⌝ }
 {
     let mut list = places;
     let mut c: usize = 0;
     while c < n {
-        list[c] = contract_from(file, 4 + 24 * c);
+        list[c] = contract_from(file, rules::COUNT_WIDTH + SAVED_CONTRACT_WIDTH * c);
         c += 1;
     }
     list
@@ -47,7 +54,7 @@ fn contracts_over(
 
 // what is held, at the start of the day and now
 fn holding_from(file: &[u8], at: usize) -> Holding
-    requires { ⌜ at + 8 ≤ length (now file) ⌝ }
+    requires { ⌜ at + holdingWidth ≤ length (now file) ⌝ }
     ensures { λ r. ⌜ r ≡ savedHolding (now (file .entry)) at ⌝ }
 {
     let long = u32_at(file, at);
@@ -66,23 +73,26 @@ fn holdings_over(
     n: usize,
     places: [Holding; rules::MAX_CONTRACTS],
 ) -> [Holding; rules::MAX_CONTRACTS]
-    requires { ⌜ (n ≤ 4) × (row + 8 * n ≤ length (now file)) ⌝ }
-    ensures { λ r. ⌜ r ≡ written (λ c. savedHolding (now (file .entry)) (row + 8 * c)) places n ⌝ }
+    requires { ⌜ (n ≤ maxContracts) × (row + holdingWidth * n ≤ length (now file)) ⌝ }
+    ensures { λ r. ⌜ r ≡ written (λ c. savedHolding (now (file .entry)) (row + holdingWidth * c)) places n ⌝ }
 {
     let mut list = places;
     let mut c: usize = 0;
     while c < n {
-        list[c] = holding_from(file, row + 8 * c);
+        list[c] = holding_from(file, row + HOLDING_WIDTH * c);
         c += 1;
     }
     list
 }
 
+// Where the numbers below zero begin among a signed number's eight bytes: 2^63.
+const SIGN_END: u64 = 9223372036854775808;
+
 // A signed number from its eight bytes.
 fn signed(n: u64) -> i64
     ensures { λ r. ⌜ r ≡ signedOf n ⌝ }
 {
-    if n < 9223372036854775808 {
+    if n < SIGN_END {
         return n as i64;
     }
     let size = 18446744073709551615 - n;
@@ -92,7 +102,7 @@ fn signed(n: u64) -> i64
 
 // An account over another, its holdings in contracts past the count as they were.
 fn account_over(file: &[u8], at: usize, row: usize, n: usize, room: Account) -> Account
-    requires { ⌜ (n ≤ 4) × (at + 9 ≤ length (now file)) × (row + 8 * n ≤ length (now file)) ⌝ }
+    requires { ⌜ (n ≤ maxContracts) × (at + savedAccountWidth ≤ length (now file)) × (row + holdingWidth * n ≤ length (now file)) ⌝ }
     ensures { λ r. ⌜ r ≡ putAccount (savedAccount (now (file .entry)) n at row) room ⌝ }
 {
     let balance = signed(u64_at(file, at));
@@ -115,14 +125,20 @@ fn accounts_over(
     requires { ⌜ Laid (now file) contracts accounts ⌝ }
     ensures { λ r. ⌜ r ≡ written (λ a. putAccount (loadedAccount (now (file .entry)) a) (getD places a noAccount)) places accounts ⌝ }
 {
-    let first = 8 + 24 * contracts;
-    let rows = first + 9 * accounts + 4;
-    let wide = 8 * contracts;
+    let first = TWO_COUNTS + SAVED_CONTRACT_WIDTH * contracts;
+    let rows = first + SAVED_ACCOUNT_WIDTH * accounts + rules::COUNT_WIDTH;
+    let wide = HOLDING_WIDTH * contracts;
     let mut list = places;
     let mut a: usize = 0;
     while a < accounts {
         let room = places[a];
-        list[a] = account_over(file, first + 9 * a, rows + wide * a, contracts, room);
+        list[a] = account_over(
+            file,
+            first + SAVED_ACCOUNT_WIDTH * a,
+            rows + wide * a,
+            contracts,
+            room,
+        );
         a += 1;
     }
     list
@@ -140,7 +156,7 @@ pub fn loaded_state(file: &[u8], contracts: usize, accounts: usize, state: State
     let holders = accounts_over(file, contracts, accounts, old_holders);
     let buys = no_orders(old_buys, contracts);
     let sells = no_orders(old_sells, contracts);
-    let settlements = u32_at(file, file.len() - 4);
+    let settlements = u32_at(file, file.len() - SETTLEMENTS_WIDTH);
     State {
         contracts: terms,
         accounts: holders,

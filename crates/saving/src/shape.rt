@@ -4,27 +4,48 @@ ghost use mathlib.Core.Path.{_≡_};
 ghost use Prim.Native.Nat.{_+_, _*_, _≤_};
 ghost use lib.ListN.{length};
 ghost use Rattle.laws.specs.Choice.{all};
-ghost use Rattle.rules.specs.DayFile.{contractsIn};
+ghost use Rattle.rules.specs.Bounds.{maxContracts, maxAccounts};
+ghost use Rattle.rules.specs.DayFile.{contractsIn, countWidth};
 ghost use Rattle.saved.specs.Saved as saved;
-ghost use Rattle.saving.specs.Parts.{Laid};
+ghost use Rattle.saving.specs.Parts.{Laid, savedMost};
+use dayfile::head::TWO_COUNTS;
 use dayfile::head::contract_count;
 use endian::reading::u8_at;
 use endian::reading::u32_at;
+use statements::writing::HOLDING_WIDTH;
+
+// How many bytes a contract takes, the day file's and the last price; an account, its balance and its mark; and the settlement count.
+pub const SAVED_CONTRACT_WIDTH: usize = rules::CONTRACT_WIDTH + 4;
+
+pub const SAVED_ACCOUNT_WIDTH: usize = 9;
+
+pub const SETTLEMENTS_WIDTH: usize = 4;
+
+// The counts of all four sections with the settlement count, and the last section.
+const COUNTS_WIDTH: usize = 4 * rules::COUNT_WIDTH + SETTLEMENTS_WIDTH;
+
+const LAST_SECTION: usize = rules::COUNT_WIDTH + SETTLEMENTS_WIDTH;
+
+// Before the first account's mark, the contracts aside: two counts and the balance's eight bytes.
+const FIRST_MARK: usize = TWO_COUNTS + 8;
 
 // How many bytes a file of so many contracts and accounts has.
 pub fn file_length(contracts: usize, accounts: usize) -> usize
-    requires { ⌜ (contracts ≤ 4) × (accounts ≤ 32) ⌝ }
-    ensures { λ r. ⌜ (r ≡ saved.settlementsPlace contracts accounts + 4) × (r ≤ 1428) ⌝ }
+    requires { ⌜ (contracts ≤ maxContracts) × (accounts ≤ maxAccounts) ⌝ }
+    ensures { λ r. ⌜ (r ≡ saved.settlementsPlace contracts accounts + saved.settlementsWidth) × (r ≤ savedMost) ⌝ }
 {
-    20 + 24 * contracts + 9 * accounts + 8 * contracts * accounts
+    COUNTS_WIDTH
+        + SAVED_CONTRACT_WIDTH * contracts
+        + SAVED_ACCOUNT_WIDTH * accounts
+        + HOLDING_WIDTH * contracts * accounts
 }
 
 // The accounts' count stands behind the contracts.
 pub fn account_count(file: &[u8], contracts: usize) -> usize
-    requires { ⌜ (contracts ≡ contractsIn (now file)) × (contracts ≤ 4) × (8 + 24 * contracts ≤ length (now file)) ⌝ }
+    requires { ⌜ (contracts ≡ contractsIn (now file)) × (contracts ≤ maxContracts) × (2 * countWidth + saved.savedContractWidth * contracts ≤ length (now file)) ⌝ }
     ensures { λ r. ⌜ r ≡ saved.accountsIn (now (file .entry)) ⌝ }
 {
-    u32_at(file, 4 + 24 * contracts) as usize
+    u32_at(file, rules::COUNT_WIDTH + SAVED_CONTRACT_WIDTH * contracts) as usize
 }
 
 // The counts of the last two sections.
@@ -32,17 +53,20 @@ fn counts_right(file: &[u8], contracts: usize, accounts: usize) -> bool
     requires { ⌜ Laid (now file) contracts accounts ⌝ }
     ensures { λ r. ⌜ r ≡ saved.countsRight (now (file .entry)) ⌝ }
 {
-    let holdings = laws::wide(u32_at(file, 8 + 24 * contracts + 9 * accounts));
+    let holdings = laws::wide(u32_at(
+        file,
+        TWO_COUNTS + SAVED_CONTRACT_WIDTH * contracts + SAVED_ACCOUNT_WIDTH * accounts,
+    ));
     if holdings != accounts * contracts {
         return false;
     }
-    u32_at(file, file.len() - 8) == 1
+    u32_at(file, file.len() - LAST_SECTION) == 1
 }
 
 pub fn is_shaped(file: &[u8]) -> bool
     ensures { λ r. ⌜ r ≡ saved.shaped (now (file .entry)) ⌝ }
 {
-    if file.len() < 4 {
+    if file.len() < rules::COUNT_WIDTH {
         return false;
     }
     let contracts = contract_count(file);
@@ -52,7 +76,7 @@ pub fn is_shaped(file: &[u8]) -> bool
     if rules::MAX_CONTRACTS < contracts {
         return false;
     }
-    if file.len() < 8 + 24 * contracts {
+    if file.len() < TWO_COUNTS + SAVED_CONTRACT_WIDTH * contracts {
         return false;
     }
     let accounts = account_count(file, contracts);
@@ -73,10 +97,10 @@ pub fn marks_sound(file: &[u8], contracts: usize, accounts: usize) -> bool
     requires { ⌜ Laid (now file) contracts accounts ⌝ }
     ensures { λ r. ⌜ r ≡ all (saved.markSound (now (file .entry))) accounts ⌝ }
 {
-    let first = 16 + 24 * contracts;
+    let first = FIRST_MARK + SAVED_CONTRACT_WIDTH * contracts;
     let mut a: usize = 0;
     while a < accounts {
-        if 1 < u8_at(file, first + 9 * a) {
+        if 1 < u8_at(file, first + SAVED_ACCOUNT_WIDTH * a) {
             return false;
         }
         a += 1;

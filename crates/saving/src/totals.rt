@@ -3,6 +3,7 @@ ghost use mathlib.Core.Path.{_≡_};
 ghost use Prim.Native.Nat.{_≤_, _<_};
 ghost use lib.ListN.{take};
 ghost use Rattle.laws.specs.Choice.{all};
+ghost use Rattle.rules.specs.Bounds.{maxContracts, maxAccounts};
 ghost use Rattle.saved.specs.Saved.{totalsEqual};
 ghost use Rattle.saving.specs.Parts.{asleepAt, stateWritable};
 use rules::Account;
@@ -17,7 +18,7 @@ fn wide(x: u32) -> u64
 
 // "its long and short totals are equal"
 fn totals_equal(list: [Account; rules::MAX_ACCOUNTS], accounts: usize, c: usize) -> bool
-    requires { ⌜ (accounts ≤ 32) × (c < 4) ⌝ }
+    requires { ⌜ (accounts ≤ maxAccounts) × (c < maxContracts) ⌝ }
     ensures { λ r. ⌜ r ≡ totalsEqual (take accounts list) c ⌝ }
 {
     let mut long: u64 = 0;
@@ -34,7 +35,7 @@ fn totals_equal(list: [Account; rules::MAX_ACCOUNTS], accounts: usize, c: usize)
 }
 
 pub fn all_equal(list: [Account; rules::MAX_ACCOUNTS], accounts: usize, contracts: usize) -> bool
-    requires { ⌜ (accounts ≤ 32) × (contracts ≤ 4) ⌝ }
+    requires { ⌜ (accounts ≤ maxAccounts) × (contracts ≤ maxContracts) ⌝ }
     ensures { λ r. ⌜ r ≡ all (totalsEqual (take accounts list)) contracts ⌝ }
 {
     let mut c: usize = 0;
@@ -49,7 +50,7 @@ pub fn all_equal(list: [Account; rules::MAX_ACCOUNTS], accounts: usize, contract
 
 // "every contract is in pre-open", and no orders exist
 fn all_asleep(state: State) -> bool
-    requires { ⌜ state .contractcount ≤ 4 ⌝ }
+    requires { ⌜ state .contractcount ≤ maxContracts ⌝ }
     ensures { λ r. ⌜ r ≡ all (asleepAt state) (state .contractcount) ⌝ }
 {
     let contracts = state.contractcount;
@@ -73,7 +74,7 @@ fn all_asleep(state: State) -> bool
 }
 
 pub fn is_writable(state: State) -> bool
-    requires { ⌜ (state .contractcount ≤ 4) × (state .accountcount ≤ 32) ⌝ }
+    requires { ⌜ (state .contractcount ≤ maxContracts) × (state .accountcount ≤ maxAccounts) ⌝ }
     ensures { λ r. ⌜ r ≡ stateWritable state ⌝ }
 {
     if !all_asleep(state) {

@@ -4,11 +4,13 @@ ghost use mathlib.Core.Path.{_≡_};
 ghost use Prim.Native.Nat.{ℕ, _+_, _*_, _<_, _≤_};
 ghost use lib.ListN.{length, getD};
 ghost use Rattle.areas.specs.Lists.{over};
+ghost use Rattle.rules.specs.Bounds.{maxContracts, maxAccounts};
+ghost use Rattle.rules.specs.DayFile.{countWidth};
 ghost use Rattle.endian.specs.Numbers.{four};
 ghost use Rattle.endian.specs.Written.{Written};
 ghost use Rattle.rules.specs.Exchange.{noAccount, noContract};
 ghost use Rattle.statements.specs.Statement.{section};
-ghost use Rattle.saved.specs.Saved.{contractBytes, accountBytes};
+ghost use Rattle.saved.specs.Saved.{contractBytes, accountBytes, savedContractWidth, savedAccountWidth, settlementsWidth};
 ghost use Rattle.saving.specs.Parts.{Short, Fitting, contractRow, accountRow, contractSection, accountSection, holdingSection, stateBytes};
 use endian::writing::put_byte;
 use endian::writing::put_u16;
@@ -22,8 +24,8 @@ use statements::writing::unsigned;
 
 // "the day file's 20 bytes, then last price 4"
 fn put_contract(out: &mut [u8], at: usize, c: Contract) -> usize
-    requires { ⌜ (at + 24 ≤ length (now out)) × Short c ⌝ }
-    ensures { λ r. ⌜ Written 24 (now (out .entry)) at (contractBytes c) (now (out .exit)) r ⌝ }
+    requires { ⌜ (at + savedContractWidth ≤ length (now out)) × Short c ⌝ }
+    ensures { λ r. ⌜ Written savedContractWidth (now (out .entry)) at (contractBytes c) (now (out .exit)) r ⌝ }
 {
     let multiplier = put_u16(out, at, c.multiplier as u16);
     let tick = put_u16(out, multiplier, c.tick as u16);
@@ -41,7 +43,7 @@ fn put_contracts(
     list: [Contract; rules::MAX_CONTRACTS],
     n: usize,
 ) -> usize
-    requires { ⌜ (n ≤ 4) × (at + length (contractRow list n) ≤ length (now out)) ⌝ }
+    requires { ⌜ (n ≤ maxContracts) × (at + length (contractRow list n) ≤ length (now out)) ⌝ }
     requires { ⌜ ((c : ℕ) → c < n → Short (getD list c noContract)) ⌝ }
     ensures { λ r. ⌜ Written (length (contractRow list n)) (now (out .entry)) at (contractRow list n) (now (out .exit)) r ⌝ }
 {
@@ -57,15 +59,15 @@ fn put_contracts(
 
 // "signed balance 8, maker mark 1"
 fn put_account(out: &mut [u8], at: usize, a: Account) -> usize
-    requires { ⌜ (at + 9 ≤ length (now out)) × (a .maker ≤ 1) ⌝ }
-    ensures { λ r. ⌜ Written 9 (now (out .entry)) at (accountBytes a) (now (out .exit)) r ⌝ }
+    requires { ⌜ (at + savedAccountWidth ≤ length (now out)) × (a .maker ≤ 1) ⌝ }
+    ensures { λ r. ⌜ Written savedAccountWidth (now (out .entry)) at (accountBytes a) (now (out .exit)) r ⌝ }
 {
     let next = put_u64(out, at, unsigned(a.balance));
     put_byte(out, next, a.maker as u8)
 }
 
 fn put_accounts(out: &mut [u8], at: usize, list: [Account; rules::MAX_ACCOUNTS], n: usize) -> usize
-    requires { ⌜ (n ≤ 32) × (at + length (accountRow list n) ≤ length (now out)) ⌝ }
+    requires { ⌜ (n ≤ maxAccounts) × (at + length (accountRow list n) ≤ length (now out)) ⌝ }
     requires { ⌜ ((a : ℕ) → a < n → getD list a noAccount .maker ≤ 1) ⌝ }
     ensures { λ r. ⌜ Written (length (accountRow list n)) (now (out .entry)) at (accountRow list n) (now (out .exit)) r ⌝ }
 {
@@ -86,7 +88,7 @@ fn put_contract_section(
     list: [Contract; rules::MAX_CONTRACTS],
     n: usize,
 ) -> usize
-    requires { ⌜ (n ≤ 4) × (at + length (contractSection list n) ≤ length (now out)) ⌝ }
+    requires { ⌜ (n ≤ maxContracts) × (at + length (contractSection list n) ≤ length (now out)) ⌝ }
     requires { ⌜ ((c : ℕ) → c < n → Short (getD list c noContract)) ⌝ }
     ensures { λ r. ⌜ Written (length (contractSection list n)) (now (out .entry)) at (contractSection list n) (now (out .exit)) r ⌝ }
 {
@@ -100,7 +102,7 @@ fn put_account_section(
     list: [Account; rules::MAX_ACCOUNTS],
     n: usize,
 ) -> usize
-    requires { ⌜ (n ≤ 32) × (at + length (accountSection list n) ≤ length (now out)) ⌝ }
+    requires { ⌜ (n ≤ maxAccounts) × (at + length (accountSection list n) ≤ length (now out)) ⌝ }
     requires { ⌜ ((a : ℕ) → a < n → getD list a noAccount .maker ≤ 1) ⌝ }
     ensures { λ r. ⌜ Written (length (accountSection list n)) (now (out .entry)) at (accountSection list n) (now (out .exit)) r ⌝ }
 {
@@ -115,7 +117,7 @@ fn put_holding_section(
     n: usize,
     contracts: usize,
 ) -> usize
-    requires { ⌜ (n ≤ 32) × (contracts ≤ 4) × (at + length (holdingSection list n contracts) ≤ length (now out)) ⌝ }
+    requires { ⌜ (n ≤ maxAccounts) × (contracts ≤ maxContracts) × (at + length (holdingSection list n contracts) ≤ length (now out)) ⌝ }
     ensures { λ r. ⌜ Written (length (holdingSection list n contracts)) (now (out .entry)) at (holdingSection list n contracts) (now (out .exit)) r ⌝ }
 {
     let entries = n * contracts;
@@ -125,8 +127,8 @@ fn put_holding_section(
 
 // "the settlement count (4) as a section of one"
 fn put_settlements(out: &mut [u8], at: usize, settlements: u32) -> usize
-    requires { ⌜ at + 8 ≤ length (now out) ⌝ }
-    ensures { λ r. ⌜ Written 8 (now (out .entry)) at (section 1 (four settlements)) (now (out .exit)) r ⌝ }
+    requires { ⌜ at + (countWidth + settlementsWidth) ≤ length (now out) ⌝ }
+    ensures { λ r. ⌜ Written (countWidth + settlementsWidth) (now (out .entry)) at (section 1 (four settlements)) (now (out .exit)) r ⌝ }
 {
     let next = put_u32(out, at, 1);
     put_u32(out, next, settlements)

@@ -85,10 +85,10 @@ pub record Paying (s : State) (trades prices : List ℕ) (accounts : List Accoun
 pub paying-none : (s : State) (trades prices : List ℕ) → Paying s trades prices (s .accounts) (replicate 32 (pos 0)) (replicate 32 (pos 0)) 0
 paying-none s trades prices = record { paid = writing-none _ _ _; closed = writing-none _ _ _; held = writing-none _ _ _ }
 
-module _ (s : State) (trades prices : List ℕ) (g : AllPayable s trades prices) (accounts : List Account) (closing holding : List ℤ) (a : ℕ)
+module _ {s : State} {trades prices : List ℕ} (g : AllPayable s trades prices) {accounts : List Account} {closing holding : List ℤ} {a : ℕ}
     (w : Paying s trades prices accounts closing holding a) where
   -- what the code reads of the profit it got
-  module _ (p : Profit) (t : TotalIs s trades prices a p) where
+  module _ {p : Profit} (t : TotalIs s trades prices a p) where
     pub closing-read : toZ w64 (ofZ w64 (p .closing)) ≡ closingTo s trades a (s .contractcount)
     closing-read = back 16_000_000_000_000_000 (omega arith) (t .closing-small) ∙ t .closing
 
@@ -101,10 +101,10 @@ module _ (s : State) (trades prices : List ℕ) (g : AllPayable s trades prices)
     pub holding-reach : Within 16_000_000_000_000_000 (toZ w64 (ofZ w64 (p .holding)))
     holding-reach = rw (back 16_000_000_000_000_000 (omega arith) (t .holding-small)) (t .holding-small)
 
-    pub paying-more : a < s .accountcount → (r : Account)
+    pub paying-more : a < s .accountcount → {r : Account}
         → r ≡ putAccount (carriedAccount (accountIn s a) (s .contractcount) (accountIn s a .balance +ℤ (toZ w64 (ofZ w64 (p .closing)) +ℤ toZ w64 (ofZ w64 (p .holding))))) (accountIn s a)
         → Paying s trades prices (set accounts a r) (set closing a (toZ w64 (ofZ w64 (p .closing)))) (set holding a (toZ w64 (ofZ w64 (p .holding)))) (a + 1)
-    paying-more l r e =
+    paying-more l {r} e =
         record {
           paid = writing-more _ _ _ (omega (arith, g .accounts, g .declared .accounts)) a r accounts l (e ∙ rw (closing-read, holding-read)) (w .paid);
           closed = writing-more _ _ _ (g .accounts) a _ closing l closing-read (w .closed);

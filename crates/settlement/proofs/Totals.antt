@@ -76,56 +76,57 @@ module _ (s : State) (closed closes opened opens used prices : List ℕ) (a : �
   pub totalling-none : Totalling s closed closes opened opens used prices a 0 0 0
   totalling-none = record { within = omega arith; closing = adding-none _; holding = adding-none _ }
 
-  module _ (g : Totallable s closed closes opened opens used prices a) (gained held c : ℕ) where
-    module _ (h : c < s .contractcount) (w : Totalling s closed closes opened opens used prices a gained held c) (p : Profit)
-        (q : DayFrom closed closes opened opens used a c (contractIn s c .reference) (holdingIn s a c) (getD prices c 0) p) where
-      pub closing-bits : Within 4_000_000_000_000 (toZ w64 (ofZ w64 (p .closing)))
-      closing-bits = bits-small (contractIn s c .multiplier) (p .closing) (g .multiplier c h) (q .closing-small)
+module _ {s : State} {closed closes opened opens used prices : List ℕ} {a gained held c : ℕ} (g : Totallable s closed closes opened opens used prices a)
+    (w : Totalling s closed closes opened opens used prices a gained held c) where
+  module _ (h : c < s .contractcount) {p : Profit}
+      (q : DayFrom closed closes opened opens used a c (contractIn s c .reference) (holdingIn s a c) (getD prices c 0) p) where
+    pub closing-bits : Within 4_000_000_000_000 (toZ w64 (ofZ w64 (p .closing)))
+    closing-bits = bits-small (contractIn s c .multiplier) (p .closing) (g .multiplier c h) (q .closing-small)
 
-      pub holding-bits : Within 4_000_000_000_000 (toZ w64 (ofZ w64 (p .holding)))
-      holding-bits = bits-small (contractIn s c .multiplier) (p .holding) (g .multiplier c h) (q .holding-small)
+    pub holding-bits : Within 4_000_000_000_000 (toZ w64 (ofZ w64 (p .holding)))
+    holding-bits = bits-small (contractIn s c .multiplier) (p .holding) (g .multiplier c h) (q .holding-small)
 
-      few : c < 4
-      few = omega (arith, g .contracts)
+    few : c < 4
+    few = omega (arith, g .contracts)
 
-      module _ (x y : ℤ) (e : x ≡ pos (contractIn s c .multiplier) *ℤ toZ w64 (ofZ w64 (p .closing))) where
-        closing-is : x ≡ closingTerm s closed closes opened opens used prices a c
-        closing-is = multiplied-is (contractIn s c .multiplier) (p .closing) (g .multiplier c h) (q .closing-small) x e ∙ ap (λ (z : ℤ). pos (contractIn s c .multiplier) *ℤ z) (q .closing)
+    module _ {x : ℤ} (e : x ≡ pos (contractIn s c .multiplier) *ℤ toZ w64 (ofZ w64 (p .closing))) where
+      closing-is : x ≡ closingTerm s closed closes opened opens used prices a c
+      closing-is = multiplied-is (contractIn s c .multiplier) (p .closing) (g .multiplier c h) (q .closing-small) x e ∙ ap (λ (z : ℤ). pos (contractIn s c .multiplier) *ℤ z) (q .closing)
 
-        closing-part : Within 4_000_000_000_000_000 x
-        closing-part = multiplied-small (contractIn s c .multiplier) (p .closing) (g .multiplier c h) (q .closing-small) x e
+      closing-part : Within 4_000_000_000_000_000 x
+      closing-part = multiplied-small (contractIn s c .multiplier) (p .closing) (g .multiplier c h) (q .closing-small) x e
 
-        pub closing-fits : SFits w64 (toZ w64 gained +ℤ toZ w64 (ofZ w64 x))
-        closing-fits = adding-fits _ gained c few (w .closing) x closing-is closing-part
+      pub closing-fits : SFits w64 (toZ w64 gained +ℤ toZ w64 (ofZ w64 x))
+      closing-fits = adding-fits _ gained c few (w .closing) x closing-is closing-part
 
-        module _ (f : y ≡ pos (contractIn s c .multiplier) *ℤ toZ w64 (ofZ w64 (p .holding))) where
-          holding-is : y ≡ holdingTerm s closed closes opened opens used prices a c
-          holding-is = multiplied-is (contractIn s c .multiplier) (p .holding) (g .multiplier c h) (q .holding-small) y f ∙ ap (λ (z : ℤ). pos (contractIn s c .multiplier) *ℤ z) (q .holding)
+      module _ {y : ℤ} (f : y ≡ pos (contractIn s c .multiplier) *ℤ toZ w64 (ofZ w64 (p .holding))) where
+        holding-is : y ≡ holdingTerm s closed closes opened opens used prices a c
+        holding-is = multiplied-is (contractIn s c .multiplier) (p .holding) (g .multiplier c h) (q .holding-small) y f ∙ ap (λ (z : ℤ). pos (contractIn s c .multiplier) *ℤ z) (q .holding)
 
-          holding-part : Within 4_000_000_000_000_000 y
-          holding-part = multiplied-small (contractIn s c .multiplier) (p .holding) (g .multiplier c h) (q .holding-small) y f
+        holding-part : Within 4_000_000_000_000_000 y
+        holding-part = multiplied-small (contractIn s c .multiplier) (p .holding) (g .multiplier c h) (q .holding-small) y f
 
-          pub holding-fits : SFits w64 (toZ w64 held +ℤ toZ w64 (ofZ w64 y))
-          holding-fits = adding-fits _ held c few (w .holding) y holding-is holding-part
+        pub holding-fits : SFits w64 (toZ w64 held +ℤ toZ w64 (ofZ w64 y))
+        holding-fits = adding-fits _ held c few (w .holding) y holding-is holding-part
 
-          pub totalling-more : Totalling s closed closes opened opens used prices a (ofZ w64 (toZ w64 gained +ℤ toZ w64 (ofZ w64 x))) (ofZ w64 (toZ w64 held +ℤ toZ w64 (ofZ w64 y))) (c + 1)
-          totalling-more =
-              record {
-                within = omega arith;
-                closing = adding-more _ gained c few (w .closing) x closing-is closing-part;
-                holding = adding-more _ held c few (w .holding) y holding-is holding-part;
-              }
+        pub totalling-more : Totalling s closed closes opened opens used prices a (ofZ w64 (toZ w64 gained +ℤ toZ w64 (ofZ w64 x))) (ofZ w64 (toZ w64 held +ℤ toZ w64 (ofZ w64 y))) (c + 1)
+        totalling-more =
+            record {
+              within = omega arith;
+              closing = adding-more _ gained c few (w .closing) x closing-is closing-part;
+              holding = adding-more _ held c few (w .holding) y holding-is holding-part;
+            }
 
-    pub totalling-done : s .contractcount ≤ c → Totalling s closed closes opened opens used prices a gained held c
-        → TotalFrom s closed closes opened opens used prices a (record { closing = toZ w64 gained; holding = toZ w64 held })
-    totalling-done h w =
-        let e : c ≡ s .contractcount = omega (arith, w .within) in
-        record {
-          closing = w .closing .total ∙ ap (λ (n : ℕ). sumTo n (closingTerm s closed closes opened opens used prices a)) e;
-          holding = w .holding .total ∙ ap (λ (n : ℕ). sumTo n (holdingTerm s closed closes opened opens used prices a)) e;
-          closing-small = within-le (omega (arith, w .within, g .contracts)) (w .closing .small);
-          holding-small = within-le (omega (arith, w .within, g .contracts)) (w .holding .small);
-        }
+  pub totalling-done : s .contractcount ≤ c
+      → TotalFrom s closed closes opened opens used prices a (record { closing = toZ w64 gained; holding = toZ w64 held })
+  totalling-done h =
+      let e : c ≡ s .contractcount = omega (arith, w .within) in
+      record {
+        closing = w .closing .total ∙ ap (λ (n : ℕ). sumTo n (closingTerm s closed closes opened opens used prices a)) e;
+        holding = w .holding .total ∙ ap (λ (n : ℕ). sumTo n (holdingTerm s closed closes opened opens used prices a)) e;
+        closing-small = within-le (omega (arith, w .within, g .contracts)) (w .closing .small);
+        holding-small = within-le (omega (arith, w .within, g .contracts)) (w .holding .small);
+      }
 
 -- ---- the sums are the day's: an account's total is its profit by Article 32
 
@@ -135,11 +136,17 @@ pub record TotalIs (s : State) (trades prices : List ℕ) (a : ℕ) (r : Profit)
   pub closing-small : Within 16_000_000_000_000_000 (r .closing)
   pub holding-small : Within 16_000_000_000_000_000 (r .holding)
 
-module _ (s : State) (trades prices : List ℕ) (g : AllPayable s trades prices) (closed closes opened opens left used : List ℕ)
-    (p : SumsAre true (recordedTrades trades (s .tradecount)) closed closes) (q : SumsAre false (recordedTrades trades (s .tradecount)) opened opens)
-    (d : AllDue s closed left) (u : UsedAre (recordedTrades trades (s .tradecount)) left used) (a : ℕ) (la : a < s .accountcount) where
+-- what the code has added up of the day's legs, slot by slot
+pub record DaySums (s : State) (trades closed closes opened opens left used : List ℕ) : Type 0 where
+  pub closing : SumsAre true (recordedTrades trades (s .tradecount)) closed closes
+  pub opening : SumsAre false (recordedTrades trades (s .tradecount)) opened opens
+  pub due : AllDue s closed left
+  pub taken : UsedAre (recordedTrades trades (s .tradecount)) left used
+
+module _ {s : State} {trades prices : List ℕ} (g : AllPayable s trades prices) {closed closes opened opens left used : List ℕ}
+    (d : DaySums s trades closed closes opened opens left used) (a : ℕ) (la : a < s .accountcount) where
   day-sums : Summed (recordedTrades trades (s .tradecount)) closed closes opened opens left used
-  day-sums = record { closing = p; opening = q; taken = u }
+  day-sums = record { closing = d .closing; opening = d .opening; taken = d .taken }
 
   few-accounts : a < 32
   few-accounts = omega (arith, g .accounts)
@@ -154,22 +161,22 @@ module _ (s : State) (trades prices : List ℕ) (g : AllPayable s trades prices)
         contracts = g .contracts;
         multiplier = g .each a la .multiplier;
         each = λ c lc. day-small trades (s .tradecount) closed closes opened opens left used day-sums a c few-accounts (few-contracts c lc) _ (holdingIn s a c) _
-            (g .each a la .each c lc) (d .long a c la (few-contracts c lc)) (d .short a c la (few-contracts c lc)) rooms;
+            (g .each a la .each c lc) (d .due .long a c la (few-contracts c lc)) (d .due .short a c la (few-contracts c lc)) rooms;
       }
 
   times : (c : ℕ) (y z : ℤ) → y ≡ z → pos (contractIn s c .multiplier) *ℤ y ≡ pos (contractIn s c .multiplier) *ℤ z
   times c y z e = rw e
 
-  pub total-is : (r : Profit) → TotalFrom s closed closes opened opens used prices a r → TotalIs s trades prices a r
+  pub total-is : {r : Profit} → TotalFrom s closed closes opened opens used prices a r → TotalIs s trades prices a r
   unfolding closingTo holdingTo dayIn
-  total-is r w =
+  total-is w =
       record {
         closing = w .closing ∙ sumTo-ext (s .contractcount) _ _ (λ c lc. times c _ _
             (closing-by-slots trades (s .tradecount) closed closes opened opens left used day-sums a c few-accounts (few-contracts c lc) _ (holdingIn s a c) _
-            (g .each a la .each c lc) (d .long a c la (few-contracts c lc)) (d .short a c la (few-contracts c lc))));
+            (g .each a la .each c lc) (d .due .long a c la (few-contracts c lc)) (d .due .short a c la (few-contracts c lc))));
         holding = w .holding ∙ sumTo-ext (s .contractcount) _ _ (λ c lc. times c _ _
             (holding-by-slots trades (s .tradecount) closed closes opened opens left used day-sums a c few-accounts (few-contracts c lc) _ (holdingIn s a c) _
-            (g .each a la .each c lc) (d .long a c la (few-contracts c lc)) (d .short a c la (few-contracts c lc))));
+            (g .each a la .each c lc) (d .due .long a c la (few-contracts c lc)) (d .due .short a c la (few-contracts c lc))));
         closing-small = w .closing-small;
         holding-small = w .holding-small;
       }

@@ -2,7 +2,7 @@
 use mathlib.Core.Bool.{true, false}
 use mathlib.Core.List.{List, [], map}
 use mathlib.Core.Path.{_≡_}
-use Prim.Native.Nat.{ℕ, _+_, _-_, _*_, _^_, _<_, _≤_}
+use Prim.Native.Nat.{ℕ, _+_, _-_, _*_, _<_, _≤_}
 use lib.IntN.{ℤ, pos, _+ℤ_, _*ℤ_}
 use lib.ListN.{length, getD, take}
 use Rattle.laws.specs.Bound.{Within}
@@ -10,7 +10,7 @@ use Rattle.laws.specs.Sums.{sumTo}
 use Rattle.laws.specs.Tabulate.{tabulate}
 use Rattle.areas.specs.Lists.{padded}
 use Rattle.rules.specs.Kinds.{codeOf}
-use Rattle.rules.specs.Bounds.{maxContracts, maxAccounts, maxResting, maxTrades}
+use Rattle.rules.specs.Bounds.{maxContracts, maxAccounts, maxResting, maxTrades, maxMultiplier, balanceMost}
 use Rattle.rules.specs.Exchange.{noAccount, noContract, noHolding}
 use Rattle.rules.specs.Margin as margin
 use Rattle.rules.specs.Memory.{Declared, Memory, exchangeOf, put, putAccounts, putFirst, putQueues, putTrades, recordedTrades, memory, WellFormedState, queueStride, tradeStride}
@@ -21,7 +21,7 @@ use Rattle.rules.specs.declared.Contract.{Contract}
 use Rattle.rules.specs.declared.Holding.{Holding}
 use Rattle.rules.specs.declared.State.{State}
 use Rattle.margin.specs.Charge.{ChargeableAt}
-use Rattle.dayprofit.specs.Sides.{dayOver, Profitable, sideFrom, closingFrom, holdingFrom}
+use Rattle.dayprofit.specs.Sides.{dayOver, Profitable, sideFrom, closingFrom, holdingFrom, profitMost}
 use Rattle.dayprofit.specs.Slots.{slotOf, PlacedTrades, sumsAt, DaySmall}
 use Rattle.dayprofit.specs.declared.profit.Profit.{Profit}
 use Rattle.dayprofit.specs.declared.profit.Side.{Side}
@@ -67,9 +67,9 @@ holdingTo s trades prices a n = sumTo n (λ c. pos (contractIn s c .multiplier) 
 
 -- all that an account's profit is worked out from
 pub record Payable (s : State) (trades prices : List ℕ) (a : ℕ) : Type 0 where
-  pub account : a < 32
-  pub contracts : s .contractcount ≤ 4
-  pub multiplier : (c : ℕ) → c < s .contractcount → contractIn s c .multiplier ≤ 1_000
+  pub account : a < maxAccounts
+  pub contracts : s .contractcount ≤ maxContracts
+  pub multiplier : (c : ℕ) → c < s .contractcount → contractIn s c .multiplier ≤ maxMultiplier
   pub each : (c : ℕ) → c < s .contractcount → Profitable (contractIn s c .reference) (holdingIn s a c) a c trades (s .tradecount) (getD prices c 0)
 
 -- an account's closing and holding part in a contract, from the sums of the day's legs
@@ -86,21 +86,25 @@ abbrev pub holdingPart : State → List ℕ → List ℕ → List ℕ → List �
 holdingPart s closed closes opened opens used prices a c = holdingFrom (getD prices c 0) (longIn s closed closes opened opens used a c) (shortIn s closed closes opened opens used a c)
 
 pub record Totallable (s : State) (closed closes opened opens used prices : List ℕ) (a : ℕ) : Type 0 where
-  pub account : a < 32
-  pub contracts : s .contractcount ≤ 4
-  pub multiplier : (c : ℕ) → c < s .contractcount → contractIn s c .multiplier ≤ 1_000
+  pub account : a < maxAccounts
+  pub contracts : s .contractcount ≤ maxContracts
+  pub multiplier : (c : ℕ) → c < s .contractcount → contractIn s c .multiplier ≤ maxMultiplier
   pub each : (c : ℕ) → c < s .contractcount → DaySmall closed closes opened opens used a c (contractIn s c .reference) (holdingIn s a c) (getD prices c 0)
+
+-- a part of an account's profit over all contracts
+abbrev pub accountProfitMost : ℕ
+accountProfitMost = maxContracts * maxMultiplier * profitMost
 
 pub record TotalFrom (s : State) (closed closes opened opens used prices : List ℕ) (a : ℕ) (r : Profit) : Type 0 where
   pub closing : r .closing ≡ sumTo (s .contractcount) (λ c. pos (contractIn s c .multiplier) *ℤ closingIn s closed closes opened opens used a c)
   pub holding : r .holding ≡ sumTo (s .contractcount) (λ c. pos (contractIn s c .multiplier) *ℤ holdingPart s closed closes opened opens used prices a c)
-  pub closing-small : Within 16_000_000_000_000_000 (r .closing)
-  pub holding-small : Within 16_000_000_000_000_000 (r .holding)
+  pub closing-small : Within accountProfitMost (r .closing)
+  pub holding-small : Within accountProfitMost (r .holding)
 
 -- the lots that the closes of each account in use took of today's: start-of-day lots go first
 pub record AllDue (s : State) (closed left : List ℕ) : Type 0 where
-  pub long : (a c : ℕ) → a < s .accountcount → c < 4 → getD left (slotOf a c false) 0 ≡ getD closed (slotOf a c true) 0 - holdingIn s a c .startlong
-  pub short : (a c : ℕ) → a < s .accountcount → c < 4 → getD left (slotOf a c true) 0 ≡ getD closed (slotOf a c false) 0 - holdingIn s a c .startshort
+  pub long : (a c : ℕ) → a < s .accountcount → c < maxContracts → getD left (slotOf a c false) 0 ≡ getD closed (slotOf a c true) 0 - holdingIn s a c .startlong
+  pub short : (a c : ℕ) → a < s .accountcount → c < maxContracts → getD left (slotOf a c true) 0 ≡ getD closed (slotOf a c false) 0 - holdingIn s a c .startshort
 
 -- an account with a new balance: "holdings become start-of-day"
 abbrev pub carriedAccount : Account → ℕ → ℤ → Account
@@ -114,9 +118,9 @@ paidAccount s trades prices a =
 
 pub record AllPayable (s : State) (trades prices : List ℕ) : Type 0 where
   pub declared : Declared s
-  pub accounts : s .accountcount ≤ 32
-  pub contracts : s .contractcount ≤ 4
-  pub balance : (a : ℕ) → a < s .accountcount → Within (2 * 10 ^ 18) (accountIn s a .balance)
+  pub accounts : s .accountcount ≤ maxAccounts
+  pub contracts : s .contractcount ≤ maxContracts
+  pub balance : (a : ℕ) → a < s .accountcount → Within balanceMost (accountIn s a .balance)
   pub each : (a : ℕ) → a < s .accountcount → Payable s trades prices a
   pub day : PlacedTrades trades (s .tradecount)
 
@@ -127,7 +131,7 @@ pub record BooksIs (s : State) (trades prices : List ℕ) (r : Books) : Type 0 w
 
 -- the queues of the contracts in use, in room for them
 pub record Clearable (area cs : List ℕ) (n : ℕ) : Type 0 where
-  pub few : n ≤ 4
+  pub few : n ≤ maxContracts
   pub counts : (c : ℕ) → c < n → getD cs c 0 ≤ maxResting
   pub room : queueStride * n ≤ length area
 
@@ -145,7 +149,7 @@ pub record ClearedAre (s : State) (bids offers day bids′ offers′ day′ : Li
 
 -- every account in use can be charged
 pub record AllChargeable (s : State) (buys sells : List ℕ) : Type 0 where
-  pub accounts : s .accountcount ≤ 32
+  pub accounts : s .accountcount ≤ maxAccounts
   pub each : (a : ℕ) → a < s .accountcount → ChargeableAt s buys sells a
 
 pub record ChargesAre (s : State) (buys sells : List ℕ) (r : List ℕ) : Type 0 where

@@ -1,13 +1,16 @@
 // The accounts in a settlement: each one's profit over all contracts, its balance and its holdings (document 01, "Margin and
 // settlement"). For our own crates: each function asks for values in the ranges of a well-formed state.
 ghost use mathlib.Core.Path.{_≡_};
-ghost use Prim.Native.Nat.{_*_, _^_, _≤_};
+ghost use Prim.Native.Nat.{_*_, _≤_};
 ghost use lib.IntN.{pos, _+ℤ_, _*ℤ_};
 ghost use lib.ListN.{length};
 ghost use Rattle.laws.specs.Bound.{Within};
+ghost use Rattle.rules.specs.Bounds.{maxContracts, maxAccounts, maxMultiplier, balanceMost};
 ghost use Rattle.rules.specs.Memory.{putAccount};
 ghost use Rattle.rules.specs.Settlement as settlement;
-ghost use Rattle.settlement.specs.Settling.{Totallable, TotalFrom, AllDue, carriedAccount, AllPayable, BooksIs};
+ghost use Rattle.dayprofit.specs.Sides.{profitMost};
+ghost use Rattle.dayprofit.specs.Slots.{slots};
+ghost use Rattle.settlement.specs.Settling.{Totallable, TotalFrom, AllDue, carriedAccount, AllPayable, BooksIs, accountProfitMost};
 use dayprofit::profit;
 use dayprofit::profit::Profit;
 use dayprofit::sums;
@@ -23,7 +26,7 @@ pub struct Books {
 }
 
 fn multiplied(profit: i64, multiplier: u32) -> i64
-    requires { ⌜ Within 4000000000000 profit × (multiplier ≤ 1000) ⌝ }
+    requires { ⌜ Within profitMost profit × (multiplier ≤ maxMultiplier) ⌝ }
     ensures { λ r. ⌜ r ≡ pos multiplier *ℤ profit ⌝ }
 {
     profit * multiplier as i64
@@ -75,7 +78,7 @@ fn total<'a>(
 
 // How many of today's lots the closes of every account took in every contract.
 fn put_all_due(state: State, closed: &[u32], left: &mut [u32])
-    requires { ⌜ (state .accountcount ≤ 32) × (length (now closed) ≡ 256) × (length (now left) ≡ 256) ⌝ }
+    requires { ⌜ (state .accountcount ≤ maxAccounts) × (length (now closed) ≡ slots) × (length (now left) ≡ slots) ⌝ }
     ensures { λ _. ⌜ AllDue state (now (closed .entry)) (now (left .exit)) ⌝ }
 {
     let end = rules::MAX_CONTRACTS * state.accountcount;
@@ -104,7 +107,7 @@ fn carried(h: Holding) -> Holding
 }
 
 fn carried_over(account: Account, contracts: usize) -> Account
-    requires { ⌜ contracts ≤ 4 ⌝ }
+    requires { ⌜ contracts ≤ maxContracts ⌝ }
     ensures { λ r. ⌜ r ≡ putAccount (carriedAccount account contracts (account .balance)) account ⌝ }
 {
     let mut next = account;
@@ -119,7 +122,7 @@ fn carried_over(account: Account, contracts: usize) -> Account
 
 // "The balance takes both."
 fn with_profit(balance: i64, closing: i64, holding: i64) -> i64
-    requires { ⌜ Within (2 * 10 ^ 18) balance × Within 16000000000000000 closing × Within 16000000000000000 holding ⌝ }
+    requires { ⌜ Within balanceMost balance × Within accountProfitMost closing × Within accountProfitMost holding ⌝ }
     ensures { λ r. ⌜ r ≡ balance +ℤ (closing +ℤ holding) ⌝ }
 {
     balance + (closing + holding)
@@ -127,7 +130,7 @@ fn with_profit(balance: i64, closing: i64, holding: i64) -> i64
 
 // The account that a settlement leaves.
 fn paid(account: Account, contracts: usize, closing: i64, holding: i64) -> Account
-    requires { ⌜ (contracts ≤ 4) × Within (2 * 10 ^ 18) (account .balance) × Within 16000000000000000 closing × Within 16000000000000000 holding ⌝ }
+    requires { ⌜ (contracts ≤ maxContracts) × Within balanceMost (account .balance) × Within accountProfitMost closing × Within accountProfitMost holding ⌝ }
     ensures { λ r. ⌜ r ≡ putAccount (carriedAccount account contracts (account .balance +ℤ (closing +ℤ holding))) account ⌝ }
 {
     let balance = with_profit(account.balance, closing, holding);

@@ -5,6 +5,7 @@ ghost use mathlib.Core.Path.{_≡_};
 ghost use Prim.Native.Nat.{_≤_};
 ghost use lib.ListN.{getD};
 ghost use Rattle.laws.specs.Tabulate.{tabulate};
+ghost use Rattle.rules.specs.Bounds.{maxContracts};
 ghost use Rattle.rules.specs.Exchange.{noContract};
 ghost use Rattle.rules.specs.Memory.{putFirst, putQueues};
 ghost use Rattle.rules.specs.Settlement as settlement;
@@ -27,7 +28,7 @@ pub fn all_reopened(
     count: usize,
     prices: [u32; rules::MAX_CONTRACTS],
 ) -> [Contract; rules::MAX_CONTRACTS]
-    requires { ⌜ count ≤ 4 ⌝ }
+    requires { ⌜ count ≤ maxContracts ⌝ }
     ensures { λ r. ⌜ r ≡ putFirst (tabulate count (λ c. settlement.settledContract (getD contracts c noContract) (getD prices c 0))) contracts ⌝ }
 {
     let mut next = contracts;
@@ -46,7 +47,7 @@ pub fn no_orders(
     counts: [usize; rules::MAX_CONTRACTS],
     contracts: usize,
 ) -> [usize; rules::MAX_CONTRACTS]
-    requires { ⌜ contracts ≤ 4 ⌝ }
+    requires { ⌜ contracts ≤ maxContracts ⌝ }
     ensures { λ r. ⌜ r ≡ putFirst (tabulate contracts (λ c. 0)) counts ⌝ }
 {
     let mut next = counts;

@@ -4,7 +4,7 @@ ghost use mathlib.Core.Path.{_≡_};
 ghost use Prim.Native.Nat.{_<_, _≤_};
 ghost use Rattle.laws.specs.Tabulate.{tabulate};
 ghost use Rattle.areas.specs.Lists.{padded};
-ghost use Rattle.rules.specs.Bounds.{maxContracts};
+ghost use Rattle.rules.specs.Bounds.{maxContracts, maxSettlements};
 ghost use Rattle.rules.specs.Memory.{exchangeOf, memory};
 ghost use Rattle.rules.specs.Settlement as settlement;
 ghost use Rattle.settlement.specs.Settling.{Settleable, SettledIs, AllChargeable, ChargesAre, nextDay};
@@ -93,7 +93,7 @@ fn next_day(
     accounts: [Account; rules::MAX_ACCOUNTS],
     prices: [u32; rules::MAX_CONTRACTS],
 ) -> State
-    requires { ⌜ (state .contractcount ≤ 4) × (state .settlements < 250) ⌝ }
+    requires { ⌜ (state .contractcount ≤ maxContracts) × (state .settlements < maxSettlements) ⌝ }
     ensures { λ r. ⌜ r ≡ nextDay state accounts prices ⌝ }
 {
     let contracts = state.contractcount;

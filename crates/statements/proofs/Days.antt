@@ -1,6 +1,6 @@
 -- The clients' day as the code works it out: the clients as accounts, their replay, their profit, and the statement's bytes. Assumes
 -- nothing.
-use mathlib.Core.Bool.{true}
+use mathlib.Core.Bool.{true, false}
 use mathlib.Core.List.{List}
 use mathlib.Core.Path.{_≡_, refl, sym, ap, ap₂, _∙_, subst}
 use Prim.Native.Nat.{ℕ, _+_, _*_, _<_, _≤_}
@@ -11,7 +11,7 @@ use lib.ListN.{length, getD, length-append}
 use Rattle.laws.specs.Bound.{within-pos}
 use Rattle.laws.specs.Sums.{sumTo, sumTo-ext}
 use Rattle.laws.specs.Tabulate.{tabulate, length-tabulate, getD-tabulate}
-use Rattle.areas.specs.Lists.{padded}
+use Rattle.areas.specs.Lists.{over, padded}
 use Rattle.areas.proofs.Lists.{getD-padded}
 use Rattle.rules.specs.Exchange.{Exchange, Listing, accountAt, holdingAt, listingAt, noAccount, noHolding, noTrade}
 use Rattle.rules.specs.Holdings.{bookTrades, neverBelowZero, startOfDay}
@@ -32,12 +32,14 @@ use Rattle.endian.proofs.Writes.{length-four}
 use Rattle.clients.specs.Parts.{clientsWith}
 use Rattle.replaying.specs.Parts.{Replayable, ReplayIs}
 use Rattle.replaying.proofs.Started.{start-at, used-day}
-use Rattle.statements.specs.Parts.{Brokered, Profitable, Tellable, accountsBytes, bookBytes, clientState, clientsDay, pricesDue, told}
+use Rattle.statements.specs.Parts.{Brokered, Profitable, Tellable, ToldIs, accountsBytes, bookBytes, clientState, clientsDay, pricesDue, refusedWith, told}
 use Rattle.clients.specs.Clients.{clientAccount, holdingsNow, inRow, legCount, legsIn, neverClosesMore}
 use Rattle.statements.specs.Statement.{holdingBytes, holdingsBytes, profitBytes, profitsBytes, statementOf, tradeBytes, tradesBytes}
 use Rattle.replaying.specs.declared.Held.{Held}
 use Rattle.clients.proofs.Rows.{length-row, length-row-total, row-ext, total-bound}
-use Rattle.statements.proofs.Sections.{length-holding, length-profit, length-trade, two-legs}
+use Rattle.statements.specs.declared.Statement.{Statement}
+use Rattle.statements.proofs.Answering.{told-0, told-27, told-29}
+use Rattle.statements.proofs.Sections.{few-entries, length-holding, length-profit, length-trade, two-legs}
 
 -- ---- the clients as accounts
 
@@ -51,7 +53,7 @@ first-used n f = refl
 
 -- ---- the day
 
-module _ (s : State) (buys sells area starts : List ℕ) (clients legs′ : ℕ) (g : Brokered s buys sells area starts clients legs′) (accounts : List Account)
+module _ {s : State} {buys sells area starts : List ℕ} {clients legs′ : ℕ} (g : Brokered s buys sells area starts clients legs′) {accounts : List Account}
     (e : accounts ≡ tabulate 32 (clientAccount (clientsWith clients starts))) where
   abbrev y : Exchange
   y = clientsDay s buys sells area starts clients
@@ -92,7 +94,7 @@ module _ (s : State) (buys sells area starts : List ℕ) (clients legs′ : ℕ)
   unfolding clientsDay
   accounts-of = used-clients
 
-  module _ (h : Held) (q : ReplayIs accounts n 17 area (s .tradecount) h) where
+  module _ {h : Held} (q : ReplayIs accounts n 17 area (s .tradecount) h) where
     pub covered-is : h .covered ≡ neverClosesMore y
     unfolding neverClosesMore clientsDay
     covered-is = q .covered ∙ ap (λ (l : List Account). neverBelowZero l ts) (used-start ∙ ap startOfDay used-clients)
@@ -216,13 +218,19 @@ module _ (s : State) (buys sells area starts : List ℕ) (clients legs′ : ℕ)
 
   -- ---- the statement's length
 
+  abbrev size : ℕ
+  size = 12 + 16 * legs′ + 8 * (clients * n) + 16 * clients
+
   -- each trade has two legs at most
-  pub few-legs : legs′ ≤ 2_048
+  few-legs : legs′ ≤ 2_048
   unfolding legCount
   few-legs =
       omega (arith, g .legs-are, g .trades, length-trades area (s .tradecount), total-bound (λ i. legsIn (getD ts i noTrade)) 2 (length ts) (λ i. two-legs (getD ts i noTrade)))
 
-  pub statement-length : length (statementOf y clients) ≡ 12 + 16 * legs′ + 8 * (clients * n) + 16 * clients
+  pub size-most : size ≤ 40_000
+  size-most = omega (arith, few-legs, few-entries (g .few) (g .contracts), g .few)
+
+  statement-length : length (statementOf y clients) ≡ size
   unfolding statementOf tradesBytes holdingsBytes profitsBytes legCount clientsDay
   statement-length =
       let t : length (inRow (length ts) (λ i. tradeBytes (getD ts i noTrade))) ≡ 16 * legCount ts =
@@ -239,10 +247,10 @@ module _ (s : State) (buys sells area starts : List ℕ) (clients legs′ : ℕ)
 
   -- ---- the bytes that the code writes are the statement's
 
-  module _ (h : Held) (q : ReplayIs accounts n 17 area (s .tradecount) h) (t : h .covered ≡ true) (r : Books) (w : BooksIs cs area (pricesDue cs buys sells area) r) where
+  module _ {h : Held} (q : ReplayIs accounts n 17 area (s .tradecount) h) (t : h .covered ≡ true) {r : Books} (w : BooksIs cs area (pricesDue cs buys sells area) r) where
     now-at : (k c : ℕ) → k < 17 → c < n → getD (getD (h .accounts) k noAccount .holdings) c noHolding ≡ holdingAt (holdingsNow y) k c
     unfolding holdingAt accountAt
-    now-at k c lk lc = sym (used-holding n 17 (h .accounts) k c lk lc) ∙ ap (λ (l : List Account). holdingAt l k c) (holdings-are h q t)
+    now-at k c lk lc = sym (used-holding n 17 (h .accounts) k c lk lc) ∙ ap (λ (l : List Account). holdingAt l k c) (holdings-are q t)
 
     holdings-told : accountsBytes (h .accounts) clients n ≡ holdingsBytes (holdingsNow y) clients n
     unfolding holdingsBytes
@@ -261,11 +269,11 @@ module _ (s : State) (buys sells area starts : List ℕ) (clients legs′ : ℕ)
         (ap (λ (l : List ℤ). getD l k (pos 0)) (w .closing) ∙ paid-at (λ a. closingTo cs area a n) k lk ∙ closing-is k (omega (arith, g .few)))
         (ap (λ (l : List ℤ). getD l k (pos 0)) (w .holding) ∙ paid-at (λ a. holdingTo cs area (pricesDue cs buys sells area) a n) k lk ∙ holding-profit-is k (omega (arith, g .few))))
 
-    pub told-is : told ts legs′ (h .accounts) (r .closing) (r .holding) clients n ≡ statementOf y clients
+    told-is : told ts legs′ (h .accounts) (r .closing) (r .holding) clients n ≡ statementOf y clients
     unfolding statementOf clientsDay
     told-is = rw (g .legs-are, holdings-told, profits-told, contracts-are)
 
-    pub tellable : (out : List ℕ) → 12 + 16 * legs′ + 8 * (clients * n) + 16 * clients ≤ length out
+    pub tellable : (out : List ℕ) → size ≤ length out
         → Tellable area (s .tradecount) legs′ (h .accounts) (r .closing) (r .holding) clients n out
     tellable out room =
         record {
@@ -276,3 +284,17 @@ module _ (s : State) (buys sells area starts : List ℕ) (clients legs′ : ℕ)
           each = λ i l. omega (arith, g .each i l .contract, g .contracts);
           room = rw told-is (omega (arith, statement-length));
         }
+
+    pub told-whole : {out out′ : List ℕ} → size ≤ length out → out′ ≡ over out 0 (told ts legs′ (h .accounts) (r .closing) (r .holding) clients n)
+        → ToldIs y clients out (record { code = 0; length = size }) out′
+    told-whole {out} room put =
+        told-0 y clients out (sym (covered-is q) ∙ t) size (sym statement-length) room _ (put ∙ ap (λ (bytes : List ℕ). over out 0 bytes) told-is)
+
+  -- ---- nothing is told: a client closes more than it has, or the area is too short
+
+  module _ {h : Held} (q : ReplayIs accounts n 17 area (s .tradecount) h) {out : List ℕ} {r : Statement} where
+    pub told-uncovered : h .covered ≡ false → r ≡ refusedWith 27 → ToldIs y clients out r out
+    told-uncovered t = told-27 y clients out (sym (covered-is q) ∙ t) r
+
+    pub told-short : h .covered ≡ true → length out < size → r ≡ refusedWith 29 → ToldIs y clients out r out
+    told-short t short = told-29 y clients out (sym (covered-is q) ∙ t) size (sym statement-length) short r

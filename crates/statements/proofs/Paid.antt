@@ -12,8 +12,8 @@ use Rattle.rules.specs.Answers.{_when_}
 use Rattle.rules.specs.Exchange.{Exchange, placeOf}
 use Rattle.rules.specs.Memory.{Memory, exchangeOf, wellFormedMemory}
 use Rattle.rules.proofs.InUse.{contracts-in-use}
+use Rattle.rules.proofs.Refusals.{Failed, failed}
 use Rattle.accounting.proofs.Facts.{facts}
-use Rattle.invariants.proofs.Accepted.{Failed, failed}
 use Rattle.invariants.proofs.MemoryRoom.{memory-ok}
 use Rattle.clients.specs.Clients.{Clients}
 use Rattle.clients.proofs.AddUp.{Granted, clients-add-up}

@@ -10,7 +10,7 @@ use Rattle.laws.specs.Choice.{allOf, pick}
 use Rattle.laws.specs.Tabulate.{tabulate}
 use Rattle.areas.specs.Lists.{over, padded}
 use Rattle.rules.specs.Answers.{Refusal, firstOf, _when_}
-use Rattle.rules.specs.Bounds.{maxTrades}
+use Rattle.rules.specs.Bounds.{maxTrades, maxContracts, maxPrice, maxMultiplier, maxLimit}
 use Rattle.rules.specs.Exchange.{Exchange, holdingAt, noAccount, noHolding, noTrade}
 use Rattle.rules.specs.Memory.{Declared, Memory, exchangeOf, recordedTrades, used, WellFormedState, memory, tradeStride}
 use Rattle.rules.specs.Settlement.{settlementPrice}
@@ -21,17 +21,17 @@ use Rattle.dayprofit.specs.Day.{Priceable, SizedTrades}
 use Rattle.settlement.specs.Settling.{AllPayable, contractIn}
 use Rattle.replaying.specs.Parts.{Booked}
 use Rattle.clients.specs.Parts.{clientsWith}
-use Rattle.clients.specs.Clients.{Clients, clientAccount, clientExchange, inRow, legCount, neverClosesMore, startsAddUp, tradePosted}
+use Rattle.clients.specs.Clients.{Clients, clientAccount, clientExchange, inRow, legCount, neverClosesMore, startsAddUp, tradePosted, maxClients, clientPlaces}
 use Rattle.statements.specs.Statement.{holdingBytes, profitBytes, section, statementOf, tradesBytes}
 use Rattle.statements.specs.declared.Statement.{Statement}
 
 -- the settlement prices of the contracts in use, with zeros past their count
 abbrev pub pricesDue : State → List ℕ → List ℕ → List ℕ → List ℕ
-pricesDue s buys sells area = padded 4 0 (tabulate (s .contractcount) (settlementPrice (exchangeOf (memory s buys sells area))))
+pricesDue s buys sells area = padded maxContracts 0 (tabulate (s .contractcount) (settlementPrice (exchangeOf (memory s buys sells area))))
 
 -- a state whose contracts can be priced, and whose accounts can be paid at those prices
 pub record Profitable (s : State) (buys sells area : List ℕ) : Type 0 where
-  pub few : s .contractcount ≤ 4
+  pub few : s .contractcount ≤ maxContracts
   pub priceable : (c : ℕ) → c < s .contractcount
       → Priceable (contractIn s c) buys (getD (s .buycounts) c 0) sells (getD (s .sellcounts) c 0) area (s .tradecount) c
   pub payable : AllPayable s area (pricesDue s buys sells area)
@@ -53,11 +53,11 @@ told ts legs accounts closing holding clients contracts =
     ++ (section (clients * contracts) (accountsBytes accounts clients contracts) ++ section clients (bookBytes closing holding clients))
 
 pub record Tellable (area : List ℕ) (count legs : ℕ) (accounts : List Account) (closing holding : List ℤ) (clients contracts : ℕ) (out : List ℕ) : Type 0 where
-  pub few-clients : clients ≤ 16
-  pub few-contracts : contracts ≤ 4
+  pub few-clients : clients ≤ maxClients
+  pub few-contracts : contracts ≤ maxContracts
   pub area-room : tradeStride * count ≤ length area
-  pub few-legs : legs ≤ 2_048
-  pub each : (i : ℕ) → i < count → getD (recordedTrades area count) i noTrade .contract < 4
+  pub few-legs : legs ≤ 2 * maxTrades
+  pub each : (i : ℕ) → i < count → getD (recordedTrades area count) i noTrade .contract < maxContracts
   pub room : length (told (recordedTrades area count) legs accounts closing holding clients contracts) ≤ length out
 
 -- ---- the account's day as its clients'
@@ -89,7 +89,7 @@ unfoldable pub clientsDay : State → List ℕ → List ℕ → List ℕ → Lis
 clientsDay s buys sells area starts clients =
     record {
       listings = exchangeOf (memory s buys sells area) .listings;
-      accounts = used (s .contractcount) 17 (tabulate 17 (clientAccount (clientsWith clients starts)));
+      accounts = used (s .contractcount) clientPlaces (tabulate clientPlaces (clientAccount (clientsWith clients starts)));
       trades = recordedTrades area (s .tradecount);
       next = s .next;
       nextstamp = s .nextstamp;
@@ -112,26 +112,26 @@ ToldIs y clients out r out′ = AnswerIs (firstOf (lastRefusals y clients (lengt
 -- all that the clients' day is worked out from
 pub record Brokered (s : State) (buys sells area starts : List ℕ) (clients legs : ℕ) : Type 0 where
   pub declared : Declared s
-  pub contracts : s .contractcount ≤ 4
-  pub few : clients ≤ 16
+  pub contracts : s .contractcount ≤ maxContracts
+  pub few : clients ≤ maxClients
   pub trades : s .tradecount ≤ maxTrades
   pub room : tradeStride * s .tradecount ≤ length area
   pub sized : SizedTrades area (s .tradecount)
-  pub each : (i : ℕ) → i < s .tradecount → Booked (s .contractcount) 17 (getD (recordedTrades area (s .tradecount)) i noTrade)
-  pub lots : (k c : ℕ) → k < 17 → c < s .contractcount
-      → (holdingAt (tabulate 17 (clientAccount (clientsWith clients starts))) k c .startlong ≤ 100_000)
-      × (holdingAt (tabulate 17 (clientAccount (clientsWith clients starts))) k c .startshort ≤ 100_000)
+  pub each : (i : ℕ) → i < s .tradecount → Booked (s .contractcount) clientPlaces (getD (recordedTrades area (s .tradecount)) i noTrade)
+  pub lots : (k c : ℕ) → k < clientPlaces → c < s .contractcount
+      → (holdingAt (tabulate clientPlaces (clientAccount (clientsWith clients starts))) k c .startlong ≤ maxLimit)
+      × (holdingAt (tabulate clientPlaces (clientAccount (clientsWith clients starts))) k c .startshort ≤ maxLimit)
   pub legs-are : legs ≡ legCount (recordedTrades area (s .tradecount))
-  pub terms : (c : ℕ) → c < s .contractcount → (contractIn s c .multiplier ≤ 1_000) × (contractIn s c .reference ≤ 1_000_000)
+  pub terms : (c : ℕ) → c < s .contractcount → (contractIn s c .multiplier ≤ maxMultiplier) × (contractIn s c .reference ≤ maxPrice)
   pub priceable : (c : ℕ) → c < s .contractcount
       → Priceable (contractIn s c) buys (getD (s .buycounts) c 0) sells (getD (s .sellcounts) c 0) area (s .tradecount) c
-  pub prices : (c : ℕ) → c < s .contractcount → settlementPrice (clientsDay s buys sells area starts clients) c ≤ 1_000_000
+  pub prices : (c : ℕ) → c < s .contractcount → settlementPrice (clientsDay s buys sells area starts clients) c ≤ maxPrice
 
 -- the account exists, there are few enough clients, and their starting lots add up
 pub record Postable (s : State) (buys sells trades : List ℕ) (a clients : ℕ) (starts : List ℕ) : Type 0 where
   pub formed : WellFormedState s buys sells trades
   pub account : a < s .accountcount
-  pub few : clients ≤ 16
+  pub few : clients ≤ maxClients
   pub adds : startsAddUp (exchangeOf (memory s buys sells trades)) a (broker clients starts []) ≡ true
 
 abbrev pub PostedIs : Memory → ℕ → ℕ → List ℕ → List ℕ → List ℕ → Statement → List ℕ → Type 0

@@ -32,6 +32,9 @@ unfoldable pub legBytes : Trade → ℕ → ℕ → ℕ → ℕ → List ℕ
 legBytes t client sell close order =
     (client + 1) ∷ (t .contract + 1) ∷ sell ∷ pick (eqb close 0) 0 1 ∷ (four (t .price) ++ (four (t .lots) ++ four order))
 
+abbrev pub legWidth : ℕ
+legWidth = 16
+
 -- "one for each leg of the account in trade order, the buyer's first"
 unfoldable pub tradeBytes : Trade → List ℕ
 tradeBytes t =
@@ -45,6 +48,9 @@ tradesBytes ts = inRow (length ts) (λ i. tradeBytes (getD ts i noTrade))
 unfoldable pub holdingBytes : Holding → List ℕ
 holdingBytes h = four (h .long) ++ four (h .short)
 
+abbrev pub holdingWidth : ℕ
+holdingWidth = 8
+
 unfoldable pub holdingsBytes : List Account → ℕ → ℕ → List ℕ
 holdingsBytes accounts clients contracts = inRow clients (λ k. inRow contracts (λ c. holdingBytes (holdingAt accounts k c)))
 
@@ -56,6 +62,9 @@ unsigned (negsuc n) = 18_446_744_073_709_551_615 - n
 -- "profit (signed closing 8, signed holding 8, by client)"
 unfoldable pub profitBytes : ℤ → ℤ → List ℕ
 profitBytes closing holding = eight (unsigned closing) ++ eight (unsigned holding)
+
+abbrev pub profitWidth : ℕ
+profitWidth = 16
 
 unfoldable pub profitsBytes : Exchange → ℕ → List ℕ
 profitsBytes x clients = inRow clients (λ k. profitBytes (closingProfit x k) (holdingProfit x k))

@@ -9,6 +9,9 @@ use crate::writing;
 use rules::Account;
 use rules::State;
 
+// The counts of the three sections.
+const COUNTS_WIDTH: usize = 3 * rules::COUNT_WIDTH;
+
 // The state with clients in place of its accounts.
 fn with_clients(state: State, accounts: [Account; rules::MAX_ACCOUNTS], clients: usize) -> State
     ensures { λ r. ⌜ r ≡ clientState state accounts clients ⌝ }
@@ -36,11 +39,14 @@ fn tell<'a>(
     let accounts = clients::starts::client_accounts(starts, clients);
     let contracts = state.contractcount;
     let count = state.tradecount;
-    let held = replaying::replay(accounts, contracts, 17, area, count);
+    let held = replaying::replay(accounts, contracts, clients::CLIENT_PLACES, area, count);
     if !held.covered {
         return refused(27);
     }
-    let length = 12 + 16 * legs + 8 * (clients * contracts) + 16 * clients;
+    let length = COUNTS_WIDTH
+        + writing::LEG_WIDTH * legs
+        + writing::HOLDING_WIDTH * (clients * contracts)
+        + writing::PROFIT_WIDTH * clients;
     if out.len() < length {
         return refused(29);
     }

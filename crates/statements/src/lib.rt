@@ -46,7 +46,7 @@ pub fn client_statement<'a>(
     if answers::is_absent(account, state.accountcount) {
         return refused(2);
     }
-    if 16 < clients {
+    if clients::MAX_CLIENTS < clients {
         return refused(25);
     }
     let place = laws::place_of(account);

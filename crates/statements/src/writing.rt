@@ -7,10 +7,12 @@ ghost use lib.Dec.{eqb};
 ghost use lib.ListN.{length, getD};
 ghost use Rattle.laws.specs.Choice.{pick};
 ghost use Rattle.areas.specs.Lists.{over};
+ghost use Rattle.rules.specs.Bounds.{maxContracts, maxAccounts};
 ghost use Rattle.rules.specs.Exchange.{noTrade};
 ghost use Rattle.rules.specs.Memory.{recordedTrades, tradeStride};
 ghost use Rattle.endian.specs.Written.{Written};
-ghost use Rattle.clients.specs.Clients.{isClient};
+ghost use Rattle.clients.specs.Clients.{isClient, maxClients};
+ghost use Rattle.statements.specs.Statement.{legWidth, holdingWidth, profitWidth};
 ghost use Rattle.statements.specs.Parts.{accountBytes, accountsBytes, bookBytes, Tellable, told};
 ghost use Rattle.statements.specs.Statement as statement;
 use book::trades;
@@ -21,6 +23,13 @@ use lines::number::magnitude;
 use rules::Account;
 use rules::Holding;
 use rules::Trade;
+
+// How many bytes a leg, a holding and a client's profit take.
+pub const LEG_WIDTH: usize = 16;
+
+pub const HOLDING_WIDTH: usize = 8;
+
+pub const PROFIT_WIDTH: usize = 16;
 
 // "marks are 0 or 1"
 fn mark(close: u32) -> u8
@@ -39,8 +48,8 @@ fn put_leg(
     close: u32,
     order: u32,
 ) -> usize
-    requires { ⌜ (at + 16 ≤ length (now out)) × (place < 16) × (t .contract < 4) ⌝ }
-    ensures { λ r. ⌜ Written 16 (now (out .entry)) at (statement.legBytes t place sell close order) (now (out .exit)) r ⌝ }
+    requires { ⌜ (at + legWidth ≤ length (now out)) × (place < maxClients) × (t .contract < maxContracts) ⌝ }
+    ensures { λ r. ⌜ Written legWidth (now (out .entry)) at (statement.legBytes t place sell close order) (now (out .exit)) r ⌝ }
 {
     let client = place + 1;
     let contract = t.contract + 1;
@@ -63,10 +72,10 @@ fn put_side(
     close: u32,
     order: u32,
 ) -> usize
-    requires { ⌜ (at + length (pick (isClient place) (statement.legBytes t place sell close order) []) ≤ length (now out)) × (t .contract < 4) ⌝ }
-    ensures { λ r. ⌜ Written 16 (now (out .entry)) at (pick (isClient place) (statement.legBytes t place sell close order) []) (now (out .exit)) r ⌝ }
+    requires { ⌜ (at + length (pick (isClient place) (statement.legBytes t place sell close order) []) ≤ length (now out)) × (t .contract < maxContracts) ⌝ }
+    ensures { λ r. ⌜ Written legWidth (now (out .entry)) at (pick (isClient place) (statement.legBytes t place sell close order) []) (now (out .exit)) r ⌝ }
 {
-    if 16 <= place {
+    if clients::MAX_CLIENTS <= place {
         return at;
     }
     put_leg(out, at, t, place, sell, close, order)
@@ -74,8 +83,8 @@ fn put_side(
 
 // "the buyer's first"
 fn put_trade(out: &mut [u8], at: usize, t: Trade) -> usize
-    requires { ⌜ (at + length (statement.tradeBytes t) ≤ length (now out)) × (t .contract < 4) ⌝ }
-    ensures { λ r. ⌜ Written 32 (now (out .entry)) at (statement.tradeBytes t) (now (out .exit)) r ⌝ }
+    requires { ⌜ (at + length (statement.tradeBytes t) ≤ length (now out)) × (t .contract < maxContracts) ⌝ }
+    ensures { λ r. ⌜ Written (2 * legWidth) (now (out .entry)) at (statement.tradeBytes t) (now (out .exit)) r ⌝ }
 {
     let next = put_side(out, at, t, t.buyer, 0, t.buyclose, t.buyorder);
     put_side(out, next, t, t.seller, 1, t.sellclose, t.sellorder)
@@ -83,7 +92,7 @@ fn put_trade(out: &mut [u8], at: usize, t: Trade) -> usize
 
 fn put_trades(area: &[u32], count: usize, out: &mut [u8], at: usize) -> usize
     requires { ⌜ (tradeStride * count ≤ length (now area)) × (at + length (statement.tradesBytes (recordedTrades (now area) count)) ≤ length (now out)) ⌝ }
-    requires { ⌜ ((i : ℕ) → i < count → getD (recordedTrades (now area) count) i noTrade .contract < 4) ⌝ }
+    requires { ⌜ ((i : ℕ) → i < count → getD (recordedTrades (now area) count) i noTrade .contract < maxContracts) ⌝ }
     ensures { λ r. ⌜ Written (length (statement.tradesBytes (recordedTrades (now (area .entry)) count))) (now (out .entry)) at (statement.tradesBytes (recordedTrades (now (area .entry)) count)) (now (out .exit)) r ⌝ }
 {
     let mut next = at;
@@ -97,8 +106,8 @@ fn put_trades(area: &[u32], count: usize, out: &mut [u8], at: usize) -> usize
 }
 
 fn put_holding(out: &mut [u8], at: usize, h: Holding) -> usize
-    requires { ⌜ at + 8 ≤ length (now out) ⌝ }
-    ensures { λ r. ⌜ Written 8 (now (out .entry)) at (statement.holdingBytes h) (now (out .exit)) r ⌝ }
+    requires { ⌜ at + holdingWidth ≤ length (now out) ⌝ }
+    ensures { λ r. ⌜ Written holdingWidth (now (out .entry)) at (statement.holdingBytes h) (now (out .exit)) r ⌝ }
 {
     let next = put_u32(out, at, h.long);
     put_u32(out, next, h.short)
@@ -106,7 +115,7 @@ fn put_holding(out: &mut [u8], at: usize, h: Holding) -> usize
 
 // One client's holdings.
 fn put_account(out: &mut [u8], at: usize, a: Account, contracts: usize) -> usize
-    requires { ⌜ (contracts ≤ 4) × (at + length (accountBytes a contracts) ≤ length (now out)) ⌝ }
+    requires { ⌜ (contracts ≤ maxContracts) × (at + length (accountBytes a contracts) ≤ length (now out)) ⌝ }
     ensures { λ r. ⌜ Written (length (accountBytes a contracts)) (now (out .entry)) at (accountBytes a contracts) (now (out .exit)) r ⌝ }
 {
     let mut next = at;
@@ -127,7 +136,7 @@ pub fn put_holdings(
     clients: usize,
     contracts: usize,
 ) -> usize
-    requires { ⌜ (clients ≤ 32) × (contracts ≤ 4) × (at + length (accountsBytes accounts clients contracts) ≤ length (now out)) ⌝ }
+    requires { ⌜ (clients ≤ maxAccounts) × (contracts ≤ maxContracts) × (at + length (accountsBytes accounts clients contracts) ≤ length (now out)) ⌝ }
     ensures { λ r. ⌜ Written (length (accountsBytes accounts clients contracts)) (now (out .entry)) at (accountsBytes accounts clients contracts) (now (out .exit)) r ⌝ }
 {
     let mut next = at;
@@ -152,8 +161,8 @@ pub fn unsigned(x: i64) -> u64
 }
 
 fn put_profit(out: &mut [u8], at: usize, closing: i64, holding: i64) -> usize
-    requires { ⌜ at + 16 ≤ length (now out) ⌝ }
-    ensures { λ r. ⌜ Written 16 (now (out .entry)) at (statement.profitBytes closing holding) (now (out .exit)) r ⌝ }
+    requires { ⌜ at + profitWidth ≤ length (now out) ⌝ }
+    ensures { λ r. ⌜ Written profitWidth (now (out .entry)) at (statement.profitBytes closing holding) (now (out .exit)) r ⌝ }
 {
     let next = put_u64(out, at, unsigned(closing));
     put_u64(out, next, unsigned(holding))
@@ -166,7 +175,7 @@ fn put_profits(
     holding: [i64; rules::MAX_ACCOUNTS],
     clients: usize,
 ) -> usize
-    requires { ⌜ (clients ≤ 16) × (at + length (bookBytes closing holding clients) ≤ length (now out)) ⌝ }
+    requires { ⌜ (clients ≤ maxClients) × (at + length (bookBytes closing holding clients) ≤ length (now out)) ⌝ }
     ensures { λ r. ⌜ Written (length (bookBytes closing holding clients)) (now (out .entry)) at (bookBytes closing holding clients) (now (out .exit)) r ⌝ }
 {
     let mut next = at;

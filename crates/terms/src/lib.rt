@@ -37,10 +37,10 @@ pub fn terms_in_range(c: Contract) -> bool
     ensures { λ r. ⌜ r ≡ termsInRange c ⌝ }
 {
     let tick = c.tick;
-    if !within(1, 1000, c.multiplier) {
+    if !within(1, rules::MAX_MULTIPLIER, c.multiplier) {
         return false;
     }
-    if !within(1, 1000, tick) {
+    if !within(1, rules::MAX_TICK, tick) {
         return false;
     }
     if !tick_multiple(tick, c.reference) {
@@ -49,10 +49,10 @@ pub fn terms_in_range(c: Contract) -> bool
     if !tick_multiple(tick, c.band) {
         return false;
     }
-    if !within(1, 100000, c.limit) {
+    if !within(1, rules::MAX_LIMIT, c.limit) {
         return false;
     }
-    if !within(1, 10000, c.rate as u32) {
+    if !within(1, rules::MAX_RATE, c.rate as u32) {
         return false;
     }
     c.method <= rules::MAX_METHOD

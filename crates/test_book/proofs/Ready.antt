@@ -45,52 +45,51 @@ none-held b =
     nothing : HoldingWithin b noHolding
     nothing = record { long = omega arith; short = omega arith }
 
-module _ (t : Taker) (lots : ℕ) (opposite : List ℕ) (count : ℕ) (contract : t .contract ≡ 0) (method : t .method ≡ Middle) where
-  -- the queue of contract 0 begins with the area
-  account-at : (i : ℕ) → i < count → getD (queueIn opposite (t .contract) count) i noOrder .account ≡ getD opposite (orderStride * i + 2) 0
-  account-at i h =
-      let at : firstWord (t .contract) i ≡ orderStride * i = omega arith in
-      ap (λ (o : Order). o .account)
-      (order-at opposite (t .contract) count i h
-      ∙ ap (λ (k : ℕ). orderFrom (drop k opposite)) at
-      ∙ order-words opposite (orderStride * i))
+-- the queue of contract 0 begins with the area
+account-at : (t : Taker) (opposite : List ℕ) (count : ℕ) → t .contract ≡ 0 → (i : ℕ) → i < count → getD (queueIn opposite (t .contract) count) i noOrder .account ≡ getD opposite (orderStride * i + 2) 0
+account-at t opposite count contract i h =
+    let at : firstWord (t .contract) i ≡ orderStride * i = omega arith in
+    ap (λ (o : Order). o .account)
+    (order-at opposite (t .contract) count i h
+    ∙ ap (λ (k : ℕ). orderFrom (drop k opposite)) at
+    ∙ order-words opposite (orderStride * i))
 
-  -- all that `enter` asks for, of an order that makes at most two trades
-  pub ready : (price last : ℕ) {held : List Account} (own : List ℕ) (owncount : ℕ) (area : List ℕ) (before : ℕ)
-      → t .account ≤ 31 → lots ≤ 1000 → owncount ≤ 63 → count ≤ maxResting → before ≤ 8
-      → length own ≡ queueStride → length opposite ≡ queueStride → length area ≡ 90
-      → AccountsKnown opposite count → countTrades t lots (queueIn opposite 0 count) ≤ 2 → held ≡ noHoldings
-      → EntryReady t lots price true last held own owncount opposite count area before
-  unfolding enter
-  ready price last own owncount area before account size few fewer early room opposite-room trade-room known two none =
-      let trades : List Trade = sweep t lots last (queueIn opposite (t .contract) count) .trades in
-      let made : length trades ≤ 2
-      = omega (
-        arith,
-        trades-counted t lots last (queueIn opposite (t .contract) count),
-        ap (λ (c : ℕ). countTrades t lots (queueIn opposite c count)) contract,
-      ) in
-      record {
-        sweeps =
-            record {
-              contract = omega arith;
-              method = rw method tt;
-              size = size;
-              queue = omega arith;
-              room = omega arith;
-              parties =
-                  record {
-                    used = 32;
-                    few = omega arith;
-                    taker = omega arith;
-                    resting = λ i h. omega (arith, account-at i h, known .each i h);
-                    holdings = record { each = λ a h. rw none (none-held 1_000_000 a (t .contract)) };
-                  };
-            };
-        rests =
-            omega (
-              arith,
-              length-queue own (t .contract) owncount,
-              rest-most t price (restedLots true lots trades) (queueIn own (t .contract) owncount),
-            );
-      }
+-- all that `enter` asks for, of an order that makes at most two trades
+pub ready : {t : Taker} {lots price last : ℕ} {held : List Account} {own : List ℕ} {owncount : ℕ} {opposite : List ℕ} {count : ℕ} {area : List ℕ} {before : ℕ}
+    → t .contract ≡ 0 → t .method ≡ Middle → t .account ≤ 31 → lots ≤ 1000 → owncount ≤ 63 → count ≤ maxResting → before ≤ 8
+    → length own ≡ queueStride → length opposite ≡ queueStride → length area ≡ 90
+    → AccountsKnown opposite count → countTrades t lots (queueIn opposite 0 count) ≤ 2 → held ≡ noHoldings
+    → EntryReady t lots price true last held own owncount opposite count area before
+unfolding enter
+ready {t} {lots} {price} {last} {own = own} {owncount = owncount} {opposite = opposite} {count = count} contract method account size few fewer early room opposite-room trade-room known two none =
+    let trades : List Trade = sweep t lots last (queueIn opposite (t .contract) count) .trades in
+    let made : length trades ≤ 2
+    = omega (
+      arith,
+      trades-counted t lots last (queueIn opposite (t .contract) count),
+      ap (λ (c : ℕ). countTrades t lots (queueIn opposite c count)) contract,
+    ) in
+    record {
+      sweeps =
+          record {
+            contract = omega arith;
+            method = rw method tt;
+            size = size;
+            queue = omega arith;
+            room = omega arith;
+            parties =
+                record {
+                  used = 32;
+                  few = omega arith;
+                  taker = omega arith;
+                  resting = λ i h. omega (arith, account-at t opposite count contract i h, known .each i h);
+                  holdings = record { each = λ a h. rw none (none-held 1_000_000 a (t .contract)) };
+                };
+          };
+      rests =
+          omega (
+            arith,
+            length-queue own (t .contract) owncount,
+            rest-most t price (restedLots true lots trades) (queueIn own (t .contract) owncount),
+          );
+    }

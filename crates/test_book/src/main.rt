@@ -104,10 +104,10 @@ fn submit(
 ) -> Entry
     requires { ⌜ t .method ≡ Middle ⌝ }
 {
-    if t.contract != 0 || t.account > 31 || lots > 1000 {
+    if t.contract != 0 || t.account > 31 || lots > rules::MAX_LOTS {
         return nothing();
     }
-    if owncount > 63 || oppositecount > 64 || before > 8 {
+    if owncount > 63 || oppositecount > rules::MAX_RESTING || before > 8 {
         return nothing();
     }
     if !accounts_known(opposite, oppositecount) {
@@ -212,7 +212,7 @@ fn order(
 
 // The lots that a buy at a limit could be filled with.
 fn fillable(area: &[u32; rules::QUEUE_STRIDE], count: usize, limit: u32) -> u64 {
-    if count > 64 {
+    if count > rules::MAX_RESTING {
         return 0;
     }
     let t = limit_order(false, 1, limit);
@@ -220,7 +220,7 @@ fn fillable(area: &[u32; rules::QUEUE_STRIDE], count: usize, limit: u32) -> u64 
 }
 
 fn print_queue(area: &[u32; rules::QUEUE_STRIDE], count: usize) {
-    if count > 64 {
+    if count > rules::MAX_RESTING {
         return;
     }
     let mut i: usize = 0;

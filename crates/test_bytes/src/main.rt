@@ -1,6 +1,6 @@
 // A test of the file's reading and the lines' writing. For each file of the data folder it writes whether the file is sound,
-// and of a sound one the number of its commands and a letter for each, a dash for a malformed one. Then it writes some lines
-// of the longest numbers. The files:
+// and of a sound one the number of its commands and the kind of each, 0 for a malformed one. Then it writes some lines of the
+// longest numbers. The files:
 //   01  the paper's day
 //   02  no bytes
 //   03  three bytes
@@ -48,15 +48,9 @@ fn say(byte: u8) {
     io::write_all(STDOUT_FILENO, &[byte]);
 }
 
-// A letter for each kind, by its number.
-fn letter(command: Command) -> u8 {
-    let letters = b"-dwicpseqh";
-    let kind = commands::kind_of(command) as usize;
-    if kind < letters.len() {
-        letters[kind]
-    } else {
-        b'?'
-    }
+fn say_kind(command: Command) {
+    say(b' ');
+    io::print_decimal(STDOUT_FILENO, commands::kind_of(command) as u64);
 }
 
 fn say_commands(file: &[u8])
@@ -66,11 +60,11 @@ fn say_commands(file: &[u8])
     let first = dayfile::file::first_command(file);
     io::write_all(STDOUT_FILENO, b"sound ");
     io::print_decimal(STDOUT_FILENO, n as u64);
-    say(b' ');
+    say(b':');
     let mut k = 0;
     while k < n {
         let r = dayfile::file::record_of(file, first, k);
-        say(letter(commands::command_of(r)));
+        say_kind(commands::command_of(r));
         k += 1;
     }
 }

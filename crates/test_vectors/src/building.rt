@@ -10,11 +10,11 @@ use rules::State;
 pub const ORDER_WORDS: usize = rules::ORDER_STRIDE;
 
 // The place of the stamp among an order's words.
-const STAMP_FIELD: usize = 5;
+const STAMP_FIELD: usize = rules::STAMP_WORD;
 
 pub const TRADE_WORDS: usize = rules::TRADE_STRIDE;
 
-pub const ANSWER_WORDS: usize = 4;
+pub const ANSWER_WORDS: usize = baskets::answers::ANSWER_STRIDE;
 
 // Where the areas begin in the one that holds them all, and how many words each may have.
 pub const BUYS: usize = 0;
@@ -62,7 +62,7 @@ fn filling() -> State {
     };
     let account = Account {
         balance: -4611686018427387904,
-        holdings: [holding; 4],
+        holdings: [holding; rules::MAX_CONTRACTS],
         maker: 1,
     };
     let contract = Contract {
@@ -77,10 +77,10 @@ fn filling() -> State {
         last: 2779096485,
     };
     State {
-        contracts: [contract; 4],
-        accounts: [account; 32],
-        buycounts: [9223372039633872293; 4],
-        sellcounts: [9223372039633872293; 4],
+        contracts: [contract; rules::MAX_CONTRACTS],
+        accounts: [account; rules::MAX_ACCOUNTS],
+        buycounts: [9223372039633872293; rules::MAX_CONTRACTS],
+        sellcounts: [9223372039633872293; rules::MAX_CONTRACTS],
         contractcount: 0,
         accountcount: 0,
         tradecount: 0,
@@ -140,7 +140,7 @@ fn with_contract(state: State, v: [u64; 16]) -> State {
         last: reading::word(v[9]),
     };
     let mut s = state;
-    if place < 4 {
+    if place < rules::MAX_CONTRACTS {
         s.contracts[place] = contract;
     }
     s
@@ -150,7 +150,7 @@ fn with_contract(state: State, v: [u64; 16]) -> State {
 fn with_queues(state: State, v: [u64; 16]) -> State {
     let place = reading::size(v[0]);
     let mut s = state;
-    if place < 4 {
+    if place < rules::MAX_CONTRACTS {
         s.buycounts[place] = reading::size(v[1]);
         s.sellcounts[place] = reading::size(v[2]);
     }
@@ -162,7 +162,7 @@ fn with_account(state: State, v: [u64; 16]) -> State {
     let place = reading::size(v[0]);
     let balance = reading::signed(v[1]);
     let mut s = state;
-    if place < 32 {
+    if place < rules::MAX_ACCOUNTS {
         let mut account = s.accounts[place];
         account.balance = balance;
         account.maker = v[2];
@@ -182,8 +182,8 @@ fn with_holding(state: State, v: [u64; 16]) -> State {
         startshort: reading::word(v[5]),
     };
     let mut s = state;
-    if place < 32 {
-        if contract < 4 {
+    if place < rules::MAX_ACCOUNTS {
+        if contract < rules::MAX_CONTRACTS {
             let mut account = s.accounts[place];
             account.holdings[contract] = holding;
             s.accounts[place] = account;
@@ -371,8 +371,8 @@ pub fn same_from(all: &[u32; ALL], base: usize, area: &[u32]) -> bool {
 
 // Where a contract's queue begins in the area that holds all: 64 orders for each contract before it.
 pub fn queue_base(sell: bool, contract: usize) -> usize {
-    let before = reading::times(reading::times(contract, 64), ORDER_WORDS);
-    let first = 64 * ORDER_WORDS;
+    let before = reading::times(reading::times(contract, rules::MAX_RESTING), ORDER_WORDS);
+    let first = rules::QUEUE_STRIDE;
     if before < first {
         return 0;
     }

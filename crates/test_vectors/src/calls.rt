@@ -59,7 +59,7 @@ fn told_of(k: usize, accounts: usize, numbers: usize) -> usize
     0
 }
 
-fn same_prices(prices: [u32; 4], v: [u64; 16]) -> bool {
+fn same_prices(prices: [u32; rules::MAX_CONTRACTS], v: [u64; 16]) -> bool {
     prices[0] == reading::word(v[0])
         && prices[1] == reading::word(v[1])
         && prices[2] == reading::word(v[2])
@@ -73,12 +73,12 @@ fn same_report(file: &[u8], at: usize, accounts: usize, report: Report) -> Check
     let closing = report.closing;
     let holding = report.holding;
     let charged = report.charged;
-    let told = reading::numbers(file, at, told_of(0, accounts, 4));
+    let told = reading::numbers(file, at, told_of(0, accounts, rules::MAX_CONTRACTS));
     let values = told.values;
     let mut same = same_prices(prices, values);
     let mut next = told.next;
     let mut k = 0;
-    while k < 32 {
+    while k < rules::MAX_ACCOUNTS {
         let row = reading::numbers(file, next, told_of(k, accounts, 3));
         let v = row.values;
         let c = closing[k];
@@ -101,7 +101,7 @@ fn command(
     sells: &mut [u32],
     trades: &mut [u32],
 ) -> Ran {
-    let mut bytes = [0u8; 24];
+    let mut bytes = [0u8; rules::COMMAND_WIDTH];
     let given = reading::bytes(file, at, &mut bytes);
     let response = exchange::execute::execute(state, buys, sells, trades, bytes);
     let told = reading::numbers(file, given.next, 5);
@@ -171,7 +171,7 @@ fn question<'a>(
     sells: &'a [u32],
     trades: &'a [u32],
 ) -> Checked {
-    let mut bytes = [0u8; 24];
+    let mut bytes = [0u8; rules::COMMAND_WIDTH];
     let given = reading::bytes(file, at, &mut bytes);
     let found = query::gettable(state, buys, sells, trades, bytes);
     let told = reading::numbers(file, given.next, 3);

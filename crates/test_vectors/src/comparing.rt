@@ -30,7 +30,10 @@ fn same_contract(a: Contract, b: Contract) -> bool {
         && a.last == b.last
 }
 
-fn same_contracts(a: [Contract; 4], b: [Contract; 4]) -> bool {
+fn same_contracts(
+    a: [Contract; rules::MAX_CONTRACTS],
+    b: [Contract; rules::MAX_CONTRACTS],
+) -> bool {
     same_contract(a[0], b[0])
         && same_contract(a[1], b[1])
         && same_contract(a[2], b[2])
@@ -55,9 +58,9 @@ fn same_account(a: Account, b: Account) -> bool {
         && a.maker == b.maker
 }
 
-fn same_accounts(a: [Account; 32], b: [Account; 32]) -> bool {
+fn same_accounts(a: [Account; rules::MAX_ACCOUNTS], b: [Account; rules::MAX_ACCOUNTS]) -> bool {
     let mut k = 0;
-    while k < 32 {
+    while k < rules::MAX_ACCOUNTS {
         if !same_account(a[k], b[k]) {
             return false;
         }
@@ -66,7 +69,7 @@ fn same_accounts(a: [Account; 32], b: [Account; 32]) -> bool {
     true
 }
 
-fn same_counts(a: [usize; 4], b: [usize; 4]) -> bool {
+fn same_counts(a: [usize; rules::MAX_CONTRACTS], b: [usize; rules::MAX_CONTRACTS]) -> bool {
     a[0] == b[0] && a[1] == b[1] && a[2] == b[2] && a[3] == b[3]
 }
 

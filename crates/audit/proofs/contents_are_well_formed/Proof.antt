@@ -7,7 +7,7 @@ use borrow.Author.Needs.{needs}
 use lib.ListN.{length}
 use Rattle.laws.specs.Lists.{unmapped}
 use Rattle.invariants.proofs.MemoryRoom.{counts-ok}
-use Rattle.audit.proofs.Chains.{fails, last, passed, refused}
+use Rattle.audit.proofs.Chains.{_and_, fails, last, passed, refused}
 use Rattle.audit.proofs.Whole.{contents-chain, few-settlements, ready, starts-tested, terms-tested, trades-tested, trades-words}
 use Rattle.audit.proofs.contents_are_well_formed.Statement.{statement}
 use Rattle.audit.proofs.contents_are_well_formed.Tie as tie
@@ -81,11 +81,12 @@ returns-8 c = fails (contents-chain _ _ _ _ (fit (c .before .before .before .bef
 replays-requires : tie.Need-replays-requires
 replays-requires c κs =
     let p = c .before .before .before .before .before .before .before .before .before .before .before .before .before .before .before .before .before .before .before .before .before .pre in
-    let k = counts-ok _ (p .0) in (
+    let k = counts-ok _ (p .0) in
+    let listed = passed (c .before .before .before .before .before .before .before .before .before .before .before .before .before .before .before .listings-in-range .ensures) (c .before .before .before .before .before .before .before .before .before .before .before .before .before .before .if2 .left) in (
       (k .contracts-high, k .accounts-high, k .trades, trades-words _ _ _ _ (p .0) (p .1)),
       (
         trades-tested _ _ _ _ (p .0) (p .1) (passed (c .before .before .before .trades-in-range .ensures) (c .before .before .if7 .left)),
-        starts-tested _ _ _ _ (p .0) (p .1) (passed (c .before .before .before .before .before .before .before .before .before .before .before .before .before .before .before .listings-in-range .ensures) (c .before .before .before .before .before .before .before .before .before .before .before .before .before .before .if2 .left)) (passed (c .before .holdings-in-range .ensures) (c .if8 .left)),
+        starts-tested _ _ _ _ (p .0) (p .1) listed (passed (c .before .holdings-in-range .ensures) (c .if8 .left)),
       ),
     )
 
@@ -94,13 +95,33 @@ returns-9 c = fails (contents-chain _ _ _ _ (fit (c .before .before .before .bef
 
 balances-in-range-requires : tie.Need-balances-in-range-requires
 balances-in-range-requires c κs =
-    let p = c .before .before .before .before .before .before .before .before .before .before .before .before .before .before .before .before .before .before .before .before .before .before .before .pre in
-    (counts-ok _ (p .0) .accounts-high, few-settlements _ _ _ _ (p .0) (p .1) (passed (c .before .before .before .before .before .before .before .before .before .before .before .before .before .before .before .before .before .before .before .counters-in-range .ensures) (c .before .before .before .before .before .before .before .before .before .before .before .before .before .before .before .before .before .before .if1 .left)))
+    let counted = c .before .before .before .before .before .before .before .before .before .before .before .before .before .before .before .before .before .before in
+    let p = counted .before .before .before .before .before .pre in
+    (counts-ok _ (p .0) .accounts-high, few-settlements _ _ _ _ (p .0) (p .1) (passed (counted .before .counters-in-range .ensures) (counted .if1 .left)))
 
 returns-10 : tie.Need-returns-10
 returns-10 c =
+    let replayed = c .before in
+    let held = replayed .before .before in
+    let traded = held .before .before in
+    let marked = traded .before .before .before in
+    let quoted = marked .before .before .before in
+    let stamped = quoted .before .before in
+    let numbered = stamped .before .before in
+    let listed = numbered .before .before in
+    let counted = listed .before .before in
     c .balances-in-range .ensures
-    ∙ last (contents-chain _ _ _ _ (fit (c .before .before .before .before .before .before .before .before .before .before .before .before .before .before .before .before .before .before .before .before .before .before .before .before))) (passed (c .before .before .before .before .before .before .before .before .before .before .before .before .before .before .before .before .before .before .before .before .counters-in-range .ensures) (c .before .before .before .before .before .before .before .before .before .before .before .before .before .before .before .before .before .before .before .if1 .left), (passed (c .before .before .before .before .before .before .before .before .before .before .before .before .before .before .before .before .before .before .listings-in-range .ensures) (c .before .before .before .before .before .before .before .before .before .before .before .before .before .before .before .before .before .if2 .left), (passed (c .before .before .before .before .before .before .before .before .before .before .before .before .before .before .before .before .used-once .ensures) (c .before .before .before .before .before .before .before .before .before .before .before .before .before .before .before .if3 .left), (passed (c .before .before .before .before .before .before .before .before .before .before .before .before .before .before .used-once2 .ensures) (c .before .before .before .before .before .before .before .before .before .before .before .before .before .if4 .left), (passed (c .before .before .before .before .before .before .before .before .before .before .before .before .listings-quoted .ensures) (c .before .before .before .before .before .before .before .before .before .before .before .if5 .left), (passed (c .before .before .before .before .before .before .before .before .before .marks-in-range .ensures) (c .before .before .before .before .before .before .before .before .if6 .left), (passed (c .before .before .before .before .before .before .trades-in-range .ensures) (c .before .before .before .before .before .if7 .left), (passed (c .before .before .replays .ensures) (c .before .if9 .left), (passed (c .before .before .before .before .holdings-in-range .ensures) (c .before .before .before .if8 .left), tt)))))))))
+    ∙ last (contents-chain _ _ _ _ (fit (counted .before .before .before .before .before)))
+    (passed (counted .before .counters-in-range .ensures) (counted .if1 .left)
+    and passed (listed .before .listings-in-range .ensures) (listed .if2 .left)
+    and passed (numbered .before .used-once .ensures) (numbered .if3 .left)
+    and passed (stamped .before .used-once2 .ensures) (stamped .if4 .left)
+    and passed (quoted .before .listings-quoted .ensures) (quoted .if5 .left)
+    and passed (marked .before .marks-in-range .ensures) (marked .if6 .left)
+    and passed (traded .before .trades-in-range .ensures) (traded .if7 .left)
+    and passed (replayed .before .replays .ensures) (replayed .if9 .left)
+    and passed (held .before .holdings-in-range .ensures) (held .if8 .left)
+    and tt)
 
 pub contents-are-well-formed-spec : {M : Type 1} → statement M
 contents-are-well-formed-spec =

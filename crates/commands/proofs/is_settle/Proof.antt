@@ -1,16 +1,19 @@
 -- `commands::is_settle` meets its contract: by the kind's number. Assumes nothing.
-use mathlib.Core.Path.{ap}
-use Prim.Native.Nat.{ℕ}
+use mathlib.Core.Path.{sym, ap}
 use borrow.Author.Needs.{needs}
-use lib.Dec.{eqb}
+use Rattle.rules.specs.Command.{isSettle}
+use Rattle.rules.proofs.EachKind.{other-kind}
 use Rattle.commands.proofs.is_settle.Statement.{statement}
 use Rattle.commands.proofs.is_settle.Tie as tie
 
-kind-of-requires : tie.Need-kind-of-requires
-kind-of-requires c κs = search needs
+enum-told : tie.Need-enum-told
+enum-told c = search needs
 
 returns : tie.Need-returns
-returns c = ap (λ (n : ℕ). eqb n 7) (c .kind-of .ensures)
+returns c = ap isSettle (sym (c .enum-told .given .1))
+
+returns-2 : tie.Need-returns-2
+returns-2 c = sym (other-kind 7 tt (c .before .args .command) (c .match .keys2))
 
 pub is-settle-spec : {M : Type 1} → statement M
-is-settle-spec = tie.close (tie.spec kind-of-requires returns)
+is-settle-spec = tie.close (tie.spec enum-told returns returns-2)

@@ -38,7 +38,9 @@ same-length-5 : tie.Need-same-length-5
 same-length-5 c = search needs
 
 returns-2 : tie.Need-returns-2
-returns-2 c = entered-swept (c .before .before .before .before .before .before .before .before .before .before .before .before .before .before .before .before .before .before .before .before .before .pre) (c .before .before .before .before .before .before .before .before .before .before .before .before .before .before .taker-of .ensures) (c .before .before .before .before .before .before .before .before .before .before .before .before .before .limit-of .ensures) (c .before .before .before .before .before .before .before .before .before .before .before .if1 .left) (c .before .before .before .before .before .before .before .before .before .before .is-day .ensures) (c .before .before .before .before .before .before .enter .ensures)
+returns-2 c =
+    let after = c .before .before .before .before .before .before .before .before .before .before in
+    entered-swept (after .before .before .before .before .before .before .before .before .before .before .before .pre) (after .before .before .before .before .taker-of .ensures) (after .before .before .before .limit-of .ensures) (after .before .if1 .left) (after .is-day .ensures) (c .before .before .before .before .before .before .enter .ensures)
 
 pub enter-on-spec : {M : Type 1} → statement M
 enter-on-spec =

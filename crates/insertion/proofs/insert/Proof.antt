@@ -71,8 +71,9 @@ add-with-entry c =
 
 with-entry-requires : tie.Need-with-entry-requires
 with-entry-requires c κs =
-    let start = c .before .before .before .before .before .before .before .before .before .before .before .before .before .before .before .before .before .before .before .before .before .before .before .before in
-    leaves-room (start .pre) (start .args .o) _ _ _ (enterable (start .pre) (start .args .o) (sym (c .before .before .before .before .before .before .before .before .before .before .before .before .before .code-of .ensures) ∙ c .before .before .before .before .before .before .before .before .before .before .before .before .if2 .left)) (c .before .before .before .before .before .before .before .before .before .before .before .arrival-of .ensures)
+    let after = c .before .before .before .before .before .before .before .before .before .before .before in
+    let start = after .before .before .before .before .before .before .before .before .before .before .before .before .before in
+    leaves-room (start .pre) (start .args .o) _ _ _ (enterable (start .pre) (start .args .o) (sym (after .before .before .code-of .ensures) ∙ after .before .if2 .left)) (after .arrival-of .ensures)
 
 accepted-requires : tie.Need-accepted-requires
 accepted-requires c κs = search needs
@@ -88,9 +89,10 @@ same-length-6 c = search needs
 
 returns-3 : tie.Need-returns-3
 returns-3 c =
-    let start = c .before .before .before .before .before .before .before .before .before .before .before .before .before .before .before .before .before .before .before .before .before .before .before .before .before .before in
-    insert-entered (start .pre) (start .args .o) (sym (c .before .before .before .before .before .before .before .before .before .before .before .before .before .before .before .code-of .ensures) ∙ c .before .before .before .before .before .before .before .before .before .before .before .before .before .before .if2 .left)
-    (order-entered (start .pre) (start .args .o) _ _ _ (enterable (start .pre) (start .args .o) (sym (c .before .before .before .before .before .before .before .before .before .before .before .before .before .before .before .code-of .ensures) ∙ c .before .before .before .before .before .before .before .before .before .before .before .before .before .before .if2 .left)) (c .before .before .before .before .before .before .before .before .before .before .before .before .before .arrival-of .ensures) _ _ (c .before .before .before .before .before .before .before .before .enter .ensures) (c .before .with-entry .ensures) (c .accepted .ensures))
+    let after = c .before .before .before .before .before .before .before .before .before .before .before .before .before in
+    let start = after .before .before .before .before .before .before .before .before .before .before .before .before .before in
+    insert-entered (start .pre) (start .args .o) (sym (after .before .before .code-of .ensures) ∙ after .before .if2 .left)
+    (order-entered (start .pre) (start .args .o) _ _ _ (enterable (start .pre) (start .args .o) (sym (after .before .before .code-of .ensures) ∙ after .before .if2 .left)) (after .arrival-of .ensures) _ _ (c .before .before .before .before .before .before .before .before .enter .ensures) (c .before .with-entry .ensures) (c .accepted .ensures))
 
 pub insert-spec : {M : Type 1} → statement M
 insert-spec =

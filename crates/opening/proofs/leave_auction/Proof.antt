@@ -58,11 +58,15 @@ sub-match-queues c =
 
 match-queues-requires : tie.Need-match-queues-requires
 match-queues-requires c κs =
-    let start = c .before .before .before .before .before .before .before .before .before .before .before .before .before .before .before .before .before .before .before .before in
-    left-ready (start .pre .0) _ (start .pre .1) (c .before .before .before .before .before .before .before .before .before .before .before .before .before .before .before .before .place-of .ensures) (c .before .before .before .before .before .before .before .before .before .chosen .ensures) (c .before .before .before .before .before .before .trades-needed .ensures) (c .before .before .before .before .if1 .left)
+    let place = c .before .before .before .before .before .before .before .before .before .before .before .before .before .before .before .before in
+    let start = place .before .before .before .before in
+    left-ready (start .pre .0) _ (start .pre .1) (place .place-of .ensures) (c .before .before .before .before .before .before .before .before .before .chosen .ensures) (c .before .before .before .before .before .before .trades-needed .ensures) (c .before .before .before .before .if1 .left)
 
 with-match-requires : tie.Need-with-match-requires
-with-match-requires c κs = place-fits (c .before .before .before .before .before .before .before .before .before .before .before .before .before .before .before .before .before .before .before .before .before .before .before .before .before .before .before .pre .0) _ (c .before .before .before .before .before .before .before .before .before .before .before .before .before .before .before .before .before .before .before .before .before .before .before .before .before .before .before .pre .1) (c .before .before .before .before .before .before .before .before .before .before .before .before .before .before .before .before .before .before .before .before .before .before .before .place-of .ensures)
+with-match-requires c κs =
+    let place = c .before .before .before .before .before .before .before .before .before .before .before .before .before .before .before .before .before .before .before .before .before .before .before in
+    let start = place .before .before .before .before in
+    place-fits (start .pre .0) _ (start .pre .1) (place .place-of .ensures)
 
 accepted-requires : tie.Need-accepted-requires
 accepted-requires c κs = search needs
@@ -78,8 +82,13 @@ same-length-5 c = search needs
 
 returns-2 : tie.Need-returns-2
 returns-2 c =
-    let start = c .before .before .before .before .before .before .before .before .before .before .before .before .before .before .before .before .before .before .before .before .before .before .before .before .before .before .before .before .before in
-    left-accepted (start .pre .0) _ (start .pre .1) (c .before .before .before .before .before .before .before .before .before .before .before .before .before .before .before .before .before .before .before .before .before .before .before .before .before .place-of .ensures) (c .before .before .before .before .before .before .before .before .before .before .before .before .before .before .before .before .before .before .chosen .ensures) (c .before .before .before .before .before .before .before .before .before .before .before .before .before .before .before .trades-needed .ensures) (c .before .before .before .before .before .before .before .before .before .before .before .before .before .if1 .left) (c .before .before .before .before .before .before .before .before .match-queues .ensures) (c .before .with-match .ensures) (c .accepted .ensures)
+    let room = c .before .before .before .before .before .before .before .before .before .before .before .before .before in
+    let needed = room .before .before in
+    let level = needed .before .before .before in
+    let place = level .before .before .before .before .before .before .before in
+    let start = place .before .before .before .before in
+    left-accepted (start .pre .0) _ (start .pre .1) (place .place-of .ensures) (level .chosen .ensures) (needed .trades-needed .ensures) (room .if1 .left)
+    (c .before .before .before .before .before .before .before .before .match-queues .ensures) (c .before .with-match .ensures) (c .accepted .ensures)
 
 pub leave-auction-spec : {M : Type 1} → statement M
 leave-auction-spec =

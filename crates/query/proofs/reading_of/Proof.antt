@@ -56,7 +56,9 @@ refused-requires-3 : tie.Need-refused-requires-3
 refused-requires-3 c κs = search needs
 
 returns-3 : tie.Need-returns-3
-returns-3 c = c .refused3 .ensures ∙ refused-fields (c .before .before .before .before .before .before .before .before .before .before .before .before .before .pre) (c .before .before .before .before .before .before .before .before .before .before .before .before .before .args .o) (account-there (c .before .before .before .before .before .before .before .before)) (contract-there (c .before .before .before .before .before .before)) (here (c .before .before .before .before .before .before)) (c .before .before .before .before .before .place-of .ensures) (c .before .before .fields-code .ensures) (c .before .if3 .taken)
+returns-3 c =
+    let after = c .before .before .before .before .before in
+    c .refused3 .ensures ∙ refused-fields (after .before .before .before .before .before .before .before .before .pre) (after .before .before .before .before .before .before .before .before .args .o) (account-there (after .before .before .before)) (contract-there (after .before)) (here (after .before)) (after .place-of .ensures) (c .before .before .fields-code .ensures) (c .before .if3 .taken)
 
 side-area-requires : tie.Need-side-area-requires
 side-area-requires c κs = search needs
@@ -66,14 +68,19 @@ side-count-requires c κs = place-fits (c .before .before .before .before .befor
 
 taker-of-requires : tie.Need-taker-of-requires
 taker-of-requires c κs =
-    let p = here (c .before .before .before .before .before .before .before .before .before) in
-    (p .account-low, p .contract-low, room (c .before .before .before .before .before .before .before .before .before .before .before .before .before .before .before .before .pre) (c .before .before .before .before .before .before .before .before .before .before .before .before .before .before .before .before .args .o) (account-there (c .before .before .before .before .before .before .before .before .before .before .before)) (contract-there (c .before .before .before .before .before .before .before .before .before)) (here (c .before .before .before .before .before .before .before .before .before)) (c .before .before .before .before .before .before .before .before .place-of .ensures) (c .before .before .before .before .before .fields-code .ensures) (c .before .before .side-area .ensures) (c .side-count .ensures))
+    let after = c .before .before .before .before .before .before .before .before in
+    let p = here (after .before) in
+    (p .account-low, p .contract-low, room (after .before .before .before .before .before .before .before .before .pre) (after .before .before .before .before .before .before .before .before .args .o) (account-there (after .before .before .before)) (contract-there (after .before)) (here (after .before)) (after .place-of .ensures) (c .before .before .before .before .before .fields-code .ensures) (c .before .before .side-area .ensures) (c .side-count .ensures))
 
 gather-requires : tie.Need-gather-requires
-gather-requires c κs = facing (c .before .before .before .before .before .before .before .before .before .before .before .before .before .before .before .before .before .pre) (c .before .before .before .before .before .before .before .before .before .before .before .before .before .before .before .before .before .args .o) (account-there (c .before .before .before .before .before .before .before .before .before .before .before .before)) (contract-there (c .before .before .before .before .before .before .before .before .before .before)) (here (c .before .before .before .before .before .before .before .before .before .before)) (c .before .before .before .before .before .before .before .before .before .place-of .ensures) (c .before .before .before .before .before .before .fields-code .ensures) (c .before .before .before .side-area .ensures) (c .before .side-count .ensures) (c .taker-of .ensures)
+gather-requires c κs =
+    let after = c .before .before .before .before .before .before .before .before .before in
+    facing (after .before .before .before .before .before .before .before .before .pre) (after .before .before .before .before .before .before .before .before .args .o) (account-there (after .before .before .before)) (contract-there (after .before)) (here (after .before)) (after .place-of .ensures) (c .before .before .before .before .before .before .fields-code .ensures) (c .before .before .before .side-area .ensures) (c .before .side-count .ensures) (c .taker-of .ensures)
 
 returns-4 : tie.Need-returns-4
-returns-4 c = answered (c .before .before .before .before .before .before .before .before .before .before .before .before .before .before .before .before .before .before .pre) (c .before .before .before .before .before .before .before .before .before .before .before .before .before .before .before .before .before .before .args .o) (account-there (c .before .before .before .before .before .before .before .before .before .before .before .before .before)) (contract-there (c .before .before .before .before .before .before .before .before .before .before .before)) (here (c .before .before .before .before .before .before .before .before .before .before .before)) (c .before .before .before .before .before .before .before .before .before .before .place-of .ensures) (c .before .before .before .before .before .before .before .fields-code .ensures) (c .before .before .before .before .side-area .ensures) (c .before .before .side-count .ensures) (c .before .taker-of .ensures) (c .before .before .before .before .before .before .if3 .left) (c .gather .ensures)
+returns-4 c =
+    let after = c .before .before .before .before .before .before .before .before .before .before in
+    answered (after .before .before .before .before .before .before .before .before .pre) (after .before .before .before .before .before .before .before .before .args .o) (account-there (after .before .before .before)) (contract-there (after .before)) (here (after .before)) (after .place-of .ensures) (c .before .before .before .before .before .before .before .fields-code .ensures) (c .before .before .before .before .side-area .ensures) (c .before .before .side-count .ensures) (c .before .taker-of .ensures) (c .before .before .before .before .before .before .if3 .left) (c .gather .ensures)
 
 pub reading-of-spec : {M : Type 1} → statement M
 reading-of-spec =

@@ -1,84 +1,54 @@
--- `quoting::early_code` meets its contract: the tests in the order of the list. Assumes nothing.
-use mathlib.Core.Path.{sym, _∙_}
+-- `quoting::early_code` meets its contract: 2, 3 and 4, then 23 and 24 of the account. Assumes nothing.
+use mathlib.Core.Bool.{false}
+use mathlib.Core.Path.{_≡_}
 use native.Mathlib.Omega.{arith}
-use borrow.Author.Tests.{eq-eqb, le-ltb, lt-ltb, ne-eqb}
-use Rattle.rules.specs.Answers.{firstOf}
-use Rattle.engine.proofs.Tests.{place-below}
 use borrow.Author.Needs.{needs}
+use Rattle.rules.specs.Exchange.{isAbsent}
+use Rattle.engine.proofs.Tests.{place-below}
+use Rattle.quoting.proofs.Placing.{early-maker, early-named, early-none, early-prices}
 use Rattle.quoting.proofs.early_code.Statement.{statement}
 use Rattle.quoting.proofs.early_code.Tie as tie
 
-is-absent-requires : tie.Need-is-absent-requires
-is-absent-requires c κs = search needs
+-- the account is in use
+there : (c : tie.Else1) → let start = c .before .before in isAbsent (start .args .account) (start .args .t1 .accountcount) ≡ false
+there c = c .before .continuous-code .ensures .account-in-use (c .if1 .left)
+
+continuous-code-requires : tie.Need-continuous-code-requires
+continuous-code-requires c κs = search needs
 
 returns : tie.Need-returns
-unfolding firstOf
-returns c = rw (sym (c .before .is-absent .ensures) ∙ c .if1 .taken)
-
-is-absent-requires-2 : tie.Need-is-absent-requires-2
-is-absent-requires-2 c κs = search needs
-
-returns-2 : tie.Need-returns-2
-unfolding firstOf
-returns-2 c = rw ((sym (c .before .before .before .is-absent .ensures) ∙ c .before .before .if1 .left), sym (c .before .is-absent2 .ensures) ∙ c .if2 .taken)
+returns c = λ d buys sells trades. early-named d (c .before .before .pre .1) buys sells trades (c .before .before .args .account) (c .before .before .args .contract) (c .before .before .args .buy) (c .before .before .args .sell) (c .before .continuous-code .ensures .first d _ _ _) (c .if1 .taken)
 
 place-of-requires : tie.Need-place-of-requires
-place-of-requires c κs =
-    let start = c .before .before .before .before in
-    place-below (start .args .contract) (start .args .t1 .contractcount) (sym (c .before .is-absent2 .ensures) ∙ c .if2 .left) .0
-
-mul-terms : tie.Need-mul-terms
-mul-terms c = search needs
-
-array-copy-out-terms : tie.Need-array-copy-out-terms
-array-copy-out-terms c =
-    let start = c .before .before .before .before .before .before in
-    omega (arith, c .before .place-of .ensures, (place-below (start .args .contract) (start .args .t1 .contractcount) (sym (c .before .before .before .is-absent2 .ensures) ∙ c .before .before .if2 .left)) .1, start .pre .0)
-
-returns-3 : tie.Need-returns-3
-unfolding firstOf
-returns-3 c = rw ((sym (c .before .before .before .before .before .before .before .before .is-absent .ensures) ∙ c .before .before .before .before .before .before .before .if1 .left), (sym (c .before .before .before .before .before .before .is-absent2 .ensures) ∙ c .before .before .before .before .before .if2 .left), ne-eqb _ _ (rw (c .before .before .before .before .place-of .ensures) at (c .if3 .taken)))
-
-place-of-requires-2 : tie.Need-place-of-requires-2
-place-of-requires-2 c κs =
-    let start = c .before .before .before .before .before .before .before .before .before in
-    place-below (start .args .account) (start .args .t1 .accountcount) (sym (c .before .before .before .before .before .before .before .before .is-absent .ensures) ∙ c .before .before .before .before .before .before .before .if1 .left) .0
+place-of-requires c κs = place-below _ _ (there c) .0
 
 mul-who : tie.Need-mul-who
 mul-who c = search needs
 
 element-copy-out-who : tie.Need-element-copy-out-who
-element-copy-out-who c =
-    let start = c .before .before .before .before .before .before .before .before .before .before in
-    omega (arith, c .place-of2 .ensures, (place-below (start .args .account) (start .args .t1 .accountcount) (sym (c .before .before .before .before .before .before .before .before .before .is-absent .ensures) ∙ c .before .before .before .before .before .before .before .before .if1 .left)) .1, start .pre .1)
+element-copy-out-who c = let start = c .before .before .before in omega (arith, c .place-of .ensures, place-below (start .args .account) (start .args .t1 .accountcount) (there (c .before)) .1, start .pre .1)
+
+returns-2 : tie.Need-returns-2
+returns-2 c = λ d buys sells trades.
+    early-maker d (c .before .before .before .before .before .before .pre .1) buys sells trades (c .before .before .before .before .before .before .args .account) (c .before .before .before .before .before .before .args .contract) (c .before .before .before .before .before .before .args .buy) (c .before .before .before .before .before .before .args .sell) (c .before .before .before .before .before .continuous-code .ensures .first d _ _ _) (c .before .before .before .before .if1 .left) (c .before .before .before .place-of .ensures) (c .if2 .taken)
+
+returns-3 : tie.Need-returns-3
+returns-3 c = λ d buys sells trades.
+    early-prices d (c .before .before .before .before .before .before .before .pre .1) buys sells trades (c .before .before .before .before .before .before .before .args .account) (c .before .before .before .before .before .before .before .args .contract) (c .before .before .before .before .before .before .before .args .buy) (c .before .before .before .before .before .before .before .args .sell) (c .before .before .before .before .before .before .continuous-code .ensures .first d _ _ _) (c .before .before .before .before .before .if1 .left) (c .before .before .before .before .place-of .ensures) (c .before .if2 .left) (c .if3 .taken)
 
 returns-4 : tie.Need-returns-4
-unfolding firstOf
-returns-4 c = rw ((sym (c .before .before .before .before .before .before .before .before .before .before .before .before .is-absent .ensures) ∙ c .before .before .before .before .before .before .before .before .before .before .before .if1 .left), (sym (c .before .before .before .before .before .before .before .before .before .before .is-absent2 .ensures) ∙ c .before .before .before .before .before .before .before .before .before .if2 .left), eq-eqb _ _ (rw (c .before .before .before .before .before .before .before .before .place-of .ensures) at (c .before .before .before .before .if3 .left)), ne-eqb _ _ (rw (c .before .before .before .place-of2 .ensures) at (c .if4 .taken)))
-
-returns-5 : tie.Need-returns-5
-unfolding firstOf
-returns-5 c = rw ((sym (c .before .before .before .before .before .before .before .before .before .before .before .before .before .is-absent .ensures) ∙ c .before .before .before .before .before .before .before .before .before .before .before .before .if1 .left), (sym (c .before .before .before .before .before .before .before .before .before .before .before .is-absent2 .ensures) ∙ c .before .before .before .before .before .before .before .before .before .before .if2 .left), eq-eqb _ _ (rw (c .before .before .before .before .before .before .before .before .before .place-of .ensures) at (c .before .before .before .before .before .if3 .left)), (eq-eqb _ _ (rw (c .before .before .before .before .place-of2 .ensures) at (c .before .if4 .left))), le-ltb _ _ (c .if5 .taken))
-
-returns-6 : tie.Need-returns-6
-unfolding firstOf
-returns-6 c = rw ((sym (c .before .before .before .before .before .before .before .before .before .before .before .before .before .is-absent .ensures) ∙ c .before .before .before .before .before .before .before .before .before .before .before .before .if1 .left), (sym (c .before .before .before .before .before .before .before .before .before .before .before .is-absent2 .ensures) ∙ c .before .before .before .before .before .before .before .before .before .before .if2 .left), eq-eqb _ _ (rw (c .before .before .before .before .before .before .before .before .before .place-of .ensures) at (c .before .before .before .before .before .if3 .left)), (eq-eqb _ _ (rw (c .before .before .before .before .place-of2 .ensures) at (c .before .if4 .left))), lt-ltb _ _ (c .if5 .left))
+returns-4 c = λ d buys sells trades.
+    early-none d (c .before .before .before .before .before .before .before .pre .1) buys sells trades (c .before .before .before .before .before .before .before .args .account) (c .before .before .before .before .before .before .before .args .contract) (c .before .before .before .before .before .before .before .args .buy) (c .before .before .before .before .before .before .before .args .sell) (c .before .before .before .before .before .before .continuous-code .ensures .first d _ _ _) (c .before .before .before .before .before .if1 .left) (c .before .before .before .before .place-of .ensures) (c .before .if2 .left) (c .if3 .left)
 
 pub early-code-spec : {M : Type 1} → statement M
 early-code-spec =
     tie.close
     (tie.spec
-    is-absent-requires
+    continuous-code-requires
     returns
-    is-absent-requires-2
-    returns-2
     place-of-requires
-    mul-terms
-    array-copy-out-terms
-    returns-3
-    place-of-requires-2
     mul-who
     element-copy-out-who
-    returns-4
-    returns-5
-    returns-6)
+    returns-2
+    returns-3
+    returns-4)

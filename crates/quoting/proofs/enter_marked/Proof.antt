@@ -58,8 +58,9 @@ add-with-entry c =
 
 with-entry-requires : tie.Need-with-entry-requires
 with-entry-requires c κs =
-    let start = c .before .before .before .before .before .before .before .before .before .before .before .before .before .before .before .before .before .before .before .before .before .before in
-    leaves-room (start .pre .0) (start .args .o) _ _ _ (marked-enterable (start .pre .0) (start .args .o) (start .pre .1) (c .before .before .before .before .before .before .before .before .before .before .before .before .before .order-code .ensures) (c .before .before .before .before .before .before .before .before .before .before .before .before .if1 .left)) (c .before .before .before .before .before .before .before .before .before .before .before .arrival-of .ensures)
+    let after = c .before .before .before .before .before .before .before .before .before .before .before in
+    let start = after .before .before .before .before .before .before .before .before .before .before .before in
+    leaves-room (start .pre .0) (start .args .o) _ _ _ (marked-enterable (start .pre .0) (start .args .o) (start .pre .1) (after .before .before .order-code .ensures) (after .before .if1 .left)) (after .arrival-of .ensures)
 
 accepted-requires : tie.Need-accepted-requires
 accepted-requires c κs = search needs
@@ -75,9 +76,10 @@ same-length-6 c = search needs
 
 returns-2 : tie.Need-returns-2
 returns-2 c =
-    let start = c .before .before .before .before .before .before .before .before .before .before .before .before .before .before .before .before .before .before .before .before .before .before .before .before in
-    marked-entered (start .pre .0) (start .args .o) (start .pre .1) (c .before .before .before .before .before .before .before .before .before .before .before .before .before .before .before .order-code .ensures) (c .before .before .before .before .before .before .before .before .before .before .before .before .before .before .if1 .left)
-    (order-entered (start .pre .0) (start .args .o) _ _ _ (marked-enterable (start .pre .0) (start .args .o) (start .pre .1) (c .before .before .before .before .before .before .before .before .before .before .before .before .before .before .before .order-code .ensures) (c .before .before .before .before .before .before .before .before .before .before .before .before .before .before .if1 .left)) (c .before .before .before .before .before .before .before .before .before .before .before .before .before .arrival-of .ensures) _ _ (c .before .before .before .before .before .before .before .before .enter .ensures) (c .before .with-entry .ensures) (c .accepted .ensures))
+    let after = c .before .before .before .before .before .before .before .before .before .before .before .before .before in
+    let start = after .before .before .before .before .before .before .before .before .before .before .before in
+    marked-entered (start .pre .0) (start .args .o) (start .pre .1) (after .before .before .order-code .ensures) (after .before .if1 .left)
+    (order-entered (start .pre .0) (start .args .o) _ _ _ (marked-enterable (start .pre .0) (start .args .o) (start .pre .1) (after .before .before .order-code .ensures) (after .before .if1 .left)) (after .arrival-of .ensures) _ _ (c .before .before .before .before .before .before .before .before .enter .ensures) (c .before .with-entry .ensures) (c .accepted .ensures))
 
 pub enter-marked-spec : {M : Type 1} → statement M
 enter-marked-spec =

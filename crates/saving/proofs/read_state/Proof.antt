@@ -1,11 +1,35 @@
 -- `read_state` meets its contract: the refusals in their order, then the state. Assumes nothing.
+use mathlib.Core.Bool.{true}
+use mathlib.Core.Path.{_≡_}
 use Rattle.laws.specs.Tests.{passed, refused}
+use Rattle.rules.specs.Memory.{memory}
 use Rattle.engine.proofs.Declared.{declared}
-use Rattle.saving.proofs.Loads.{formed-20, loaded-0, marks-20, misshapen-20, room-29, totals-30}
+use Rattle.saved.specs.Saved.{shaped}
+use Rattle.saving.specs.Parts.{Laid}
+use Rattle.saving.proofs.Loads.{Given, formed-20, loaded-0, marks-20, misshapen-20, room-29, totals-30}
 use Rattle.saving.proofs.Shapes.{count-ready, shaped-laid, shaped-long}
 use borrow.Author.Needs.{needs}
 use Rattle.saving.proofs.read_state.Statement.{statement}
 use Rattle.saving.proofs.read_state.Tie as tie
+
+shape-is : (c : tie.Else1) → shaped (c .before .before .before .before .before .before .args .file .now) ≡ true
+shape-is c = passed (c .before .is-shaped .ensures) (c .if1 .left)
+
+laid : (c : tie.After-account-count) → Laid (c .before .before .before .before .before .before .before .before .args .file .now) (c .before .contract-count .result) (c .account-count .result)
+laid c = shaped-laid _ _ _ (c .before .contract-count .ensures) (c .account-count .ensures) (shape-is (c .before .before))
+
+-- the state that the file gives
+given : (c : tie.After-loaded-state)
+    → let a = c .before .before .before .before .before .before .before .before .before .before .before .args in
+    Given (memory (a .state) (a .buys .now) (a .sells .now) (a .trades .now)) (a .file .now) (c .before .before .before .before .contract-count .result) (c .before .before .before .account-count .result) (c .loaded-state .result)
+given c =
+    record {
+      shape-is = shape-is (c .before .before .before .before .before);
+      laid = laid (c .before .before .before);
+      declared = declared (c .before .before .before .before .before .before .before .before .before .before .before .good .1 .0);
+      marks = passed (c .before .before .marks-sound .ensures) (c .before .if2 .left);
+      next-is = c .loaded-state .ensures;
+    }
 
 is-shaped-requires : tie.Need-is-shaped-requires
 is-shaped-requires c κs = search needs
@@ -14,40 +38,45 @@ returns : tie.Need-returns
 returns c = misshapen-20 _ _ (refused (c .before .is-shaped .ensures) (c .if1 .taken))
 
 contract-count-requires : tie.Need-contract-count-requires
-contract-count-requires c κs = shaped-long _ (passed (c .before .is-shaped .ensures) (c .if1 .left))
+contract-count-requires c κs = shaped-long _ (shape-is c)
 
 account-count-requires : tie.Need-account-count-requires
-account-count-requires c κs = count-ready _ _ (c .contract-count .ensures) (passed (c .before .before .is-shaped .ensures) (c .before .if1 .left))
+account-count-requires c κs = count-ready _ _ (c .contract-count .ensures) (shape-is (c .before))
 
 marks-sound-requires : tie.Need-marks-sound-requires
-marks-sound-requires c κs = shaped-laid _ _ _ (c .before .contract-count .ensures) (c .account-count .ensures) (passed (c .before .before .before .is-shaped .ensures) (c .before .before .if1 .left))
+marks-sound-requires c κs = laid c
 
 returns-2 : tie.Need-returns-2
-returns-2 c = marks-20 _ _ (passed (c .before .before .before .before .before .is-shaped .ensures) (c .before .before .before .before .if1 .left)) _ _ (shaped-laid _ _ _ (c .before .before .before .contract-count .ensures) (c .before .before .account-count .ensures) (passed (c .before .before .before .before .before .is-shaped .ensures) (c .before .before .before .before .if1 .left))) (refused (c .before .marks-sound .ensures) (c .if2 .taken))
+returns-2 c = marks-20 _ _ (shape-is (c .before .before .before .before)) (laid (c .before .before)) (refused (c .before .marks-sound .ensures) (c .if2 .taken))
 
 loaded-state-requires : tie.Need-loaded-state-requires
-loaded-state-requires c κs = shaped-laid _ _ _ (c .before .before .before .contract-count .ensures) (c .before .before .account-count .ensures) (passed (c .before .before .before .before .before .is-shaped .ensures) (c .before .before .before .before .if1 .left))
+loaded-state-requires c κs = laid (c .before .before)
 
 is-formed-requires : tie.Need-is-formed-requires
 is-formed-requires c κs = search needs
 
 returns-3 : tie.Need-returns-3
-returns-3 c = formed-20 _ _ (passed (c .before .before .before .before .before .before .before .before .is-shaped .ensures) (c .before .before .before .before .before .before .before .if1 .left)) _ _ (shaped-laid _ _ _ (c .before .before .before .before .before .before .contract-count .ensures) (c .before .before .before .before .before .account-count .ensures) (passed (c .before .before .before .before .before .before .before .before .is-shaped .ensures) (c .before .before .before .before .before .before .before .if1 .left))) (declared (c .before .before .before .before .before .before .before .before .before .before .before .before .before .good .1 .0)) (passed (c .before .before .before .before .marks-sound .ensures) (c .before .before .before .if2 .left)) _ (c .before .before .loaded-state .ensures) (refused (c .before .is-formed .ensures) (c .if3 .taken))
+returns-3 c = formed-20 (given (c .before .before)) (refused (c .before .is-formed .ensures) (c .if3 .taken))
 
 all-equal-requires : tie.Need-all-equal-requires
-all-equal-requires c κs = ((shaped-laid _ _ _ (c .before .before .before .before .before .before .before .contract-count .ensures) (c .before .before .before .before .before .before .account-count .ensures) (passed (c .before .before .before .before .before .before .before .before .before .is-shaped .ensures) (c .before .before .before .before .before .before .before .before .if1 .left))) .few-accounts, (shaped-laid _ _ _ (c .before .before .before .before .before .before .before .contract-count .ensures) (c .before .before .before .before .before .before .account-count .ensures) (passed (c .before .before .before .before .before .before .before .before .before .is-shaped .ensures) (c .before .before .before .before .before .before .before .before .if1 .left))) .few-contracts)
+all-equal-requires c κs = let l = laid (c .before .before .before .before .before .before) in (l .few-accounts, l .few-contracts)
 
 returns-4 : tie.Need-returns-4
-returns-4 c = totals-30 _ _ (passed (c .before .before .before .before .before .before .before .before .before .before .before .is-shaped .ensures) (c .before .before .before .before .before .before .before .before .before .before .if1 .left)) _ _ (shaped-laid _ _ _ (c .before .before .before .before .before .before .before .before .before .contract-count .ensures) (c .before .before .before .before .before .before .before .before .account-count .ensures) (passed (c .before .before .before .before .before .before .before .before .before .before .before .is-shaped .ensures) (c .before .before .before .before .before .before .before .before .before .before .if1 .left))) (declared (c .before .before .before .before .before .before .before .before .before .before .before .before .before .before .before .before .good .1 .0)) (passed (c .before .before .before .before .before .before .before .marks-sound .ensures) (c .before .before .before .before .before .before .if2 .left)) _ (c .before .before .before .before .before .loaded-state .ensures) (passed (c .before .before .before .before .is-formed .ensures) (c .before .before .before .if3 .left)) (refused (c .before .all-equal .ensures) (c .if4 .taken))
+returns-4 c =
+    totals-30 (given (c .before .before .before .before .before)) (passed (c .before .before .before .before .is-formed .ensures) (c .before .before .before .if3 .left)) (refused (c .before .all-equal .ensures) (c .if4 .taken))
 
 well-formed-requires : tie.Need-well-formed-requires
 well-formed-requires c κs = search needs
 
 returns-5 : tie.Need-returns-5
-returns-5 c = room-29 _ _ (passed (c .before .before .before .before .before .before .before .before .before .before .before .before .before .is-shaped .ensures) (c .before .before .before .before .before .before .before .before .before .before .before .before .if1 .left)) _ _ (shaped-laid _ _ _ (c .before .before .before .before .before .before .before .before .before .before .before .contract-count .ensures) (c .before .before .before .before .before .before .before .before .before .before .account-count .ensures) (passed (c .before .before .before .before .before .before .before .before .before .before .before .before .before .is-shaped .ensures) (c .before .before .before .before .before .before .before .before .before .before .before .before .if1 .left))) (declared (c .before .before .before .before .before .before .before .before .before .before .before .before .before .before .before .before .before .before .good .1 .0)) (passed (c .before .before .before .before .before .before .before .before .before .marks-sound .ensures) (c .before .before .before .before .before .before .before .before .if2 .left)) _ (c .before .before .before .before .before .before .before .loaded-state .ensures) (passed (c .before .before .before .before .before .before .is-formed .ensures) (c .before .before .before .before .before .if3 .left)) (passed (c .before .before .before .all-equal .ensures) (c .before .before .if4 .left)) (refused (c .before .well-formed .ensures) (c .if5 .taken))
+returns-5 c =
+    room-29 (given (c .before .before .before .before .before .before .before)) (passed (c .before .before .before .before .before .before .is-formed .ensures) (c .before .before .before .before .before .if3 .left)) (passed (c .before .before .before .all-equal .ensures) (c .before .before .if4 .left))
+    (refused (c .before .well-formed .ensures) (c .if5 .taken))
 
 returns-6 : tie.Need-returns-6
-returns-6 c = loaded-0 _ _ (passed (c .before .before .before .before .before .before .before .before .before .before .before .before .before .is-shaped .ensures) (c .before .before .before .before .before .before .before .before .before .before .before .before .if1 .left)) _ _ (shaped-laid _ _ _ (c .before .before .before .before .before .before .before .before .before .before .before .contract-count .ensures) (c .before .before .before .before .before .before .before .before .before .before .account-count .ensures) (passed (c .before .before .before .before .before .before .before .before .before .before .before .before .before .is-shaped .ensures) (c .before .before .before .before .before .before .before .before .before .before .before .before .if1 .left))) (declared (c .before .before .before .before .before .before .before .before .before .before .before .before .before .before .before .before .before .before .good .1 .0)) (passed (c .before .before .before .before .before .before .before .before .before .marks-sound .ensures) (c .before .before .before .before .before .before .before .before .if2 .left)) _ (c .before .before .before .before .before .before .before .loaded-state .ensures) (passed (c .before .before .before .before .before .before .is-formed .ensures) (c .before .before .before .before .before .if3 .left)) (passed (c .before .before .before .all-equal .ensures) (c .before .before .if4 .left)) (passed (c .before .well-formed .ensures) (c .if5 .left))
+returns-6 c =
+    loaded-0 (given (c .before .before .before .before .before .before .before)) (passed (c .before .before .before .before .before .before .is-formed .ensures) (c .before .before .before .before .before .if3 .left)) (passed (c .before .before .before .all-equal .ensures) (c .before .before .if4 .left))
+    (passed (c .before .well-formed .ensures) (c .if5 .left))
 
 pub read-state-spec : {M : Type 1} → statement M
 read-state-spec =

@@ -13,25 +13,41 @@ returns : tie.Need-returns
 returns c = by-21 _ _ (refused (c .before .well-formed .ensures) (c .if1 .taken))
 
 is-writable-requires : tie.Need-is-writable-requires
-is-writable-requires c κs = (few _ (declared (c .before .before .before .before .before .before .good .0)) (passed (c .before .well-formed .ensures) (c .if1 .left)) .contracts-high, few _ (declared (c .before .before .before .before .before .before .good .0)) (passed (c .before .well-formed .ensures) (c .if1 .left)) .accounts-high)
+is-writable-requires c κs =
+    let f = few _ (declared (c .before .before .before .before .before .before .good .0)) (passed (c .before .well-formed .ensures) (c .if1 .left)) in
+    (f .contracts-high, f .accounts-high)
 
 returns-2 : tie.Need-returns-2
 returns-2 c = by-28 _ (declared (c .before .before .before .before .before .before .before .before .good .0)) (passed (c .before .before .before .well-formed .ensures) (c .before .before .if1 .left)) _ (refused (c .before .is-writable .ensures) (c .if2 .taken))
 
 file-length-requires : tie.Need-file-length-requires
-file-length-requires c κs = (few _ (declared (c .before .before .before .before .before .before .before .before .good .0)) (passed (c .before .before .before .well-formed .ensures) (c .before .before .if1 .left)) .contracts-high, few _ (declared (c .before .before .before .before .before .before .before .before .good .0)) (passed (c .before .before .before .well-formed .ensures) (c .before .before .if1 .left)) .accounts-high)
+file-length-requires c κs =
+    let f = few _ (declared (c .before .before .before .before .before .before .before .before .good .0)) (passed (c .before .before .before .well-formed .ensures) (c .before .before .if1 .left)) in
+    (f .contracts-high, f .accounts-high)
 
 returns-3 : tie.Need-returns-3
-returns-3 c = by-29 _ (declared (c .before .before .before .before .before .before .before .before .before .before .good .0)) (passed (c .before .before .before .before .before .well-formed .ensures) (c .before .before .before .before .if1 .left)) _ (passed (c .before .before .before .is-writable .ensures) (c .before .before .if2 .left)) _ (c .before .file-length .ensures .0) (c .if3 .taken)
+returns-3 c =
+    let formed = c .before .before .before .before in
+    let writable = c .before .before in
+    by-29 _ (declared (formed .before .before .before .before .before .before .good .0)) (passed (formed .before .well-formed .ensures) (formed .if1 .left)) _ (passed (writable .before .is-writable .ensures) (writable .if2 .left)) _
+    (c .before .file-length .ensures .0) (c .if3 .taken)
 
 put-state-requires : tie.Need-put-state-requires
-put-state-requires c κs = fitting _ (declared (c .before .before .before .before .before .before .before .before .before .before .before .good .0)) (passed (c .before .before .before .before .before .before .well-formed .ensures) (c .before .before .before .before .before .if1 .left)) _ (passed (c .before .before .before .before .is-writable .ensures) (c .before .before .before .if2 .left)) _ (c .before .before .file-length .ensures .0) (c .before .if3 .left)
+put-state-requires c κs =
+    let formed = c .before .before .before .before .before in
+    let writable = c .before .before .before in
+    fitting _ (declared (formed .before .before .before .before .before .before .good .0)) (passed (formed .before .well-formed .ensures) (formed .if1 .left)) _ (passed (writable .before .is-writable .ensures) (writable .if2 .left)) _
+    (c .before .before .file-length .ensures .0) (c .before .if3 .left)
 
 same-length : tie.Need-same-length
 same-length c = search needs
 
 returns-4 : tie.Need-returns-4
-returns-4 c = by-0 _ (declared (c .before .before .before .before .before .before .before .before .before .before .before .before .before .before .good .0)) (passed (c .before .before .before .before .before .before .before .before .before .well-formed .ensures) (c .before .before .before .before .before .before .before .before .if1 .left)) _ (passed (c .before .before .before .before .before .before .before .is-writable .ensures) (c .before .before .before .before .before .before .if2 .left)) _ (c .before .before .before .before .before .file-length .ensures .0) (c .before .before .before .before .if3 .left) (c .before .before .put-state .ensures)
+returns-4 c =
+    let formed = c .before .before .before .before .before .before .before .before in
+    let writable = c .before .before .before .before .before .before in
+    by-0 _ (declared (formed .before .before .before .before .before .before .good .0)) (passed (formed .before .well-formed .ensures) (formed .if1 .left)) _ (passed (writable .before .is-writable .ensures) (writable .if2 .left)) _
+    (c .before .before .before .before .before .file-length .ensures .0) (c .before .before .before .before .if3 .left) (c .before .before .put-state .ensures)
 
 pub write-state-spec : {M : Type 1} → statement M
 write-state-spec =

@@ -48,17 +48,10 @@ enter-requires c κs =
     let counts = known .before .before in
     let start = counts .before .before .before .before .before .before .before .before in
     let a = start .args in
-    ready (a .t) (a .lots) (a .opposite .now) (a .oppositecount) (counts .before .before .before .before .before .before .if1 .left) (start .pre) (a .price)
-    (a .last) (a .own .now) (a .owncount) (a .area .now) (a .before)
-    (ltb-false 31 (a .t .account) (counts .before .before .before .before .if2 .left))
-    (ltb-false 1000 (a .lots) (counts .before .before .before .if3 .left))
-    (counts .before .before .if4 .left)
-    (ltb-false maxResting (a .oppositecount) (counts .before .if5 .left))
-    (ltb-false 8 (a .before) (counts .if6 .left))
-    (omega (arith, start .good)) (omega (arith, start .good)) (omega (arith, start .good))
-    (known .accounts-known .ensures (not-false _ (c .before .before .before .before .before .before .before .before .if7 .left)))
-    (omega (arith, c .before .before .before .before .before .count-trades .ensures, c .before .before .before .before .if8 .left))
-    (c .before .before .before .no-holdings .ensures)
+    ready (counts .before .before .before .before .before .before .if1 .left) (start .pre) (ltb-false 31 (a .t .account) (counts .before .before .before .before .if2 .left)) (ltb-false 1000 (a .lots) (counts .before .before .before .if3 .left))
+    (counts .before .before .if4 .left) (ltb-false maxResting (a .oppositecount) (counts .before .if5 .left)) (ltb-false 8 (a .before) (counts .if6 .left))
+    (omega (arith, start .good)) (omega (arith, start .good)) (omega (arith, start .good)) (known .accounts-known .ensures (not-false _ (c .before .before .before .before .before .before .before .before .if7 .left)))
+    (omega (arith, c .before .before .before .before .before .count-trades .ensures, c .before .before .before .before .if8 .left)) (c .before .before .before .no-holdings .ensures)
 
 returns-5 : tie.Need-returns-5
 returns-5 c = search needs

@@ -41,11 +41,8 @@ record-of-requires c κs =
 command-of-requires : tie.Need-command-of-requires Inv-loop μ-loop
 command-of-requires c κs = search needs
 
-letter-requires : tie.Need-letter-requires Inv-loop μ-loop
-letter-requires c κs = search needs
-
-say-requires-2 : tie.Need-say-requires-2 Inv-loop μ-loop
-say-requires-2 c κs = search needs
+say-kind-requires : tie.Need-say-kind-requires Inv-loop μ-loop
+say-kind-requires c κs = search needs
 
 add-k : tie.Need-add-k Inv-loop μ-loop
 add-k c = search needs
@@ -74,8 +71,7 @@ say-commands-spec =
     loop-holds
     record-of-requires
     command-of-requires
-    letter-requires
-    say-requires-2
+    say-kind-requires
     add-k
     loop-less
     loop-again

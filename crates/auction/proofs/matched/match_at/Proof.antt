@@ -158,7 +158,8 @@ book-leg-requires-2 : tie.Need-book-leg-requires-2 Inv-turns μ-turns
 book-leg-requires-2 c κs =
     let w = Selling (c .before) in
     let h = Head w in
-    let bought = buyer-held (h .turns .held) (w .trade-at .result) (sym (place w)) (c .before .before .before .before .wide2 .ensures) (c .before .before .book-leg .ensures) (place w) (booking w .0) (h .turns .inv .parties .holdings) in
+    let held = h .turns .inv .parties .holdings in
+    let bought = buyer-held (h .turns .held) (w .trade-at .result) (sym (place w)) (c .before .before .before .before .wide2 .ensures) (c .before .before .book-leg .ensures) (place w) (booking w .0) held in
     (listed w, few w, holding-read _ bought (rw (c .before .wide3 .ensures) (booking w .1)) refl (omega (arith, few w, total w)))
 
 mul-held-2 : tie.Need-mul-held-2 Inv-turns μ-turns
@@ -212,7 +213,8 @@ turns-again : tie.Need-turns-again Inv-turns μ-turns
 turns-again c =
     let b = c .before .before .before .before .before in
     let w = Trading b in
-    on-sell (Head w .turns .inv) (meeting w) (trade w) (fits w) (legs (b .before .before .before .before)) (b .before .before .put-trade .ensures) (c .before .before .before .before .if4 .taken) (c .before .before .set-lots .kept .0) (c .before .before .set-lots .ensures)
+    on-sell (Head w .turns .inv) (meeting w) (trade w) (fits w) (legs (b .before .before .before .before)) (b .before .before .put-trade .ensures)
+    (c .before .before .before .before .if4 .taken) (c .before .before .set-lots .kept .0) (c .before .before .set-lots .ensures)
 
 add-i : tie.Need-add-i Inv-turns μ-turns
 add-i c = omega (arith, early (Trading (c .before)) .0)
@@ -233,7 +235,8 @@ turns-again-2 : tie.Need-turns-again-2 Inv-turns μ-turns
 turns-again-2 c =
     let b = c .before .before .before .before .before .before in
     let w = Trading b in
-    on-buy (Head w .turns .inv) (meeting w) (trade w) (fits w) (legs (b .before .before .before .before)) (b .before .before .put-trade .ensures) (c .before .before .before .before .before .if4 .left) (c .before .before .before .before .if5 .taken) (c .before .before .set-lots2 .kept .0) (c .before .before .set-lots2 .ensures)
+    on-buy (Head w .turns .inv) (meeting w) (trade w) (fits w) (legs (b .before .before .before .before)) (b .before .before .put-trade .ensures)
+    (c .before .before .before .before .before .if4 .left) (c .before .before .before .before .if5 .taken) (c .before .before .set-lots2 .kept .0) (c .before .before .set-lots2 .ensures)
 
 add-j-2 : tie.Need-add-j-2 Inv-turns μ-turns
 add-j-2 c = omega (arith, early (Trading (c .before .before)) .1)
@@ -278,7 +281,8 @@ returns-2 c =
     let r = c .before .before in
     let t = Tested r in
     let h = t .before .before in
-    stopped-unmet (h .turns .inv) (h .before .wide .ensures) (buy-there t) (sell-there t) (r .before .before .order-at .ensures) (r .order-at2 .ensures) (sym (c .before .both-reach .ensures) ∙ not-true _ (c .if3 .taken))
+    stopped-unmet (h .turns .inv) (h .before .wide .ensures) (buy-there t) (sell-there t) (r .before .before .order-at .ensures) (r .order-at2 .ensures)
+    (sym (c .before .both-reach .ensures) ∙ not-true _ (c .if3 .taken))
 
 pub match-at-spec : {M : Type 1} → statement M
 match-at-spec =

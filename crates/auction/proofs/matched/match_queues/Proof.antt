@@ -37,7 +37,8 @@ same-length-3 c = search needs
 returns-2 : tie.Need-returns-2
 returns-2 c =
     let called = c .before .before .before .before .before .before .before .before .before .before .before .before .before .before .before .before in
-    queues-left _ (called .before .before .before .before .before .before .before .before .before .pre) (called .before .before .before .before .if1 .left) (called .match-at .ensures) (c .before .before .before .before .before .before .before .before .before .wide .ensures) (c .before .before .before .before .before .before .before .drop-front .ensures) (c .before .before .before .drop-front2 .ensures)
+    queues-left _ (called .before .before .before .before .before .before .before .before .before .pre) (called .before .before .before .before .if1 .left) (called .match-at .ensures) (c .before .before .before .before .before .before .before .before .before .wide .ensures)
+    (c .before .before .before .before .before .before .before .drop-front .ensures) (c .before .before .before .drop-front2 .ensures)
 
 pub match-queues-spec : {M : Type 1} → statement M
 match-queues-spec =

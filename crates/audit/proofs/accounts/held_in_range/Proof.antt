@@ -30,13 +30,15 @@ few : (c : tie.In-loop Inv-loop μ-loop) → c .before .loop .a < 32
 few c = omega (arith, c .loop-test .taken, counts-ok _ (c .before .before .before .before .before .before .before .before .before .pre .0 .counts) .accounts-high)
 
 -- the call's answer
-tested : (c : tie.After-holding-in-range Inv-loop μ-loop) →
-    c .holding-in-range .result
-    ≡ holdingInRange (listing (c .before .before .before .before .before .before .before .before .before .before .before .before .args .t1) (c .before .before .before .before .before .before .before .before .before .before .before .before .args .buys .now) (c .before .before .before .before .before .before .before .before .before .before .before .before .args .sells .now) (c .before .before .before .before .before .before .before .before .before .before .before .before .args .c)) (c .before .before .before .before .loop .a) (holdingAt (c .before .before .before .before .before .before .before .before .before .before .before .before .args .t1 .accounts) (c .before .before .before .before .loop .a) (c .before .before .before .before .before .before .before .before .before .before .before .before .args .c))
+tested : (c : tie.After-holding-in-range Inv-loop μ-loop)
+    → let s = c .before .before .before .before .before .before .before .before .before .before .before .before in
+    let a = c .before .before .before .before .loop .a in
+    c .holding-in-range .result ≡ holdingInRange (listing (s .args .t1) (s .args .buys .now) (s .args .sells .now) (s .args .c)) a (holdingAt (s .args .t1 .accounts) a (s .args .c))
 unfolding listingIn holdingAt accountAt
 tested c =
+    let s = c .before .before .before .before .before .before .before .before .before .before .before .before in
     c .holding-in-range .ensures
-    ∙ held-same (listing (c .before .before .before .before .before .before .before .before .before .before .before .before .args .t1) (c .before .before .before .before .before .before .before .before .before .before .before .before .args .buys .now) (c .before .before .before .before .before .before .before .before .before .before .before .before .args .sells .now) (c .before .before .before .before .before .before .before .before .before .before .before .before .args .c)) (c .before .before .before .before .loop .a) _ (c .before .before .before .before .before .before .resting-lots .ensures) (c .before .before .before .before .before .resting-lots2 .ensures) (few (c .before .before .before))
+    ∙ held-same (listing (s .args .t1) (s .args .buys .now) (s .args .sells .now) (s .args .c)) _ _ (c .before .before .before .before .before .before .resting-lots .ensures) (c .before .before .before .before .before .resting-lots2 .ensures) (few (c .before .before .before))
 
 mul-contract : tie.Need-mul-contract Inv-loop μ-loop
 mul-contract c = search needs

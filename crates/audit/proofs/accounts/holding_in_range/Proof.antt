@@ -1,7 +1,7 @@
 -- `audit::accounts::holding_in_range` meets its contract: the tests in the definition's order. Assumes nothing.
 use borrow.Author.Needs.{needs}
 use borrow.Author.Tests.{le-leb, lt-leb}
-use Rattle.audit.proofs.Chains.{fails, last, passed, refused}
+use Rattle.audit.proofs.Chains.{_and_, fails, last, passed, refused}
 use Rattle.audit.proofs.Clauses.{held-chain}
 use Rattle.audit.proofs.accounts.holding_in_range.Statement.{statement}
 use Rattle.audit.proofs.accounts.holding_in_range.Tie as tie
@@ -29,16 +29,13 @@ returns-5 c = fails (held-chain _ _ _ _ _ _) 4 (lt-leb _ _ (c .if5 .taken))
 
 returns-6 : tie.Need-returns-6
 returns-6 c =
-    last (held-chain _ _ _ _ _ _) (
-      le-leb _ _ (c .before .before .before .before .before .before .before .before .before .if1 .left),
-      (
-        le-leb _ _ (c .before .before .before .before .before .before .before .if2 .left),
-        (
-          passed (c .before .before .before .before .before .before .opens-keep-limit .ensures) (c .before .before .before .before .before .if3 .left),
-          (passed (c .before .before .before .before .opens-keep-limit2 .ensures) (c .before .before .before .if4 .left), (le-leb _ _ (c .before .if5 .left), tt)),
-        ),
-      ),
-    )
+    last (held-chain _ _ _ _ _ _)
+    (le-leb _ _ (c .before .before .before .before .before .before .before .before .before .if1 .left)
+    and le-leb _ _ (c .before .before .before .before .before .before .before .if2 .left)
+    and passed (c .before .before .before .before .before .before .opens-keep-limit .ensures) (c .before .before .before .before .before .if3 .left)
+    and passed (c .before .before .before .before .opens-keep-limit2 .ensures) (c .before .before .before .if4 .left)
+    and le-leb _ _ (c .before .if5 .left)
+    and tt)
 
 pub holding-in-range-spec : {M : Type 1} → statement M
 holding-in-range-spec =

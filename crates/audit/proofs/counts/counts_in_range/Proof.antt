@@ -2,7 +2,7 @@
 use mathlib.Core.Path.{_∙_}
 use borrow.Author.Needs.{needs}
 use borrow.Author.Tests.{le-leb, lt-leb}
-use Rattle.audit.proofs.Chains.{above, below, between, fails, last, passed, refused}
+use Rattle.audit.proofs.Chains.{_and_, above, below, between, fails, last, passed, refused}
 use Rattle.audit.proofs.Clauses.{counts-chain}
 use Rattle.audit.proofs.counts.counts_in_range.Statement.{statement}
 use Rattle.audit.proofs.counts.counts_in_range.Tie as tie
@@ -34,10 +34,12 @@ few-orders-requires-2 c κs = search needs
 returns-7 : tie.Need-returns-7
 returns-7 c =
     c .few-orders2 .ensures
-    ∙ last (counts-chain _) (
-      between 1 4 (c .before .before .before .before .before .before .before .before .before .before .before .before .if1 .left) (c .before .before .before .before .before .before .before .before .before .before .before .if2 .left),
-      (between 1 32 (c .before .before .before .before .before .before .before .before .before .if3 .left) (c .before .before .before .before .before .before .before .if4 .left), (le-leb _ _ (c .before .before .before .before .before .if5 .left), (passed (c .before .before .before .few-orders .ensures) (c .before .before .if6 .left), tt))),
-    )
+    ∙ last (counts-chain _)
+    (between 1 4 (c .before .before .before .before .before .before .before .before .before .before .before .before .if1 .left) (c .before .before .before .before .before .before .before .before .before .before .before .if2 .left)
+    and between 1 32 (c .before .before .before .before .before .before .before .before .before .if3 .left) (c .before .before .before .before .before .before .before .if4 .left)
+    and le-leb _ _ (c .before .before .before .before .before .if5 .left)
+    and passed (c .before .before .before .few-orders .ensures) (c .before .before .if6 .left)
+    and tt)
 
 pub counts-in-range-spec : {M : Type 1} → statement M
 counts-in-range-spec =

@@ -3,7 +3,7 @@ use mathlib.Core.Path.{_∙_}
 use borrow.Author.Needs.{needs}
 use Rattle.rules.specs.Memory.{listingIn}
 use Rattle.rules.proofs.Terms.{terms-passed}
-use Rattle.audit.proofs.Chains.{fails, last, passed, refused}
+use Rattle.audit.proofs.Chains.{_and_, fails, last, passed, refused}
 use Rattle.audit.proofs.Clauses.{listing-chain}
 use Rattle.audit.proofs.Rooms.{buys-room, contract-in, sells-room}
 use Rattle.audit.proofs.queues.listing_in_range.Statement.{statement}
@@ -77,16 +77,13 @@ returns-6 : tie.Need-returns-6
 unfolding listingIn
 returns-6 c =
     c .orders-in-range2 .ensures
-    ∙ last (listing-chain _ _ _ _) (
-      passed (c .before .before .before .before .before .before .before .before .before .before .contract-in-range .ensures) (c .before .before .before .before .before .before .before .before .before .if1 .left),
-      (
-        passed (c .before .before .before .before .before .before .before .before .is-sorted .ensures) (c .before .before .before .before .before .before .before .if2 .left),
-        (
-          passed (c .before .before .before .before .before .before .is-sorted2 .ensures) (c .before .before .before .before .before .if3 .left),
-          (passed (c .before .before .before .before .is-apart .ensures) (c .before .before .before .if4 .left), (passed (c .before .before .orders-in-range .ensures) (c .before .if5 .left), tt)),
-        ),
-      ),
-    )
+    ∙ last (listing-chain _ _ _ _)
+    (passed (c .before .before .before .before .before .before .before .before .before .before .contract-in-range .ensures) (c .before .before .before .before .before .before .before .before .before .if1 .left)
+    and passed (c .before .before .before .before .before .before .before .before .is-sorted .ensures) (c .before .before .before .before .before .before .before .if2 .left)
+    and passed (c .before .before .before .before .before .before .is-sorted2 .ensures) (c .before .before .before .before .before .if3 .left)
+    and passed (c .before .before .before .before .is-apart .ensures) (c .before .before .before .if4 .left)
+    and passed (c .before .before .orders-in-range .ensures) (c .before .if5 .left)
+    and tt)
 
 pub listing-in-range-spec : {M : Type 1} → statement M
 listing-in-range-spec =

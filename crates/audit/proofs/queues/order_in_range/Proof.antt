@@ -1,7 +1,7 @@
 -- `audit::queues::order_in_range` meets its contract: the tests in the definition's order. Assumes nothing.
 use borrow.Author.Needs.{needs}
 use borrow.Author.Tests.{le-leb, le-ltb, lt-leb, lt-ltb}
-use Rattle.audit.proofs.Chains.{fails, last, passed, place-in, place-past, refused}
+use Rattle.audit.proofs.Chains.{_and_, fails, last, passed, place-in, place-past, refused}
 use Rattle.audit.proofs.Clauses.{order-chain}
 use Rattle.audit.proofs.queues.order_in_range.Statement.{statement}
 use Rattle.audit.proofs.queues.order_in_range.Tie as tie
@@ -42,16 +42,21 @@ returns-8 c = fails (order-chain _ _ _ _ _) 7 (le-ltb _ _ (c .if8 .taken))
 
 returns-9 : tie.Need-returns-9
 returns-9 c =
-    last (order-chain _ _ _ _ _) (
-      passed (c .before .before .before .before .before .before .before .before .before .before .before .before .before .before .before .before .within .ensures) (c .before .before .before .before .before .before .before .before .before .before .before .before .before .before .before .if1 .left),
-      (
-        place-in (c .before .before .before .before .before .before .before .before .before .before .before .before .before .before .wide .ensures) (c .before .before .before .before .before .before .before .before .before .before .before .before .before .if2 .left),
-        (
-          passed (c .before .before .before .before .before .before .before .before .before .before .before .before .allowed-today .ensures) (c .before .before .before .before .before .before .before .before .before .before .before .if3 .left),
-          (le-leb _ _ (c .before .before .before .before .before .before .before .before .before .if4 .left), (lt-ltb _ _ (c .before .before .before .before .before .before .before .if5 .left), (le-leb _ _ (c .before .before .before .before .before .if6 .left), (le-leb _ _ (c .before .before .before .if7 .left), (lt-ltb _ _ (c .before .if8 .left), tt))))),
-        ),
-      ),
-    )
+    let stamped = c .before .before .before in
+    let numbered = c .before .before .before .before .before .before .before .before .before in
+    let priced = numbered .before .before in
+    let whose = priced .before .before in
+    let sized = whose .before .before in
+    last (order-chain _ _ _ _ _)
+    (passed (sized .before .within .ensures) (sized .if1 .left)
+    and place-in (whose .before .wide .ensures) (whose .if2 .left)
+    and passed (priced .before .allowed-today .ensures) (priced .if3 .left)
+    and le-leb _ _ (numbered .if4 .left)
+    and lt-ltb _ _ (c .before .before .before .before .before .before .before .if5 .left)
+    and le-leb _ _ (c .before .before .before .before .before .if6 .left)
+    and le-leb _ _ (stamped .if7 .left)
+    and lt-ltb _ _ (c .before .if8 .left)
+    and tt)
 
 pub order-in-range-spec : {M : Type 1} → statement M
 order-in-range-spec =

@@ -13,7 +13,7 @@ use Rattle.rules.specs.declared.Account.{Account}
 use Rattle.rules.specs.declared.Order.{Order}
 use Rattle.rules.proofs.Codecs.{length-queue, order-at}
 use Rattle.audit.specs.Parts.{Markable}
-use Rattle.audit.proofs.MarkedOrders.{Met, all-met, met-again, met-close, met-marked, met-no-maker, met-none, met-unmarked}
+use Rattle.audit.proofs.MarkedOrders.{MarkMet, Met, all-met, met-again, met-close, met-marked, met-no-maker, met-none, met-unmarked}
 use Rattle.audit.proofs.quotes.queue_quoted.Statement.{statement}
 use Rattle.audit.proofs.quotes.queue_quoted.Tie as tie
 
@@ -54,6 +54,18 @@ maker c =
     ap (λ (v : Account). v .maker)
     (getD-take (s .args .t1 .accountcount) (s .args .t1 .accounts) (c .wide .result) noAccount (omega (arith, may (c .before .before .before) .account, c .wide .ensures, in-use s)))
 
+-- the order met has a mark
+marked : (c : tie.After-wide Inv-loop μ-loop)
+    → let a = c .before .before .before .before .before .before .before .args in
+    MarkMet (take (a .t1 .accountcount) (a .t1 .accounts)) (queueIn (a .area .now) (a .c) (a .count)) (c .before .before .before .before .before .loop .i) (c .before .before .before .before .before .loop .seen) (c .before .before .before .order-at .result) (c .wide .result)
+marked c =
+    let met = c .before .before .before in
+    record { few = few (c .before .before .before .before .before .before .before); met = c .before .before .before .before .before .loop .inv .1; there = there met; it = it met; whose = c .wide .ensures; may = may met; some = c .before .if1 .left }
+
+-- its account is one of 32
+place : (c : tie.After-wide Inv-loop μ-loop) → c .wide .result < 32
+place c = omega (arith, may (c .before .before .before) .account, c .wide .ensures, few (c .before .before .before .before .before .before .before))
+
 loop-holds : tie.Need-loop-holds Inv-loop μ-loop
 loop-holds c = (omega arith, met-none _ (few (c .before)) _)
 
@@ -73,31 +85,31 @@ wide-requires : tie.Need-wide-requires Inv-loop μ-loop
 wide-requires c κs = search needs
 
 mul-who : tie.Need-mul-who Inv-loop μ-loop
-mul-who c = omega (arith, may (c .before .before .before) .account, c .wide .ensures, few (c .before .before .before .before .before .before .before))
+mul-who c = omega (arith, place c)
 
 element-copy-out-who : tie.Need-element-copy-out-who Inv-loop μ-loop
-element-copy-out-who c = omega (arith, may (c .before .before .before) .account, c .wide .ensures, few (c .before .before .before .before .before .before .before))
+element-copy-out-who c = place c
 
 returns : tie.Need-returns Inv-loop μ-loop
-returns c = met-no-maker _ (few (c .before .before .before .before .before .before .before .before .before .before)) _ (c .before .before .before .before .before .before .before .before .loop .inv .1) (there (c .before .before .before .before .before .before)) (it (c .before .before .before .before .before .before)) (c .before .before .before .wide .ensures) (may (c .before .before .before .before .before .before)) (c .before .before .before .before .if1 .left) (λ e. c .if2 .taken (sym (maker (c .before .before .before)) ∙ e))
+returns c = met-no-maker (marked (c .before .before .before)) (λ e. c .if2 .taken (sym (maker (c .before .before .before)) ∙ e))
 
 returns-2 : tie.Need-returns-2 Inv-loop μ-loop
-returns-2 c = met-close _ (few (c .before .before .before .before .before .before .before .before .before .before .before .before)) _ (c .before .before .before .before .before .before .before .before .before .before .loop .inv .1) (there (c .before .before .before .before .before .before .before .before)) (it (c .before .before .before .before .before .before .before .before)) (c .before .before .before .before .before .wide .ensures) (may (c .before .before .before .before .before .before .before .before)) (c .before .before .before .before .before .before .if1 .left) (c .if3 .taken)
+returns-2 c = met-close (marked (c .before .before .before .before .before)) (c .if3 .taken)
 
 mul-if4 : tie.Need-mul-if4 Inv-loop μ-loop
-mul-if4 c = omega (arith, may (c .before .before .before .before .before .before .before .before) .account, c .before .before .before .before .before .wide .ensures, few (c .before .before .before .before .before .before .before .before .before .before .before .before))
+mul-if4 c = omega (arith, place (c .before .before .before .before .before))
 
 array-read-if4 : tie.Need-array-read-if4 Inv-loop μ-loop
-array-read-if4 c = omega (arith, may (c .before .before .before .before .before .before .before .before) .account, c .before .before .before .before .before .wide .ensures, few (c .before .before .before .before .before .before .before .before .before .before .before .before))
+array-read-if4 c = place (c .before .before .before .before .before)
 
 returns-3 : tie.Need-returns-3 Inv-loop μ-loop
-returns-3 c = met-again _ (few (c .before .before .before .before .before .before .before .before .before .before .before .before .before)) _ (c .before .before .before .before .before .before .before .before .before .before .before .loop .inv .1) (there (c .before .before .before .before .before .before .before .before .before)) (it (c .before .before .before .before .before .before .before .before .before)) (c .before .before .before .before .before .before .wide .ensures) (may (c .before .before .before .before .before .before .before .before .before)) (c .before .before .before .before .before .before .before .if1 .left) (c .if4 .taken)
+returns-3 c = met-again (marked (c .before .before .before .before .before .before)) (c .if4 .taken)
 
 mul-seen : tie.Need-mul-seen Inv-loop μ-loop
-mul-seen c = omega (arith, may (c .before .before .before .before .before .before .before .before .before) .account, c .before .before .before .before .before .before .wide .ensures, few (c .before .before .before .before .before .before .before .before .before .before .before .before .before))
+mul-seen c = omega (arith, place (c .before .before .before .before .before .before))
 
 array-write-seen : tie.Need-array-write-seen Inv-loop μ-loop
-array-write-seen c = omega (arith, may (c .before .before .before .before .before .before .before .before .before) .account, c .before .before .before .before .before .before .wide .ensures, few (c .before .before .before .before .before .before .before .before .before .before .before .before .before))
+array-write-seen c = place (c .before .before .before .before .before .before)
 
 add-i-2 : tie.Need-add-i-2 Inv-loop μ-loop
 add-i-2 c = omega arith
@@ -106,7 +118,8 @@ loop-less-2 : tie.Need-loop-less-2 Inv-loop μ-loop
 loop-less-2 c = omega arith
 
 loop-again-2 : tie.Need-loop-again-2 Inv-loop μ-loop
-loop-again-2 c = (omega arith, met-marked _ (few (c .before .before .before .before .before .before .before .before .before .before .before .before .before)) _ (c .before .before .before .before .before .before .before .before .before .before .before .loop .inv .1) (there (c .before .before .before .before .before .before .before .before .before)) (it (c .before .before .before .before .before .before .before .before .before)) (c .before .before .before .before .before .before .wide .ensures) (may (c .before .before .before .before .before .before .before .before .before)) (c .before .before .before .before .before .before .before .if1 .left) (maker (c .before .before .before .before .before .before) ∙ c .before .before .before .if2 .left) (c .before .if3 .left) (c .if4 .left))
+loop-again-2 c =
+    (omega arith, met-marked (marked (c .before .before .before .before .before .before)) (maker (c .before .before .before .before .before .before) ∙ c .before .before .before .if2 .left) (c .before .if3 .left) (c .if4 .left))
 
 returns-4 : tie.Need-returns-4 Inv-loop μ-loop
 returns-4 c = all-met _ (few (c .before .before .before)) _ (c .before .loop .inv .1) (omega (arith, length-queue (c .before .before .before .args .area .now) (c .before .before .before .args .c) (c .before .before .before .args .count)))

@@ -1,7 +1,7 @@
 -- `audit::recorded::trade_in_range` meets its contract: the tests in the definition's order. Assumes nothing.
 use borrow.Author.Needs.{needs}
 use borrow.Author.Tests.{le-leb, lt-leb}
-use Rattle.audit.proofs.Chains.{fails, last, passed, place-in, place-past, refused}
+use Rattle.audit.proofs.Chains.{_and_, fails, last, passed, place-in, place-past, refused}
 use Rattle.audit.proofs.TestedTrades.{price-tested, trade-chain}
 use Rattle.audit.proofs.recorded.trade_in_range.Statement.{statement}
 use Rattle.audit.proofs.recorded.trade_in_range.Tie as tie
@@ -56,22 +56,22 @@ returns-7 c = fails (trade-chain _ _ _ _ _) 6 (lt-leb _ _ (c .if7 .taken))
 
 returns-8 : tie.Need-returns-8
 returns-8 c =
-    last (trade-chain _ _ _ _ _) (
-      place-in (c .before .before .before .before .before .before .before .before .before .before .before .before .before .before .before .wide .ensures) (c .before .before .before .before .before .before .before .before .before .before .before .before .before .before .if1 .left),
-      (
-        place-in (c .before .before .before .before .before .before .before .before .before .before .before .before .before .wide2 .ensures) (c .before .before .before .before .before .before .before .before .before .before .before .before .if2 .left),
-        (
-          place-in (c .before .before .before .before .before .before .before .before .before .before .before .wide3 .ensures) (c .before .before .before .before .before .before .before .before .before .before .if3 .left),
-          (
-            passed (c .before .before .before .before .before .before .before .before .before .order-numbers-in-range .ensures) (c .before .before .before .before .before .before .before .before .if4 .left),
-            (
-              passed (price-tested _ _ _ _ _ (c .before .before .before .before .before .before .before .before .before .before .before .before .before .before .before .wide .ensures) (c .before .before .before .before .before .before .before .before .before .before .before .before .before .before .if1 .left) (c .before .before .before .before .before .before .allowed-today .ensures)) (c .before .before .before .before .before .if5 .left),
-              (passed (c .before .before .before .before .within .ensures) (c .before .before .before .if6 .left), (le-leb _ _ (c .before .if7 .left), tt)),
-            ),
-          ),
-        ),
-      ),
-    )
+    let bought = c .before in
+    let sized = bought .before .before in
+    let priced = sized .before .before in
+    let numbered = priced .before .before .before in
+    let seller = numbered .before .before in
+    let buyer = seller .before .before in
+    let contract = buyer .before .before in
+    last (trade-chain _ _ _ _ _)
+    (place-in (contract .before .wide .ensures) (contract .if1 .left)
+    and place-in (buyer .before .wide2 .ensures) (buyer .if2 .left)
+    and place-in (seller .before .wide3 .ensures) (seller .if3 .left)
+    and passed (numbered .before .order-numbers-in-range .ensures) (numbered .if4 .left)
+    and passed (price-tested _ _ _ _ _ (contract .before .wide .ensures) (contract .if1 .left) (priced .before .allowed-today .ensures)) (priced .if5 .left)
+    and passed (sized .before .within .ensures) (sized .if6 .left)
+    and le-leb _ _ (bought .if7 .left)
+    and tt)
 
 pub trade-in-range-spec : {M : Type 1} → statement M
 trade-in-range-spec =

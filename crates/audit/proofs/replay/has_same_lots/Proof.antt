@@ -45,11 +45,13 @@ element-copy-out-k c = omega arith
 
 returns : tie.Need-returns Inv-loop μ-loop
 returns c =
-    long-differs (c .before .before .before .before .before .before .before .args .t1 .holdings) (c .before .before .before .before .before .before .before .args .t2 .holdings) _ _ (c .before .before .before .before .before .before .loop .inv .1) (c .before .before .before .before .before .loop-test .taken) (first (c .before .before .before .before .before .before .before)) (second (c .before .before .before .before .before .before .before)) (c .if1 .taken)
+    let s = c .before .before .before .before .before .before .before in
+    long-differs (s .args .t1 .holdings) (s .args .t2 .holdings) _ _ (c .before .before .before .before .before .before .loop .inv .1) (c .before .before .before .before .before .loop-test .taken) (first s) (second s) (c .if1 .taken)
 
 returns-2 : tie.Need-returns-2 Inv-loop μ-loop
 returns-2 c =
-    short-differs (c .before .before .before .before .before .before .before .before .before .before .args .t1 .holdings) (c .before .before .before .before .before .before .before .before .before .before .args .t2 .holdings) _ _ (c .before .before .before .before .before .before .before .before .before .loop .inv .1) (c .before .before .before .before .before .before .before .before .loop-test .taken) (first (c .before .before .before .before .before .before .before .before .before .before)) (second (c .before .before .before .before .before .before .before .before .before .before)) (c .before .before .before .if1 .left) (c .if2 .taken)
+    let s = c .before .before .before .before .before .before .before .before .before .before in
+    short-differs (s .args .t1 .holdings) (s .args .t2 .holdings) _ _ (c .before .before .before .before .before .before .before .before .before .loop .inv .1) (c .before .before .before .before .before .before .before .before .loop-test .taken) (first s) (second s) (c .before .before .before .if1 .left) (c .if2 .taken)
 
 add-c : tie.Need-add-c Inv-loop μ-loop
 add-c c = omega arith
@@ -59,7 +61,8 @@ loop-less c = omega arith
 
 loop-again : tie.Need-loop-again Inv-loop μ-loop
 loop-again c =
-    (omega arith, same-turn (c .before .before .before .before .before .before .before .before .before .before .args .t1 .holdings) (c .before .before .before .before .before .before .before .before .before .before .args .t2 .holdings) _ _ (c .before .before .before .before .before .before .before .before .before .loop .inv .1) (c .before .before .before .before .before .before .before .before .loop-test .taken) (first (c .before .before .before .before .before .before .before .before .before .before)) (second (c .before .before .before .before .before .before .before .before .before .before)) (c .before .before .before .if1 .left) (c .if2 .left))
+    let s = c .before .before .before .before .before .before .before .before .before .before in
+    (omega arith, same-turn (s .args .t1 .holdings) (s .args .t2 .holdings) _ _ (c .before .before .before .before .before .before .before .before .before .loop .inv .1) (c .before .before .before .before .before .before .before .before .loop-test .taken) (first s) (second s) (c .before .before .before .if1 .left) (c .if2 .left))
 
 returns-3 : tie.Need-returns-3 Inv-loop μ-loop
 returns-3 c =

@@ -50,7 +50,9 @@ has-same-lots-requires c κs = c .before .before .before .before .pre .0
 
 returns : tie.Need-returns Inv-loop μ-loop
 returns c =
-    account-differs (c .before .before .before .before .before .before .args .contracts) (c .before .before .before .before .before .before .args .accounts) (c .before .before .before .before .before .before .args .t1) (c .before .before .before .before .before .before .args .t2) _ (c .before .before .before .before .before .loop .inv .1) (c .before .before .before .before .loop-test .taken) (first (c .before .before .before .before .before .before)) (second (c .before .before .before .before .before .before)) (refused (c .before .has-same-lots .ensures) (c .if1 .taken))
+    let s = c .before .before .before .before .before .before in
+    account-differs (s .args .contracts) (s .args .accounts) (s .args .t1) (s .args .t2) _ (c .before .before .before .before .before .loop .inv .1) (c .before .before .before .before .loop-test .taken) (first s) (second s)
+    (refused (c .before .has-same-lots .ensures) (c .if1 .taken))
 
 add-a : tie.Need-add-a Inv-loop μ-loop
 add-a c = omega arith
@@ -60,7 +62,11 @@ loop-less c = omega arith
 
 loop-again : tie.Need-loop-again Inv-loop μ-loop
 loop-again c =
-    (omega arith, account-turn (c .before .before .before .before .before .before .args .contracts) (c .before .before .before .before .before .before .args .accounts) (c .before .before .before .before .before .before .args .t1) (c .before .before .before .before .before .before .args .t2) _ (c .before .before .before .before .before .loop .inv .1) (c .before .before .before .before .loop-test .taken) (first (c .before .before .before .before .before .before)) (second (c .before .before .before .before .before .before)) (passed (c .before .has-same-lots .ensures) (c .if1 .left)))
+    let s = c .before .before .before .before .before .before in (
+      omega arith,
+      account-turn (s .args .contracts) (s .args .accounts) (s .args .t1) (s .args .t2) _ (c .before .before .before .before .before .loop .inv .1) (c .before .before .before .before .loop-test .taken) (first s) (second s)
+          (passed (c .before .has-same-lots .ensures) (c .if1 .left)),
+    )
 
 returns-2 : tie.Need-returns-2 Inv-loop μ-loop
 returns-2 c =

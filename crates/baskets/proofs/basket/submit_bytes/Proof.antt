@@ -26,7 +26,9 @@ returns : tie.Need-returns
 returns c = refused _ (declared (c .before .before .before .before .before .before .before .before .before .before .good .0)) _ _ _ (c .before .refusal .result) (c .before .refusal .ensures) (c .if1 .taken) refl
 
 answer-records-requires : tie.Need-answer-records-requires
-answer-records-requires c κs = let free = not-refused _ _ _ (sym (c .before .before .before .before .before .refusal .ensures) ∙ c .before .before .before .before .if1 .left) in (sym (free .formed), omega (arith, div-mul-le-self (length (c .before .before .before .before .before .before .before .before .before .before .before .before .before .before .args .bytes .now)) 24), free .room)
+answer-records-requires c κs =
+    let free = not-refused _ _ _ (sym (c .before .before .before .before .before .refusal .ensures) ∙ c .before .before .before .before .if1 .left) in
+    (sym (free .formed), omega (arith, div-mul-le-self (length (c .before .before .before .before .before .before .before .before .before .before .before .before .before .before .args .bytes .now)) 24), free .room)
 
 same-length-4 : tie.Need-same-length-4
 same-length-4 c = search needs
@@ -41,7 +43,10 @@ same-length-7 : tie.Need-same-length-7
 same-length-7 c = search needs
 
 returns-2 : tie.Need-returns-2
-returns-2 c = whole-carried _ (declared (c .before .before .before .before .before .before .before .before .before .before .before .before .before .before .before .before .before .before .before .before .before .before .before .good .0)) _ _ refl (sym (c .before .before .before .before .before .before .before .before .before .before .before .before .before .before .refusal .ensures) ∙ c .before .before .before .before .before .before .before .before .before .before .before .before .before .if1 .left) refl (c .before .before .before .before .before .before .before .before .answer-records .ensures .0) (c .before .before .before .before .before .before .before .before .answer-records .ensures .1)
+returns-2 c =
+    let free = c .before .before .before .before .before .before .before .before .before .before .before .before .before in
+    let all = c .before .before .before .before .before .before .before .before .answer-records .ensures in
+    whole-carried _ (declared (free .before .before .before .before .before .before .before .before .before .before .good .0)) _ _ refl (sym (free .before .refusal .ensures) ∙ free .if1 .left) refl (all .0) (all .1)
 
 pub submit-bytes-spec : {M : Type 1} → statement M
 submit-bytes-spec =

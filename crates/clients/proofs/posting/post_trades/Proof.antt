@@ -30,7 +30,9 @@ same-length : tie.Need-same-length Inv-loop μ-loop
 same-length c = c .before .before .before .before .before .loop .inv .long
 
 returns : tie.Need-returns Inv-loop μ-loop
-returns c = not-posted _ _ _ _ _ _ _ _ _ (c .before .before .before .before .loop-test .taken) (c .before .before .before .before .before .loop .inv) _ (c .before .before .before .trade-at .ensures) (sym (trade-posted _ _ _ (c .before .before .before .before .before .before .before .before .before .pre .0) _ _ (c .before .before .client-trade .ensures)) ∙ refused (c .before .is-posted .ensures) (c .if1 .taken))
+returns c =
+    not-posted _ _ _ _ _ _ _ _ _ (c .before .before .before .before .loop-test .taken) (c .before .before .before .before .before .loop .inv) _ (c .before .before .before .trade-at .ensures)
+    (sym (trade-posted _ _ _ (c .before .before .before .before .before .before .before .before .before .pre .0) _ _ (c .before .before .client-trade .ensures)) ∙ refused (c .before .is-posted .ensures) (c .if1 .taken))
 
 put-trade-requires : tie.Need-put-trade-requires Inv-loop μ-loop
 put-trade-requires c κs = omega (arith, c .before .before .before .before .before .before .before .before .before .before .pre .3, c .before .before .before .before .before .before .loop .inv .long)
@@ -48,7 +50,13 @@ loop-less : tie.Need-loop-less Inv-loop μ-loop
 loop-less c = omega arith
 
 loop-again : tie.Need-loop-again Inv-loop μ-loop
-loop-again c = going-more _ _ _ _ _ _ _ _ _ (c .before .before .before .before .before .before .before .before .before .loop-test .taken) (c .before .before .before .before .before .before .before .before .before .before .loop .inv) _ (c .before .before .before .before .before .before .before .before .trade-at .ensures) _ (c .before .before .before .before .before .before .before .client-trade .ensures) (sym (trade-posted _ _ _ (c .before .before .before .before .before .before .before .before .before .before .before .before .before .before .pre .0) _ _ (c .before .before .before .before .before .before .before .client-trade .ensures)) ∙ passed (c .before .before .before .before .before .before .is-posted .ensures) (c .before .before .before .before .before .if1 .left)) _ _ (c .before .before .before .before .before .before .before .before .before .before .before .before .before .before .pre .3) (c .before .before .before .put-trade .ensures) (c .legs-in .ensures .0) (c .legs-in .ensures .1)
+loop-again c =
+    let made = c .before .before .before .before .before .before .before in
+    let turn = made .before .before .before in
+    let pre = turn .before .before .before .before .pre in
+    going-more _ _ _ _ _ _ _ _ _ (made .before .before .loop-test .taken) (turn .loop .inv) _ (made .before .trade-at .ensures) _ (made .client-trade .ensures)
+    (sym (trade-posted _ _ _ (pre .0) _ _ (made .client-trade .ensures)) ∙ passed (c .before .before .before .before .before .before .is-posted .ensures) (c .before .before .before .before .before .if1 .left))
+    _ _ (pre .3) (c .before .before .before .put-trade .ensures) (c .legs-in .ensures .0) (c .legs-in .ensures .1)
 
 same-length-2 : tie.Need-same-length-2 Inv-loop μ-loop
 same-length-2 c = c .before .loop .inv .long

@@ -1,3 +1,4 @@
+-- `profit::profit_at` meets its contract: the two sides, then the profit of both. Assumes nothing.
 use Rattle.dayprofit.proofs.Gains.{sums-small, side-known, side-from, profit-from}
 use borrow.Author.Needs.{needs}
 use Rattle.dayprofit.proofs.profit.profit_at.Statement.{statement}

@@ -1,3 +1,4 @@
+-- `profit::profit_of` meets its contract: both parts fit, and are those of the two sides. Assumes nothing.
 use Rattle.dayprofit.proofs.Gains.{marked-fits, gains-small, losses-small, gains-fit, losses-fit, profit-is}
 use borrow.Author.Needs.{needs}
 use Rattle.dayprofit.proofs.profit.profit_of.Statement.{statement}
@@ -31,11 +32,16 @@ add-difference-4 : tie.Need-add-difference-4
 add-difference-4 c = losses-fit _ _ (c .before .before .before .before .before .before .before .before .before .pre .0) (c .before .before .before .before .before .before .before .before .before .pre .1) _ (c .before .before .before .before .before .before .before .before .before .pre .2)
 
 difference-requires-2 : tie.Need-difference-requires-2
-difference-requires-2 c κs = (gains-small _ _ (c .before .before .before .before .before .before .before .before .before .pre .0) (c .before .before .before .before .before .before .before .before .before .pre .1) _ (c .before .before .before .before .before .before .before .before .before .pre .2), losses-small _ _ (c .before .before .before .before .before .before .before .before .before .pre .0) (c .before .before .before .before .before .before .before .before .before .pre .1) _ (c .before .before .before .before .before .before .before .before .before .pre .2))
+difference-requires-2 c κs =
+    let pre = c .before .before .before .before .before .before .before .before .before .pre in
+    (gains-small _ _ (pre .0) (pre .1) _ (pre .2), losses-small _ _ (pre .0) (pre .1) _ (pre .2))
 
 returns : tie.Need-returns
 returns c =
-    profit-is _ _ (c .before .before .before .before .before .before .before .before .before .before .pre .0) (c .before .before .before .before .before .before .before .before .before .before .pre .1) _ (c .before .before .before .before .before .before .before .before .before .before .pre .2) _ _ (record { sfits = c .before .before .before .difference .ok }) (record { sfits = c .difference2 .ok }) (c .before .before .before .difference .ensures) (c .difference2 .ensures)
+    let pre = c .before .before .before .before .before .before .before .before .before .before .pre in
+    let d = c .before .before .before .difference in
+    let e = c .difference2 in
+    profit-is _ _ (pre .0) (pre .1) _ (pre .2) _ _ (record { sfits = d .ok }) (record { sfits = e .ok }) (d .ensures) (e .ensures)
 
 pub profit-of-spec : {M : Type 1} → statement M
 profit-of-spec =

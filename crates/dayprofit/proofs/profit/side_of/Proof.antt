@@ -1,3 +1,4 @@
+-- `profit::side_of` meets its contract: its sums fit. Assumes nothing.
 use Rattle.dayprofit.proofs.Gains.{first-fits, closed-fits, start-fits, opened-fits, closed-below}
 use borrow.Author.Needs.{needs}
 use Rattle.dayprofit.proofs.profit.side_of.Statement.{statement}

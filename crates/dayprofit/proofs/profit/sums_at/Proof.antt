@@ -1,3 +1,4 @@
+-- `profit::sums_at` meets its contract: five words read. Assumes nothing.
 use borrow.Author.Needs.{needs}
 use Rattle.dayprofit.proofs.profit.sums_at.Statement.{statement}
 use Rattle.dayprofit.proofs.profit.sums_at.Tie as tie

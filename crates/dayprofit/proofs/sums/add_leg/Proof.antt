@@ -1,3 +1,4 @@
+-- `sums::add_leg` meets its contract: a leg of the kind asked for adds at its place, any other nowhere. Assumes nothing.
 use native.Mathlib.Omega.{arith}
 use Rattle.dayprofit.proofs.Legs.{is-so, is-not-so, leg-lots-fit, leg-product-fits, leg-value-fits}
 use borrow.Author.Needs.{needs}

@@ -1,8 +1,9 @@
+-- `sums::add_up` meets its contract. The invariant: the sums are those of the trades below i. Assumes nothing.
 use mathlib.Core.Path.{sym, ap, _∙_}
 use Prim.Native.Nat.{_-_}
 use native.Mathlib.Omega.{arith}
 use lib.ListN.{length}
-use Rattle.dayprofit.proofs.Passes.{Passing, adding, Added, adding-none, buy-addable, bought, sell-addable, passing-more, adding-done, buy-lots, sell-lots}
+use Rattle.dayprofit.proofs.Passes.{Passing, TradeRead, adding, Added, adding-none, buy-addable, bought, sell-addable, passing-more, adding-done, buy-lots, sell-lots}
 use Rattle.dayprofit.proofs.sums.add_up.Statement.{statement}
 use Rattle.dayprofit.proofs.sums.add_up.Tie as tie
 
@@ -12,6 +13,10 @@ Inv-loop area count close lots₀ value₀ i₀ lots value i = Passing (Added cl
 abbrev μ-loop : tie.MeasureT-loop
 μ-loop area count close lots₀ value₀ i₀ lots value i = count - i
 
+-- the trade that a turn reads
+read : (c : tie.After-trade-at Inv-loop μ-loop) → let s = c .before .before .before .before .before .before in TradeRead (s .args .area .now) (s .args .count) (c .before .before .loop .i) (c .trade-at .result)
+read c = record { placed = c .before .before .before .before .before .before .pre .0; here = c .before .loop-test .taken; read = c .trade-at .ensures }
+
 loop-holds : tie.Need-loop-holds Inv-loop μ-loop
 loop-holds c = adding-none _ _ _ _ _ (c .before .before .before .pre .1) (c .before .before .before .pre .2)
 
@@ -19,17 +24,14 @@ trade-at-requires : tie.Need-trade-at-requires Inv-loop μ-loop
 trade-at-requires c κs = omega (arith, c .before .before .before .before .before .pre .0 .trades .room)
 
 add-leg-requires : tie.Need-add-leg-requires Inv-loop μ-loop
-add-leg-requires c κs = (
-  buy-addable _ _ (c .before .before .before .before .before .before .before .before .pre .0) _ (c .before .before .before .loop-test .taken) _ (c .before .before .trade-at .ensures) (adding _) (c .before .before .before .before .loop .inv),
-  buy-lots _ _ (c .before .before .before .before .before .before .before .before .pre .0) _ (c .before .before .before .loop-test .taken) _ (c .before .before .trade-at .ensures) _ (c .before .before .before .before .loop .inv),
-)
+add-leg-requires c κs = (buy-addable (read (c .before .before)) (adding _) (c .before .before .before .before .loop .inv), buy-lots (read (c .before .before)) _ (c .before .before .before .before .loop .inv))
 
 add-leg-requires-2 : tie.Need-add-leg-requires-2 Inv-loop μ-loop
-add-leg-requires-2 c κs = (
-  sell-addable _ _ (c .before .before .before .before .before .before .before .before .before .before .before .before .before .before .before .pre .0) _ (c .before .before .before .before .before .before .before .before .before .before .loop-test .taken) _ (c .before .before .before .before .before .before .before .before .before .trade-at .ensures) (adding _) (c .before .before .before .before .before .before .before .before .before .before .before .loop .inv) (c .before .before .before .before .before .before .add-leg .ensures .0) (c .before .before .before .before .before .before .add-leg .ensures .1),
-  sell-lots _ _ (c .before .before .before .before .before .before .before .before .before .before .before .before .before .before .before .pre .0) _ (c .before .before .before .before .before .before .before .before .before .before .loop-test .taken) _ (c .before .before .before .before .before .before .before .before .before .trade-at .ensures) _ (c .before .before .before .before .before .before .before .before .before .before .before .loop .inv)
-      (bought _ _ (c .before .before .before .before .before .before .before .before .before .before .before .before .before .before .before .pre .0) _ (c .before .before .before .before .before .before .before .before .before .before .loop-test .taken) _ (c .before .before .before .before .before .before .before .before .before .trade-at .ensures) (adding _) (c .before .before .before .before .before .before .before .before .before .before .before .loop .inv) (c .before .before .before .before .before .before .add-leg .ensures .0) (c .before .before .before .before .before .before .add-leg .ensures .1)),
-)
+add-leg-requires-2 c κs =
+    let t = read (c .before .before .before .before .before .before .before .before .before) in
+    let turn = c .before .before .before .before .before .before .before .before .before .before .before .loop .inv in
+    let buy = c .before .before .before .before .before .before .add-leg .ensures in
+    (sell-addable t (adding _) turn (buy .0) (buy .1), sell-lots t _ turn (bought t (adding _) turn (buy .0) (buy .1)))
 
 add-i : tie.Need-add-i Inv-loop μ-loop
 add-i c = omega arith
@@ -39,8 +41,9 @@ loop-less c = omega arith
 
 loop-again : tie.Need-loop-again Inv-loop μ-loop
 loop-again c =
-    passing-more _ _ (c .before .before .before .before .before .before .before .before .before .before .before .before .before .before .before .before .before .before .before .before .pre .0) _ (c .before .before .before .before .before .before .before .before .before .before .before .before .before .before .before .loop-test .taken) _ (c .before .before .before .before .before .before .before .before .before .before .before .before .before .before .trade-at .ensures) (adding _) (c .before .before .before .before .before .before .before .before .before .before .before .before .before .before .before .before .loop .inv) (c .before .before .before .before .before .before .before .before .before .before .before .add-leg .ensures .0) (c .before .before .before .before .before .before .before .before .before .before .before .add-leg .ensures .1)
-    _ _ (c .before .before .before .before .add-leg2 .ensures .0) (c .before .before .before .before .add-leg2 .ensures .1)
+    let buy = c .before .before .before .before .before .before .before .before .before .before .before .add-leg .ensures in
+    let sell = c .before .before .before .before .add-leg2 .ensures in
+    passing-more (read (c .before .before .before .before .before .before .before .before .before .before .before .before .before .before)) (adding _) (c .before .before .before .before .before .before .before .before .before .before .before .before .before .before .before .before .loop .inv) (buy .0) (buy .1) (sell .0) (sell .1)
 
 same-length : tie.Need-same-length Inv-loop μ-loop
 same-length c = c .before .loop .inv .kept .room ∙ sym (ap length (c .before .before .before .before .before .pre .1))

@@ -1,3 +1,4 @@
+-- `sums::is_kind` meets its contract. Assumes nothing.
 use Rattle.dayprofit.proofs.Legs.{says-open}
 use borrow.Author.Needs.{needs}
 use Rattle.dayprofit.proofs.sums.is_kind.Statement.{statement}

@@ -1,3 +1,4 @@
+-- `sums::leg_slot` meets its contract. Assumes nothing.
 use Rattle.dayprofit.proofs.Slots.{party-small}
 use borrow.Author.Needs.{needs}
 use Rattle.dayprofit.proofs.sums.leg_slot.Statement.{statement}

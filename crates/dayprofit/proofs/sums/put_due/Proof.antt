@@ -1,3 +1,4 @@
+-- `sums::put_due` meets its contract: one place is written. Assumes nothing.
 use Rattle.dayprofit.proofs.Slots.{due-is}
 use borrow.Author.Needs.{needs}
 use Rattle.dayprofit.proofs.sums.put_due.Statement.{statement}

@@ -1,8 +1,9 @@
+-- `sums::take_first` meets its contract. The invariant: what is left and what is used are those of the trades below i. Assumes nothing.
 use mathlib.Core.Path.{sym, ap, _∙_}
 use Prim.Native.Nat.{_-_}
 use native.Mathlib.Omega.{arith}
 use lib.ListN.{length}
-use Rattle.dayprofit.proofs.Passes.{Passing, taking, Taken, taking-none, buy-addable, sell-addable, passing-more, taking-done}
+use Rattle.dayprofit.proofs.Passes.{Passing, TradeRead, taking, Taken, taking-none, buy-addable, sell-addable, passing-more, taking-done}
 use Rattle.dayprofit.proofs.sums.take_first.Statement.{statement}
 use Rattle.dayprofit.proofs.sums.take_first.Tie as tie
 
@@ -12,6 +13,10 @@ Inv-loop area count left₀ used₀ i₀ left used i = Passing (Taken left₀) a
 abbrev μ-loop : tie.MeasureT-loop
 μ-loop area count left₀ used₀ i₀ left used i = count - i
 
+-- the trade that a turn reads
+read : (c : tie.After-trade-at Inv-loop μ-loop) → let s = c .before .before .before .before .before .before in TradeRead (s .args .area .now) (s .args .count) (c .before .before .loop .i) (c .trade-at .result)
+read c = record { placed = c .before .before .before .before .before .before .pre .0; here = c .before .loop-test .taken; read = c .trade-at .ensures }
+
 loop-holds : tie.Need-loop-holds Inv-loop μ-loop
 loop-holds c = taking-none _ _ _ _ (c .before .before .before .pre .1) (c .before .before .before .pre .2)
 
@@ -19,11 +24,13 @@ trade-at-requires : tie.Need-trade-at-requires Inv-loop μ-loop
 trade-at-requires c κs = omega (arith, c .before .before .before .before .before .pre .0 .trades .room)
 
 take-leg-requires : tie.Need-take-leg-requires Inv-loop μ-loop
-take-leg-requires c κs = buy-addable _ _ (c .before .before .before .before .before .before .before .before .pre .0) _ (c .before .before .before .loop-test .taken) _ (c .before .before .trade-at .ensures) (taking (c .before .before .before .before .before .before .before .before .args .left .now)) (c .before .before .before .before .loop .inv)
+take-leg-requires c κs = buy-addable (read (c .before .before)) (taking (c .before .before .before .before .before .before .before .before .args .left .now)) (c .before .before .before .before .loop .inv)
 
 take-leg-requires-2 : tie.Need-take-leg-requires-2 Inv-loop μ-loop
 take-leg-requires-2 c κs =
-    sell-addable _ _ (c .before .before .before .before .before .before .before .before .before .before .before .before .before .before .before .pre .0) _ (c .before .before .before .before .before .before .before .before .before .before .loop-test .taken) _ (c .before .before .before .before .before .before .before .before .before .trade-at .ensures) (taking (c .before .before .before .before .before .before .before .before .before .before .before .before .before .before .before .args .left .now)) (c .before .before .before .before .before .before .before .before .before .before .before .loop .inv) (c .before .before .before .before .before .before .take-leg .ensures .0) (c .before .before .before .before .before .before .take-leg .ensures .1)
+    let t = c .before .before .before .before .before .before .before .before .before in
+    let buy = c .before .before .before .before .before .before .take-leg .ensures in
+    sell-addable (read t) (taking (t .before .before .before .before .before .before .args .left .now)) (t .before .before .loop .inv) (buy .0) (buy .1)
 
 add-i : tie.Need-add-i Inv-loop μ-loop
 add-i c = omega arith
@@ -33,8 +40,10 @@ loop-less c = omega arith
 
 loop-again : tie.Need-loop-again Inv-loop μ-loop
 loop-again c =
-    passing-more _ _ (c .before .before .before .before .before .before .before .before .before .before .before .before .before .before .before .before .before .before .before .before .pre .0) _ (c .before .before .before .before .before .before .before .before .before .before .before .before .before .before .before .loop-test .taken) _ (c .before .before .before .before .before .before .before .before .before .before .before .before .before .before .trade-at .ensures) (taking (c .before .before .before .before .before .before .before .before .before .before .before .before .before .before .before .before .before .before .before .before .args .left .now)) (c .before .before .before .before .before .before .before .before .before .before .before .before .before .before .before .before .loop .inv) (c .before .before .before .before .before .before .before .before .before .before .before .take-leg .ensures .0) (c .before .before .before .before .before .before .before .before .before .before .before .take-leg .ensures .1)
-    _ _ (c .before .before .before .before .take-leg2 .ensures .0) (c .before .before .before .before .take-leg2 .ensures .1)
+    let t = c .before .before .before .before .before .before .before .before .before .before .before .before .before .before in
+    let buy = c .before .before .before .before .before .before .before .before .before .before .before .take-leg .ensures in
+    let sell = c .before .before .before .before .take-leg2 .ensures in
+    passing-more (read t) (taking (t .before .before .before .before .before .before .args .left .now)) (t .before .before .loop .inv) (buy .0) (buy .1) (sell .0) (sell .1)
 
 same-length : tie.Need-same-length Inv-loop μ-loop
 same-length c = c .before .loop .inv .kept .room ∙ sym (c .before .before .before .before .before .pre .1)

@@ -1,3 +1,4 @@
+-- `sums::take_leg` meets its contract: an open takes what is still due at its place, a close nothing. Assumes nothing.
 use native.Mathlib.Omega.{arith}
 use Rattle.dayprofit.proofs.Legs.{is-so, is-not-so, leg-product-fits, leg-value-fits}
 use borrow.Author.Needs.{needs}

@@ -1,12 +1,13 @@
 -- `payments::deposit` meets its contract: each return by its law in Paying.antt. Assumes nothing.
 use mathlib.Core.Bool.{false}
 use mathlib.Core.Path.{_≡_, sym, _∙_}
-use Prim.Native.Nat.{_*_, _^_}
+use Prim.Native.Nat.{_^_}
 use native.Mathlib.Omega.{arith}
 use borrow.Author.Needs.{needs}
 use lib.IntN.{pos, _+ℤ_}
 use lib.ListN.{getD}
 use lib.Signed.{ltZ}
+use Rattle.rules.specs.Bounds.{balanceMost}
 use Rattle.laws.specs.Bound.{Within, within-fits, within-pos}
 use Rattle.laws.proofs.Signed.{add-fits, add-back, back}
 use Rattle.rules.specs.Answers.{amountRefused}
@@ -28,12 +29,12 @@ right c = sym (c .before .amount-refused .ensures) ∙ c .if2 .left
 small : (c : tie.Else2) → Within (10 ^ 15) (pos (c .before .before .before .before .before .before .before .args .amount))
 small c = within-pos (amount-high _ (right c))
 
-balance : (c : tie.After-place-of) → Within (2 * 10 ^ 18) (getD (c .before .before .before .before .before .before .before .before .args .t1 .accounts) (c .place-of .result) noAccount .balance)
+balance : (c : tie.After-place-of) → Within balanceMost (getD (c .before .before .before .before .before .before .before .before .args .t1 .accounts) (c .place-of .result) noAccount .balance)
 balance c = balance-fits (c .before .before .before .before .before .before .before .before .pre) _ (present (c .before .before .before)) (c .place-of .ensures)
 
 high : (c : tie.After-lifts-too-high)
     → c .lifts-too-high .result ≡ ltZ (pos (10 ^ 18)) (getD (c .before .before .before .before .before .before .before .before .before .before .before .args .t1 .accounts) (c .before .before .before .place-of .result) noAccount .balance +ℤ pos (c .before .before .before .before .before .before .before .before .before .before .before .args .amount))
-high c = c .lifts-too-high .ensures ∙ rw (back (2 * 10 ^ 18) (omega arith) (balance (c .before .before .before)))
+high c = c .lifts-too-high .ensures ∙ rw (back balanceMost (omega arith) (balance (c .before .before .before)))
 
 -- ---- the needs
 
@@ -67,7 +68,7 @@ element-copy-out-who : tie.Need-element-copy-out-who
 element-copy-out-who c = account-fits (c .before .before .before .before .before .before .before .before .pre) _ (c .place-of .ensures) (present (c .before .before .before))
 
 lifts-too-high-requires : tie.Need-lifts-too-high-requires
-lifts-too-high-requires c κs = (rw (back (2 * 10 ^ 18) (omega arith) (balance (c .before .before))) (balance (c .before .before)), amount-high _ (right (c .before .before .before)))
+lifts-too-high-requires c κs = (rw (back balanceMost (omega arith) (balance (c .before .before))) (balance (c .before .before)), amount-high _ (right (c .before .before .before)))
 
 refused-requires-3 : tie.Need-refused-requires-3
 refused-requires-3 c κs = search needs
@@ -91,9 +92,10 @@ accepted-requires c κs = search needs
 
 returns-4 : tie.Need-returns-4
 returns-4 c =
-    deposit-accepted (c .before .before .before .before .before .before .before .before .before .before .before .before .before .before .pre) _ _ (present (c .before .before .before .before .before .before .before .before .before)) (right (c .before .before .before .before .before .before .before)) (c .before .before .before .before .before .before .place-of .ensures)
+    let after = c .before .before .before .before .before in
+    deposit-accepted (after .before .before .before .before .before .before .before .before .before .pre) _ _ (present (after .before .before .before .before)) (right (after .before .before)) (after .before .place-of .ensures)
     (sym (high (c .before .before .before)) ∙ c .before .before .if3 .left)
-    (c .before .with-balance .ensures ∙ rw (add-back (balance (c .before .before .before .before .before .before)) (small (c .before .before .before .before .before .before .before)) (omega arith)))
+    (c .before .with-balance .ensures ∙ rw (add-back (balance (after .before)) (small (after .before .before)) (omega arith)))
     (c .accepted .ensures)
 
 pub deposit-spec : {M : Type 1} → statement M

@@ -1,12 +1,13 @@
 -- `payments::withdraw` meets its contract: each return by its law in Paying.antt. Assumes nothing.
 use mathlib.Core.Bool.{false}
 use mathlib.Core.Path.{_≡_, sym, _∙_}
-use Prim.Native.Nat.{_*_, _^_}
+use Prim.Native.Nat.{_^_}
 use native.Mathlib.Omega.{arith}
 use borrow.Author.Needs.{needs}
 use lib.IntN.{pos, _-ℤ_}
 use lib.ListN.{getD}
 use lib.Signed.{ltZ}
+use Rattle.rules.specs.Bounds.{balanceMost}
 use Rattle.laws.specs.Bound.{Within, within-fits, within-pos}
 use Rattle.laws.proofs.Signed.{sub-fits, sub-back}
 use Rattle.rules.specs.Answers.{amountRefused}
@@ -28,7 +29,7 @@ right c = sym (c .before .amount-refused .ensures) ∙ c .if2 .left
 small : (c : tie.Else2) → Within (10 ^ 15) (pos (c .before .before .before .before .before .before .before .args .amount))
 small c = within-pos (amount-high _ (right c))
 
-balance : (c : tie.After-place-of) → Within (2 * 10 ^ 18) (getD (c .before .before .before .before .before .before .before .before .args .t1 .accounts) (c .place-of .result) noAccount .balance)
+balance : (c : tie.After-place-of) → Within balanceMost (getD (c .before .before .before .before .before .before .before .before .args .t1 .accounts) (c .place-of .result) noAccount .balance)
 balance c = balance-fits (c .before .before .before .before .before .before .before .before .pre) _ (present (c .before .before .before)) (c .place-of .ensures)
 
 -- the code's difference is the rules'
@@ -80,7 +81,9 @@ refused-requires-3 : tie.Need-refused-requires-3
 refused-requires-3 c κs = search needs
 
 returns-3 : tie.Need-returns-3
-returns-3 c = withdraw-short (c .before .before .before .before .before .before .before .before .before .before .before .before .before .before .before .before .before .before .before .pre) _ _ (present (c .before .before .before .before .before .before .before .before .before .before .before .before .before .before)) (right (c .before .before .before .before .before .before .before .before .before .before .before .before)) (c .before .before .before .before .before .before .before .before .before .before .before .place-of .ensures) (c .before .before .before .charged .ensures)
+returns-3 c =
+    let after = c .before .before .before .before .before .before .before .before .before .before .before in
+    withdraw-short (after .before .before .before .before .before .before .before .before .pre) _ _ (present (after .before .before .before)) (right (after .before)) (after .place-of .ensures) (c .before .before .before .charged .ensures)
     (sym (left-is (c .before .before)) ∙ c .before .if3 .taken) (c .refused3 .ensures)
 
 with-balance-requires : tie.Need-with-balance-requires
@@ -90,9 +93,11 @@ accepted-requires : tie.Need-accepted-requires
 accepted-requires c κs = search needs
 
 returns-4 : tie.Need-returns-4
-returns-4 c = withdraw-accepted (c .before .before .before .before .before .before .before .before .before .before .before .before .before .before .before .before .before .before .before .before .pre) _ _ (present (c .before .before .before .before .before .before .before .before .before .before .before .before .before .before .before)) (right (c .before .before .before .before .before .before .before .before .before .before .before .before .before)) (c .before .before .before .before .before .before .before .before .before .before .before .before .place-of .ensures) (c .before .before .before .before .charged .ensures)
+returns-4 c =
+    let after = c .before .before .before .before .before .before .before .before .before .before .before in
+    withdraw-accepted (after .before .before .before .before .before .before .before .before .before .pre) _ _ (present (after .before .before .before .before)) (right (after .before .before)) (after .before .place-of .ensures) (c .before .before .before .before .charged .ensures)
     (sym (left-is (c .before .before .before)) ∙ c .before .before .if3 .left)
-    (c .before .with-balance .ensures ∙ rw (sub-back (balance (c .before .before .before .before .before .before .before .before .before .before .before .before)) (small (c .before .before .before .before .before .before .before .before .before .before .before .before .before)) (omega arith)))
+    (c .before .with-balance .ensures ∙ rw (sub-back (balance (after .before)) (small (after .before .before)) (omega arith)))
     (c .accepted .ensures)
 
 pub withdraw-spec : {M : Type 1} → statement M

@@ -63,8 +63,9 @@ accepted-requires c κs = search needs
 
 returns-4 : tie.Need-returns-4
 returns-4 c =
-    let start = c .before .before .before .before .before .before .before .before .before .before .before .before .before .before in
-    phase-accepted (start .pre .0) _ _ (known (c .before .before .before .before .before .before .before .before .before)) (present (c .before .before .before .before .before .before .before)) (c .before .before .before .before .before .before .place-of .ensures)
+    let after = c .before .before .before .before .before .before in
+    let start = after .before .before .before .before .before .before .before .before in
+    phase-accepted (start .pre .0) _ _ (known (after .before .before .before)) (present (after .before)) (after .place-of .ensures)
     (sym (c .before .before .before .is-listed .ensures) ∙ not-false _ (c .before .before .if3 .left)) (start .pre .1) (c .before .with-phase .ensures) (c .accepted .ensures)
 
 pub change-spec : {M : Type 1} → statement M

@@ -3,29 +3,34 @@ use mathlib.Core.Bool.{true, false}
 use mathlib.Core.Path.{_≡_, sym, _∙_}
 use Prim.Native.Nat.{_<_}
 use borrow.Author.Needs.{needs}
-use Rattle.engine.specs.Removal.{removalCode}
-use Rattle.engine.proofs.Removals.{few-contracts, account-low, contract-low, contract-fits, side-room, side-once, cancel-refused, bid-done, bid-another, offer-refused, offer-done}
+use denote.Ref.{now}
+use Rattle.rules.specs.Bounds.{maxContracts}
+use Rattle.rules.specs.Answers.{firstOf, pullRefusals}
+use Rattle.rules.specs.Memory.{exchangeOf, memory}
+use Rattle.engine.proofs.Formed.{formed}
+use Rattle.engine.proofs.Removals.{account-low, contract-low, contract-fits, side-room, side-once, cancel-refused, bid-done, bid-another, offer-refused, offer-done}
 use Rattle.engine.proofs.removal.cancel.Statement.{statement}
 use Rattle.engine.proofs.removal.cancel.Tie as tie
 
 -- ---- what the tests have shown
 
-none : (c : tie.Else1) → removalCode (c .before .before .before .before .before .args .state) (c .before .before .before .before .before .args .account) (c .before .before .before .before .before .args .contract) (c .before .before .before .before .before .args .operator) ≡ 0
-none c = sym (c .before .refusal .ensures) ∙ c .if1 .left
+none : (c : tie.Else1) → let start = c .before .before .before .before .before in
+    firstOf (pullRefusals (exchangeOf (memory (start .args .state) (now (start .args .buys)) (now (start .args .sells)) (now (start .args .trades)))) (start .args .account) (start .args .contract) (start .args .operator)) ≡ 0
+none c = sym (c .before .refusal .ensures (c .before .before .before .before .before .pre .declared) _ _ _) ∙ c .if1 .left
 
-place : (c : tie.After-place-of) → c .place-of .result < 4
+place : (c : tie.After-place-of) → c .place-of .result < maxContracts
 place c = contract-fits (c .before .before .before .before .before .before .pre) _ _ _ (none (c .before)) (c .place-of .ensures)
 
 -- ---- the needs
 
 refusal-requires : tie.Need-refusal-requires
-refusal-requires c κs = few-contracts (c .before .before .before .pre) (c .before .before .before .args .account) (c .before .before .before .args .contract) (c .before .before .before .args .operator)
+refusal-requires c κs = let start = c .before .before .before in (formed (start .pre) .contracts-high, formed (start .pre) .accounts-high)
 
 refused-requires : tie.Need-refused-requires
 refused-requires c κs = search needs
 
 returns : tie.Need-returns
-returns c = cancel-refused (c .before .before .before .before .before .before .pre) _ _ _ _ (c .before .before .refusal .ensures) (c .before .if1 .taken) (c .refused .ensures)
+returns c = cancel-refused (c .before .before .before .before .before .before .pre) _ _ _ _ (c .before .before .refusal .ensures (c .before .before .before .before .before .before .pre .declared) _ _ _) (c .before .if1 .taken) (c .refused .ensures)
 
 place-of-requires : tie.Need-place-of-requires
 place-of-requires c κs = contract-low (c .before .before .before .before .before .pre) _ _ _ (none c)
@@ -78,7 +83,8 @@ sub-cancel-in-2 c = account-low (c .before .before .before .before .before .befo
 
 cancel-in-requires-2 : tie.Need-cancel-in-requires-2
 cancel-in-requires-2 c κs =
-    (side-room (c .before .before .before .before .before .before .before .before .before .before .before .before .before .before .before .before .before .pre) _ _ _ (none (c .before .before .before .before .before .before .before .before .before .before .before .before)) (c .before .before .before .before .before .before .before .before .before .before .before .place-of .ensures) true, side-once (c .before .before .before .before .before .before .before .before .before .before .before .before .before .before .before .before .before .pre) _ _ _ (none (c .before .before .before .before .before .before .before .before .before .before .before .before)) (c .before .before .before .before .before .before .before .before .before .before .before .place-of .ensures) true)
+    let after = c .before .before .before .before .before .before .before .before .before .before .before in
+    (side-room (after .before .before .before .before .before .before .pre) _ _ _ (none (after .before)) (after .place-of .ensures) true, side-once (after .before .before .before .before .before .before .pre) _ _ _ (none (after .before)) (after .place-of .ensures) true)
 
 refused-requires-3 : tie.Need-refused-requires-3
 refused-requires-3 c κs = search needs
@@ -91,7 +97,8 @@ same-length-4 c = search needs
 
 returns-4 : tie.Need-returns-4
 returns-4 c =
-    offer-refused (c .before .before .before .before .before .before .before .before .before .before .before .before .before .before .before .before .before .before .before .before .before .before .before .pre) _ _ _ (none (c .before .before .before .before .before .before .before .before .before .before .before .before .before .before .before .before .before .before)) (c .before .before .before .before .before .before .before .before .before .before .before .before .before .before .before .before .before .place-of .ensures) _ (c .before .before .before .before .before .before .before .before .before .before .before .before .before .cancel-in .ensures) (c .before .before .before .before .before .before .before .before .before .if2 .left) (c .before .before .before .before .before .before .before .if3 .left)
+    let after = c .before .before .before .before .before .before .before .before .before .before .before .before .before in
+    offer-refused (after .before .before .before .before .before .before .before .before .before .before .pre) _ _ _ (none (after .before .before .before .before .before)) (after .before .before .before .before .place-of .ensures) _ (after .cancel-in .ensures) (c .before .before .before .before .before .before .before .before .before .if2 .left) (c .before .before .before .before .before .before .before .if3 .left)
     (c .before .before .before .before .before .cancel-in2 .ensures) (c .before .if4 .taken) (c .refused3 .ensures)
 
 with-counts-requires-2 : tie.Need-with-counts-requires-2
@@ -108,7 +115,8 @@ same-length-6 c = search needs
 
 returns-5 : tie.Need-returns-5
 returns-5 c =
-    offer-done (c .before .before .before .before .before .before .before .before .before .before .before .before .before .before .before .before .before .before .before .before .before .before .before .before .pre) _ _ _ (none (c .before .before .before .before .before .before .before .before .before .before .before .before .before .before .before .before .before .before .before)) (c .before .before .before .before .before .before .before .before .before .before .before .before .before .before .before .before .before .before .place-of .ensures) _ (c .before .before .before .before .before .before .before .before .before .before .before .before .before .before .cancel-in .ensures) (c .before .before .before .before .before .before .before .before .before .before .if2 .left) (c .before .before .before .before .before .before .before .before .if3 .left)
+    let after = c .before .before .before .before .before .before .before .before .before .before .before .before .before .before in
+    offer-done (after .before .before .before .before .before .before .before .before .before .before .pre) _ _ _ (none (after .before .before .before .before .before)) (after .before .before .before .before .place-of .ensures) _ (after .cancel-in .ensures) (c .before .before .before .before .before .before .before .before .before .before .if2 .left) (c .before .before .before .before .before .before .before .before .if3 .left)
     (c .before .before .before .before .before .before .cancel-in2 .ensures) (c .before .before .if4 .left) (c .before .with-counts2 .ensures) (c .accepted2 .ensures)
 
 pub cancel-spec : {M : Type 1} → statement M

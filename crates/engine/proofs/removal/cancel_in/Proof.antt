@@ -43,9 +43,10 @@ same-length-3 c = search needs
 
 returns-3 : tie.Need-returns-3
 returns-3 c =
-    rw (c .before .before .before .before .before .before .order-at .ensures)
-    (cancel-done _ _ _ _ _ (c .before .before .before .before .before .before .before .before .before .find .ensures) (c .before .before .before .before .before .before .before .before .if1 .left) (c .before .before .before .before .before .before .before .before .before .before .before .before .pre .1)
-    (sym (ap (λ (o : Order). o .account) (c .before .before .before .before .before .before .order-at .ensures)) ∙ c .before .before .before .before .if2 .left) (c .before .before .remove .ensures))
+    let after = c .before .before .before .before .before .before in
+    rw (after .order-at .ensures)
+    (cancel-done _ _ _ _ _ (after .before .before .before .find .ensures) (after .before .before .if1 .left) (after .before .before .before .before .before .before .pre .1)
+    (sym (ap (λ (o : Order). o .account) (after .order-at .ensures)) ∙ c .before .before .before .before .if2 .left) (c .before .before .remove .ensures))
 
 pub cancel-in-spec : {M : Type 1} → statement M
 cancel-in-spec =

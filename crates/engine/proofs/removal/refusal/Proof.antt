@@ -1,16 +1,22 @@
 -- `removal::refusal` meets its contract: the three tests in their order. Assumes nothing.
-use mathlib.Core.Bool.{false}
+use mathlib.Core.Bool.{Bool, false}
+use mathlib.Core.List.{[]}
 use mathlib.Core.Path.{_≡_, sym, _∙_}
 use Prim.Native.Nat.{_-_, _<_}
 use native.Mathlib.Omega.{arith}
 use borrow.Author.Needs.{needs}
 use lib.ListN.{getD}
-use Rattle.rules.specs.Answers.{firstOf, removalRefused}
+use Rattle.rules.specs.Answers.{firstOf, pullRefusals, removalRefused}
 use Rattle.rules.specs.Exchange.{noContract, isAbsent}
-use Rattle.engine.specs.Removal.{removalCode}
+use Rattle.rules.specs.declared.Contract.{Contract}
+use Rattle.engine.proofs.Named.{no-such-account, no-such-contract, forbidden, allowed}
 use Rattle.engine.proofs.Tests.{place-below}
 use Rattle.engine.proofs.removal.refusal.Statement.{statement}
 use Rattle.engine.proofs.removal.refusal.Tie as tie
+
+-- the test of 4
+abbrev refused : Bool → Contract → Bool
+refused operator terms = removalRefused terms operator
 
 account : (c : tie.Else1) → isAbsent (c .before .before .args .account) (c .before .before .args .state .accountcount) ≡ false
 account c = sym (c .before .is-absent .ensures) ∙ c .if1 .left
@@ -29,15 +35,15 @@ is-absent-requires : tie.Need-is-absent-requires
 is-absent-requires c κs = search needs
 
 returns : tie.Need-returns
-unfolding removalCode firstOf
-returns c = rw (sym (c .before .is-absent .ensures) ∙ c .if1 .taken)
+unfolding pullRefusals
+returns c = λ d buys sells trades. no-such-account d (c .before .before .pre .1) buys sells trades (refused (c .before .before .args .operator)) _ _ [] (sym (c .before .is-absent .ensures) ∙ c .if1 .taken)
 
 is-absent-requires-2 : tie.Need-is-absent-requires-2
 is-absent-requires-2 c κs = search needs
 
 returns-2 : tie.Need-returns-2
-unfolding removalCode firstOf
-returns-2 c = rw (account (c .before .before), sym (c .before .is-absent2 .ensures) ∙ c .if2 .taken)
+unfolding pullRefusals
+returns-2 c = λ d buys sells trades. no-such-contract d (c .before .before .before .before .pre .1) buys sells trades (refused (c .before .before .before .before .args .operator)) _ _ [] (account (c .before .before)) (sym (c .before .is-absent2 .ensures) ∙ c .if2 .taken)
 
 place-of-requires : tie.Need-place-of-requires
 place-of-requires c κs = place-below _ _ (contract c) .0
@@ -46,18 +52,20 @@ mul-terms : tie.Need-mul-terms
 mul-terms c = search needs
 
 array-copy-out-terms : tie.Need-array-copy-out-terms
-array-copy-out-terms c = omega (arith, place (c .before), c .before .before .before .before .before .before .pre)
+array-copy-out-terms c = omega (arith, place (c .before), c .before .before .before .before .before .before .pre .0)
 
 is-refused-requires : tie.Need-is-refused-requires
 is-refused-requires c κs = search needs
 
 returns-3 : tie.Need-returns-3
-unfolding removalCode firstOf
-returns-3 c = rw (account (c .before .before .before .before .before .before .before), contract (c .before .before .before .before .before), sym (phase (c .before)) ∙ c .if3 .taken)
+unfolding pullRefusals
+returns-3 c = λ d buys sells trades.
+    forbidden d (c .before .before .before .before .before .before .before .before .before .pre .1) buys sells trades (refused (c .before .before .before .before .before .before .before .before .before .args .operator)) _ _ [] (account (c .before .before .before .before .before .before .before)) (contract (c .before .before .before .before .before)) (sym (phase (c .before)) ∙ c .if3 .taken)
 
 returns-4 : tie.Need-returns-4
-unfolding removalCode firstOf
-returns-4 c = rw (account (c .before .before .before .before .before .before .before), contract (c .before .before .before .before .before), sym (phase (c .before)) ∙ c .if3 .left)
+unfolding pullRefusals firstOf
+returns-4 c = λ d buys sells trades.
+    sym (allowed d (c .before .before .before .before .before .before .before .before .before .pre .1) buys sells trades (refused (c .before .before .before .before .before .before .before .before .before .args .operator)) _ _ [] (account (c .before .before .before .before .before .before .before)) (contract (c .before .before .before .before .before)) (sym (phase (c .before)) ∙ c .if3 .left))
 
 pub refusal-spec : {M : Type 1} → statement M
 refusal-spec =

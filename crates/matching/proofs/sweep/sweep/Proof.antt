@@ -77,6 +77,10 @@ meeting c =
       trade = c .trade-with .ensures;
     }
 
+-- the contract is one of four
+listed : (c : tie.After-trade-with Inv-sweep μ-sweep) → Head c .before .wide .result < 4
+listed c = rw (Head c .before .wide .ensures) (Begun (Head c) .pre .contract)
+
 wide-requires-2 : tie.Need-wide-requires-2 Inv-sweep μ-sweep
 wide-requires-2 c κs = search needs
 
@@ -102,7 +106,8 @@ book-leg-requires : tie.Need-book-leg-requires Inv-sweep μ-sweep
 book-leg-requires c κs =
     let w = c .before .before in
     let s = Head w in
-    (rw (s .before .wide .ensures) (Begun s .pre .contract), omega (arith, few w), holding-read _ (s .sweep .inv .parties .holdings) (rw (c .before .wide2 .ensures) (booking w .0)) (s .before .wide .ensures) (omega (arith, few w)))
+    let held = s .sweep .inv .parties .holdings in
+    (listed w, omega (arith, few w), holding-read _ held (rw (c .before .wide2 .ensures) (booking w .0)) (s .before .wide .ensures) (omega (arith, few w)))
 
 mul-held : tie.Need-mul-held Inv-sweep μ-sweep
 mul-held c = omega (arith, buyer (c .before .before))
@@ -134,8 +139,9 @@ book-leg-requires-2 : tie.Need-book-leg-requires-2 Inv-sweep μ-sweep
 book-leg-requires-2 c κs =
     let w = Selling (c .before) in
     let s = Head w in
-    let bought = buyer-held (s .sweep .held) (w .trade-with .result) (place w) (c .before .before .before .before .wide2 .ensures) (c .before .before .book-leg .ensures) (trade-contract (meeting w)) (booking w .0) (s .sweep .inv .parties .holdings) in
-    (rw (s .before .wide .ensures) (Begun s .pre .contract), omega (arith, few w), holding-read _ bought (rw (c .before .wide3 .ensures) (booking w .1)) (s .before .wide .ensures) (omega (arith, few w)))
+    let held = s .sweep .inv .parties .holdings in
+    let bought = buyer-held (s .sweep .held) (w .trade-with .result) (place w) (c .before .before .before .before .wide2 .ensures) (c .before .before .book-leg .ensures) (trade-contract (meeting w)) (booking w .0) held in
+    (listed w, omega (arith, few w), holding-read _ bought (rw (c .before .wide3 .ensures) (booking w .1)) (s .before .wide .ensures) (omega (arith, few w)))
 
 mul-held-2 : tie.Need-mul-held-2 Inv-sweep μ-sweep
 mul-held-2 c = omega (arith, seller (c .before .before))
@@ -229,7 +235,9 @@ returns-3 : tie.Need-returns-3 Inv-sweep μ-sweep
 returns-3 c =
     let b = c .before .before .before .before .before in
     let w = Trading b in
-    part-filled (Head w .sweep .inv) (Begun (Head w) .pre .queue) (meeting w) (fits w) (legs (b .before .before .before .before)) (b .before .before .put-trade .ensures) (c .before .before .before .before .if4 .taken) (Head w .before .wide .ensures) (c .before .before .set-lots .ensures)
+    let s = Head w in
+    part-filled (s .sweep .inv) (Begun s .pre .queue) (meeting w) (fits w) (legs (b .before .before .before .before)) (b .before .before .put-trade .ensures) (c .before .before .before .before .if4 .taken)
+    (s .before .wide .ensures) (c .before .before .set-lots .ensures)
 
 pub sweep-spec : {M : Type 1} → statement M
 sweep-spec =

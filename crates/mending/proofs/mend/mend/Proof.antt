@@ -1,13 +1,27 @@
 -- `mend::mend` meets its contract: code 20 by the head, 29 by the lengths, all else by the two writes. Assumes nothing.
-use mathlib.Core.Path.{refl, sym, ap, _∙_}
-use Prim.Native.Nat.{ℕ, _+_, _*_}
+use mathlib.Core.Bool.{true}
+use mathlib.Core.Path.{_≡_, refl, sym, _∙_}
 use native.Mathlib.Omega.{arith}
 use borrow.Author.Tests.{not-true, not-false}
+use Prim.Native.Nat.{_≤_}
+use lib.ListN.{length}
+use Rattle.dayfile.specs.FileHead.{headSound}
 use Rattle.mending.specs.Mend.{wholeRecords}
-use Rattle.mending.proofs.Whole.{dropped-at, dropped-most, head-broken, kept-limit, length-list, length-mended, list-at, list-short, mended, mended-is, out-short, place-most, place-within, whole-within}
+use Rattle.mending.proofs.Whole.{Found, head-broken, list-fits, list-short, listed, listed-most, mended, mended-fits, mended-most, out-short, place-within, whole-within}
 use borrow.Author.Needs.{needs}
 use Rattle.mending.proofs.mend.mend.Statement.{statement}
 use Rattle.mending.proofs.mend.mend.Tie as tie
+
+sound : (c : tie.Else1) → headSound (c .before .before .before .before .before .args .file .now) ≡ true
+sound c = sym (c .before .head-sound .ensures) ∙ not-false (c .before .head-sound .result) (c .if1 .left)
+
+within : (c : tie.After-head-end) → c .head-end .result ≤ length (c .before .before .before .before .before .before .args .file .now)
+within c = omega (arith, c .head-end .ensures, place-within _ (sound (c .before)))
+
+found : (c : tie.After-count-kept)
+    → let file = c .before .before .before .before .before .before .before .args .file .now in
+    Found file (c .before .head-end .result) (wholeRecords file (c .before .head-end .result)) (c .count-kept .result)
+found c = record { sound = sound (c .before .before); place = c .before .head-end .ensures; records = refl; keeps = c .count-kept .ensures }
 
 head-sound-requires : tie.Need-head-sound-requires
 head-sound-requires c κs = search needs
@@ -16,40 +30,44 @@ returns : tie.Need-returns
 returns c = head-broken _ _ _ (sym (c .before .head-sound .ensures) ∙ not-true (c .before .head-sound .result) (c .if1 .taken))
 
 head-end-requires : tie.Need-head-end-requires
-head-end-requires c κs = (sym (c .before .head-sound .ensures) ∙ not-false (c .before .head-sound .result) (c .if1 .left))
+head-end-requires c κs = sound c
 
 sub-n : tie.Need-sub-n
-sub-n c = omega (arith, (c .head-end .ensures), place-within (c .before .before .before .before .before .before .args .file .now) (sym (c .before .before .head-sound .ensures) ∙ not-false (c .before .before .head-sound .result) (c .before .if1 .left)))
+sub-n c = within c
 
 count-kept-requires : tie.Need-count-kept-requires
-count-kept-requires c κs = whole-within (c .before .before .before .before .before .before .args .file .now) (c .head-end .result) (omega (arith, (c .head-end .ensures), place-within (c .before .before .before .before .before .before .args .file .now) (sym (c .before .before .head-sound .ensures) ∙ not-false (c .before .before .head-sound .result) (c .before .if1 .left))))
+count-kept-requires c κs = whole-within (c .before .before .before .before .before .before .args .file .now) _ (within c)
 
 count-dropped-requires : tie.Need-count-dropped-requires
-count-dropped-requires c κs = (omega (arith, (c .before .head-end .ensures), place-within (c .before .before .before .before .before .before .before .args .file .now) (sym (c .before .before .before .head-sound .ensures) ∙ not-false (c .before .before .before .head-sound .result) (c .before .before .if1 .left))), refl, (c .count-kept .ensures))
+count-dropped-requires c κs = (within (c .before), refl, c .count-kept .ensures)
 
 mul-length : tie.Need-mul-length
-mul-length c = omega (arith, (c .before .count-kept .ensures), kept-limit (c .before .before .before .before .before .before .before .before .args .file .now) (c .before .before .head-end .result) (wholeRecords (c .before .before .before .before .before .before .before .before .args .file .now) (c .before .before .head-end .result)))
+mul-length c = omega (arith, mended-most (found (c .before)))
 
 add-length : tie.Need-add-length
-add-length c = omega (arith, (c .before .before .head-end .ensures), (c .before .count-kept .ensures), kept-limit (c .before .before .before .before .before .before .before .before .args .file .now) (c .before .before .head-end .result) (wholeRecords (c .before .before .before .before .before .before .before .before .args .file .now) (c .before .before .head-end .result)), place-most (c .before .before .before .before .before .before .before .before .args .file .now) (sym (c .before .before .before .before .head-sound .ensures) ∙ not-false (c .before .before .before .before .head-sound .result) (c .before .before .before .if1 .left)))
+add-length c = omega (arith, mended-most (found (c .before)))
 
 mul-listed : tie.Need-mul-listed
-mul-listed c = omega (arith, (c .count-dropped .ensures), dropped-most (c .before .before .before .before .before .before .before .before .args .file .now) (c .before .before .head-end .result), whole-within (c .before .before .before .before .before .before .before .before .args .file .now) (c .before .before .head-end .result) (omega (arith, (c .before .before .head-end .ensures), place-within (c .before .before .before .before .before .before .before .before .args .file .now) (sym (c .before .before .before .before .head-sound .ensures) ∙ not-false (c .before .before .before .before .head-sound .result) (c .before .before .before .if1 .left)))))
+mul-listed c = omega (arith, listed-most (listed (found (c .before)) (c .count-dropped .ensures)))
 
 add-listed : tie.Need-add-listed
-add-listed c = omega (arith, (c .count-dropped .ensures), dropped-most (c .before .before .before .before .before .before .before .before .args .file .now) (c .before .before .head-end .result), whole-within (c .before .before .before .before .before .before .before .before .args .file .now) (c .before .before .head-end .result) (omega (arith, (c .before .before .head-end .ensures), place-within (c .before .before .before .before .before .before .before .before .args .file .now) (sym (c .before .before .before .before .head-sound .ensures) ∙ not-false (c .before .before .before .before .head-sound .result) (c .before .before .before .if1 .left)))))
+add-listed c = omega (arith, listed-most (listed (found (c .before)) (c .count-dropped .ensures)))
 
 returns-2 : tie.Need-returns-2
-returns-2 c = out-short _ _ _ (sym (c .before .before .before .before .before .head-sound .ensures) ∙ not-false (c .before .before .before .before .before .head-sound .result) (c .before .before .before .before .if1 .left)) (omega (arith, mended-is (c .before .before .before .before .before .before .before .before .before .args .file .now) (sym (c .before .before .before .before .before .head-sound .ensures) ∙ not-false (c .before .before .before .before .before .head-sound .result) (c .before .before .before .before .if1 .left)) (c .before .before .before .head-end .result) (wholeRecords (c .before .before .before .before .before .before .before .before .before .args .file .now) (c .before .before .before .head-end .result)) (c .before .before .count-kept .result) (c .before .before .before .head-end .ensures) refl (c .before .before .count-kept .ensures), c .if2 .taken))
+returns-2 c = out-short (found (c .before .before)) (c .before .count-dropped .ensures) _ _ (c .if2 .taken)
 
 returns-3 : tie.Need-returns-3
-returns-3 c = list-short _ _ _ (sym (c .before .before .before .before .before .before .head-sound .ensures) ∙ not-false (c .before .before .before .before .before .before .head-sound .result) (c .before .before .before .before .before .if1 .left)) (omega (arith, mended-is (c .before .before .before .before .before .before .before .before .before .before .args .file .now) (sym (c .before .before .before .before .before .before .head-sound .ensures) ∙ not-false (c .before .before .before .before .before .before .head-sound .result) (c .before .before .before .before .before .if1 .left)) (c .before .before .before .before .head-end .result) (wholeRecords (c .before .before .before .before .before .before .before .before .before .before .args .file .now) (c .before .before .before .before .head-end .result)) (c .before .before .before .count-kept .result) (c .before .before .before .before .head-end .ensures) refl (c .before .before .before .count-kept .ensures), c .before .if2 .left)) (omega (arith, dropped-at (c .before .before .before .before .before .before .before .before .before .before .args .file .now) (c .before .before .before .before .head-end .ensures) (c .before .before .count-dropped .ensures), c .if3 .taken))
+returns-3 c = list-short (found (c .before .before .before)) (c .before .before .count-dropped .ensures) _ _ (omega (arith, c .before .if2 .left)) (c .if3 .taken)
 
 put-file-requires : tie.Need-put-file-requires
-put-file-requires c κs = (((sym (c .before .before .before .before .before .before .before .head-sound .ensures) ∙ not-false (c .before .before .before .before .before .before .before .head-sound .result) (c .before .before .before .before .before .before .if1 .left)), (c .before .before .before .before .before .head-end .ensures)), ((refl, (c .before .before .before .before .count-kept .ensures)), omega (arith, mended-is (c .before .before .before .before .before .before .before .before .before .before .before .args .file .now) (sym (c .before .before .before .before .before .before .before .head-sound .ensures) ∙ not-false (c .before .before .before .before .before .before .before .head-sound .result) (c .before .before .before .before .before .before .if1 .left)) (c .before .before .before .before .before .head-end .result) (wholeRecords (c .before .before .before .before .before .before .before .before .before .before .before .args .file .now) (c .before .before .before .before .before .head-end .result)) (c .before .before .before .before .count-kept .result) (c .before .before .before .before .before .head-end .ensures) refl (c .before .before .before .before .count-kept .ensures), length-mended (c .before .before .before .before .before .before .before .before .before .before .before .args .file .now) (sym (c .before .before .before .before .before .before .before .head-sound .ensures) ∙ not-false (c .before .before .before .before .before .before .before .head-sound .result) (c .before .before .before .before .before .before .if1 .left)), c .before .before .if2 .left)))
+put-file-requires c κs =
+    let f = found (c .before .before .before .before) in
+    ((f .sound, f .place), ((refl, f .keeps), mended-fits f (omega (arith, c .before .before .if2 .left))))
 
 put-list-requires : tie.Need-put-list-requires
-put-list-requires c κs = ((omega (arith, (c .before .before .before .before .before .before .before .before .before .head-end .ensures), place-within (c .before .before .before .before .before .before .before .before .before .before .before .before .before .before .before .args .file .now) (sym (c .before .before .before .before .before .before .before .before .before .before .before .head-sound .ensures) ∙ not-false (c .before .before .before .before .before .before .before .before .before .before .before .head-sound .result) (c .before .before .before .before .before .before .before .before .before .before .if1 .left))), refl, (c .before .before .before .before .before .before .before .count-dropped .ensures)), omega (arith, length-list (c .before .before .before .before .before .before .before .before .before .before .before .before .before .before .before .args .file .now) (c .before .before .before .before .before .before .before .before .before .head-end .result), (c .before .before .before .before .before .before .before .count-dropped .ensures), c .before .before .before .before .before .if3 .left))
+put-list-requires c κs =
+    let l = listed (found (c .before .before .before .before .before .before .before .before)) (c .before .before .before .before .before .before .before .count-dropped .ensures) in
+    ((l .within, refl, l .drops), list-fits l (omega (arith, c .before .before .before .before .before .if3 .left)))
 
 same-length : tie.Need-same-length
 same-length c = search needs
@@ -58,7 +76,10 @@ same-length-2 : tie.Need-same-length-2
 same-length-2 c = search needs
 
 returns-4 : tie.Need-returns-4
-returns-4 c = mended _ _ _ (sym (c .before .before .before .before .before .before .before .before .before .before .before .before .before .before .head-sound .ensures) ∙ not-false (c .before .before .before .before .before .before .before .before .before .before .before .before .before .before .head-sound .result) (c .before .before .before .before .before .before .before .before .before .before .before .before .before .if1 .left)) (omega (arith, mended-is (c .before .before .before .before .before .before .before .before .before .before .before .before .before .before .before .before .before .before .args .file .now) (sym (c .before .before .before .before .before .before .before .before .before .before .before .before .before .before .head-sound .ensures) ∙ not-false (c .before .before .before .before .before .before .before .before .before .before .before .before .before .before .head-sound .result) (c .before .before .before .before .before .before .before .before .before .before .before .before .before .if1 .left)) (c .before .before .before .before .before .before .before .before .before .before .before .before .head-end .result) (wholeRecords (c .before .before .before .before .before .before .before .before .before .before .before .before .before .before .before .before .before .before .args .file .now) (c .before .before .before .before .before .before .before .before .before .before .before .before .head-end .result)) (c .before .before .before .before .before .before .before .before .before .before .before .count-kept .result) (c .before .before .before .before .before .before .before .before .before .before .before .before .head-end .ensures) refl (c .before .before .before .before .before .before .before .before .before .before .before .count-kept .ensures), c .before .before .before .before .before .before .before .before .before .if2 .left)) (omega (arith, dropped-at (c .before .before .before .before .before .before .before .before .before .before .before .before .before .before .before .before .before .before .args .file .now) (c .before .before .before .before .before .before .before .before .before .before .before .before .head-end .ensures) (c .before .before .before .before .before .before .before .before .before .before .count-dropped .ensures), c .before .before .before .before .before .before .before .before .if3 .left)) (c .before .before .before .before .before .before .put-file .ensures) (list-at (c .before .before .before .before .before .before .before .before .before .before .before .before .before .before .before .before .before .before .args .file .now) (c .before .before .before .before .before .before .before .before .before .before .before .before .head-end .ensures) _ (c .before .before .put-list .ensures)) (mended-is (c .before .before .before .before .before .before .before .before .before .before .before .before .before .before .before .before .before .before .args .file .now) (sym (c .before .before .before .before .before .before .before .before .before .before .before .before .before .before .head-sound .ensures) ∙ not-false (c .before .before .before .before .before .before .before .before .before .before .before .before .before .before .head-sound .result) (c .before .before .before .before .before .before .before .before .before .before .before .before .before .if1 .left)) (c .before .before .before .before .before .before .before .before .before .before .before .before .head-end .result) (wholeRecords (c .before .before .before .before .before .before .before .before .before .before .before .before .before .before .before .before .before .before .args .file .now) (c .before .before .before .before .before .before .before .before .before .before .before .before .head-end .result)) (c .before .before .before .before .before .before .before .before .before .before .before .count-kept .result) (c .before .before .before .before .before .before .before .before .before .before .before .before .head-end .ensures) refl (c .before .before .before .before .before .before .before .before .before .before .before .count-kept .ensures)) (ap (λ (k : ℕ). 8 + 9 * k) (dropped-at (c .before .before .before .before .before .before .before .before .before .before .before .before .before .before .before .before .before .before .args .file .now) (c .before .before .before .before .before .before .before .before .before .before .before .before .head-end .ensures) (c .before .before .before .before .before .before .before .before .before .before .count-dropped .ensures)))
+returns-4 c =
+    let fits = c .before .before .before .before .before .before .before .before in
+    mended (found (fits .before .before .before)) (fits .before .before .count-dropped .ensures) _ _ (omega (arith, fits .before .if2 .left)) (omega (arith, fits .if3 .left))
+    (c .before .before .before .before .before .before .put-file .ensures) (c .before .before .put-list .ensures)
 
 pub mend-spec : {M : Type 1} → statement M
 mend-spec =

@@ -1,32 +1,33 @@
 -- `mend::put_file` meets its contract: the head, the count, the kept records. Assumes nothing.
-use Prim.Native.Nat.{_-_}
 use native.Mathlib.Omega.{arith}
-use Rattle.mending.proofs.Whole.{file-room-all, file-written, kept-limit, place-least, place-within, whole-within}
-use Rattle.endian.proofs.Writes.{length-four, length-part}
+use Rattle.mending.proofs.Whole.{Found, count-room, file-written, first-within, head-fits, kept-limit, kept-room}
 use borrow.Author.Needs.{needs}
 use Rattle.mending.proofs.mend.put_file.Statement.{statement}
 use Rattle.mending.proofs.mend.put_file.Tie as tie
 
+found : (c : tie.Start) → Found (c .args .file .now) (c .args .first) (c .args .n) (c .args .kept)
+found c = record { sound = c .pre .0 .0; place = c .pre .0 .1; records = c .pre .1 .0 .0; keeps = c .pre .1 .0 .1 }
+
 sub-put-part : tie.Need-sub-put-part
-sub-put-part c = omega (arith, place-least (c .before .before .before .args .file .now) (c .before .before .before .pre .0 .0), place-within (c .before .before .before .args .file .now) (c .before .before .before .pre .0 .0), c .before .before .before .pre .0 .1, file-room-all (c .before .before .before .args .file .now) (c .before .before .before .pre .0 .0) _ _ _ (c .before .before .before .pre .0 .1) (c .before .before .before .pre .1 .0 .0) (c .before .before .before .pre .1 .0 .1) (c .before .before .before .pre .1 .1))
+sub-put-part c = omega (arith, first-within (found (c .before .before .before)) .0)
 
 put-part-requires : tie.Need-put-part-requires
-put-part-requires c κs = (omega (arith, place-least (c .before .before .before .args .file .now) (c .before .before .before .pre .0 .0), place-within (c .before .before .before .args .file .now) (c .before .before .before .pre .0 .0), c .before .before .before .pre .0 .1, file-room-all (c .before .before .before .args .file .now) (c .before .before .before .pre .0 .0) _ _ _ (c .before .before .before .pre .0 .1) (c .before .before .before .pre .1 .0 .0) (c .before .before .before .pre .1 .0 .1) (c .before .before .before .pre .1 .1)), omega (arith, place-least (c .before .before .before .args .file .now) (c .before .before .before .pre .0 .0), place-within (c .before .before .before .args .file .now) (c .before .before .before .pre .0 .0), c .before .before .before .pre .0 .1, file-room-all (c .before .before .before .args .file .now) (c .before .before .before .pre .0 .0) _ _ _ (c .before .before .before .pre .0 .1) (c .before .before .before .pre .1 .0 .0) (c .before .before .before .pre .1 .0 .1) (c .before .before .before .pre .1 .1)))
+put-part-requires c κs = let h = first-within (found (c .before .before .before)) in (omega (arith, head-fits (found (c .before .before .before)) (c .before .before .before .pre .1 .1)), omega arith)
 
 cast-put-u32 : tie.Need-cast-put-u32
-cast-put-u32 c = omega (arith, c .before .before .before .before .before .before .before .pre .1 .0 .1, kept-limit (c .before .before .before .before .before .before .before .args .file .now) (c .before .before .before .before .before .before .before .args .first) (c .before .before .before .before .before .before .before .args .n))
+cast-put-u32 c = let start = c .before .before .before .before .before .before .before in omega (arith, start .pre .1 .0 .1, kept-limit (start .args .file .now) (start .args .first) (start .args .n))
 
 put-u32-requires : tie.Need-put-u32-requires
-put-u32-requires c κs = let w = c .before .before .before .put-part .ensures in omega (arith, w .ends, w .kept, length-part (c .before .before .before .before .before .before .before .args .file .now) 0 (c .before .before .before .before .before .before .before .args .first - 4) (omega (arith, place-least (c .before .before .before .before .before .before .before .args .file .now) (c .before .before .before .before .before .before .before .pre .0 .0), place-within (c .before .before .before .before .before .before .before .args .file .now) (c .before .before .before .before .before .before .before .pre .0 .0), c .before .before .before .before .before .before .before .pre .0 .1, file-room-all (c .before .before .before .before .before .before .before .args .file .now) (c .before .before .before .before .before .before .before .pre .0 .0) _ _ _ (c .before .before .before .before .before .before .before .pre .0 .1) (c .before .before .before .before .before .before .before .pre .1 .0 .0) (c .before .before .before .before .before .before .before .pre .1 .0 .1) (c .before .before .before .before .before .before .before .pre .1 .1))), place-least (c .before .before .before .before .before .before .before .args .file .now) (c .before .before .before .before .before .before .before .pre .0 .0), place-within (c .before .before .before .before .before .before .before .args .file .now) (c .before .before .before .before .before .before .before .pre .0 .0), c .before .before .before .before .before .before .before .pre .0 .1, file-room-all (c .before .before .before .before .before .before .before .args .file .now) (c .before .before .before .before .before .before .before .pre .0 .0) _ _ _ (c .before .before .before .before .before .before .before .pre .0 .1) (c .before .before .before .before .before .before .before .pre .1 .0 .0) (c .before .before .before .before .before .before .before .pre .1 .0 .1) (c .before .before .before .before .before .before .before .pre .1 .1))
+put-u32-requires c κs = count-room (found (c .before .before .before .before .before .before .before)) (c .before .before .before .put-part .ensures) (c .before .before .before .before .before .before .before .pre .1 .1)
 
 put-kept-requires : tie.Need-put-kept-requires
-put-kept-requires c κs = (omega (arith, c .before .before .before .before .before .before .before .before .before .before .before .pre .0 .1, c .before .before .before .before .before .before .before .before .before .before .before .pre .1 .0 .0, place-within (c .before .before .before .before .before .before .before .before .before .before .before .args .file .now) (c .before .before .before .before .before .before .before .before .before .before .before .pre .0 .0), whole-within (c .before .before .before .before .before .before .before .before .before .before .before .args .file .now) (c .before .before .before .before .before .before .before .before .before .before .before .args .first) (omega (arith, place-least (c .before .before .before .before .before .before .before .before .before .before .before .args .file .now) (c .before .before .before .before .before .before .before .before .before .before .before .pre .0 .0), place-within (c .before .before .before .before .before .before .before .before .before .before .before .args .file .now) (c .before .before .before .before .before .before .before .before .before .before .before .pre .0 .0), c .before .before .before .before .before .before .before .before .before .before .before .pre .0 .1, file-room-all (c .before .before .before .before .before .before .before .before .before .before .before .args .file .now) (c .before .before .before .before .before .before .before .before .before .before .before .pre .0 .0) _ _ _ (c .before .before .before .before .before .before .before .before .before .before .before .pre .0 .1) (c .before .before .before .before .before .before .before .before .before .before .before .pre .1 .0 .0) (c .before .before .before .before .before .before .before .before .before .before .before .pre .1 .0 .1) (c .before .before .before .before .before .before .before .before .before .before .before .pre .1 .1)))), let v = c .before .before .before .put-u32 .ensures in let w = c .before .before .before .before .before .before .before .put-part .ensures in omega (arith, v .ends, v .kept, w .ends, w .kept, length-four (c .before .before .before .before .before .before .before .before .before .before .before .args .kept), length-part (c .before .before .before .before .before .before .before .before .before .before .before .args .file .now) 0 (c .before .before .before .before .before .before .before .before .before .before .before .args .first - 4) (omega (arith, place-least (c .before .before .before .before .before .before .before .before .before .before .before .args .file .now) (c .before .before .before .before .before .before .before .before .before .before .before .pre .0 .0), place-within (c .before .before .before .before .before .before .before .before .before .before .before .args .file .now) (c .before .before .before .before .before .before .before .before .before .before .before .pre .0 .0), c .before .before .before .before .before .before .before .before .before .before .before .pre .0 .1, file-room-all (c .before .before .before .before .before .before .before .before .before .before .before .args .file .now) (c .before .before .before .before .before .before .before .before .before .before .before .pre .0 .0) _ _ _ (c .before .before .before .before .before .before .before .before .before .before .before .pre .0 .1) (c .before .before .before .before .before .before .before .before .before .before .before .pre .1 .0 .0) (c .before .before .before .before .before .before .before .before .before .before .before .pre .1 .0 .1) (c .before .before .before .before .before .before .before .before .before .before .before .pre .1 .1))), place-least (c .before .before .before .before .before .before .before .before .before .before .before .args .file .now) (c .before .before .before .before .before .before .before .before .before .before .before .pre .0 .0), place-within (c .before .before .before .before .before .before .before .before .before .before .before .args .file .now) (c .before .before .before .before .before .before .before .before .before .before .before .pre .0 .0), c .before .before .before .before .before .before .before .before .before .before .before .pre .0 .1, file-room-all (c .before .before .before .before .before .before .before .before .before .before .before .args .file .now) (c .before .before .before .before .before .before .before .before .before .before .before .pre .0 .0) _ _ _ (c .before .before .before .before .before .before .before .before .before .before .before .pre .0 .1) (c .before .before .before .before .before .before .before .before .before .before .before .pre .1 .0 .0) (c .before .before .before .before .before .before .before .before .before .before .before .pre .1 .0 .1) (c .before .before .before .before .before .before .before .before .before .before .before .pre .1 .1), c .before .before .before .before .before .before .before .before .before .before .before .pre .1 .0 .1))
+put-kept-requires c κs = let start = c .before .before .before .before .before .before .before .before .before .before .before in kept-room (found start) (c .before .before .before .before .before .before .before .put-part .ensures) (start .pre .1 .1) (c .before .before .before .put-u32 .ensures)
 
 same-length : tie.Need-same-length
 same-length c = search needs
 
 returns : tie.Need-returns
-returns c = file-written _ _ _ _ (c .before .before .before .before .before .before .before .before .before .before .before .before .before .before .pre .0 .1) (c .before .before .before .before .before .before .before .before .before .before .before .before .before .before .pre .1 .0 .0) (c .before .before .before .before .before .before .before .before .before .before .before .before .before .before .pre .1 .0 .1) (c .before .before .before .before .before .before .before .before .before .before .put-part .ensures) (c .before .before .before .before .before .before .put-u32 .ensures) (c .before .before .put-kept .ensures)
+returns c = file-written (found (c .before .before .before .before .before .before .before .before .before .before .before .before .before .before)) (c .before .before .before .before .before .before .before .before .before .before .put-part .ensures) (c .before .before .before .before .before .before .put-u32 .ensures) (c .before .before .put-kept .ensures)
 
 pub put-file-spec : {M : Type 1} → statement M
 put-file-spec =

@@ -1,8 +1,20 @@
 -- `codes::account_code` meets its contract: the own side's resting lots are those of the rules, and the two tests stand in their order. Assumes nothing.
-use Rattle.refusals.proofs.Inserting.{place-fits, own-room, rested-low, account-lots, account-money, account-clear}
+use Rattle.refusals.proofs.Inserting.{place-fits, own-room, rested-low, lots-are}
+use mathlib.Core.Path.{_≡_, refl}
 use borrow.Author.Needs.{needs}
+use denote.Ref.{now}
+use Rattle.rules.specs.Answers.{firstOf, holdingRefused}
+use Rattle.rules.specs.Memory.{exchangeOf, memory}
 use Rattle.refusals.proofs.codes.account_code.Statement.{statement}
 use Rattle.refusals.proofs.codes.account_code.Tie as tie
+
+-- 8, as the rules test it
+lots : (c : tie.After-lots-refused) → let start = c .before .before .before .before .before .before .before .before .before .before .before .before .before in
+    c .lots-refused .result ≡ holdingRefused (exchangeOf (memory (start .args .state) (now (start .args .buys)) (now (start .args .sells)) (now (start .args .trades)))) (start .args .o)
+lots c =
+    let start = c .before .before .before .before .before .before .before .before .before .before .before .before .before in
+    lots-are (start .pre .0) (start .args .o) (start .pre .1) (c .before .before .before .before .before .before .before .before .before .place-of .ensures) (c .before .before .before .before .before .side-area .ensures)
+    (c .before .before .before .before .side-count .ensures) (c .before .before .mark .ensures) (c .before .resting .ensures) (start .pre .3) (c .lots-refused .ensures)
 
 place-of-requires : tie.Need-place-of-requires
 place-of-requires c κs = search needs
@@ -48,24 +60,19 @@ lots-refused-requires c κs =
     rested-low (start .pre .0) (start .args .o) (start .pre .1) (c .before .before .before .before .before .before .before .before .place-of .ensures) (c .before .before .before .before .side-area .ensures) (c .before .before .before .side-count .ensures) (c .before .mark .ensures) (c .resting .ensures)
 
 returns : tie.Need-returns
-returns c =
-    let start = c .before .before .before .before .before .before .before .before .before .before .before .before .before .before in
-    account-lots (start .pre .0) (start .args .o) (start .pre .1) (c .before .before .before .before .before .before .before .before .before .before .place-of .ensures) (c .before .before .before .before .before .before .side-area .ensures) (c .before .before .before .before .before .side-count .ensures) (c .before .before .before .mark .ensures) (c .before .before .resting .ensures) (start .pre .3) (c .before .lots-refused .ensures) (c .if1 .taken)
+unfolding firstOf
+returns c = rw (← lots (c .before), c .if1 .taken) refl
 
 money-refused-requires : tie.Need-money-refused-requires
 money-refused-requires c κs = search needs
 
 returns-2 : tie.Need-returns-2
-returns-2 c =
-    let start = c .before .before .before .before .before .before .before .before .before .before .before .before .before .before .before .before in
-    account-money (start .pre .0) (start .args .o) (start .pre .1) (c .before .before .before .before .before .before .before .before .before .before .before .before .place-of .ensures) (c .before .before .before .before .before .before .before .before .side-area .ensures) (c .before .before .before .before .before .before .before .side-count .ensures) (c .before .before .before .before .before .mark .ensures) (c .before .before .before .before .resting .ensures) (start .pre .3) (c .before .before .before .lots-refused .ensures) (c .before .before .if1 .left)
-    (c .before .money-refused .ensures) (c .if2 .taken)
+unfolding firstOf
+returns-2 c = rw (← lots (c .before .before .before), c .before .before .if1 .left, ← c .before .money-refused .ensures, c .if2 .taken) refl
 
 returns-3 : tie.Need-returns-3
-returns-3 c =
-    let start = c .before .before .before .before .before .before .before .before .before .before .before .before .before .before .before .before in
-    account-clear (start .pre .0) (start .args .o) (start .pre .1) (c .before .before .before .before .before .before .before .before .before .before .before .before .place-of .ensures) (c .before .before .before .before .before .before .before .before .side-area .ensures) (c .before .before .before .before .before .before .before .side-count .ensures) (c .before .before .before .before .before .mark .ensures) (c .before .before .before .before .resting .ensures) (start .pre .3) (c .before .before .before .lots-refused .ensures) (c .before .before .if1 .left)
-    (c .before .money-refused .ensures) (c .if2 .left)
+unfolding firstOf
+returns-3 c = rw (← lots (c .before .before .before), c .before .before .if1 .left, ← c .before .money-refused .ensures, c .if2 .left) refl
 
 pub account-code-spec : {M : Type 1} → statement M
 account-code-spec =

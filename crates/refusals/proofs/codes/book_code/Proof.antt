@@ -1,10 +1,10 @@
 -- `codes::book_code` meets its contract: the tests in the order of the list. Assumes nothing.
-use mathlib.Core.Path.{_≡_}
+use mathlib.Core.Path.{_≡_, refl, sym, _∙_}
 use borrow.Author.Needs.{needs}
-use Rattle.rules.specs.Answers.{firstOf, killRefused, fullRefused}
+use Rattle.rules.specs.Answers.{killRefused, fullRefused}
 use Rattle.rules.specs.Bounds.{inAuction}
 use Rattle.rules.specs.declared.NewOrder.{NewOrder}
-use Rattle.refusals.specs.Insertion.{bookTests}
+use Rattle.refusals.proofs.Inserting.{book-tests}
 use Rattle.refusals.proofs.codes.book_code.Statement.{statement}
 use Rattle.refusals.proofs.codes.book_code.Tie as tie
 
@@ -12,40 +12,35 @@ used-up-requires : tie.Need-used-up-requires
 used-up-requires c κs = search needs
 
 returns : tie.Need-returns
-unfolding firstOf bookTests
-returns c = rw (← c .before .used-up .ensures, c .if1 .taken)
+returns c = λ x m. sym (book-tests m ∙ rw (← c .before .used-up .ensures, c .if1 .taken) refl)
 
 kill-refused-requires : tie.Need-kill-refused-requires
 kill-refused-requires c κs = search needs
 
 returns-2 : tie.Need-returns-2
-unfolding firstOf bookTests
-returns-2 c =
+returns-2 c = λ x m.
     let o : NewOrder = c .before .before .before .before .before .before .args .o in
     let e : c .before .kill-refused .result ≡ killRefused _ (o .lots) (o .time) = c .before .kill-refused .ensures in
-    rw (← c .before .before .before .used-up .ensures, c .before .before .if1 .left, ← e, c .if2 .taken)
+    sym (book-tests m ∙ rw (← c .before .before .before .used-up .ensures, c .before .before .if1 .left, ← e, c .if2 .taken) refl)
 
 trades-refused-requires : tie.Need-trades-refused-requires
 trades-refused-requires c κs = search needs
 
 returns-3 : tie.Need-returns-3
-unfolding firstOf bookTests
-returns-3 c = rw (← c .before .before .before .before .before .used-up .ensures, c .before .before .before .before .if1 .left, ← c .before .before .before .kill-refused .ensures, c .before .before .if2 .left, ← c .before .trades-refused .ensures, c .if3 .taken)
+returns-3 c = λ x m. sym (book-tests m ∙ rw (← c .before .before .before .before .before .used-up .ensures, c .before .before .before .before .if1 .left, ← c .before .before .before .kill-refused .ensures, c .before .before .if2 .left, ← c .before .trades-refused .ensures, c .if3 .taken) refl)
 
 full-refused-requires : tie.Need-full-refused-requires
 full-refused-requires c κs = search needs
 
 returns-4 : tie.Need-returns-4
-unfolding firstOf bookTests
-returns-4 c =
+returns-4 c = λ x m.
     let start = c .before .before .before .before .before .before .before .before .before .before in
     let o : NewOrder = start .args .o in
     let e : c .before .full-refused .result ≡ fullRefused (inAuction (start .args .terms)) (start .args .own) _ (o .lots) (o .time) = c .before .full-refused .ensures in
-    rw (← c .before .before .before .before .before .before .before .used-up .ensures, c .before .before .before .before .before .before .if1 .left, ← c .before .before .before .before .before .kill-refused .ensures, c .before .before .before .before .if2 .left, ← c .before .before .before .trades-refused .ensures, c .before .before .if3 .left, ← e, c .if4 .taken)
+    sym (book-tests m ∙ rw (← c .before .before .before .before .before .before .before .used-up .ensures, c .before .before .before .before .before .before .if1 .left, ← c .before .before .before .before .before .kill-refused .ensures, c .before .before .before .before .if2 .left, ← c .before .before .before .trades-refused .ensures, c .before .before .if3 .left, ← e, c .if4 .taken) refl)
 
 returns-5 : tie.Need-returns-5
-unfolding firstOf bookTests
-returns-5 c = rw (← c .before .before .before .before .before .before .before .used-up .ensures, c .before .before .before .before .before .before .if1 .left, ← c .before .before .before .before .before .kill-refused .ensures, c .before .before .before .before .if2 .left, ← c .before .before .before .trades-refused .ensures, c .before .before .if3 .left, ← c .before .full-refused .ensures, c .if4 .left)
+returns-5 c = λ x m. sym (book-tests m ∙ rw (← c .before .before .before .before .before .before .before .used-up .ensures, c .before .before .before .before .before .before .if1 .left, ← c .before .before .before .before .before .kill-refused .ensures, c .before .before .before .before .if2 .left, ← c .before .before .before .trades-refused .ensures, c .before .before .if3 .left, ← c .before .full-refused .ensures, c .if4 .left) refl)
 
 pub book-code-spec : {M : Type 1} → statement M
 book-code-spec =

@@ -46,7 +46,7 @@ takes-orders-requires c κs = search needs
 returns-2 : tie.Need-returns-2
 returns-2 c =
     let start = c .before .before .before .before .before .before .before .before .before .before in
-    code-phase (start .pre .0) (start .args .o) (here (c .before .before .before .before .before)) (c .before .before .before .before .place-of .ensures) (start .pre .1 .in-use) (contract-there (c .before .before .before .before .before)) (c .before .takes-orders .ensures) (not-true (c .before .takes-orders .result) (c .if2 .taken))
+    code-phase (start .pre .0) (start .args .o) (start .pre .1 .in-use) (contract-there (c .before .before .before .before .before)) (c .before .before .before .before .place-of .ensures) (c .before .takes-orders .ensures) (not-true (c .before .takes-orders .result) (c .if2 .taken))
 
 order-code-requires : tie.Need-order-code-requires
 order-code-requires c κs =
@@ -56,7 +56,7 @@ order-code-requires c κs =
 returns-3 : tie.Need-returns-3
 returns-3 c =
     let start = c .before .before .before .before .before .before .before .before .before .before .before in
-    code-order (start .pre .0) (start .args .o) (here (c .before .before .before .before .before .before)) (c .before .before .before .before .before .place-of .ensures) (start .pre .1 .in-use) (contract-there (c .before .before .before .before .before .before)) (c .before .before .takes-orders .ensures) (not-false (c .before .before .takes-orders .result) (c .before .if2 .left)) (c .order-code .ensures)
+    code-order (start .pre .0) (start .args .o) (start .pre .1 .in-use) (contract-there (c .before .before .before .before .before .before)) (c .before .before .before .before .before .place-of .ensures) (c .before .before .takes-orders .ensures) (not-false (c .before .before .takes-orders .result) (c .before .if2 .left)) (c .order-code .ensures)
 
 pub code-of-spec : {M : Type 1} → statement M
 code-of-spec =

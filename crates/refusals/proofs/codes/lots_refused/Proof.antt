@@ -1,6 +1,6 @@
 -- `codes::lots_refused` meets its contract: one case for a close, one for an open. Assumes nothing.
 use borrow.Author.Needs.{needs}
-use Rattle.refusals.specs.Insertion.{lotsRefused}
+use Rattle.rules.specs.Answers.{lotsRefused}
 use Rattle.refusals.proofs.codes.lots_refused.Statement.{statement}
 use Rattle.refusals.proofs.codes.lots_refused.Tie as tie
 

@@ -1,9 +1,9 @@
 -- `codes::trades_refused` meets its contract: few recorded trades leave room for one trade with each order; in auction
 -- there are none. Assumes nothing.
-use mathlib.Core.Path.{sym}
 use native.Mathlib.Omega.{arith}
 use borrow.Author.Needs.{needs}
-use Rattle.refusals.proofs.Arrivals.{few-trades, trades-fit, trades-none}
+use borrow.Author.Tests.{eq-eqb, ne-eqb}
+use Rattle.refusals.proofs.Arrivals.{few-trades, trades-fit, trades-none, trades-told}
 use Rattle.refusals.proofs.codes.trades_refused.Statement.{statement}
 use Rattle.refusals.proofs.codes.trades_refused.Tie as tie
 
@@ -11,19 +11,19 @@ sub-if2 : tie.Need-sub-if2
 sub-if2 c = search needs
 
 returns : tie.Need-returns
-returns c = rw (c .if1 .taken) (sym (trades-none _ (c .before .before .pre .1)))
+returns c = trades-none _ _ _ (c .before .before .before .pre .0) _ (c .before .before .before .pre .1) (eq-eqb _ _ (c .if1 .taken))
 
 returns-2 : tie.Need-returns-2
-returns-2 c = rw (c .before .if1 .left) (sym (trades-fit _ _ (c .before .before .before .pre .0) _ (c .if2 .taken)))
+returns-2 c = trades-fit _ _ _ (c .before .before .before .before .pre .0) (ne-eqb _ _ (c .before .if1 .left)) _ (c .if2 .taken)
 
 count-trades-requires : tie.Need-count-trades-requires
 count-trades-requires c κs = search needs
 
 add-result : tie.Need-add-result
-add-result c = omega (arith, c .count-trades .ensures, few-trades (c .before .before .before .before .args .t) (c .before .before .before .before .args .lots) (c .before .before .before .before .pre .0), c .before .before .before .before .pre .1)
+add-result c = omega (arith, c .count-trades .ensures, few-trades (c .before .before .before .before .before .args .terms) (c .before .before .before .before .before .args .t) (c .before .before .before .before .before .args .lots) (c .before .before .before .before .before .pre .0), c .before .before .before .before .before .pre .1)
 
 returns-3 : tie.Need-returns-3
-returns-3 c = rw (c .count-trades .ensures, c .before .before .if1 .left)
+returns-3 c = trades-told _ _ _ (c .before .before .before .before .before .pre .0) (ne-eqb _ _ (c .before .before .if1 .left)) _ (c .count-trades .ensures)
 
 pub trades-refused-spec : {M : Type 1} → statement M
 trades-refused-spec = tie.close (tie.spec returns sub-if2 returns-2 count-trades-requires add-result returns-3)

@@ -1,33 +1,20 @@
 -- `play::play` meets its contract: what is played from k up to i is the rules' run and its lines. Assumes nothing.
-use mathlib.Core.Path.{_≡_, refl, ap, _∙_}
-use Prim.Native.Nat.{_+_, _-_, _<_, _≤_}
+use mathlib.Core.Path.{ap}
+use Prim.Native.Nat.{_-_}
 use native.Mathlib.Omega.{arith}
-use lib.ListN.{length}
 use Rattle.rules.specs.Command.{commandOf}
-use Rattle.rules.specs.Condition3.{run}
-use Rattle.rules.specs.DayFile.{commandsIn}
-use Rattle.rules.specs.Lines.{runLines}
-use Rattle.rules.specs.Memory.{exchangeOf, memory}
+use Rattle.rules.specs.Memory.{memory}
 use Rattle.dayfile.proofs.Places.{sound-layout}
-use Rattle.endian.specs.Written.{Written}
-use Rattle.runner.specs.Parts.{part}
-use Rattle.runner.proofs.Playing.{none-played, none-printed, still-formed, one-played, one-printed, all-played, room-played}
+use Rattle.runner.proofs.Playing.{PlayedTo, all-played, one-more, part-begun, room-played, still-formed}
 use Rattle.runner.proofs.play.play.Statement.{statement}
 use Rattle.runner.proofs.play.play.Tie as tie
 
 abbrev Inv-loop : tie.InvT-loop
 Inv-loop file k buys₀ sells₀ trades₀ out₀ n first current₀ i₀ at₀ buys sells trades out current i at =
-    (k ≤ i)
-    × ((i ≤ n)
-    × ((memory current buys sells trades ≡ run (memory current₀ buys₀ sells₀ trades₀) (part file k i))
-    × (Written (length out₀) out₀ 0 (runLines (k + 1) (exchangeOf (memory current₀ buys₀ sells₀ trades₀)) (part file k i)) out at
-    × ((length buys ≡ length buys₀) × ((length sells ≡ length sells₀) × (length trades ≡ length trades₀))))))
+    PlayedTo file k (memory current₀ buys₀ sells₀ trades₀) out₀ i (memory current buys sells trades) out at
 
 abbrev μ-loop : tie.MeasureT-loop
 μ-loop file k buys₀ sells₀ trades₀ out₀ n first current₀ i₀ at₀ buys sells trades out current i at = n - i
-
-few : (c : tie.After-current Inv-loop μ-loop) → c .before .before .before .before .before .before .before .before .before .before .before .before .before .before .before .before .before .loop .i < commandsIn (c .before .before .before .before .before .before .before .before .before .before .before .before .before .before .before .before .before .before .before .before .before .before .before .before .before .args .file .now)
-few c = omega (arith, c .before .before .before .before .before .before .before .before .before .before .before .before .before .before .before .before .loop-test .taken, c .before .before .before .before .before .before .before .before .before .before .before .before .before .before .before .before .before .before .before .commands-in .ensures)
 
 commands-in-requires : tie.Need-commands-in-requires Inv-loop μ-loop
 commands-in-requires c κs = c .before .before .before .before .before .pre .whole
@@ -36,25 +23,25 @@ first-command-requires : tie.Need-first-command-requires Inv-loop μ-loop
 first-command-requires c κs = c .before .before .before .before .before .before .pre .whole
 
 loop-holds : tie.Need-loop-holds Inv-loop μ-loop
-loop-holds c = (omega arith, (omega (arith, c .before .commands-in .ensures, c .before .before .before .before .before .before .before .pre .within), (none-played _ _ (c .before .before .before .before .before .before .before .pre), (none-printed _ _ (c .before .before .before .before .before .before .before .pre), (refl, (refl, refl))))))
+loop-holds c = part-begun _ _ (c .before .before .before .before .before .before .before .pre)
 
 sub-if1 : tie.Need-sub-if1 Inv-loop μ-loop
-sub-if1 c = omega (arith, c .before .loop .inv .1 .1 .1 .0 .inside, c .before .loop .inv .1 .1 .1 .0 .kept)
+sub-if1 c = omega (arith, c .before .loop .inv .lines .inside, c .before .loop .inv .lines .kept)
 
 same-length : tie.Need-same-length Inv-loop μ-loop
-same-length c = c .before .before .loop .inv .1 .1 .1 .1 .0
+same-length c = c .before .before .loop .inv .room .buys
 
 same-length-2 : tie.Need-same-length-2 Inv-loop μ-loop
-same-length-2 c = c .before .before .loop .inv .1 .1 .1 .1 .1 .0
+same-length-2 c = c .before .before .loop .inv .room .sells
 
 same-length-3 : tie.Need-same-length-3 Inv-loop μ-loop
-same-length-3 c = c .before .before .loop .inv .1 .1 .1 .1 .1 .1
+same-length-3 c = c .before .before .loop .inv .room .trades
 
 same-length-4 : tie.Need-same-length-4 Inv-loop μ-loop
-same-length-4 c = c .before .before .loop .inv .1 .1 .1 .0 .kept
+same-length-4 c = c .before .before .loop .inv .lines .kept
 
 returns : tie.Need-returns Inv-loop μ-loop
-returns c = room-played _ _ (c .before .before .before .before .before .before .before .before .before .before .pre) (c .before .before .loop .i) (c .before .before .loop .inv .0) (omega (arith, c .before .before .before .before .commands-in .ensures, c .before .before .loop .inv .1 .0)) (c .before .before .loop .current) (c .before .before .loop .inv .1 .1 .0) (c .before .before .loop .inv .1 .1 .1 .0) (omega (arith, c .if1 .taken))
+returns c = room-played _ _ (c .before .before .before .before .before .before .before .before .before .before .pre) (c .before .before .loop .inv) (omega (arith, c .if1 .taken))
 
 record-of-requires : tie.Need-record-of-requires Inv-loop μ-loop
 record-of-requires c κs = (c .before .before .before .before .before .before .before .before .before .before .pre .whole, c .before .before .before .first-command .ensures, omega (arith, c .before .before .before .before .commands-in .ensures))
@@ -62,8 +49,14 @@ record-of-requires c κs = (c .before .before .before .before .before .before .b
 add-play-record : tie.Need-add-play-record Inv-loop μ-loop
 add-play-record c = omega (arith, c .before .before .before .before .before .before .before .before .commands-in .ensures, sound-layout _ (c .before .before .before .before .before .before .before .before .before .before .before .before .before .before .pre .whole) .commands)
 
+-- from a record read back to the loop's head
+abbrev Head : tie.After-record-of Inv-loop μ-loop → tie.At-loop Inv-loop μ-loop
+Head r = r .before .before .before
+
 play-record-requires : tie.Need-play-record-requires Inv-loop μ-loop
-play-record-requires c κs = (still-formed _ _ (c .before .before .before .before .before .before .before .before .before .before .before .before .before .before .before .pre) (c .before .before .before .before .before .before .before .loop .i) (c .before .before .before .before .before .before .before .loop .inv .1 .1 .0), omega (arith, c .before .before .before .before .before .if1 .left, c .before .before .before .before .before .before .before .loop .inv .1 .1 .1 .0 .inside, c .before .before .before .before .before .before .before .loop .inv .1 .1 .1 .0 .kept))
+play-record-requires c κs =
+    let h = Head (c .before .before .before .before) in
+    (still-formed _ _ (h .before .before .before .before .before .before .before .before .pre) (h .loop .inv), omega (arith, c .before .before .before .before .before .if1 .left, h .loop .inv .lines .inside, h .loop .inv .lines .kept))
 
 add-i : tie.Need-add-i Inv-loop μ-loop
 add-i c = omega (arith, c .before .before .before .before .before .before .before .before .before .before .before .before .before .before .before .before .loop-test .taken)
@@ -72,34 +65,27 @@ loop-less : tie.Need-loop-less Inv-loop μ-loop
 loop-less c = omega (arith, c .before .before .before .before .before .before .before .before .before .before .before .before .before .before .before .before .loop-test .taken)
 
 loop-again : tie.Need-loop-again Inv-loop μ-loop
-loop-again c = (
-  omega (arith, c .before .before .before .before .before .before .before .before .before .before .before .before .before .before .before .before .before .loop .inv .0),
-  (
-    omega (arith, c .before .before .before .before .before .before .before .before .before .before .before .before .before .before .before .before .loop-test .taken),
-    (
-      one-played _ _ (c .before .before .before .before .before .before .before .before .before .before .before .before .before .before .before .before .before .before .before .before .before .before .before .before .before .pre) (c .before .before .before .before .before .before .before .before .before .before .before .before .before .before .before .before .before .loop .i) (c .before .before .before .before .before .before .before .before .before .before .before .before .before .before .before .before .before .loop .inv .0) (few c) (c .before .before .before .before .before .before .before .before .before .before .before .before .before .before .before .before .before .loop .inv .1 .1 .0) (ap commandOf (c .before .before .before .before .before .before .before .before .before .before .before .before .before .before .record-of .ensures)) (c .before .before .before .before .before .before .before .before .before .play-record .ensures),
-      (
-        one-printed _ _ (c .before .before .before .before .before .before .before .before .before .before .before .before .before .before .before .before .before .before .before .before .before .before .before .before .before .pre) (c .before .before .before .before .before .before .before .before .before .before .before .before .before .before .before .before .before .loop .i) (c .before .before .before .before .before .before .before .before .before .before .before .before .before .before .before .before .before .loop .inv .0) (few c) (c .before .before .before .before .before .before .before .before .before .before .before .before .before .before .before .before .before .loop .inv .1 .1 .0) (ap commandOf (c .before .before .before .before .before .before .before .before .before .before .before .before .before .before .record-of .ensures)) (c .before .before .before .before .before .before .before .before .before .play-record .ensures) (c .before .before .before .before .before .before .before .before .before .before .before .before .before .before .before .before .before .loop .inv .1 .1 .1 .0),
-        (c .before .before .before .before .before .before .before .before .before .play-record .kept .1 .0 ∙ c .before .before .before .before .before .before .before .before .before .before .before .before .before .before .before .before .before .loop .inv .1 .1 .1 .1 .0, (c .before .before .before .before .before .before .before .before .before .play-record .kept .1 .1 .0 ∙ c .before .before .before .before .before .before .before .before .before .before .before .before .before .before .before .before .before .loop .inv .1 .1 .1 .1 .1 .0, c .before .before .before .before .before .before .before .before .before .play-record .kept .1 .1 .1 .0 ∙ c .before .before .before .before .before .before .before .before .before .before .before .before .before .before .before .before .before .loop .inv .1 .1 .1 .1 .1 .1)),
-      ),
-    ),
-  ),
-)
+loop-again c =
+    let r = c .before .before .before .before .before .before .before .before .before .before .before .before .before .before in
+    let h = Head r in
+    let play = c .before .before .before .before .before .before .before .before .before .play-record in
+    one-more _ _ (h .before .before .before .before .before .before .before .before .pre) (h .loop .inv) (omega (arith, r .before .before .loop-test .taken, h .before .before .commands-in .ensures))
+    (ap commandOf (r .record-of .ensures)) (play .ensures) (play .kept .1 .0) (play .kept .1 .1 .0) (play .kept .1 .1 .1 .0)
 
 same-length-5 : tie.Need-same-length-5 Inv-loop μ-loop
-same-length-5 c = c .before .loop .inv .1 .1 .1 .1 .0
+same-length-5 c = c .before .loop .inv .room .buys
 
 same-length-6 : tie.Need-same-length-6 Inv-loop μ-loop
-same-length-6 c = c .before .loop .inv .1 .1 .1 .1 .1 .0
+same-length-6 c = c .before .loop .inv .room .sells
 
 same-length-7 : tie.Need-same-length-7 Inv-loop μ-loop
-same-length-7 c = c .before .loop .inv .1 .1 .1 .1 .1 .1
+same-length-7 c = c .before .loop .inv .room .trades
 
 same-length-8 : tie.Need-same-length-8 Inv-loop μ-loop
-same-length-8 c = c .before .loop .inv .1 .1 .1 .0 .kept
+same-length-8 c = c .before .loop .inv .lines .kept
 
 returns-2 : tie.Need-returns-2 Inv-loop μ-loop
-returns-2 c = all-played _ _ (c .before .before .before .before .before .before .before .before .before .pre) (c .before .loop .i) (c .before .loop .inv .0) (omega (arith, c .before .before .before .commands-in .ensures, c .before .loop .inv .1 .0)) (c .before .loop .current) (c .before .loop .inv .1 .1 .0) (c .before .loop .inv .1 .1 .1 .0) (omega (arith, c .before .before .before .commands-in .ensures, c .loop-test .left))
+returns-2 c = all-played _ _ (c .before .before .before .before .before .before .before .before .before .pre) (c .before .loop .inv) (omega (arith, c .before .before .before .commands-in .ensures, c .loop-test .left))
 
 pub play-spec : {M : Type 1} → statement M
 play-spec =

@@ -22,17 +22,22 @@ abbrev μ-loop : tie.MeasureT-loop
 μ-loop out₀ at n accounts closing holding charged next₀ a₀ out next a = n - a
 
 -- a signed number read from an array is the number that stands there
-closing-back : (c : tie.After-slice-known2 Inv-loop μ-loop) → toZ w64 (ofZ w64 (getD (c .before .before .before .before .before .before .before .before .before .before .before .before .before .before .args .report .closing) (c .before .before .before .before .before .before .before .before .before .loop .a) (pos 0))) ≡ getD (c .before .before .before .before .before .before .before .before .before .before .before .before .before .before .args .report .closing) (c .before .before .before .before .before .before .before .before .before .loop .a) (pos 0)
+closing-back : (c : tie.After-slice-known2 Inv-loop μ-loop)
+    → let z = getD (c .before .before .before .before .before .before .before .before .before .before .before .before .before .before .args .report .closing) (c .before .before .before .before .before .before .before .before .before .loop .a) (pos 0) in toZ w64 (ofZ w64 z) ≡ z
 closing-back c = toZ-ofZ {w = w64} (record { sfits = c .before .before .before .before .before .put-account-arg2 .given })
 
-holding-back : (c : tie.After-slice-known2 Inv-loop μ-loop) → toZ w64 (ofZ w64 (getD (c .before .before .before .before .before .before .before .before .before .before .before .before .before .before .args .report .holding) (c .before .before .before .before .before .before .before .before .before .loop .a) (pos 0))) ≡ getD (c .before .before .before .before .before .before .before .before .before .before .before .before .before .before .args .report .holding) (c .before .before .before .before .before .before .before .before .before .loop .a) (pos 0)
+holding-back : (c : tie.After-slice-known2 Inv-loop μ-loop)
+    → let z = getD (c .before .before .before .before .before .before .before .before .before .before .before .before .before .before .args .report .holding) (c .before .before .before .before .before .before .before .before .before .loop .a) (pos 0) in toZ w64 (ofZ w64 z) ≡ z
 holding-back c = toZ-ofZ {w = w64} (record { sfits = c .before .before .before .before .put-account-arg3 .given })
 
-balance-back : (c : tie.After-slice-known2 Inv-loop μ-loop) → toZ w64 (ofZ w64 (getD (c .before .before .before .before .before .before .before .before .before .before .before .before .before .before .args .t4) (c .before .before .before .before .before .before .before .before .before .loop .a) noAccount .balance)) ≡ getD (c .before .before .before .before .before .before .before .before .before .before .before .before .before .before .args .t4) (c .before .before .before .before .before .before .before .before .before .loop .a) noAccount .balance
+balance-back : (c : tie.After-slice-known2 Inv-loop μ-loop)
+    → let z = getD (c .before .before .before .before .before .before .before .before .before .before .before .before .before .before .args .t4) (c .before .before .before .before .before .before .before .before .before .loop .a) noAccount .balance in toZ w64 (ofZ w64 z) ≡ z
 balance-back c = toZ-ofZ {w = w64} (record { sfits = c .before .before .before .struct-told .given .0 .1 })
 
 loop-holds : tie.Need-loop-holds Inv-loop μ-loop
-loop-holds c = (omega arith, rows-none (accountRow (c .before .before .before .before .args .report .closing) (c .before .before .before .before .args .report .holding) (c .before .before .before .before .args .report .charged) (c .before .before .before .before .args .t4)) (omega arith))
+loop-holds c =
+    let a = c .before .before .before .before .args in
+    (omega arith, rows-none (accountRow (a .report .closing) (a .report .holding) (a .report .charged) (a .t4)) (omega arith))
 
 mul-account : tie.Need-mul-account Inv-loop μ-loop
 mul-account c = omega arith
@@ -62,7 +67,7 @@ array-read-put-account : tie.Need-array-read-put-account Inv-loop μ-loop
 array-read-put-account c = omega arith
 
 put-account-requires : tie.Need-put-account-requires Inv-loop μ-loop
-put-account-requires c κs = omega (arith, c .before .before .before .before .before .before .loop .inv .1 .ends, c .before .before .before .before .before .before .loop .inv .1 .short, c .before .before .before .before .before .before .loop .inv .1 .kept)
+put-account-requires c κs = let w = c .before .before .before .before .before .before .loop .inv .1 in omega (arith, w .ends, w .short, w .kept)
 
 add-a : tie.Need-add-a Inv-loop μ-loop
 add-a c = omega arith
@@ -71,7 +76,13 @@ loop-less : tie.Need-loop-less Inv-loop μ-loop
 loop-less c = omega arith
 
 loop-again : tie.Need-loop-again Inv-loop μ-loop
-loop-again c = (omega arith, rows-more (accountRow (c .before .before .before .before .before .before .before .before .before .before .before .before .before .before .args .report .closing) (c .before .before .before .before .before .before .before .before .before .before .before .before .before .before .args .report .holding) (c .before .before .before .before .before .before .before .before .before .before .before .before .before .before .args .report .charged) (c .before .before .before .before .before .before .before .before .before .before .before .before .before .before .args .t4)) (c .before .before .before .before .before .before .before .before .before .loop .a) _ 110 _ (omega arith) (c .before .before .before .before .before .before .before .before .before .loop .inv .1) (rw (closing-back c, holding-back c, balance-back c) at (c .before .before .put-account .ensures)))
+loop-again c =
+    let turn = c .before .before .before .before .before .before .before .before .before in
+    let a = turn .before .before .before .before .before .args in (
+      omega arith,
+      rows-more (accountRow (a .report .closing) (a .report .holding) (a .report .charged) (a .t4)) (turn .loop .a) _ 110 _ (omega arith) (turn .loop .inv .1)
+          (rw (closing-back c, holding-back c, balance-back c) at (c .before .before .put-account .ensures)),
+    )
 
 same-length : tie.Need-same-length Inv-loop μ-loop
 same-length c = c .before .loop .inv .1 .kept

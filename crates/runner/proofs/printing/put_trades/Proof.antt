@@ -28,7 +28,7 @@ add-put-trade : tie.Need-add-put-trade Inv-loop μ-loop
 add-put-trade c = search needs
 
 put-trade-requires : tie.Need-put-trade-requires Inv-loop μ-loop
-put-trade-requires c κs = omega (arith, c .before .before .before .loop .inv .1 .1 .ends, c .before .before .before .loop .inv .1 .1 .short, c .before .before .before .loop .inv .1 .1 .kept)
+put-trade-requires c κs = let w = c .before .before .before .loop .inv .1 .1 in omega (arith, w .ends, w .short, w .kept)
 
 add-i : tie.Need-add-i Inv-loop μ-loop
 add-i c = omega arith
@@ -37,13 +37,20 @@ loop-less : tie.Need-loop-less Inv-loop μ-loop
 loop-less c = omega arith
 
 loop-again : tie.Need-loop-again Inv-loop μ-loop
-loop-again c = (omega arith, (omega arith, trades-more (c .before .before .before .before .before .before .before .before .before .args .area .now) (c .before .before .before .before .before .before .before .before .before .args .first) (c .before .before .before .before .before .before .loop .i) _ _ _ (c .before .before .before .before .before .before .loop .inv .0) (omega (arith, c .before .before .before .before .before .before .loop .inv .0)) (c .before .before .before .before .trade-at .ensures) (c .before .before .before .before .before .before .loop .inv .1 .1) (c .before .before .put-trade .ensures)))
+loop-again c =
+    let turn = c .before .before .before .before .before .before in
+    let a = turn .before .before .before .args in
+    let inv = turn .loop .inv in
+    (omega arith, (omega arith, trades-more (a .area .now) (a .first) (turn .loop .i) _ _ _ (inv .0) (omega (arith, inv .0)) (c .before .before .before .before .trade-at .ensures) (inv .1 .1) (c .before .before .put-trade .ensures)))
 
 same-length : tie.Need-same-length Inv-loop μ-loop
 same-length c = c .before .loop .inv .1 .1 .kept
 
 returns : tie.Need-returns Inv-loop μ-loop
-returns c = rw (← trades-done (c .before .before .before .before .args .area .now) (c .before .before .before .before .args .first) (c .before .loop .i) (c .before .before .before .before .args .count) (c .before .loop .inv .0) (omega arith) (c .before .loop .inv .1 .0)) (looser (c .before .loop .inv .1 .1) _ (omega arith))
+returns c =
+    let h = c .before in
+    let a = h .before .before .before .args in
+    rw (← trades-done (a .area .now) (a .first) (h .loop .i) (a .count) (h .loop .inv .0) (omega arith) (h .loop .inv .1 .0)) (looser (h .loop .inv .1 .1) _ (omega arith))
 
 pub put-trades-spec : {M : Type 1} → statement M
 put-trades-spec =

@@ -1,8 +1,7 @@
 -- `turn::put_report` meets its contract: the two tests, then the tables. Assumes nothing.
-use mathlib.Core.Path.{sym, _∙_}
 use native.Mathlib.Omega.{arith}
 use borrow.Author.Needs.{needs}
-use borrow.Author.Tests.{not-true, not-false}
+use Rattle.laws.specs.Tests.{passed, refused}
 use Rattle.endian.proofs.Writes.{looser, no-byte}
 use Rattle.runner.proofs.Responded.{report-none, report-refused, report-made}
 use Rattle.runner.proofs.turn.put_report.Statement.{statement}
@@ -12,10 +11,11 @@ is-settle-requires : tie.Need-is-settle-requires
 is-settle-requires c κs = search needs
 
 returns : tie.Need-returns
-returns c = rw (report-none (c .before .before .before .args .command) (c .before .before .before .args .response) (sym (c .before .is-settle .ensures) ∙ not-true (c .before .is-settle .result) (c .if1 .taken))) (looser (no-byte _ _ (omega arith)) 3_696 (omega arith))
+returns c = rw (report-none _ (c .before .before .before .args .response) (refused (c .before .is-settle .ensures) (c .if1 .taken))) (looser (no-byte _ _ (omega arith)) 3_696 (omega arith))
 
 returns-2 : tie.Need-returns-2
-returns-2 c = rw (report-refused (c .before .before .before .before .before .before .args .command) (c .before .before .before .before .before .before .args .response) (sym (c .before .before .before .before .is-settle .ensures) ∙ not-false (c .before .before .before .before .is-settle .result) (c .before .before .before .if1 .left)) (c .if2 .taken)) (looser (no-byte _ _ (omega arith)) 3_696 (omega arith))
+returns-2 c =
+    rw (report-refused _ (c .before .before .before .before .before .before .args .response) (passed (c .before .before .before .before .is-settle .ensures) (c .before .before .before .if1 .left)) (c .if2 .taken)) (looser (no-byte _ _ (omega arith)) 3_696 (omega arith))
 
 put-settlement-requires : tie.Need-put-settlement-requires
 put-settlement-requires c κs = omega (arith, c .before .before .before .before .before .before .before .before .before .pre)
@@ -24,7 +24,9 @@ same-length : tie.Need-same-length
 same-length c = search needs
 
 returns-3 : tie.Need-returns-3
-returns-3 c = rw (report-made (c .before .before .before .before .before .before .before .before .before .before .before .before .args .command) (c .before .before .before .before .before .before .before .before .before .before .before .before .args .response) (sym (c .before .before .before .before .before .before .before .before .before .before .is-settle .ensures) ∙ not-false (c .before .before .before .before .before .before .before .before .before .before .is-settle .result) (c .before .before .before .before .before .before .before .before .before .if1 .left)) (c .before .before .before .before .before .before .if2 .left)) (c .before .before .put-settlement .ensures)
+returns-3 c =
+    let test = c .before .before .before .before .before .before .before .before .before in
+    rw (report-made _ (test .before .before .before .args .response) (passed (test .before .is-settle .ensures) (test .if1 .left)) (c .before .before .before .before .before .before .if2 .left)) (c .before .before .put-settlement .ensures)
 
 pub put-report-spec : {M : Type 1} → statement M
 put-report-spec =

@@ -10,10 +10,17 @@ put-answer-requires : tie.Need-put-answer-requires
 put-answer-requires c κs = search needs
 
 put-trades-requires : tie.Need-put-trades-requires
-put-trades-requires c κs = let p = c .before .before .before .before .before .before .before .before .before .pre .0 in omega (arith, c .before .before .before .before .before .before .before .before .before .pre .1, p .count, p .room, c .before .before .before .put-answer .ensures .ends, c .before .before .before .put-answer .ensures .short, c .before .before .before .put-answer .ensures .kept)
+put-trades-requires c κs =
+    let p = c .before .before .before .before .before .before .before .before .before .pre in
+    let answer = c .before .before .before .put-answer .ensures in
+    omega (arith, p .1, p .0 .count, p .0 .room, answer .ends, answer .short, answer .kept)
 
 put-report-requires : tie.Need-put-report-requires
-put-report-requires c κs = let p = c .before .before .before .before .before .before .before .before .before .before .before .before .before .pre .0 in omega (arith, c .before .before .before .before .before .before .before .before .before .before .before .before .before .pre .1, p .count, p .contracts, p .accounts, c .before .before .before .before .before .before .before .put-answer .ensures .ends, c .before .before .before .before .before .before .before .put-answer .ensures .short, c .before .before .before .before .before .before .before .put-answer .ensures .kept, c .before .before .before .put-trades .ensures .ends, c .before .before .before .put-trades .ensures .short, c .before .before .before .put-trades .ensures .kept)
+put-report-requires c κs =
+    let p = c .before .before .before .before .before .before .before .before .before .before .before .before .before .pre in
+    let answer = c .before .before .before .before .before .before .before .put-answer .ensures in
+    let trades = c .before .before .before .put-trades .ensures in
+    omega (arith, p .1, p .0 .count, p .0 .contracts, p .0 .accounts, answer .ends, answer .short, answer .kept, trades .ends, trades .short, trades .kept)
 
 same-length : tie.Need-same-length
 same-length c = search needs

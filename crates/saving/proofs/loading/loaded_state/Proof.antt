@@ -31,7 +31,10 @@ u32-at-requires : tie.Need-u32-at-requires
 u32-at-requires c κs = search needs
 
 returns : tie.Need-returns
-returns c = state-made (c .before .before .before .before .before .before .before .before .before .before .args .state) _ _ _ (c .before .before .before .before .before .before .before .before .before .before .pre) (omega (arith, c .before .before .before .before .before .before .before .before .before .before .pre .few-accounts, holders (c .before .before .before .before .before .before .before .before .before .before))) (c .before .before .before .before .contracts-over .ensures) (c .before .before .before .accounts-over .ensures) (c .before .before .no-orders .ensures) (c .before .no-orders2 .ensures) (c .u32-at .ensures)
+returns c =
+    let start = c .before .before .before .before .before .before .before .before .before .before in
+    state-made (start .args .state) _ _ _ (start .pre) (omega (arith, start .pre .few-accounts, holders start)) (c .before .before .before .before .contracts-over .ensures) (c .before .before .before .accounts-over .ensures)
+    (c .before .before .no-orders .ensures) (c .before .no-orders2 .ensures) (c .u32-at .ensures)
 
 pub loaded-state-spec : {M : Type 1} → statement M
 loaded-state-spec =

@@ -32,13 +32,31 @@ put-u16-requires-4 : tie.Need-put-u16-requires-4
 put-u16-requires-4 c κs = search needs
 
 put-u32-requires-4 : tie.Need-put-u32-requires-4
-put-u32-requires-4 c κs = last-room (c .before .before .before .before .before .before .before .before .before .before .before .before .before .before .before .before .before .before .before .before .before .before .before .before .before .before .before .before .before .before .before .before .args .c) (c .before .before .before .before .before .before .before .before .before .before .before .before .before .before .before .before .before .before .before .before .before .before .before .before .before .before .before .before .before .before .before .before .pre .0) (c .before .before .before .before .before .before .before .before .before .before .before .before .before .before .before .before .before .before .before .before .before .before .before .before .before .before .before .before .put-u16 .ensures) (c .before .before .before .before .before .before .before .before .before .before .before .before .before .before .before .before .before .before .before .before .before .before .before .put-u162 .ensures) (c .before .before .before .before .before .before .before .before .before .before .before .before .before .before .before .before .before .before .before .put-u32 .ensures) (c .before .before .before .before .before .before .before .before .before .before .before .before .before .before .before .put-u322 .ensures) (c .before .before .before .before .before .before .before .before .before .before .before .put-u323 .ensures) (c .before .before .before .before .before .before .before .put-u163 .ensures) (c .before .before .before .put-u164 .ensures)
+put-u32-requires-4 c κs =
+    let method = c .before .before .before in
+    let rate = method .before .before .before .before in
+    let limit = rate .before .before .before .before in
+    let band = limit .before .before .before .before in
+    let reference = band .before .before .before .before in
+    let tick = reference .before .before .before .before in
+    let multiplier = tick .before .before .before .before .before in
+    last-room (multiplier .before .before .before .before .args .c) (multiplier .before .before .before .before .pre .0) (multiplier .put-u16 .ensures) (tick .put-u162 .ensures) (reference .put-u32 .ensures) (band .put-u322 .ensures)
+    (limit .put-u323 .ensures) (rate .put-u163 .ensures) (method .put-u164 .ensures)
 
 same-length : tie.Need-same-length
 same-length c = search needs
 
 returns : tie.Need-returns
-returns c = contract-written _ (c .before .before .before .before .before .before .before .before .before .before .before .before .before .before .before .before .before .before .before .before .before .before .before .before .before .before .before .before .before .before .before .put-u16 .ensures) (c .before .before .before .before .before .before .before .before .before .before .before .before .before .before .before .before .before .before .before .before .before .before .before .before .before .before .put-u162 .ensures) (c .before .before .before .before .before .before .before .before .before .before .before .before .before .before .before .before .before .before .before .before .before .before .put-u32 .ensures) (c .before .before .before .before .before .before .before .before .before .before .before .before .before .before .before .before .before .before .put-u322 .ensures) (c .before .before .before .before .before .before .before .before .before .before .before .before .before .before .put-u323 .ensures) (c .before .before .before .before .before .before .before .before .before .before .put-u163 .ensures) (c .before .before .before .before .before .before .put-u164 .ensures) (c .before .before .put-u324 .ensures)
+returns c =
+    let last = c .before .before in
+    let method = last .before .before .before .before in
+    let rate = method .before .before .before .before in
+    let limit = rate .before .before .before .before in
+    let band = limit .before .before .before .before in
+    let reference = band .before .before .before .before in
+    let tick = reference .before .before .before .before in
+    contract-written _ (tick .before .before .before .before .before .put-u16 .ensures) (tick .put-u162 .ensures) (reference .put-u32 .ensures) (band .put-u322 .ensures)
+    (limit .put-u323 .ensures) (rate .put-u163 .ensures) (method .put-u164 .ensures) (last .put-u324 .ensures)
 
 pub put-contract-spec : {M : Type 1} → statement M
 put-contract-spec =

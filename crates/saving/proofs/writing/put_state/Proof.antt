@@ -5,22 +5,38 @@ use Rattle.saving.proofs.writing.put_state.Statement.{statement}
 use Rattle.saving.proofs.writing.put_state.Tie as tie
 
 put-contract-section-requires : tie.Need-put-contract-section-requires
-put-contract-section-requires c κs = ((c .before .before .before .before .pre .contracts, room-first (c .before .before .before .before .args .state) (c .before .before .before .before .args .out .now) (c .before .before .before .before .pre .room)), c .before .before .before .before .pre .short)
+put-contract-section-requires c κs =
+    let start = c .before .before .before .before in
+    ((start .pre .contracts, room-first (start .args .state) (start .args .out .now) (start .pre .room)), start .pre .short)
 
 put-account-section-requires : tie.Need-put-account-section-requires
-put-account-section-requires c κs = ((c .before .before .before .before .before .before .before .before .pre .accounts, room-second (c .before .before .before .before .before .before .before .before .args .state) (c .before .before .before .before .before .before .before .before .args .out .now) (c .before .before .before .before .before .before .before .before .pre .room) (c .before .before .before .put-contract-section .ensures)), c .before .before .before .before .before .before .before .before .pre .marks)
+put-account-section-requires c κs =
+    let start = c .before .before .before .before .before .before .before .before in
+    ((start .pre .accounts, room-second (start .args .state) (start .args .out .now) (start .pre .room) (c .before .before .before .put-contract-section .ensures)), start .pre .marks)
 
 put-holding-section-requires : tie.Need-put-holding-section-requires
-put-holding-section-requires c κs = (c .before .before .before .before .before .before .before .before .before .before .before .before .pre .accounts, c .before .before .before .before .before .before .before .before .before .before .before .before .pre .contracts, room-third (c .before .before .before .before .before .before .before .before .before .before .before .before .args .state) (c .before .before .before .before .before .before .before .before .before .before .before .before .args .out .now) (c .before .before .before .before .before .before .before .before .before .before .before .before .pre .room) (c .before .before .before .before .before .before .before .put-contract-section .ensures) (c .before .before .before .put-account-section .ensures))
+put-holding-section-requires c κs =
+    let start = c .before .before .before .before .before .before .before .before .before .before .before .before in (
+      start .pre .accounts,
+      start .pre .contracts,
+      room-third (start .args .state) (start .args .out .now) (start .pre .room) (c .before .before .before .before .before .before .before .put-contract-section .ensures) (c .before .before .before .put-account-section .ensures),
+    )
 
 put-settlements-requires : tie.Need-put-settlements-requires
-put-settlements-requires c κs = room-last (c .before .before .before .before .before .before .before .before .before .before .before .before .before .before .before .before .args .state) (c .before .before .before .before .before .before .before .before .before .before .before .before .before .before .before .before .args .out .now) (c .before .before .before .before .before .before .before .before .before .before .before .before .before .before .before .before .pre .room) (c .before .before .before .before .before .before .before .before .before .before .before .put-contract-section .ensures) (c .before .before .before .before .before .before .before .put-account-section .ensures) (c .before .before .before .put-holding-section .ensures)
+put-settlements-requires c κs =
+    let start = c .before .before .before .before .before .before .before .before .before .before .before .before .before .before .before .before in
+    room-last (start .args .state) (start .args .out .now) (start .pre .room) (c .before .before .before .before .before .before .before .before .before .before .before .put-contract-section .ensures) (c .before .before .before .before .before .before .before .put-account-section .ensures)
+    (c .before .before .before .put-holding-section .ensures)
 
 same-length : tie.Need-same-length
 same-length c = search needs
 
 returns : tie.Need-returns
-returns c = all-written (c .before .before .before .before .before .before .before .before .before .before .before .before .before .before .before .before .before .before .before .args .state) (c .before .before .before .before .before .before .before .before .before .before .before .before .before .before .before .before .before .before .before .args .out .now) (c .before .before .before .before .before .before .before .before .before .before .before .before .before .before .before .before .before .before .before .pre .room) (c .before .before .before .before .before .before .before .before .before .before .before .before .before .before .put-contract-section .ensures) (c .before .before .before .before .before .before .before .before .before .before .put-account-section .ensures) (c .before .before .before .before .before .before .put-holding-section .ensures) (c .before .before .put-settlements .ensures)
+returns c =
+    let accounts = c .before .before .before .before .before .before .before .before .before .before in
+    let start = accounts .before .before .before .before .before .before .before .before .before in
+    all-written (start .args .state) (start .args .out .now) (start .pre .room) (accounts .before .before .before .before .put-contract-section .ensures) (accounts .put-account-section .ensures)
+    (c .before .before .before .before .before .before .put-holding-section .ensures) (c .before .before .put-settlements .ensures)
 
 pub put-state-spec : {M : Type 1} → statement M
 put-state-spec =

@@ -1,9 +1,10 @@
+-- `balances::all_paid` meets its contract: the day's sums, what each account is paid from them; the accounts below a are paid. Assumes nothing.
 use mathlib.Core.Path.{refl}
-use Prim.Native.Nat.{_-_}
+use Prim.Native.Nat.{_-_, _<_}
 use native.Mathlib.Omega.{arith}
 use borrow.Author.Needs.{needs}
 use Rattle.settlement.proofs.Carrying.{Paying, paying-none, closing-reach, holding-reach, paying-more, paying-done}
-use Rattle.settlement.proofs.Totals.{totallable, total-is}
+use Rattle.settlement.proofs.Totals.{TotalIs, totallable, total-is}
 use Rattle.settlement.proofs.balances.all_paid.Statement.{statement}
 use Rattle.settlement.proofs.balances.all_paid.Tie as tie
 
@@ -14,6 +15,10 @@ Inv-loop trades prices state closed closes opened opens used made contracts coun
 abbrev μ-loop : tie.MeasureT-loop
 μ-loop trades prices state closed closes opened opens used made contracts count accounts₀ closing₀ holding₀ a₀ accounts closing holding a =
     count - a
+
+-- from the loop's head to the start
+abbrev Begun : tie.At-loop Inv-loop μ-loop → tie.Start Inv-loop μ-loop
+Begun h = h .before .before .before .before .before .before .before .before .before .before .before .before .before .before .before .before .before .before .before .before .before .before
 
 slice-aggregate-add-up : tie.Need-slice-aggregate-add-up Inv-loop μ-loop
 slice-aggregate-add-up c = search needs
@@ -55,10 +60,10 @@ loop-holds : tie.Need-loop-holds Inv-loop μ-loop
 loop-holds c = paying-none _ _ _
 
 mul-account : tie.Need-mul-account Inv-loop μ-loop
-mul-account c = omega (arith, c .before .before .before .before .before .before .before .before .before .before .before .before .before .before .before .before .before .before .before .before .before .before .before .pre .accounts)
+mul-account c = omega (arith, Begun (c .before) .pre .accounts)
 
 element-copy-out-account : tie.Need-element-copy-out-account Inv-loop μ-loop
-element-copy-out-account c = omega (arith, c .before .before .before .before .before .before .before .before .before .before .before .before .before .before .before .before .before .before .before .before .before .before .before .pre .accounts)
+element-copy-out-account c = omega (arith, Begun (c .before) .pre .accounts)
 
 slice-aggregate-total : tie.Need-slice-aggregate-total Inv-loop μ-loop
 slice-aggregate-total c = search needs
@@ -77,52 +82,74 @@ slice-aggregate-total-5 c = search needs
 
 total-requires : tie.Need-total-requires Inv-loop μ-loop
 total-requires c κs =
-    totallable _ _ _ (c .before .before .before .before .before .before .before .before .before .before .before .before .before .before .before .before .before .before .before .before .before .before .before .before .before .before .before .before .before .pre) _ _ _ _ _ _ (c .before .before .before .before .before .before .before .before .before .before .before .before .before .before .before .before .before .before .before .before .before .before .before .before .before .add-up .ensures) (c .before .before .before .before .before .before .before .before .before .before .before .before .before .before .before .before .before .before .before .before .add-up2 .ensures) (c .before .before .before .before .before .before .before .before .before .before .before .before .before .before .before .put-all-due .ensures) (c .before .before .before .before .before .before .before .before .before .before .before .take-first .ensures) _ (c .before .before .before .before .before .before .loop-test .taken)
+    let taken = c .before .before .before .before .before .before .before .before .before .before .before in
+    let due = taken .before .before .before .before in
+    let opened = due .before .before .before .before .before in
+    let closed = opened .before .before .before .before .before in
+    totallable (closed .before .before .before .before .pre)
+    (record { closing = closed .add-up .ensures; opening = opened .add-up2 .ensures; due = due .put-all-due .ensures; taken = taken .take-first .ensures })
+    _ (c .before .before .before .before .before .before .loop-test .taken)
     (record {
-      closed-room = c .before .before .before .before .before .before .before .before .before .before .before .before .before .before .before .before .before .before .before .before .before .before .before .before .before .add-up .kept .1 .1 .1 .0;
-      closes-room = c .before .before .before .before .before .before .before .before .before .before .before .before .before .before .before .before .before .before .before .before .before .before .before .before .before .add-up .kept .1 .1 .1 .1 .0;
-      opened-room = c .before .before .before .before .before .before .before .before .before .before .before .before .before .before .before .before .before .before .before .before .add-up2 .kept .1 .1 .1 .0;
-      opens-room = c .before .before .before .before .before .before .before .before .before .before .before .before .before .before .before .before .before .before .before .before .add-up2 .kept .1 .1 .1 .1 .0;
-      used-room = c .before .before .before .before .before .before .before .before .before .before .before .take-first .kept .1 .1 .1 .0;
+      closed-room = closed .add-up .kept .1 .1 .1 .0;
+      closes-room = closed .add-up .kept .1 .1 .1 .1 .0;
+      opened-room = opened .add-up2 .kept .1 .1 .1 .0;
+      opens-room = opened .add-up2 .kept .1 .1 .1 .1 .0;
+      used-room = taken .take-first .kept .1 .1 .1 .0;
     })
 
+-- what the code got for an account is its profit by Article 32
+gained : (c : tie.After-total Inv-loop μ-loop)
+    → let a = Begun (c .before .before .before .before .before .before .before .before) .args in TotalIs (a .t1) (a .trades .now) (a .prices) (c .before .before .before .before .before .before .before .before .loop .a) (c .total .result)
+gained c =
+    let taken = c .before .before .before .before .before .before .before .before .before .before .before .before in
+    let due = taken .before .before .before .before in
+    let opened = due .before .before .before .before .before in
+    let closed = opened .before .before .before .before .before in
+    total-is (closed .before .before .before .before .pre)
+    (record { closing = closed .add-up .ensures; opening = opened .add-up2 .ensures; due = due .put-all-due .ensures; taken = taken .take-first .ensures })
+    _ (c .before .before .before .before .before .before .before .loop-test .taken) (c .total .ensures)
+
+-- the account is one of 32
+in-use : (c : tie.After-paid Inv-loop μ-loop) → c .before .before .before .before .before .before .before .before .before .before .before .loop .a < 32
+in-use c = omega (arith, Begun (c .before .before .before .before .before .before .before .before .before .before .before) .pre .accounts, c .before .before .before .before .before .before .before .before .before .before .loop-test .taken)
+
 paid-requires : tie.Need-paid-requires Inv-loop μ-loop
-paid-requires c κs = (
-  c .before .before .before .before .before .before .before .before .before .before .before .before .before .before .before .before .before .before .before .before .before .before .before .before .before .before .before .before .before .before .before .before .pre .contracts,
-  c .before .before .before .before .before .before .before .before .before .before .before .before .before .before .before .before .before .before .before .before .before .before .before .before .before .before .before .before .before .before .before .before .pre .balance _ (c .before .before .before .before .before .before .before .before .before .loop-test .taken),
-  closing-reach _ _ _ (c .before .before .before .before .before .before .before .before .before .before .before .before .before .before .before .before .before .before .before .before .before .before .before .before .before .before .before .before .before .before .before .before .pre) _ _ _ _ (c .before .before .before .before .before .before .before .before .before .before .loop .inv) _ (total-is _ _ _ (c .before .before .before .before .before .before .before .before .before .before .before .before .before .before .before .before .before .before .before .before .before .before .before .before .before .before .before .before .before .before .before .before .pre) _ _ _ _ _ _ (c .before .before .before .before .before .before .before .before .before .before .before .before .before .before .before .before .before .before .before .before .before .before .before .before .before .before .before .before .add-up .ensures) (c .before .before .before .before .before .before .before .before .before .before .before .before .before .before .before .before .before .before .before .before .before .before .before .add-up2 .ensures) (c .before .before .before .before .before .before .before .before .before .before .before .before .before .before .before .before .before .before .put-all-due .ensures) (c .before .before .before .before .before .before .before .before .before .before .before .before .before .before .take-first .ensures) _ (c .before .before .before .before .before .before .before .before .before .loop-test .taken) _ (c .before .before .total .ensures)),
-  holding-reach _ _ _ (c .before .before .before .before .before .before .before .before .before .before .before .before .before .before .before .before .before .before .before .before .before .before .before .before .before .before .before .before .before .before .before .before .pre) _ _ _ _ (c .before .before .before .before .before .before .before .before .before .before .loop .inv) _ (total-is _ _ _ (c .before .before .before .before .before .before .before .before .before .before .before .before .before .before .before .before .before .before .before .before .before .before .before .before .before .before .before .before .before .before .before .before .pre) _ _ _ _ _ _ (c .before .before .before .before .before .before .before .before .before .before .before .before .before .before .before .before .before .before .before .before .before .before .before .before .before .before .before .before .add-up .ensures) (c .before .before .before .before .before .before .before .before .before .before .before .before .before .before .before .before .before .before .before .before .before .before .before .add-up2 .ensures) (c .before .before .before .before .before .before .before .before .before .before .before .before .before .before .before .before .before .before .put-all-due .ensures) (c .before .before .before .before .before .before .before .before .before .before .before .before .before .before .take-first .ensures) _ (c .before .before .before .before .before .before .before .before .before .loop-test .taken) _ (c .before .before .total .ensures)),
-)
+paid-requires c κs =
+    let turn = c .before .before .before .before .before .before .before .before .before .before in
+    let pre = Begun turn .pre in
+    (pre .contracts, pre .balance _ (c .before .before .before .before .before .before .before .before .before .loop-test .taken), closing-reach pre (turn .loop .inv) (gained (c .before .before)), holding-reach pre (turn .loop .inv) (gained (c .before .before)))
 
 mul-accounts : tie.Need-mul-accounts Inv-loop μ-loop
-mul-accounts c = omega (arith, c .before .before .before .before .before .before .before .before .before .before .before .before .before .before .before .before .before .before .before .before .before .before .before .before .before .before .before .before .before .before .before .before .before .pre .accounts, c .before .before .before .before .before .before .before .before .before .before .loop-test .taken)
+mul-accounts c = omega (arith, in-use c)
 
 array-set-from-accounts : tie.Need-array-set-from-accounts Inv-loop μ-loop
-array-set-from-accounts c = omega (arith, c .before .before .before .before .before .before .before .before .before .before .before .before .before .before .before .before .before .before .before .before .before .before .before .before .before .before .before .before .before .before .before .before .before .pre .accounts, c .before .before .before .before .before .before .before .before .before .before .loop-test .taken)
+array-set-from-accounts c = omega (arith, in-use c)
 
 mul-closing : tie.Need-mul-closing Inv-loop μ-loop
-mul-closing c = omega (arith, c .before .before .before .before .before .before .before .before .before .before .before .before .before .before .before .before .before .before .before .before .before .before .before .before .before .before .before .before .before .before .before .before .before .pre .accounts, c .before .before .before .before .before .before .before .before .before .before .loop-test .taken)
+mul-closing c = omega (arith, in-use c)
 
 array-set-from-closing : tie.Need-array-set-from-closing Inv-loop μ-loop
-array-set-from-closing c = omega (arith, c .before .before .before .before .before .before .before .before .before .before .before .before .before .before .before .before .before .before .before .before .before .before .before .before .before .before .before .before .before .before .before .before .before .pre .accounts, c .before .before .before .before .before .before .before .before .before .before .loop-test .taken)
+array-set-from-closing c = omega (arith, in-use c)
 
 mul-holding : tie.Need-mul-holding Inv-loop μ-loop
-mul-holding c = omega (arith, c .before .before .before .before .before .before .before .before .before .before .before .before .before .before .before .before .before .before .before .before .before .before .before .before .before .before .before .before .before .before .before .before .before .pre .accounts, c .before .before .before .before .before .before .before .before .before .before .loop-test .taken)
+mul-holding c = omega (arith, in-use c)
 
 array-set-from-holding : tie.Need-array-set-from-holding Inv-loop μ-loop
-array-set-from-holding c = omega (arith, c .before .before .before .before .before .before .before .before .before .before .before .before .before .before .before .before .before .before .before .before .before .before .before .before .before .before .before .before .before .before .before .before .before .pre .accounts, c .before .before .before .before .before .before .before .before .before .before .loop-test .taken)
+array-set-from-holding c = omega (arith, in-use c)
 
 add-a : tie.Need-add-a Inv-loop μ-loop
-add-a c = omega (arith, c .before .before .before .before .before .before .before .before .before .before .before .before .before .before .before .before .before .before .before .before .before .before .before .before .before .before .before .before .before .before .before .before .before .pre .accounts, c .before .before .before .before .before .before .before .before .before .before .loop-test .taken)
+add-a c = omega (arith, in-use c)
 
 loop-less : tie.Need-loop-less Inv-loop μ-loop
-loop-less c = omega (arith, c .before .before .before .before .before .before .before .before .before .before .before .before .before .before .before .before .before .before .before .before .before .before .before .before .before .before .before .before .before .before .before .before .before .pre .accounts, c .before .before .before .before .before .before .before .before .before .before .loop-test .taken)
+loop-less c = omega (arith, c .before .before .before .before .before .before .before .before .before .before .loop-test .taken)
 
 loop-again : tie.Need-loop-again Inv-loop μ-loop
-loop-again c = paying-more _ _ _ (c .before .before .before .before .before .before .before .before .before .before .before .before .before .before .before .before .before .before .before .before .before .before .before .before .before .before .before .before .before .before .before .before .before .pre) _ _ _ _ (c .before .before .before .before .before .before .before .before .before .before .before .loop .inv) _ (total-is _ _ _ (c .before .before .before .before .before .before .before .before .before .before .before .before .before .before .before .before .before .before .before .before .before .before .before .before .before .before .before .before .before .before .before .before .before .pre) _ _ _ _ _ _ (c .before .before .before .before .before .before .before .before .before .before .before .before .before .before .before .before .before .before .before .before .before .before .before .before .before .before .before .before .before .add-up .ensures) (c .before .before .before .before .before .before .before .before .before .before .before .before .before .before .before .before .before .before .before .before .before .before .before .before .add-up2 .ensures) (c .before .before .before .before .before .before .before .before .before .before .before .before .before .before .before .before .before .before .before .put-all-due .ensures) (c .before .before .before .before .before .before .before .before .before .before .before .before .before .before .before .take-first .ensures) _ (c .before .before .before .before .before .before .before .before .before .before .loop-test .taken) _ (c .before .before .before .total .ensures)) (c .before .before .before .before .before .before .before .before .before .before .loop-test .taken) _ (c .paid .ensures)
+loop-again c =
+    let turn = c .before .before .before .before .before .before .before .before .before .before .before in
+    paying-more (Begun turn .pre) (turn .loop .inv) (gained (c .before .before .before)) (c .before .before .before .before .before .before .before .before .before .before .loop-test .taken) (c .paid .ensures)
 
 returns : tie.Need-returns Inv-loop μ-loop
-returns c = paying-done _ _ _ (c .before .before .before .before .before .before .before .before .before .before .before .before .before .before .before .before .before .before .before .before .before .before .before .pre) _ _ _ _ (c .before .loop .inv) (c .loop-test .left)
+returns c = paying-done (Begun (c .before) .pre) (c .before .loop .inv) (c .loop-test .left)
 
 pub all-paid-spec : {M : Type 1} → statement M
 all-paid-spec =

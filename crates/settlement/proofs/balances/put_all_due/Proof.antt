@@ -1,3 +1,4 @@
+-- `balances::put_all_due` meets its contract. The invariant: what is due stands at the places below k. Assumes nothing.
 use mathlib.Core.Path.{sym, _∙_}
 use Prim.Native.Nat.{_-_}
 use native.Mathlib.Omega.{arith}
@@ -30,10 +31,14 @@ element-copy-out-h : tie.Need-element-copy-out-h Inv-loop μ-loop
 element-copy-out-h c = contract-at _
 
 put-due-requires : tie.Need-put-due-requires Inv-loop μ-loop
-put-due-requires c κs = (account-at _ _ (c .before .before .before .loop-test .taken) (c .before .before .before .before .before .before .before .pre .0), contract-at _, c .before .before .before .before .before .before .before .pre .1, c .before .before .before .before .loop .inv .room)
+put-due-requires c κs =
+    let start = c .before .before .before .before .before .before .before in
+    (account-at _ _ (c .before .before .before .loop-test .taken) (start .pre .0), contract-at _, start .pre .1, c .before .before .before .before .loop .inv .room)
 
 put-due-requires-2 : tie.Need-put-due-requires-2 Inv-loop μ-loop
-put-due-requires-2 c κs = (account-at _ _ (c .before .before .before .before .before .before .before .loop-test .taken) (c .before .before .before .before .before .before .before .before .before .before .before .pre .0), contract-at _, c .before .before .before .before .before .before .before .before .before .before .before .pre .1, c .before .before .before .put-due .kept .1 .0 ∙ c .before .before .before .before .before .before .before .before .loop .inv .room)
+put-due-requires-2 c κs =
+    let start = c .before .before .before .before .before .before .before .before .before .before .before in
+    (account-at _ _ (c .before .before .before .before .before .before .before .loop-test .taken) (start .pre .0), contract-at _, start .pre .1, c .before .before .before .put-due .kept .1 .0 ∙ c .before .before .before .before .before .before .before .before .loop .inv .room)
 
 add-k : tie.Need-add-k Inv-loop μ-loop
 add-k c = omega arith
@@ -43,7 +48,9 @@ loop-less c = omega arith
 
 loop-again : tie.Need-loop-again Inv-loop μ-loop
 loop-again c =
-    dues-more _ _ _ _ _ _ _ _ (c .before .before .before .before .before .before .before .before .before .before .before .loop .inv) (c .before .before .before .before .before .before .before .before .before .before .loop-test .taken) (c .before .before .before .before .before .before .before .before .before .before .before .before .before .before .pre .0) (contract-at _) (turn-at _) (c .before .before .before .before .before .before .put-due .ensures) (c .before .before .put-due2 .ensures)
+    let turn = c .before .before .before .before .before .before .before .before .before .before .before in
+    dues-more _ _ _ _ _ _ _ _ (turn .loop .inv) (c .before .before .before .before .before .before .before .before .before .before .loop-test .taken) (turn .before .before .before .pre .0) (contract-at _) (turn-at _)
+    (c .before .before .before .before .before .before .put-due .ensures) (c .before .before .put-due2 .ensures)
 
 same-length : tie.Need-same-length Inv-loop μ-loop
 same-length c = c .before .loop .inv .room ∙ sym (c .before .before .before .before .pre .2)

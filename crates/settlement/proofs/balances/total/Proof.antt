@@ -1,4 +1,4 @@
-use lib.IntN.{pos}
+-- `balances::total` meets its contract. The invariant: the sums so far are those of the contracts below c. Assumes nothing.
 use Prim.Native.Nat.{_-_}
 use native.Mathlib.Omega.{arith}
 use Rattle.settlement.proofs.Totals.{Totalling, totalling-none, closing-bits, holding-bits, closing-fits, holding-fits, totalling-more, totalling-done}
@@ -42,16 +42,24 @@ profit-at-requires : tie.Need-profit-at-requires Inv-loop μ-loop
 profit-at-requires c κs = c .before .before .before .before .before .before .before .before .before .before .pre .each _ (c .before .before .loop-test .taken)
 
 multiplied-requires : tie.Need-multiplied-requires Inv-loop μ-loop
-multiplied-requires c κs = (closing-bits _ _ _ _ _ _ _ _ (c .before .before .before .before .before .before .before .before .before .before .before .before .pre) _ _ _ (c .before .before .before .before .loop-test .taken) (c .before .before .before .before .before .loop .inv) _ (c .before .profit-at .ensures), c .before .before .before .before .before .before .before .before .before .before .before .before .pre .multiplier _ (c .before .before .before .before .loop-test .taken))
+multiplied-requires c κs =
+    let start = c .before .before .before .before .before .before .before .before .before .before .before .before in
+    let in-use = c .before .before .before .before .loop-test .taken in
+    (closing-bits (start .pre) (c .before .before .before .before .before .loop .inv) in-use (c .before .profit-at .ensures), start .pre .multiplier _ in-use)
 
 add-closing : tie.Need-add-closing Inv-loop μ-loop
-add-closing c = closing-fits _ _ _ _ _ _ _ _ (c .before .before .before .before .before .before .before .before .before .before .before .before .before .pre) _ _ _ (c .before .before .before .before .before .loop-test .taken) (c .before .before .before .before .before .before .loop .inv) _ (c .before .before .profit-at .ensures) _ (pos 0) (c .multiplied .ensures)
+add-closing c = closing-fits (c .before .before .before .before .before .before .before .before .before .before .before .before .before .pre) (c .before .before .before .before .before .before .loop .inv) (c .before .before .before .before .before .loop-test .taken) (c .before .before .profit-at .ensures) (c .multiplied .ensures)
 
 multiplied-requires-2 : tie.Need-multiplied-requires-2 Inv-loop μ-loop
-multiplied-requires-2 c κs = (holding-bits _ _ _ _ _ _ _ _ (c .before .before .before .before .before .before .before .before .before .before .before .before .before .before .pre) _ _ _ (c .before .before .before .before .before .before .loop-test .taken) (c .before .before .before .before .before .before .before .loop .inv) _ (c .before .before .before .profit-at .ensures), c .before .before .before .before .before .before .before .before .before .before .before .before .before .before .pre .multiplier _ (c .before .before .before .before .before .before .loop-test .taken))
+multiplied-requires-2 c κs =
+    let start = c .before .before .before .before .before .before .before .before .before .before .before .before .before .before in
+    let in-use = c .before .before .before .before .before .before .loop-test .taken in
+    (holding-bits (start .pre) (c .before .before .before .before .before .before .before .loop .inv) in-use (c .before .before .before .profit-at .ensures), start .pre .multiplier _ in-use)
 
 add-holding : tie.Need-add-holding Inv-loop μ-loop
-add-holding c = holding-fits _ _ _ _ _ _ _ _ (c .before .before .before .before .before .before .before .before .before .before .before .before .before .before .before .pre) _ _ _ (c .before .before .before .before .before .before .before .loop-test .taken) (c .before .before .before .before .before .before .before .before .loop .inv) _ (c .before .before .before .before .profit-at .ensures) _ _ (c .before .before .multiplied .ensures) (c .multiplied2 .ensures)
+add-holding c =
+    let turn = c .before .before .before .before .before .before .before .before in
+    holding-fits (turn .before .before .before .before .before .before .before .pre) (turn .loop .inv) (c .before .before .before .before .before .before .before .loop-test .taken) (c .before .before .before .before .profit-at .ensures) (c .before .before .multiplied .ensures) (c .multiplied2 .ensures)
 
 add-c : tie.Need-add-c Inv-loop μ-loop
 add-c c = omega arith
@@ -60,10 +68,12 @@ loop-less : tie.Need-loop-less Inv-loop μ-loop
 loop-less c = omega arith
 
 loop-again : tie.Need-loop-again Inv-loop μ-loop
-loop-again c = totalling-more _ _ _ _ _ _ _ _ (c .before .before .before .before .before .before .before .before .before .before .before .before .before .before .before .pre) _ _ _ (c .before .before .before .before .before .before .before .loop-test .taken) (c .before .before .before .before .before .before .before .before .loop .inv) _ (c .before .before .before .before .profit-at .ensures) _ _ (c .before .before .multiplied .ensures) (c .multiplied2 .ensures)
+loop-again c =
+    let turn = c .before .before .before .before .before .before .before .before in
+    totalling-more (turn .before .before .before .before .before .before .before .pre) (turn .loop .inv) (c .before .before .before .before .before .before .before .loop-test .taken) (c .before .before .before .before .profit-at .ensures) (c .before .before .multiplied .ensures) (c .multiplied2 .ensures)
 
 returns : tie.Need-returns Inv-loop μ-loop
-returns c = totalling-done _ _ _ _ _ _ _ _ (c .before .before .before .before .before .before .before .before .pre) _ _ _ (c .loop-test .left) (c .before .loop .inv)
+returns c = totalling-done (c .before .before .before .before .before .before .before .before .pre) (c .before .loop .inv) (c .loop-test .left)
 
 pub total-spec : {M : Type 1} → statement M
 total-spec =

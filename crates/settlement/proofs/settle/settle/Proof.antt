@@ -14,10 +14,12 @@ clear-areas-requires : tie.Need-clear-areas-requires
 clear-areas-requires c κs = all-clearable _ _ _ _ (c .before .before .before .before .before .before .before .before .before .before .before .before .before .before .before .pre)
 
 next-day-requires : tie.Need-next-day-requires
-next-day-requires c κs = (few-contracts _ _ _ _ (c .before .before .before .before .before .before .before .before .before .before .before .before .before .before .before .before .before .before .before .before .before .before .pre), settlements-left _ _ _ _ (c .before .before .before .before .before .before .before .before .before .before .before .before .before .before .before .before .before .before .before .before .before .before .pre))
+next-day-requires c κs = let start = c .before .before .before .before .before .before .before .before .before .before .before .before .before .before .before .before .before .before .before .before .before .before in (few-contracts _ _ _ _ (start .pre), settlements-left _ _ _ _ (start .pre))
 
 charges-requires : tie.Need-charges-requires
-charges-requires c κs = all-chargeable _ _ _ _ (c .before .before .before .before .before .before .before .before .before .before .before .before .before .before .before .before .before .before .before .before .before .before .before .before .before .pre) _ (c .before .before .before .before .before .before .before .before .before .before .before .before .before .before .before .before .before .before .prices .ensures) _ (c .before .before .before .before .before .before .before .before .before .before .before .before .before .before .before .before .all-paid .ensures .accounts) _ _ _ (c .before .before .before .before .before .before .before .before .before .clear-areas .ensures) _ (c .before .before .next-day .ensures)
+charges-requires c κs =
+    let paid = c .before .before .before .before .before .before .before .before .before .before .before .before .before .before .before .before in
+    all-chargeable _ _ _ _ (paid .before .before .before .before .before .before .before .before .before .pre) _ (paid .before .before .prices .ensures) _ (paid .all-paid .ensures .accounts) _ _ _ (c .before .before .before .before .before .before .before .before .before .clear-areas .ensures) _ (c .before .before .next-day .ensures)
 
 same-length : tie.Need-same-length
 same-length c = search needs
@@ -29,7 +31,10 @@ same-length-3 : tie.Need-same-length-3
 same-length-3 c = search needs
 
 returns : tie.Need-returns
-returns c = settled-is _ _ _ _ (c .before .before .before .before .before .before .before .before .before .before .before .before .before .before .before .before .before .before .before .before .before .before .before .before .before .before .pre) _ (c .before .before .before .before .before .before .before .before .before .before .before .before .before .before .before .before .before .before .before .prices .ensures) _ (c .before .before .before .before .before .before .before .before .before .before .before .before .before .before .before .before .before .all-paid .ensures .accounts) _ _ _ (c .before .before .before .before .before .before .before .before .before .before .clear-areas .ensures) _ _ _ _ (c .before .before .before .next-day .ensures) (c .before .before .before .before .before .before .before .before .before .before .before .before .before .before .before .before .before .all-paid .ensures) (c .charges .ensures)
+returns c =
+    let paid = c .before .before .before .before .before .before .before .before .before .before .before .before .before .before .before .before .before in
+    settled-is _ _ _ _ (paid .before .before .before .before .before .before .before .before .before .pre) _ (paid .before .before .prices .ensures) _ (paid .all-paid .ensures .accounts) _ _ _ (c .before .before .before .before .before .before .before .before .before .before .clear-areas .ensures) _ _ _ _
+    (c .before .before .before .next-day .ensures) (paid .all-paid .ensures) (c .charges .ensures)
 
 pub settle-spec : {M : Type 1} → statement M
 settle-spec =

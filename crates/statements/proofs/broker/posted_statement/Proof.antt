@@ -31,13 +31,21 @@ wide-requires : tie.Need-wide-requires
 wide-requires c κs = search needs
 
 tell-requires : tie.Need-tell-requires
-tell-requires c κs = rw (c .before .wide .ensures) (brokered _ _ _ _ _ _ _ (c .before .before .before .before .before .before .before .before .before .before .before .before .before .before .pre) _ _ _ (length-replicate {A = ℕ} (tradeStride * maxTrades) 0) (posted-content (c .before .before .before .before .before .before .post-trades .ensures) (not-false _ (c .before .before .before .if1 .left))) _ (posted-legs (c .before .before .before .before .before .before .post-trades .ensures) (not-false _ (c .before .before .before .if1 .left))))
+tell-requires c κs =
+    let posted = c .before .before .before .before .before .before .post-trades .ensures in
+    let all = not-false _ (c .before .before .before .if1 .left) in
+    rw (c .before .wide .ensures)
+    (brokered _ _ _ _ _ _ _ (c .before .before .before .before .before .before .before .before .before .before .before .before .before .before .pre) _ _ _ (length-replicate {A = ℕ} (tradeStride * maxTrades) 0) (posted-content posted all) _ (posted-legs posted all))
 
 same-length : tie.Need-same-length
 same-length c = search needs
 
 returns-2 : tie.Need-returns-2
-returns-2 c = posted-told _ _ _ _ _ _ _ (c .before .before .before .before .before .before .before .before .before .before .before .before .before .before .before .before .before .pre) _ _ _ (length-replicate {A = ℕ} (tradeStride * maxTrades) 0) (posted-content (c .before .before .before .before .before .before .before .before .before .post-trades .ensures) (not-false _ (c .before .before .before .before .before .before .if1 .left))) _ (c .before .before .before .before .before .before .before .before .before .post-trades .ensures .all) (not-false _ (c .before .before .before .before .before .before .if1 .left)) _ (c .before .before .before .before .wide .ensures) _ _ _ (c .before .before .tell .ensures)
+returns-2 c =
+    let posted = c .before .before .before .before .before .before .before .before .before .post-trades .ensures in
+    let all = not-false _ (c .before .before .before .before .before .before .if1 .left) in
+    posted-told _ _ _ _ _ _ _ (c .before .before .before .before .before .before .before .before .before .before .before .before .before .before .before .before .before .pre) _ _ _ (length-replicate {A = ℕ} (tradeStride * maxTrades) 0) (posted-content posted all) _ (posted .all) all
+    _ (c .before .before .before .before .wide .ensures) _ _ _ (c .before .before .tell .ensures)
 
 pub posted-statement-spec : {M : Type 1} → statement M
 posted-statement-spec =

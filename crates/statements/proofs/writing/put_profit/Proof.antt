@@ -23,7 +23,10 @@ same-length : tie.Need-same-length
 same-length c = search needs
 
 returns : tie.Need-returns
-returns c = profit-written (c .before .before .before .before .before .before .before .before .before .before .before .args .closing) (c .before .before .before .before .before .before .before .before .before .before .before .args .holding) _ _ (c .before .before .before .before .before .before .before .before .unsigned .ensures ∙ ap unsigned (toZ-ofZ (c .before .before .before .before .before .before .before .before .before .before .before .fits .closing))) (c .before .before .before .unsigned2 .ensures ∙ ap unsigned (toZ-ofZ (c .before .before .before .before .before .before .before .before .before .before .before .fits .holding))) (c .before .before .before .before .before .before .before .put-u64 .ensures) (c .before .before .put-u642 .ensures)
+returns c =
+    let start = c .before .before .before .before .before .before .before .before .before .before .before in
+    profit-written (start .args .closing) (start .args .holding) _ _ (c .before .before .before .before .before .before .before .before .unsigned .ensures ∙ ap unsigned (toZ-ofZ (start .fits .closing)))
+    (c .before .before .before .unsigned2 .ensures ∙ ap unsigned (toZ-ofZ (start .fits .holding))) (c .before .before .before .before .before .before .before .put-u64 .ensures) (c .before .before .put-u642 .ensures)
 
 pub put-profit-spec : {M : Type 1} → statement M
 put-profit-spec =

@@ -24,22 +24,41 @@ put-u32-requires-2 : tie.Need-put-u32-requires-2
 put-u32-requires-2 c κs = room-third _ _ _ _ _ _ _ (c .before .before .before .before .before .before .before .before .before .before .before .pre .room) (c .before .before .before .before .before .before .before .put-u32 .ensures) (c .before .before .before .put-trades .ensures)
 
 put-holdings-requires : tie.Need-put-holdings-requires
-put-holdings-requires c κs = (omega (arith, c .before .before .before .before .before .before .before .before .before .before .before .before .before .before .before .pre .few-clients), c .before .before .before .before .before .before .before .before .before .before .before .before .before .before .before .pre .few-contracts, room-fourth _ _ _ _ _ _ _ (c .before .before .before .before .before .before .before .before .before .before .before .before .before .before .before .pre .room) (c .before .before .before .before .before .before .before .before .before .before .before .put-u32 .ensures) (c .before .before .before .before .before .before .before .put-trades .ensures) (c .before .before .before .put-u322 .ensures))
+put-holdings-requires c κs =
+    let trades = c .before .before .before .before .before .before .before in
+    let start = trades .before .before .before .before .before .before .before .before in (
+      omega (arith, start .pre .few-clients),
+      start .pre .few-contracts,
+      room-fourth _ _ _ _ _ _ _ (start .pre .room) (trades .before .before .before .before .put-u32 .ensures) (trades .put-trades .ensures) (c .before .before .before .put-u322 .ensures),
+    )
 
 cast-put-u32-3 : tie.Need-cast-put-u32-3
 cast-put-u32-3 c = search needs
 
 put-u32-requires-3 : tie.Need-put-u32-requires-3
-put-u32-requires-3 c κs = room-fifth _ _ _ _ _ _ _ (c .before .before .before .before .before .before .before .before .before .before .before .before .before .before .before .before .before .before .before .pre .room) (c .before .before .before .before .before .before .before .before .before .before .before .before .before .before .before .put-u32 .ensures) (c .before .before .before .before .before .before .before .before .before .before .before .put-trades .ensures) (c .before .before .before .before .before .before .before .put-u322 .ensures) (c .before .before .before .put-holdings .ensures)
+put-u32-requires-3 c κs =
+    let trades = c .before .before .before .before .before .before .before .before .before .before .before in
+    room-fifth _ _ _ _ _ _ _ (trades .before .before .before .before .before .before .before .before .pre .room) (trades .before .before .before .before .put-u32 .ensures) (trades .put-trades .ensures) (c .before .before .before .before .before .before .before .put-u322 .ensures) (c .before .before .before .put-holdings .ensures)
 
 put-profits-requires : tie.Need-put-profits-requires
-put-profits-requires c κs = (c .before .before .before .before .before .before .before .before .before .before .before .before .before .before .before .before .before .before .before .before .before .before .before .pre .few-clients, room-sixth _ _ _ _ _ _ _ (c .before .before .before .before .before .before .before .before .before .before .before .before .before .before .before .before .before .before .before .before .before .before .before .pre .room) (c .before .before .before .before .before .before .before .before .before .before .before .before .before .before .before .before .before .before .before .put-u32 .ensures) (c .before .before .before .before .before .before .before .before .before .before .before .before .before .before .before .put-trades .ensures) (c .before .before .before .before .before .before .before .before .before .before .before .put-u322 .ensures) (c .before .before .before .before .before .before .before .put-holdings .ensures) (c .before .before .before .put-u323 .ensures))
+put-profits-requires c κs =
+    let holdings = c .before .before .before .before .before .before .before in
+    let trades = holdings .before .before .before .before .before .before .before .before in
+    let start = trades .before .before .before .before .before .before .before .before in (
+      start .pre .few-clients,
+      room-sixth _ _ _ _ _ _ _ (start .pre .room) (trades .before .before .before .before .put-u32 .ensures) (trades .put-trades .ensures)
+          (holdings .before .before .before .before .put-u322 .ensures) (holdings .put-holdings .ensures) (c .before .before .before .put-u323 .ensures),
+    )
 
 same-length : tie.Need-same-length
 same-length c = search needs
 
 returns : tie.Need-returns
-returns c = all-told _ _ _ _ _ _ _ (c .before .before .before .before .before .before .before .before .before .before .before .before .before .before .before .before .before .before .before .before .before .before .before .before .before .before .pre .room) (c .before .before .before .before .before .before .before .before .before .before .before .before .before .before .before .before .before .before .before .before .before .before .put-u32 .ensures) (c .before .before .before .before .before .before .before .before .before .before .before .before .before .before .before .before .before .before .put-trades .ensures) (c .before .before .before .before .before .before .before .before .before .before .before .before .before .before .put-u322 .ensures) (c .before .before .before .before .before .before .before .before .before .before .put-holdings .ensures) (c .before .before .before .before .before .before .put-u323 .ensures) (c .before .before .put-profits .ensures)
+returns c =
+    let holdings = c .before .before .before .before .before .before .before .before .before .before in
+    let trades = holdings .before .before .before .before .before .before .before .before in
+    all-told _ _ _ _ _ _ _ (trades .before .before .before .before .before .before .before .before .pre .room) (trades .before .before .before .before .put-u32 .ensures) (trades .put-trades .ensures)
+    (holdings .before .before .before .before .put-u322 .ensures) (holdings .put-holdings .ensures) (c .before .before .before .before .before .before .put-u323 .ensures) (c .before .before .put-profits .ensures)
 
 pub put-statement-spec : {M : Type 1} → statement M
 put-statement-spec =

@@ -1,0 +1,177 @@
+-- WHAT EACH KIND OWES, one clause a kind, and what then holds of every command: it KEEPS A WELL-FORMED STATE WELL FORMED, and its counts in
+-- range; ORDER NUMBERS STAY, AND TIME STAMPS ARE NEVER GIVEN TWICE IN A DAY (document 02, ticket 8); NO COMMAND CHANGES A MAKER MARK
+-- (ticket 7). The laws that the clauses cite name no kind. Assumes nothing.
+use mathlib.Core.Bool.{Bool, true, false, true≢false}
+use mathlib.Core.List.{List, [], _∷_}
+use mathlib.Core.Path.{_≡_, refl, ap}
+use Prim.Native.Nat.{ℕ, _+_, _<_, _≤_}
+use native.Mathlib.Nat.{le-refl}
+use lib.ListN.{length}
+use Rattle.rules.specs.Auction.{matchOf}
+use Rattle.rules.specs.Change.{asked}
+use Rattle.rules.specs.Command.{isChange, isSettle}
+use Rattle.rules.specs.Exchange.{Exchange, accountAt, listingAt, placeOf}
+use Rattle.rules.specs.Kinds.{kindOf, codeOf, lastOf, step}
+use Rattle.rules.specs.Quote.{offered, quoted, withBuy, withSell, withoutQuote}
+use Rattle.rules.specs.Settlement.{settled}
+use Rattle.rules.specs.Step.{deposited, withdrawn, enteredOf, exchangeAfter, exchangeMatched, hasNumber, inserted, isOf, paid, removed, cancelled, pulled, phaseChanged, settledAll}
+use Rattle.rules.specs.WellFormed.{wellFormedContents}
+use Rattle.rules.specs.declared.Command.{Command}
+use Rattle.rules.specs.declared.Command.the-variants.{Malformed, Deposit, Withdraw, Insert, Cancel, Pull, Phase, Settle, Quote, Change}
+use Rattle.rules.proofs.EachKind.{settle-is}
+use Rattle.rules.proofs.Holdings.{booked-maker}
+use Rattle.rules.proofs.Stages.{Each, each-last, decided}
+use Rattle.invariants.proofs.ChangeKeeps.{change-keeps, change-counted}
+use Rattle.invariants.proofs.Clauses.{WellFormed, Counted, Sound, well-formed, well-formed-test}
+use Rattle.invariants.proofs.Insert.{insert-keeps, insert-counted}
+use Rattle.invariants.proofs.Makers.{Stays, paid-stays, settled-stays, changed-stays, quoted-stays}
+use Rattle.invariants.proofs.Payments.{deposit-keeps, withdraw-keeps, deposit-counted, withdraw-counted}
+use Rattle.invariants.proofs.Phases.{phase-keeps, phase-counted}
+use Rattle.invariants.proofs.QuoteKeeps.{quote-keeps, quote-counted}
+use Rattle.invariants.proofs.Removal.{cancel-keeps, pull-keeps, cancel-counted, pull-counted}
+use Rattle.invariants.proofs.Settle.{settle-keeps, settle-counted}
+use Rattle.invariants.proofs.Stamps.{_stamped_, Alike, Arrival, Follow, Onward, StampsAsNumbers, change-onward, entered-stamped, insert-onward, match-follow, quote-onward, same-follow, settled-stamped, without-follow}
+
+-- ---- well formed, and the counts in range
+
+-- WHAT AN ACCEPTED COMMAND OWES: the last of its stages is well formed
+pub kind-keeps : (x : Exchange) (command : Command) → Sound x → codeOf x command ≡ 0 → WellFormed (lastOf x (kindOf x command .effect .stages))
+unfolding codeOf kindOf
+kind-keeps x Malformed k e = k .contents
+kind-keeps x (Deposit account amount) k e = deposit-keeps x (k .contents) account amount e
+kind-keeps x (Withdraw account amount) k e = withdraw-keeps x (k .contents) account amount e
+kind-keeps x (Insert o) k e = insert-keeps x o e (k .contents)
+kind-keeps x (Cancel account contract operator number) k e = cancel-keeps x account contract operator number e (k .contents)
+kind-keeps x (Pull account contract operator) k e = pull-keeps x account contract operator e (k .contents)
+kind-keeps x (Phase contract phase) k e = phase-keeps x contract phase e (k .contents)
+kind-keeps x Settle k e = settle-keeps x e (k .contents) (k .counts)
+kind-keeps x (Quote account contract lots buy sell) k e = quote-keeps x (k .contents) (offered account contract lots buy sell) e
+kind-keeps x (Change account contract number lots price) k e = change-keeps x (k .contents) (asked account contract number lots price) e (k .counts)
+
+-- .. and each of them has its counts in range, so that it can be written
+pub kind-counted : (x : Exchange) (command : Command) → Sound x → codeOf x command ≡ 0 → Each Counted (kindOf x command .effect .stages)
+unfolding codeOf kindOf deposited withdrawn inserted cancelled pulled removed phaseChanged settledAll
+kind-counted x Malformed k e = tt
+kind-counted x (Deposit account amount) k e = (deposit-counted x account amount (k .counts), tt)
+kind-counted x (Withdraw account amount) k e = (withdraw-counted x account amount (k .counts), tt)
+kind-counted x (Insert o) k e = (insert-counted x o e (k .contents) (k .counts), tt)
+kind-counted x (Cancel account contract operator number) k e = (cancel-counted x account contract operator number e (k .counts), tt)
+kind-counted x (Pull account contract operator) k e = (pull-counted x account contract operator e (k .counts), tt)
+kind-counted x (Phase contract phase) k e = (phase-counted x contract phase e (k .contents) (k .counts), tt)
+kind-counted x Settle k e = (settle-counted x e (k .contents) (k .counts), tt)
+kind-counted x (Quote account contract lots buy sell) k e = quote-counted x (k .contents) (offered account contract lots buy sell) e (k .counts)
+kind-counted x (Change account contract number lots price) k e = change-counted x (k .contents) (asked account contract number lots price) e (k .counts)
+
+-- any command: a refusal changes nothing
+pub step-keeps : (x : Exchange) (command : Command) → Sound x → Sound (step x command)
+unfolding step
+step-keeps x command k =
+    decided (λ d. Sound (lastOf x (d .stages))) x command
+    (λ e. record {
+      contents = kind-keeps x command k e;
+      counts = each-last Counted x (kindOf x command .effect .stages) (k .counts) (kind-counted x command k e);
+    })
+    (λ e. k)
+
+-- the same of the test. The counts stand beside it because it does not speak of them: of a state with a thousand contracts one
+-- settlement could pass the bound of a balance.
+module _ (x : Exchange) (command : Command) (counts : Counted x) (w : wellFormedContents x ≡ true) where
+  after : Sound (step x command)
+  after = step-keeps x command (record { contents = well-formed x w; counts = counts })
+
+  pub keeps : wellFormedContents (step x command) ≡ true
+  keeps = well-formed-test (step x command) (after .contents)
+
+  pub counts-kept : Counted (step x command)
+  counts-kept = after .counts
+
+-- ---- order numbers and time stamps
+
+-- the numbers and time stamps of the orders that a command enters
+abbrev pub enters : Exchange → Command → List Arrival
+enters x Malformed = []
+enters x (Deposit account amount) = []
+enters x (Withdraw account amount) = []
+enters x (Insert o) = (x .next stamped x .nextstamp) ∷ []
+enters x (Cancel account contract operator number) = []
+enters x (Pull account contract operator) = []
+enters x (Phase contract phase) = []
+enters x Settle = []
+enters x (Quote account contract lots buy sell) = (x .next stamped x .nextstamp) ∷ (x .next + 1 stamped x .nextstamp + 1) ∷ []
+enters x (Change account contract number lots price) = (number stamped x .nextstamp) ∷ []
+
+-- within a day every order that rests did so before or is one of these, and the next time stamp does not fall
+kind-onward : (x : Exchange) (command : Command) → isSettle command ≡ false → Onward x (enters x command) (lastOf x (kindOf x command .effect .stages))
+unfolding kindOf deposited withdrawn inserted cancelled pulled removed phaseChanged paid exchangeMatched listingAt
+kind-onward x Malformed n = (same-follow x [], le-refl (x .nextstamp))
+kind-onward x (Deposit account amount) n = (same-follow x [], le-refl (x .nextstamp))
+kind-onward x (Withdraw account amount) n = (same-follow x [], le-refl (x .nextstamp))
+kind-onward x (Insert o) n = insert-onward x o
+kind-onward x (Cancel account contract operator number) n = (without-follow x [] (placeOf contract) (hasNumber number), le-refl (x .nextstamp))
+kind-onward x (Pull account contract operator) n = (without-follow x [] (placeOf contract) (isOf (placeOf account)), le-refl (x .nextstamp))
+kind-onward x (Phase contract phase) n = (match-follow x [] (placeOf contract) phase, le-refl (x .nextstamp))
+kind-onward x Settle n = absurd (true≢false n)
+kind-onward x (Quote account contract lots buy sell) n = quote-onward x (offered account contract lots buy sell)
+kind-onward x (Change account contract number lots price) n = change-onward x (asked account contract number lots price)
+
+-- NUMBERS STAY: every order resting after a command but a settlement rested before, with its number and its time stamp, or was entered
+-- by it, with the number and the time stamp of `enters`: an insert's with the next of both, a changed one with the number that it had,
+-- a quote's two with the next two of both
+pub numbers-stay : (x : Exchange) (command : Command) → isSettle command ≡ false → Follow x (enters x command) (step x command)
+unfolding step
+numbers-stay x command n =
+    decided (λ d. Follow x (enters x command) (lastOf x (d .stages))) x command (λ e. kind-onward x command n .0) (λ e. same-follow x (enters x command))
+
+-- .. and the next time stamp never falls within a day, so that none is given twice
+pub stamps-rise : (x : Exchange) (command : Command) → isSettle command ≡ false → x .nextstamp ≤ step x command .nextstamp
+unfolding step
+stamps-rise x command n =
+    decided (λ d. x .nextstamp ≤ lastOf x (d .stages) .nextstamp) x command (λ e. kind-onward x command n .1) (λ e. le-refl (x .nextstamp))
+
+-- where the next time stamp is the next order number it stays so under every kind but a change, and an order enters with one number for both
+kind-alike : (x : Exchange) (command : Command) → isChange command ≡ false → x .nextstamp ≡ x .next →
+    (lastOf x (kindOf x command .effect .stages) .nextstamp ≡ lastOf x (kindOf x command .effect .stages) .next) × Alike (enters x command)
+unfolding kindOf deposited withdrawn inserted cancelled pulled removed phaseChanged settledAll settled paid exchangeAfter exchangeMatched quoted withSell withBuy withoutQuote
+kind-alike x Malformed n e = (e, tt)
+kind-alike x (Deposit account amount) n e = (e, tt)
+kind-alike x (Withdraw account amount) n e = (e, tt)
+kind-alike x (Insert o) n e = (ap (λ (i : ℕ). i + 1) e, (e, tt))
+kind-alike x (Cancel account contract operator number) n e = (e, tt)
+kind-alike x (Pull account contract operator) n e = (e, tt)
+kind-alike x (Phase contract phase) n e = (e, tt)
+kind-alike x Settle n e = (refl, tt)
+kind-alike x (Quote account contract lots buy sell) n e = (ap (λ (i : ℕ). i + 1 + 1) e, (e, (ap (λ (i : ℕ). i + 1) e, tt)))
+kind-alike x (Change account contract number lots price) n e = absurd (true≢false n)
+
+kind-stamped : (x : Exchange) (command : Command) → isChange command ≡ false → StampsAsNumbers x → StampsAsNumbers (lastOf x (kindOf x command .effect .stages))
+unfolding kindOf settledAll
+kind-stamped x command n h = by-settle (isSettle command) refl
+  where
+    by-settle : (settles : Bool) → isSettle command ≡ settles → StampsAsNumbers (lastOf x (kindOf x command .effect .stages))
+    by-settle true s = rw (settle-is command s) (settled-stamped x)
+    by-settle false s = entered-stamped x _ h (enters x command) (kind-alike x command n (h .next)) (kind-onward x command s .0)
+
+-- EVERY COMMAND BUT A CHANGE LEAVES TIME STAMPS AS NUMBERS
+pub stamps-as-numbers : (x : Exchange) (command : Command) → isChange command ≡ false → StampsAsNumbers x → StampsAsNumbers (step x command)
+unfolding step
+stamps-as-numbers x command n h = decided (λ d. StampsAsNumbers (lastOf x (d .stages))) x command (λ e. kind-stamped x command n h) (λ e. h)
+
+-- ---- maker marks
+
+module _ (x : Exchange) (a : ℕ) (there : a < length (x .accounts)) where
+  kind-stays : (command : Command) → Stays x a (lastOf x (kindOf x command .effect .stages))
+  unfolding kindOf deposited withdrawn inserted cancelled pulled removed phaseChanged settledAll exchangeAfter exchangeMatched
+  kind-stays Malformed = refl
+  kind-stays (Deposit account amount) = paid-stays x a _ _
+  kind-stays (Withdraw account amount) = paid-stays x a _ _
+  kind-stays (Insert o) = booked-maker (x .accounts) (enteredOf x (x .next) 0 o .trades) a
+  kind-stays (Cancel account contract operator number) = refl
+  kind-stays (Pull account contract operator) = refl
+  kind-stays (Phase contract phase) = booked-maker (x .accounts) (matchOf x (placeOf contract) .trades) a
+  kind-stays Settle = settled-stays x a there
+  kind-stays (Quote account contract lots buy sell) = quoted-stays x a (offered account contract lots buy sell)
+  kind-stays (Change account contract number lots price) = changed-stays x a (asked account contract number lots price)
+
+  pub makers-stay : (command : Command) → accountAt (step x command .accounts) a .maker ≡ accountAt (x .accounts) a .maker
+  unfolding step
+  makers-stay command = decided (λ d. Stays x a (lastOf x (d .stages))) x command (λ e. kind-stays command) (λ e. refl)
