@@ -179,11 +179,6 @@ unfolding AllCovered afterLegs
 covered-append d [] ms c e = e
 covered-append d (l ∷ ls) ms c e = (c .0, covered-append (afterDayLeg d l) ls ms (c .1) e)
 
-pub covered-first : (d : Day) (ls ms : List Leg) → AllCovered d (ls ++ ms) → AllCovered d ls
-unfolding AllCovered
-covered-first d [] ms c = tt
-covered-first d (l ∷ ls) ms c = (c .0, covered-first (afterDayLeg d l) ls ms (c .1))
-
 pub flow-append : (ls ms : List Leg) → flow (ls ++ ms) ≡ flow ls +ℤ flow ms
 unfolding flow
 flow-append [] ms = sym (+ℤ-idl (flow ms))

@@ -1,10 +1,9 @@
 -- How far a day's profit reaches: with prices to M, at most M for each lot that was held at the start or opened during the day,
--- in closing profit, in holding profit, and in both together. Assumes nothing.
+-- in closing and holding profit together. Assumes nothing.
 use mathlib.Core.Bool.{Bool, true, false}
 use mathlib.Core.List.{List, [], _∷_}
 use mathlib.Core.Path.{_≡_, subst, _∙_}
 use Prim.Native.Nat.{ℕ, _+_, _*_, _-_, _≤_}
-use native.Mathlib.Nat.{mul-le-mul-left}
 use native.Mathlib.Omega.{arith}
 use lib.IntN.{_+ℤ_}
 use Rattle.laws.specs.Bound.{Within, within-le, within-zero, within-add, within-sub, within-diff, within-times}
@@ -122,25 +121,10 @@ reach-start M reference long short h = record {
   short = (h, tt);
 }
 
--- THE BOUNDS, before the multiplier
+-- THE BOUND, before the multiplier
 module _ (M reference long short : ℕ) (ls : List Leg) (r : reference ≤ M) (q : LegsTo M ls) (c : AllCovered (dayStart reference long short) ls) where
   reach : Reach M (openedLots ls + (long + short)) (afterLegs (dayStart reference long short) ls)
   reach = reach-legs M (long + short) (dayStart reference long short) ls q c (reach-start M reference long short r)
-
-  pub closing-within : Within (M * (openedLots ls + (long + short))) (afterLegs (dayStart reference long short) ls .closing)
-  closing-within = within-le (mul-le-mul-left M (omega (arith, reach .counted))) (reach .closing)
-
-  pub long-within : (s : ℕ) → s ≤ M → Within (M * (openedLots ls + (long + short))) (gain s (afterLegs (dayStart reference long short) ls .long))
-  long-within s h = within-le (mul-le-mul-left M (omega (arith, reach .counted))) (gain-within M s _ h (reach .long))
-
-  pub short-within : (s : ℕ) → s ≤ M → Within (M * (openedLots ls + (long + short))) (gain s (afterLegs (dayStart reference long short) ls .short))
-  short-within s h = within-le (mul-le-mul-left M (omega (arith, reach .counted))) (gain-within M s _ h (reach .short))
-
-  pub holding-within : (s : ℕ) → s ≤ M → Within (M * (openedLots ls + (long + short))) (holdingGain s (afterLegs (dayStart reference long short) ls))
-  unfolding holdingGain
-  holding-within s h =
-      within-le (let e = reach .counted in rw (← e) (omega arith))
-      (within-sub (gain-within M s _ h (reach .long)) (gain-within M s _ h (reach .short)))
 
   pub profit-within : (s : ℕ) → s ≤ M →
       Within (M * (openedLots ls + (long + short)))

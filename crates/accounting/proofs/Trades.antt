@@ -175,17 +175,3 @@ zero-net accounts c ts k =
     sumTo-sub accounts (λ a. pos (bought a c ts)) (λ a. pos (sold a c ts))
     ∙ ap (λ (z : ℤ). sumTo accounts (λ a. pos (bought a c ts)) -ℤ z) (level accounts c (λ t. t .lots) ts k)
     ∙ itself (sumTo accounts (λ a. pos (bought a c ts)))
-
-pub known-append : (accounts : ℕ) (ts us : List Trade) → AllKnown accounts ts → AllKnown accounts us → AllKnown accounts (ts ++ us)
-unfolding AllKnown
-known-append accounts [] us k l = l
-known-append accounts (t ∷ ts) us k l = (k .0, known-append accounts ts us (k .1) l)
-
-pub known-second : (accounts : ℕ) (ts us : List Trade) → AllKnown accounts (ts ++ us) → AllKnown accounts us
-unfolding AllKnown
-known-second accounts [] us k = k
-known-second accounts (t ∷ ts) us k = known-second accounts ts us (k .1)
-
-pub known-nil : (accounts : ℕ) → AllKnown accounts []
-unfolding AllKnown
-known-nil accounts = tt

@@ -6,7 +6,7 @@ use native.Mathlib.Nat.{add-zero, add-assoc, sub-self, sub-zero, suc-sub-suc, ze
 use native.Mathlib.Numerals.{add-one}
 use native.Mathlib.Omega.{arith}
 use lib.ListN.{length, take, drop, getD, set, replicate, length-append, length-take, length-drop, length-replicate, take-append-drop, drop-of-length-le, List·getD-append, getD-replicate}
-use lib.Seq.{sets, sets-eq, take-length, drop-length, take-take, take-add, take-at, take-append-le, take-append-add, drop-at, drop-drop, drop-append-le, drop-append-add, length-take-le, set-split, getD-take, getD-drop, getD-append-add}
+use lib.Seq.{sets, sets-eq, take-take, take-add, take-at, take-append-le, take-append-add, drop-at, drop-drop, drop-append-le, drop-append-add, length-take-le, set-split, getD-take, getD-drop, getD-append-add}
 use Rattle.areas.specs.Lists.{over, insertAt, removeAt, padded}
 
 module _ {A : Type 0} where
@@ -172,36 +172,6 @@ module _ {A : Type 0} where
   unfolding removeAt
   length-removeAt i os h = simp (length-append, length-take, length-drop) (omega arith)
 
-  -- at the front, and past it
-  pub insertAt-zero : (o : A) (os : List A) → insertAt 0 o os ≡ o ∷ os
-  unfolding insertAt
-  insertAt-zero o os = refl
-
-  pub insertAt-suc : (i : ℕ) (o x : A) (os : List A) → insertAt (suc i) o (x ∷ os) ≡ x ∷ insertAt i o os
-  unfolding insertAt
-  insertAt-suc i o x os = refl
-
-  pub insertAt-end : (o : A) (os : List A) → insertAt (length os) o os ≡ os ++ (o ∷ [])
-  unfolding insertAt
-  insertAt-end o os = rw (take-length, drop-length)
-
-  pub removeAt-zero : (x : A) (os : List A) → removeAt 0 (x ∷ os) ≡ os
-  unfolding removeAt
-  removeAt-zero x os = refl
-
-  pub removeAt-suc : (i : ℕ) (x : A) (os : List A) → removeAt (suc i) (x ∷ os) ≡ x ∷ removeAt i os
-  unfolding removeAt
-  removeAt-suc i x os = refl
-
-  -- what is put in can be taken out
-  pub removeAt-insertAt : (i : ℕ) (o : A) (os : List A) → i ≤ length os → removeAt i (insertAt i o os) ≡ os
-  unfolding removeAt insertAt
-  removeAt-insertAt i o os h =
-      let lt : length (take i os) ≡ i = length-take-le i os h in
-      let ls : length (take i os ++ (o ∷ [])) ≡ suc i = rw (length-append, lt) (omega arith) in
-      let e : take i os ++ (o ∷ drop i os) ≡ (take i os ++ (o ∷ [])) ++ drop i os = simp append-assoc in
-      rw (take-at (take i os) (o ∷ drop i os) i lt, e, drop-at (take i os ++ (o ∷ [])) (drop i os) (suc i) ls) (take-append-drop i os)
-
   -- ---- filled up to n places
 
   pub length-padded : (n : ℕ) (z : A) (os : List A) → length os ≤ n → length (padded n z os) ≡ n
@@ -245,12 +215,6 @@ module _ {A : Type 0} where
       let m : n - length os - (k - length os) ≡ n - k = omega arith in
       ap (λ (j : ℕ). drop j (os ++ replicate (n - length os) z)) e
       ∙ drop-append-add os (replicate (n - length os) z) (k - length os) ∙ drop-replicate (k - length os) (n - length os) z ∙ rw m
-
-  -- a front that is as long or longer, written over a filled list
-  pub over-padded : (n : ℕ) (z : A) (os ps : List A) → length os ≤ length ps → over (padded n z os) 0 ps ≡ padded n z ps
-  unfolding over padded
-  over-padded n z os ps h =
-      ap (λ (k : ℕ). ps ++ drop k (os ++ replicate (n - length os) z)) (zero-add (length ps)) ∙ ap (λ (l : List A). ps ++ l) (drop-padded n (length ps) z os h)
 
   -- elements taken out of a full list, and as many copies of z put at its end
   module _ (n : ℕ) (z : A) (os : List A) (full : length os ≡ n) where

@@ -11,7 +11,7 @@ use lib.ListN.{length, take, drop, getD, set, replicate, length-append, length-t
 use lib.Seq.{take-all, take-at, take-length, take-suc, take-take, drop-at, drop-cons, drop-drop, drop-length, getD-append-add, getD-drop, getD-take, length-take-le, set-at}
 use Rattle.areas.specs.Lists.{over}
 use Rattle.areas.specs.Moves.{movedBack, movedForward, closedUp}
-use Rattle.areas.proofs.Lists.{drop-take, length-over, over-tail, over-front, over-over, over-append}
+use Rattle.areas.proofs.Lists.{drop-take, over-tail, over-front}
 
 -- ---- moved back by w: from place i on it is done
 
@@ -130,23 +130,6 @@ over-insert a s e w r b part ys c he ha hy ep eb ec =
     let lp : length (x ++ y) ≡ e - s = rw (length-append, ly) (omega arith) in
     let o : b ≡ over a s (x ++ y) = eb ∙ rw p (lent-over a (x ++ y) s e (omega arith) lp) in
     ec ∙ rw o (over-front a s (x ++ y) (omega arith) ys (omega arith) ∙ rw (drop-at x y (length ys) lx))
-
--- a part of w words and r more is moved forward by w, and ys are written at its end
-pub over-remove : (a : List ℕ) (s e w r : ℕ) (b part ys c : List ℕ) → e ≡ s + (w + r) → e ≤ length a → length ys ≡ w
-    → part ≡ movedForward w (take (e - s) (drop s a)) → b ≡ putMid s (e - s) a part → c ≡ over b (s + r) ys → c ≡ over a s (take r (drop (s + w) a) ++ ys)
-unfolding movedForward
-over-remove a s e w r b part ys c he ha hy ep eb ec =
-    let m : e - s - w ≡ r = omega arith in
-    let y : List ℕ = take r (drop (s + w) a) in
-    let z : List ℕ = drop r (take (e - s) (drop s a)) in
-    let hd : e - s ≤ length (drop s a) = rw length-drop (omega arith) in
-    let ly : length y ≡ r = length-take-le r (drop (s + w) a) (rw length-drop (omega arith)) in
-    let lz : length ys ≡ length z = rw (length-drop, length-take-le (e - s) (drop s a) hd) (omega arith) in
-    let p : part ≡ y ++ z = ep ∙ rw (length-take-le (e - s) (drop s a) hd, m, drop-take w (e - s) (drop s a) (omega arith) (omega arith), drop-drop w s a, m) in
-    let lp : length (y ++ z) ≡ e - s = rw (length-append, ly) (omega arith) in
-    let o : b ≡ over (over a s y) (s + r) z = eb ∙ rw p (lent-over a (y ++ z) s e (omega arith) lp) ∙ over-append a s y (omega arith) z ∙ rw ly in
-    let la : s + r ≤ length (over a s y) = rw (length-over a s y (omega arith)) (omega arith) in
-    ec ∙ ap (λ (m : List ℕ). over m (s + r) ys) o ∙ over-over (over a s y) (s + r) z la ys lz ∙ ap (λ (n : ℕ). over (over a s y) (s + n) ys) (sym ly) ∙ sym (over-append a s y (omega arith) ys)
 
 -- a part of w words and r more has its first w words taken out
 pub over-closed : (a : List ℕ) (s e w r : ℕ) (part : List ℕ) → e ≡ s + (w + r) → e ≤ length a

@@ -4,13 +4,12 @@ use mathlib.Core.List.{List, [], _∷_, _++_, append-assoc, append-nil}
 use mathlib.Core.Path.{_≡_, refl, sym, ap, _∙_}
 use Prim.Native.Nat.{ℕ, zero, suc, _+_, _-_, _*_, _≤_, _<_}
 use native.Mathlib.Nat.{mul-suc, mul-zero, mul-add, mul-sub, mul-le-mul-left, sub-zero, suc-sub-suc}
-use native.Mathlib.Numerals.{add-one}
 use native.Mathlib.Omega.{arith}
 use lib.ListN.{length, take, drop, getD, set, replicate, length-append, length-take, length-drop, take-append-drop, replicate-append-replicate, List·getD-append}
 use lib.Seq.{take-nil, drop-nil, take-add, take-append-add, drop-at, drop-drop, drop-append-le, drop-append-add, length-take-le, getD-drop, drop-cons}
-use Rattle.areas.specs.Lists.{over, insertAt, removeAt, padded}
+use Rattle.areas.specs.Lists.{over, insertAt}
 use Rattle.areas.specs.Records.{Codec, decode, encode, records, store}
-use Rattle.areas.proofs.Lists.{length-over, over-nil, over-tail, over-part, drop-over-at, drop-over, over-front, over-over, over-append, over-inside, over-comm, set-over, padded-removeAt}
+use Rattle.areas.proofs.Lists.{length-over, over-nil, over-tail, over-part, drop-over-at, drop-over, over-front, over-over, over-append, over-inside, over-comm, set-over}
 
 module _ {A : Type 0} {W : ℕ} {words : A → List ℕ} {first : List ℕ → A} (C : Codec A W words first) where
   -- ---- records and their words
@@ -170,13 +169,6 @@ module _ {A : Type 0} {W : ℕ} {words : A → List ℕ} {first : List ℕ → A
       let l : W * n ≤ length (take k (drop base a)) = rw (length-take, length-drop) (omega arith) in
       sym (rw (take-append-drop k (drop base a)) at (decode-append n (take k (drop base a)) (drop k (drop base a)) l))
 
-  -- the records of two areas are the same where their words are
-  pub records-same : (a b : List ℕ) (base at n : ℕ) → base + W * n ≤ length a → at + W * n ≤ length b
-      → take (W * n) (drop base a) ≡ take (W * n) (drop at b)
-      → records W first a base n ≡ records W first b at n
-  records-same a b base at n h k e =
-      sym (records-part a base (W * n) n (omega arith) h) ∙ rw e (records-part b at (W * n) n (omega arith) k)
-
   -- ---- words written elsewhere leave the records as they are
 
   decode-front : (k base n : ℕ) (a t : List ℕ) → base + W * n ≤ k → k ≤ length a
@@ -289,13 +281,6 @@ module _ {A : Type 0} {W : ℕ} {words : A → List ℕ} {first : List ℕ → A
       let s : over q i (drop (i + k) q ++ zs) ≡ take i q ++ (drop (i + k) q ++ zs) = over-tail q i (drop (i + k) q ++ zs) (rw (length-records, ls) (omega arith)) in
       rw (← encode-rest a base n (i + k) h l, ← encode-append (drop (i + k) q) zs, ← store-over a (base + W * i) (drop (i + k) q ++ zs))
       (store-inside a base n i (drop (i + k) q ++ zs) (omega arith) l ∙ rw s)
-
-  -- records without the one at i: those after it are moved forward, and z is written behind
-  pub removeAt-store : (a : List ℕ) (base n i : ℕ) (z : A) → i < n → base + W * n ≤ length a
-      → over a (base + W * i) (take (W * (n - suc i)) (drop (base + W * suc i) a) ++ words z) ≡ store words a base (padded n z (removeAt i (records W first a base n)))
-  removeAt-store a base n i z h l =
-      rw (← encode-one z, ← add-one i)
-      (remove-store a base n i 1 (z ∷ []) (omega arith) refl l ∙ rw (padded-removeAt n z (records W first a base n) (length-records a base n) i h))
 
 -- ---- two kinds of records in one area
 

@@ -3,8 +3,8 @@
 use mathlib.Core.Bool.{Bool, true, false, not}
 use mathlib.Core.List.{List, [], _∷_, _++_}
 use mathlib.Core.Path.{_≡_, refl, sym, ap, _∙_}
-use Prim.Native.Nat.{ℕ, zero, suc, _≤_, _<_}
-use native.Mathlib.Nat.{le-of-suc-le-suc, not-suc-le-zero}
+use Prim.Native.Nat.{ℕ, suc, _≤_, _<_}
+use native.Mathlib.Nat.{le-of-suc-le-suc}
 use native.Mathlib.Omega.{arith}
 use borrow.Author.Tests.{eqb-true, eqb-false, ne-eqb, not-true}
 use lib.Dec.{eqb}
@@ -49,20 +49,6 @@ module _ (test : Order → Bool) where
 
   pub first-within : (os : List Order) → firstWhere test os ≤ length os
   first-within = first-ind (λ os i. i ≤ length os) (omega arith) (λ o os e. omega arith) (λ o os i e ih. omega arith)
-
-  -- the order found satisfies the test, and none before it does
-  pub first-found : (os : List Order) → firstWhere test os < length os → test (getD os (firstWhere test os) noOrder) ≡ true
-  first-found =
-      first-ind (λ os i. i < length os → test (getD os i noOrder) ≡ true) (λ h. absurd (omega arith)) (λ o os e h. e) (λ o os i e ih h. ih (le-of-suc-le-suc h))
-
-  pub first-before : (os : List Order) (k : ℕ) → k < firstWhere test os → test (getD os k noOrder) ≡ false
-  first-before =
-      first-ind (λ os i. (k : ℕ) → k < i → test (getD os k noOrder) ≡ false) (λ k h. absurd (not-suc-le-zero h)) (λ o os e k h. absurd (not-suc-le-zero h)) later
-    where
-      later : (o : Order) (os : List Order) (i : ℕ) → test o ≡ false → ((k : ℕ) → k < i → test (getD os k noOrder) ≡ false) → (k : ℕ) → k < suc i
-          → test (getD (o ∷ os) k noOrder) ≡ false
-      later o os i e ih zero h = e
-      later o os i e ih (suc k) h = ih k (le-of-suc-le-suc h)
 
   -- ---- where none satisfies it
 

@@ -1,5 +1,5 @@
 -- What stands in a row, and what is added up, one by one, for the loops that do so. Assumes nothing.
-use mathlib.Core.List.{List, [], _++_}
+use mathlib.Core.List.{List, _++_}
 use mathlib.Core.Path.{_≡_, refl, ap₂, _∙_}
 use Prim.Native.Nat.{ℕ, zero, suc, _+_, _*_, _<_, _≤_}
 use native.Mathlib.Numerals.{add-one}
@@ -10,10 +10,6 @@ use lib.ListN.{length, length-append}
 use Rattle.clients.specs.Clients.{inRow, total}
 
 module _ (f : ℕ → List ℕ) where
-  pub row-none : inRow 0 f ≡ []
-  unfolding inRow
-  row-none = refl
-
   pub row-more : (n : ℕ) → inRow (n + 1) f ≡ inRow n f ++ f n
   unfolding inRow
   row-more n = rw (add-one n)

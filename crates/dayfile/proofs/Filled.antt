@@ -1,13 +1,13 @@
 -- A list filled from the front, one store a turn: the values of f in the first k places, z in the others. Assumes nothing.
 use mathlib.Core.List.{List, [], _∷_, _++_, append-assoc}
 use mathlib.Core.Path.{_≡_, refl, sym, ap}
-use Prim.Native.Nat.{ℕ, zero, suc, _+_, _-_, _≤_, _<_}
+use Prim.Native.Nat.{ℕ, zero, suc, _+_, _-_, _<_}
 use native.Mathlib.Numerals.{add-one}
 use native.Mathlib.Omega.{arith}
 use lib.ListN.{length, set, replicate}
 use lib.Seq.{set-at}
 use Rattle.areas.specs.Lists.{padded}
-use Rattle.areas.proofs.Lists.{length-padded, padded-nil}
+use Rattle.areas.proofs.Lists.{padded-nil}
 use Rattle.laws.specs.Tabulate.{tabulate, length-tabulate}
 
 module _ {A : Type 0} where
@@ -26,9 +26,6 @@ module _ {A : Type 0} where
     pub filled-none : filled 0 ≡ replicate n z
     unfolding tabulate
     filled-none = padded-nil n z
-
-    pub length-filled : (k : ℕ) → k ≤ n → length (filled k) ≡ n
-    length-filled k h = length-padded n z (tabulate k f) (rw length-tabulate h)
 
     filled-more : (k : ℕ) → k < n → set (filled k) k (f k) ≡ filled (k + 1)
     unfolding padded

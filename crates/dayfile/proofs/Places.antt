@@ -31,10 +31,6 @@ module _ (file : List ℕ) where
   unfolding commandPlace accountPlace contractPlace
   command-place k = omega arith
 
-  -- a command's record follows the one before it
-  pub command-next : (k : ℕ) → commandPlace file (k + 1) ≡ commandPlace file k + 24
-  command-next k = omega (arith, command-place (k + 1), command-place k)
-
   pub command-from : (first k : ℕ) → first ≡ commandPlace file 0 → first + 24 * k ≡ commandPlace file k
   command-from first k e = omega (arith, command-place 0, command-place k)
 
@@ -208,10 +204,6 @@ module _ (file : List ℕ) where
           commands = leb-true (commandsIn file) 2_000 (both-true (headSound file) few (parts .0) .1);
           long = eqb-true (length file) (commandPlace file (commandsIn file)) (parts .1) ∙ command-place file (commandsIn file);
         }
-
-    pub contract-is-sound : (c : ℕ) → c < contractsIn file → contractSound file c ≡ true
-    contract-is-sound c l =
-        all-at (contractSound file) c (contractsIn file) (both-true (headWhole file) (contracts-sound file) (values .0) .1) l
 
     pub balance-most : (a : ℕ) → a < accountsIn file → balanceFrom file a ≤ 10 ^ 18
     unfolding accountSound

@@ -222,9 +222,6 @@ no-legs area a c = rw trades-none
 pub party-small : (sell : Bool) (t : Trade) → Placed t → (p a : ℕ) → p ≡ partyOf sell t → a ≡ p → a < 32
 party-small sell t h p a e f = rw (f, e) (party-known sell t h)
 
-pub leg-slot-is : (sell : Bool) (t : Trade) (p a c : ℕ) → p ≡ partyOf sell t → a ≡ p → c ≡ t .contract → slotOf a c sell ≡ legSlot sell t
-leg-slot-is sell t p a c e f g = rw (f, e, g)
-
 pub due-is : (left lots : List ℕ) (o o′ k k′ m start : ℕ) → o ≡ o′ → k ≡ k′ → m ≡ min (getD lots k 0) start
     → set left o (getD lots k 0 - m) ≡ set left o′ (getD lots k′ 0 - start)
 due-is left lots o o′ k k′ m start e f g =

@@ -120,7 +120,7 @@ pub record SideSmall (r : Side) : Type 0 where
   pub lots : r .lots ≤ sideLotsMost
   pub opened : r .opened ≤ sideValueMost
 
--- a part of an account's profit in a contract, before the multiplier: two sides' values (accounting's `maxContractProfit`) rounded up
+-- a part of an account's profit in a contract, before the multiplier: two sides' values (`sideValueMost`) rounded up
 abbrev pub profitMost : ℕ
 profitMost = 4 * 10 ^ 12
 

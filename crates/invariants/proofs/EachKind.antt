@@ -82,9 +82,6 @@ module _ (x : Exchange) (command : Command) (counts : Counted x) (w : wellFormed
   pub keeps : wellFormedContents (step x command) ≡ true
   keeps = well-formed-test (step x command) (after .contents)
 
-  pub counts-kept : Counted (step x command)
-  counts-kept = after .counts
-
 -- ---- order numbers and time stamps
 
 -- the numbers and time stamps of the orders that a command enters

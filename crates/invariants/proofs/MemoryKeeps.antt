@@ -130,9 +130,6 @@ module _ (m : Memory) (w : wellFormedMemory m ≡ true) (command : Command) wher
           contents = rw (left .read) (well-formed-test (lastOf x stages) (kind-keeps x command (sound m w) e));
         })
 
-    pub accepted-lengths : SameLengths m (written m stages)
-    accepted-lengths = left .lengths
-
   pub step-in-keeps : wellFormedMemory (stepIn m command .memory) ≡ true
   unfolding stepIn
   step-in-keeps = decided (λ d. wellFormedMemory (written m (d .stages)) ≡ true) x command accepted-keeps (λ e. w)
@@ -140,10 +137,6 @@ module _ (m : Memory) (w : wellFormedMemory m ≡ true) (command : Command) wher
   pub step-in-read : exchangeOf (stepIn m command .memory) ≡ step x command
   unfolding stepIn step
   step-in-read = decided (λ d. exchangeOf (written m (d .stages)) ≡ lastOf x (d .stages)) x command accepted-read (λ e. refl)
-
-  pub step-in-lengths : SameLengths m (stepIn m command .memory)
-  unfolding stepIn
-  step-in-lengths = decided (λ d. SameLengths m (written m (d .stages))) x command accepted-lengths (λ e. same-lengths m)
 
 -- ---- the whole step
 
@@ -155,15 +148,6 @@ module _ (m : Memory) (c : Command) (w : wellFormedMemory m ≡ true) where
   pub read-back : exchangeOf (respond m c .memory) ≡ step (exchangeOf m) c
   unfolding respond
   read-back = rw w (step-in-read m w c)
-
--- of any memory, well formed or not
-pub respond-lengths : (m : Memory) (c : Command) → SameLengths m (respond m c .memory)
-unfolding respond
-respond-lengths m c = by-wellformed (wellFormedMemory m) refl
-  where
-    by-wellformed : (b : Bool) → wellFormedMemory m ≡ b → SameLengths m (respond m c .memory)
-    by-wellformed true w = rw w (step-in-lengths m w c)
-    by-wellformed false w = rw w (same-lengths m)
 
 -- ---- a run: well formed at its start is well formed throughout
 

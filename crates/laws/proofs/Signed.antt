@@ -1,14 +1,14 @@
 -- i64 in code. A proof meets each signed number as its bits read back, `toZ w64 (ofZ w64 z)`, and owes that each sum, difference
 -- and product fits; these laws take the bits away and show the fit, from bounds `Within`. Of a parameter or a call's result
 -- `c .fits .x` or `record { sfits = c .f .ok }` is enough: cite `toZ-ofZ` of `mir.Facts` with it. Assumes nothing.
-use mathlib.Core.Bool.{true, false}
-use mathlib.Core.Path.{_≡_, sym, ap, subst, _∙_}
+use mathlib.Core.Bool.{false}
+use mathlib.Core.Path.{_≡_, subst}
 use Prim.Native.Nat.{ℕ, _+_, _*_, _<_, _≤_, _^_}
 use native.Mathlib.Nat.{mul-le-mul-left}
 use native.Mathlib.Omega.{arith}
 use lib.Dec.{T}
 use lib.IntN.{ℤ, pos, negsuc, _+ℤ_, _-ℤ_, _*ℤ_}
-use lib.Signed.{leZ, ltZ, nonNeg}
+use lib.Signed.{ltZ, nonNeg}
 use mir.Syntax.{w64}
 use mir.Val.{SFits, toZ, ofZ}
 use mir.Facts.{toZ-ofZ, toZ-pos}
@@ -21,10 +21,6 @@ back n h w = toZ-ofZ {w = w64} (within-fits n h w)
 -- an unsigned number that is small enough, read as signed: what `x as i64` is
 pub read-pos : (n : ℕ) → n < 2 ^ 63 → toZ w64 n ≡ pos n
 read-pos n h = toZ-pos w64 h
-
--- bits decide: two numbers in the range that have the same bits are equal
-pub bits-inj : {x y : ℤ} → SFits w64 x → SFits w64 y → ofZ w64 x ≡ ofZ w64 y → x ≡ y
-bits-inj f g e = sym (toZ-ofZ {w = w64} f) ∙ ap (toZ w64) e ∙ toZ-ofZ {w = w64} g
 
 -- ---- sums and differences of two numbers whose bounds add up to less than 2 ^ 63
 
@@ -75,18 +71,6 @@ module _ {x : ℤ} {m n : ℕ} (k : ℕ) (h : Within m x) (few : k ≤ n) (small
   mul-back = rw (back m (omega arith) h, read-pos k (omega arith)) (toZ-ofZ {w = w64} product-fits)
 
 -- ---- tests of two numbers in the range
-
-module _ {x y : ℤ} (f : SFits w64 x) (g : SFits w64 y) where
-  pub leZ-back : leZ (toZ w64 (ofZ w64 x)) (toZ w64 (ofZ w64 y)) ≡ leZ x y
-  leZ-back = rw (toZ-ofZ {w = w64} f, toZ-ofZ {w = w64} g)
-
-  pub ltZ-back : ltZ (toZ w64 (ofZ w64 x)) (toZ w64 (ofZ w64 y)) ≡ ltZ x y
-  ltZ-back = rw (toZ-ofZ {w = w64} f, toZ-ofZ {w = w64} g)
-
--- what `x as u64` owes of a number that is not below zero
-pub nonNeg-leZ : (z : ℤ) → leZ (pos 0) z ≡ true → T (nonNeg z)
-nonNeg-leZ (pos n) e = tt
-nonNeg-leZ (negsuc n) e = subst T (sym e) tt
 
 pub nonNeg-ltZ : (z : ℤ) → ltZ z (pos 0) ≡ false → T (nonNeg z)
 nonNeg-ltZ (pos n) e = tt

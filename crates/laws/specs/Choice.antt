@@ -9,7 +9,7 @@ use mathlib.Core.Path.{_≡_, refl, sym, subst}
 use native.Mathlib.Nat.{le-of-suc-le-suc, not-suc-le-zero, eq-or-lt-of-le}
 use native.Mathlib.Numerals.{add-one}
 use native.Mathlib.Omega.{arith}
-use lib.ListN.{length, getD, set, take, drop, replicate}
+use lib.ListN.{length, getD}
 
 -- the first of two values where the test passes, the second where it fails
 abbrev pub pick {ℓ} : {A : Type ℓ} → Bool → A → A → A
@@ -158,33 +158,6 @@ module _ {A : Type 0} (p : A → Bool) where
       same-test (allOf p l) (all (λ i. p (getD l i d)) (length l))
       (λ h. all-true (λ i. p (getD l i d)) (length l) (λ i b. allOf-at l i d h b))
       (λ h. allOf-true l d (λ i b. all-at (λ i. p (getD l i d)) i (length l) h b))
-
-  pub allOf-take : (n : ℕ) (l : List A) → allOf p l ≡ true → allOf p (take n l) ≡ true
-  unfolding allOf
-  allOf-take zero l h = refl
-  allOf-take (suc n) [] h = refl
-  allOf-take (suc n) (x ∷ xs) h =
-      let b = both-true (p x) (allOf p xs) h in
-      true-both (p x) (allOf p (take n xs)) (b .0) (allOf-take n xs (b .1))
-
-  pub allOf-drop : (n : ℕ) (l : List A) → allOf p l ≡ true → allOf p (drop n l) ≡ true
-  unfolding allOf
-  allOf-drop zero l h = h
-  allOf-drop (suc n) [] h = refl
-  allOf-drop (suc n) (x ∷ xs) h = allOf-drop n xs (both-true (p x) (allOf p xs) h .1)
-
-  pub allOf-set : (l : List A) (i : ℕ) (v : A) → allOf p l ≡ true → p v ≡ true → allOf p (set l i v) ≡ true
-  unfolding allOf
-  allOf-set [] i v h e = refl
-  allOf-set (x ∷ xs) zero v h e = true-both (p v) (allOf p xs) e (both-true (p x) (allOf p xs) h .1)
-  allOf-set (x ∷ xs) (suc i) v h e =
-      let b = both-true (p x) (allOf p xs) h in
-      true-both (p x) (allOf p (set xs i v)) (b .0) (allOf-set xs i v (b .1) e)
-
-  pub allOf-replicate : (n : ℕ) (v : A) → p v ≡ true → allOf p (replicate n v) ≡ true
-  unfolding allOf
-  allOf-replicate zero v e = refl
-  allOf-replicate (suc n) v e = true-both (p v) (allOf p (replicate n v)) e (allOf-replicate n v e)
 
 -- a weaker test passes where a stronger one does
 pub allOf-imp : {A : Type 0} (p q : A → Bool) (l : List A) → ((x : A) → p x ≡ true → q x ≡ true) → allOf p l ≡ true → allOf q l ≡ true

@@ -8,7 +8,7 @@ use mathlib.Core.Path.{_≡_, refl, sym, _∙_, ap}
 use mathlib.Core.Bool.{Bool, true, false, not, cond}
 use Prim.Native.Nat.{ℕ, zero, suc, _+_, _*_, _-_, _<_, _≤_}
 use native.Mathlib.Omega.{arith}
-use borrow.Author.Tests.{leb-true, leb-false, ltb-true, le-leb, lt-leb, lt-ltb, le-ltb}
+use borrow.Author.Tests.{leb-true, leb-false, le-leb, lt-leb, lt-ltb, le-ltb}
 use lib.Dec.{T, leb, ltb, ltb→lt, nltb→le}
 use lib.IntN.{ℤ, pos, negsuc, negℤ, subℕ, _+ℤ_, _*ℤ_}
 use lib.Signed.{leZ, ltZ}
@@ -158,18 +158,6 @@ ltZ-d a b a′ b′ =
     test : Bool
     test = ltb (a + b′) (a′ + b)
 
-pub d-le : (a b a′ b′ : ℕ) → a + b′ ≤ a′ + b → leZ (d a b) (d a′ b′) ≡ true
-d-le a b a′ b′ h = leZ-d a b a′ b′ ∙ le-leb (a + b′) (a′ + b) h
-
-pub d-le-inv : (a b a′ b′ : ℕ) → leZ (d a b) (d a′ b′) ≡ true → a + b′ ≤ a′ + b
-d-le-inv a b a′ b′ h = leb-true (a + b′) (a′ + b) (sym (leZ-d a b a′ b′) ∙ h)
-
-pub d-lt : (a b a′ b′ : ℕ) → a + b′ < a′ + b → ltZ (d a b) (d a′ b′) ≡ true
-d-lt a b a′ b′ h = ltZ-d a b a′ b′ ∙ lt-ltb (a + b′) (a′ + b) h
-
-pub d-lt-inv : (a b a′ b′ : ℕ) → ltZ (d a b) (d a′ b′) ≡ true → a + b′ < a′ + b
-d-lt-inv a b a′ b′ h = ltb-true (a + b′) (a′ + b) (sym (ltZ-d a b a′ b′) ∙ h)
-
 -- a test that fails is the other test the other way round
 pub leZ-ltZ : (x y : ℤ) → leZ x y ≡ not (ltZ y x)
 leZ-ltZ x y = rw (split x, split y) (rw (leZ-d, ltZ-d) (leb-not (posPart x + negPart y) (posPart y + negPart x)))
@@ -200,28 +188,7 @@ pub negPart-d : (a b : ℕ) → negPart (d a b) ≤ b
 unfolding negPart
 negPart-d a b = d-ind a b (λ z. negPart z ≤ b) (λ k h. omega arith) (λ k h. omega arith)
 
--- one of the two parts is zero
-pub one-part : (z : ℤ) → posPart z * negPart z ≡ 0
-unfolding posPart negPart
-one-part (pos n) = omega arith
-one-part (negsuc n) = omega arith
-
 -- ---- laws of sums and products beside those of `lib.IntN`
-
-pub *ℤ-assoc : (x y z : ℤ) → x *ℤ y *ℤ z ≡ x *ℤ (y *ℤ z)
-*ℤ-assoc x y z = rw (split x, split y, split z) (simp ring (d-eq _ _ _ _ (omega arith)))
-
-pub *ℤ-left-comm : (x y z : ℤ) → x *ℤ (y *ℤ z) ≡ y *ℤ (x *ℤ z)
-*ℤ-left-comm x y z = rw (split x, split y, split z) (simp ring (d-eq _ _ _ _ (omega arith)))
 
 pub *ℤ-add : (x y z : ℤ) → x *ℤ (y +ℤ z) ≡ x *ℤ y +ℤ x *ℤ z
 *ℤ-add x y z = rw (split x, split y, split z) (simp ring (d-eq _ _ _ _ (omega arith)))
-
-pub add-*ℤ : (x y z : ℤ) → (x +ℤ y) *ℤ z ≡ x *ℤ z +ℤ y *ℤ z
-add-*ℤ x y z = rw (split x, split y, split z) (simp ring (d-eq _ _ _ _ (omega arith)))
-
-pub neg-*ℤ : (x y : ℤ) → negℤ x *ℤ y ≡ negℤ (x *ℤ y)
-neg-*ℤ x y = rw (split x, split y) (simp ring (d-eq _ _ _ _ (omega arith)))
-
-pub +ℤ-left-comm : (x y z : ℤ) → x +ℤ (y +ℤ z) ≡ y +ℤ (x +ℤ z)
-+ℤ-left-comm x y z = rw (split x, split y, split z) (simp ring (d-eq _ _ _ _ (omega arith)))

@@ -1,5 +1,4 @@
--- Sums: of a natural measure over a list (`sumOf`), of a list of integers (`sumZ`), and of integers over an index (`sumTo`).
--- Assumes nothing.
+-- Sums: of a natural measure over a list (`sumOf`), and of integers over an index (`sumTo`). Assumes nothing.
 use mathlib.Core.Path.{_≡_, refl, sym, _∙_, ap}
 use mathlib.Core.List.{List, [], _∷_, _++_}
 use mathlib.Core.Logic.{⊎-elim}
@@ -14,17 +13,11 @@ use lib.ListN.{length, getD, set, take, drop, replicate, take-append-drop}
 use lib.Seq.{take-suc}
 use Rattle.laws.specs.Choice.{pick}
 use Rattle.laws.specs.Ring.{split, d-eq, ring}
-use Rattle.laws.specs.Bound.{Within, within-le, within-add, within-zero}
 
 -- the sum of a measure over a list
 unfoldable pub sumOf : {A : Type 0} → (A → ℕ) → List A → ℕ
 sumOf f [] = 0
 sumOf f (x ∷ xs) = f x + sumOf f xs
-
--- the sum of a list of integers
-unfoldable pub sumZ : List ℤ → ℤ
-sumZ [] = pos 0
-sumZ (x ∷ xs) = x +ℤ sumZ xs
 
 -- the sum of f over the numbers below n
 unfoldable pub sumTo : ℕ → (ℕ → ℤ) → ℤ
@@ -34,10 +27,6 @@ sumTo (suc n) f = sumTo n f +ℤ f n
 -- ---- a measure over a list
 
 module _ {A : Type 0} (f : A → ℕ) where
-  pub sumOf-nil : sumOf f [] ≡ 0
-  unfolding sumOf
-  sumOf-nil = refl
-
   pub sumOf-cons : (x : A) (xs : List A) → sumOf f (x ∷ xs) ≡ f x + sumOf f xs
   unfolding sumOf
   sumOf-cons x xs = refl
@@ -92,46 +81,6 @@ module _ {A : Type 0} (f : A → ℕ) where
     sumOf-ext [] h = refl
     sumOf-ext (x ∷ xs) h = omega (arith, sumOf-ext xs h, h x)
 
-    pub sumOf-mono : (l : List A) → ((x : A) → f x ≤ g x) → sumOf f l ≤ sumOf g l
-    unfolding sumOf
-    sumOf-mono [] h = omega arith
-    sumOf-mono (x ∷ xs) h = omega (arith, sumOf-mono xs h, h x)
-
-    pub sumOf-add : (l : List A) → sumOf (λ x. f x + g x) l ≡ sumOf f l + sumOf g l
-    unfolding sumOf
-    sumOf-add [] = omega arith
-    sumOf-add (x ∷ xs) = omega (arith, sumOf-add xs)
-
--- ---- a list of integers
-
-pub sumZ-append : (xs ys : List ℤ) → sumZ (xs ++ ys) ≡ sumZ xs +ℤ sumZ ys
-unfolding sumZ
-sumZ-append [] ys = sym (+ℤ-idl (sumZ ys))
-sumZ-append (x ∷ xs) ys = rw (sumZ-append xs ys) (sym (+ℤ-assoc x (sumZ xs) (sumZ ys)))
-
--- one more element, for a loop that sums
-pub sumZ-more : (l : List ℤ) (i : ℕ) → i < length l → sumZ (take (i + 1) l) ≡ sumZ (take i l) +ℤ getD l i (pos 0)
-unfolding sumZ
-sumZ-more l i h =
-    rw (add-one i, take-suc l i (pos 0) h)
-    (sumZ-append (take i l) _ ∙ ap (λ (x : ℤ). sumZ (take i l) +ℤ x) (+ℤ-idr (getD l i (pos 0))))
-
--- one element is replaced
-pub sumZ-set : (l : List ℤ) (i : ℕ) (v : ℤ) → i < length l → sumZ (set l i v) +ℤ getD l i (pos 0) ≡ sumZ l +ℤ v
-unfolding sumZ
-sumZ-set [] i v h = absurd (not-suc-le-zero h)
-sumZ-set (x ∷ xs) zero v h =
-    rw (split x, split v, split (sumZ xs)) (simp ring (d-eq _ _ _ _ (omega arith)))
-sumZ-set (x ∷ xs) (suc i) v h =
-    +ℤ-assoc x (sumZ (set xs i v)) (getD xs i (pos 0)) ∙ ap (λ (z : ℤ). x +ℤ z) (sumZ-set xs i v (le-of-suc-le-suc h)) ∙ sym (+ℤ-assoc x (sumZ xs) v)
-
-pub sumZ-within : (b : ℕ) (l : List ℤ) → ((i : ℕ) → i < length l → Within b (getD l i (pos 0))) → Within (b * length l) (sumZ l)
-unfolding sumZ
-sumZ-within b [] h = within-le (omega arith) within-zero
-sumZ-within b (x ∷ xs) h =
-    within-le (omega (arith, mul-suc b (length xs)))
-    (within-add (h 0 (omega arith)) (sumZ-within b xs (λ i k. h (suc i) (omega arith))))
-
 -- ---- integers over an index
 
 pub sumTo-ext : (n : ℕ) (f g : ℕ → ℤ) → ((i : ℕ) → i < n → f i ≡ g i) → sumTo n f ≡ sumTo n g
@@ -163,12 +112,6 @@ sumTo-first zero f = +ℤ-idl (f 0) ∙ sym (+ℤ-idr (f 0))
 sumTo-first (suc n) f =
     ap (λ (x : ℤ). x +ℤ f (suc n)) (sumTo-first n f) ∙ +ℤ-assoc (f 0) (sumTo n (λ i. f (suc i))) (f (suc n))
 
-pub sumTo-within : (b n : ℕ) (f : ℕ → ℤ) → ((i : ℕ) → i < n → Within b (f i)) → Within (b * n) (sumTo n f)
-unfolding sumTo
-sumTo-within b zero f h = within-le (omega arith) within-zero
-sumTo-within b (suc n) f h =
-    within-le (omega (arith, mul-suc b n)) (within-add (sumTo-within b n f (λ i l. h i (omega arith))) (h n (omega arith)))
-
 -- x at one index and nothing elsewhere
 none-at : (n k : ℕ) (x : ℤ) → n ≤ k → sumTo n (λ i. pick (eqb k i) x (pos 0)) ≡ pos 0
 none-at n k x h =
@@ -190,9 +133,3 @@ sumTo-at (suc n) k x h = ⊎-elim last (λ l. before l (sumTo-at n k x l)) (eq-o
 
     before : k < n → sumTo n (λ i. pick (eqb k i) x (pos 0)) ≡ x → sumTo n (λ i. pick (eqb k i) x (pos 0)) +ℤ pick (eqb k n) x (pos 0) ≡ x
     before l e = rw (e, ne-eqb k n (apart l)) (+ℤ-idr x)
-
--- the two sums of one list
-pub sumZ-sumTo : (l : List ℤ) → sumZ l ≡ sumTo (length l) (λ i. getD l i (pos 0))
-unfolding sumZ sumTo
-sumZ-sumTo [] = refl
-sumZ-sumTo (x ∷ xs) = ap (λ (z : ℤ). x +ℤ z) (sumZ-sumTo xs) ∙ sym (sumTo-first (length xs) (λ i. getD (x ∷ xs) i (pos 0)))

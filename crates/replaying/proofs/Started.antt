@@ -1,18 +1,14 @@
--- The accounts as they stood at the start of the day: their number, their holdings, and those in use. Assumes nothing.
+-- The accounts as they stood at the start of the day: their holdings, and those in use. Assumes nothing.
 use mathlib.Core.List.{List, [], _∷_}
 use mathlib.Core.Path.{_≡_, refl, ap, ap₂, _∙_}
 use Prim.Native.Nat.{ℕ, zero, suc}
-use lib.ListN.{length, getD, length-map, List·getD-map}
+use lib.ListN.{getD, List·getD-map}
 use Rattle.laws.specs.Lists.{take-map}
 use Rattle.rules.specs.Exchange.{accountAt, holdingAt, noAccount, noHolding}
 use Rattle.rules.specs.Holdings.{startAccount, startHolding, startOfDay}
 use Rattle.rules.specs.Memory.{used}
 use Rattle.rules.specs.declared.Account.{Account}
 use Rattle.rules.specs.declared.Holding.{Holding}
-
-pub length-day : (l : List Account) → length (startOfDay l) ≡ length l
-unfolding startOfDay
-length-day l = length-map l startAccount
 
 pub start-at : (l : List Account) (a c : ℕ) → holdingAt (startOfDay l) a c ≡ startHolding (holdingAt l a c)
 unfolding startOfDay holdingAt accountAt

@@ -6,7 +6,7 @@ use mathlib.Core.Path.{_≡_, refl, ap}
 use Prim.Native.Nat.{ℕ, _-_, min}
 use lib.Dec.{ltb}
 use lib.ListN.{length}
-use Rattle.laws.specs.Choice.{pick, pick-either, pick-true, pick-false}
+use Rattle.laws.specs.Choice.{pick, pick-either, pick-false}
 use Rattle.rules.specs.Answers.{isGoodForDay, listingOf, takerOf, tradesNeeded, tradesAgainst}
 use Rattle.rules.specs.Auction.{Matched, auctionMatch, matchOf, unmatched}
 use Rattle.rules.specs.Bounds.{inAuction}
@@ -41,10 +41,6 @@ module _ (x : Exchange) (number quote : ℕ) (o : NewOrder) where
       (own (o .sell) (listingOf x o))
       (opposite (o .sell) (listingOf x o))
 
-  pub entered-in-auction : inAuction (listingOf x o .contract) ≡ true → enteredOf x number quote o ≡ restedWhole
-  unfolding enteredOf
-  entered-in-auction e = pick-true (inAuction (listingOf x o .contract)) restedWhole enteredBySweep e
-
   pub entered-elsewhere : inAuction (listingOf x o .contract) ≡ false → enteredOf x number quote o ≡ enteredBySweep
   unfolding enteredOf
   entered-elsewhere e = pick-false (inAuction (listingOf x o .contract)) restedWhole enteredBySweep e
@@ -73,10 +69,6 @@ module _ (x : Exchange) (c : ℕ) where
 
   abbrev pub unmatchedOf : Matched
   unmatchedOf = unmatched (listingAt x c .buys) (listingAt x c .sells)
-
-  pub match-in-auction : inAuction (listingAt x c .contract) ≡ true → matchOf x c ≡ auctionOf
-  unfolding matchOf
-  match-in-auction e = pick-true (inAuction (listingAt x c .contract)) auctionOf unmatchedOf e
 
   pub match-elsewhere : inAuction (listingAt x c .contract) ≡ false → matchOf x c ≡ unmatchedOf
   unfolding matchOf

@@ -15,7 +15,7 @@ use Rattle.laws.specs.Tabulate.{tabulate, tabulate-take}
 use Rattle.areas.specs.Lists.{over, padded}
 use Rattle.areas.specs.Records.{Codec, decode, encode, records, store}
 use Rattle.areas.proofs.Lists.{take-over, drop-over, drop-padded, padded-full}
-use Rattle.areas.proofs.Records.{length-encode, length-records, getD-records, take-records, length-store, store-front, store-append, store-records, records-store-front, records-store-before, records-store-after, store-comm}
+use Rattle.areas.proofs.Records.{length-encode, length-records, getD-records, length-store, store-front, store-append, store-records, records-store-front, records-store-before, records-store-after}
 use Rattle.rules.specs.Bounds.{maxResting, maxTrades}
 use Rattle.rules.specs.Exchange.{noOrder, noTrade}
 use Rattle.rules.specs.Memory.{orderWords, orderFrom, tradeWords, tradeFrom, queueIn, recordedTrades, putQueue, putQueues, putTrades, orderStride, queueStride, tradeStride, firstWord, wordOf}
@@ -147,10 +147,6 @@ module _ (area : List ℕ) (c n : ℕ) where
   unfolding queueIn
   order-at i h = getD-records order-codec area (queueStride * c) n i noOrder h
 
-  pub take-queue : (i : ℕ) → i ≤ n → take i (queueIn area c n) ≡ queueIn area c i
-  unfolding queueIn
-  take-queue i h = take-records order-codec area (queueStride * c) n i h
-
 pub before-or-after : (c d : ℕ) → (c ≡ d → ⊥) → (c < d) ⊎ (d < c)
 before-or-after c d apart = by-comparison (ltb c d) refl
   where
@@ -159,10 +155,6 @@ before-or-after c d apart = by-comparison (ltb c d) refl
     by-comparison false e = ⊎-elim (λ p. absurd (apart (sym p))) (λ l. inr l) (eq-or-lt-of-le (ltb-false c d e))
 
 -- ---- a queue written: `room` for 64 orders, and no more than 64 before and after
-
-pub putQueue-store : (area : List ℕ) (c n : ℕ) (q : List Order) → putQueue area c n q ≡ store orderWords area (queueStride * c) (padded n noOrder q)
-unfolding putQueue
-putQueue-store area c n q = refl
 
 -- writing what is there changes nothing
 pub put-queue : (area : List ℕ) (c n : ℕ) → firstWord c n ≤ length area → putQueue area c n (queueIn area c n) ≡ area
@@ -199,19 +191,7 @@ module _ (area : List ℕ) (c n : ℕ) (q : List Order) where
         (λ (k : d < c). records-store-before order-codec order-codec area (queueStride * c) (padded n noOrder q) (queueStride * d) m (omega arith) room)
         (before-or-after c d apart)
 
-    pub putQueue-comm : (m : ℕ) (r : List Order) → m ≤ maxResting → length r ≤ maxResting → queueStride * c + queueStride ≤ length area → queueStride * d + queueStride ≤ length area
-        → putQueue (putQueue area c n q) d m r ≡ putQueue (putQueue area d m r) c n q
-    unfolding putQueue
-    putQueue-comm m r few′ short′ room room′ =
-        ⊎-elim
-        (λ (k : c < d). store-comm order-codec order-codec area (queueStride * c) (padded n noOrder q) (queueStride * d) (padded m noOrder r) (rw length-filled (omega arith)) (rw length-filled (omega arith)))
-        (λ (k : d < c). sym (store-comm order-codec order-codec area (queueStride * d) (padded m noOrder r) (queueStride * c) (padded n noOrder q) (rw length-filled (omega arith)) (rw length-filled (omega arith))))
-        (before-or-after c d apart)
-
 -- ---- the queues of all contracts
-
-apart-below : (b c : ℕ) → suc b ≤ c → b ≡ c → ⊥
-apart-below b c h e = omega arith
 
 module _ (area counts : List ℕ) (queues : ℕ → List Order) where
   pub putQueues-same : (n : ℕ) → ((c : ℕ) → c < n → queues c ≡ queueIn area c (getD counts c 0)) → ((c : ℕ) → c < n → getD counts c 0 ≤ maxResting)
@@ -256,14 +236,6 @@ module _ (area counts : List ℕ) (queues : ℕ → List Order) where
         let ih : length (putQueues area counts queues c) ≡ length area = length-putQueues c (omega arith) in
         length-putQueue (putQueues area counts queues c) c (getD counts c 0) (queues c) (few c k) (short c k) (omega arith) ∙ ih
 
-    -- a contract that they are not of
-    pub queue-putQueues-past : (n c m : ℕ) → n ≤ contracts → n ≤ c → m ≤ maxResting → queueIn (putQueues area counts queues n) c m ≡ queueIn area c m
-    unfolding putQueues
-    queue-putQueues-past zero c m k past h = refl
-    queue-putQueues-past (suc b) c m k past h =
-        queue-put-other (putQueues area counts queues b) b (getD counts b 0) (queues b) (few b k) (short b k) c (apart-below b c past) m h (rw (length-putQueues b (omega arith)) (omega arith))
-        ∙ queue-putQueues-past b c m (omega arith) (omega arith) h
-
     pub queue-putQueues : (n c : ℕ) → n ≤ contracts → c < n → queueIn (putQueues area counts queues n) c (length (queues c)) ≡ queues c
     unfolding putQueues
     queue-putQueues zero c k h = absurd (omega arith)
@@ -282,22 +254,6 @@ module _ (area counts : List ℕ) (queues : ℕ → List Order) where
 
 -- ---- the day's trades
 
--- one trade's words
-pub trade-words : (area : List ℕ) (k : ℕ)
-    → tradeFrom (drop k area)
-    ≡ record {
-      contract = getD area k 0;
-      price = getD area (k + 1) 0;
-      lots = getD area (k + 2) 0;
-      buyorder = getD area (k + 3) 0;
-      sellorder = getD area (k + 4) 0;
-      buyer = getD area (k + 5) 0;
-      seller = getD area (k + 6) 0;
-      buyclose = getD area (k + 7) 0;
-      sellclose = getD area (k + 8) 0;
-    }
-trade-words area k = simp (getD-drop, add-zero)
-
 pub trades-none : (area : List ℕ) → recordedTrades area 0 ≡ []
 unfolding recordedTrades records decode
 trades-none area = refl
@@ -310,14 +266,6 @@ module _ (area : List ℕ) (n : ℕ) where
   pub trade-at : (i : ℕ) → i < n → getD (recordedTrades area n) i noTrade ≡ tradeFrom (drop (tradeStride * i) area)
   unfolding recordedTrades
   trade-at i h = getD-records trade-codec area 0 n i noTrade h ∙ rw zero-add
-
-  pub take-trades : (i : ℕ) → i ≤ n → take i (recordedTrades area n) ≡ recordedTrades area i
-  unfolding recordedTrades
-  take-trades i h = take-records trade-codec area 0 n i h
-
-  pub putTrades-store : (ts : List Trade) → putTrades area n ts ≡ store tradeWords area 0 (padded n noTrade ts)
-  unfolding putTrades
-  putTrades-store ts = refl
 
   pub put-trades : tradeStride * n ≤ length area → putTrades area n (recordedTrades area n) ≡ area
   unfolding putTrades recordedTrades
@@ -336,7 +284,3 @@ module _ (area : List ℕ) (n : ℕ) where
     pub length-putTrades : n ≤ maxTrades → length ts ≤ maxTrades → tradeStride * maxTrades ≤ length area → length (putTrades area n ts) ≡ length area
     unfolding putTrades
     length-putTrades few short room = length-put trade-codec noTrade area 0 n ts (omega arith)
-
-    pub putTrades-putTrades : (m : ℕ) (us : List Trade) → length ts ≤ m → putTrades (putTrades area n ts) m us ≡ putTrades area (max n m) us
-    unfolding putTrades
-    putTrades-putTrades m us h = put-put trade-codec noTrade area 0 n m ts us h (omega arith)

@@ -2,11 +2,11 @@
 use mathlib.Core.Bool.{Bool, true, false, _&&_, false≢true}
 use mathlib.Core.List.{List, [], _∷_, _++_, map}
 use mathlib.Core.Path.{_≡_, refl, sym, ap, ap₂, _∙_}
-use Prim.Native.Nat.{ℕ, zero, suc, _+_, _-_, _<_, _≤_}
-use borrow.Author.Tests.{eqb-true, eq-eqb, ne-eqb, leb-true, le-leb}
+use Prim.Native.Nat.{ℕ, _+_, _-_, _<_, _≤_}
+use borrow.Author.Tests.{eqb-true, eq-eqb, le-leb}
 use lib.Dec.{eqb}
 use lib.IntN.{ℤ}
-use lib.ListN.{length, getD, set, drop, length-set, List·getD-map}
+use lib.ListN.{length, getD, drop, length-set, List·getD-map}
 use lib.Seq.{getD-set-same, getD-set-other, map-set-same}
 use Rattle.laws.specs.Choice.{pick, pick-same, both-true}
 use Rattle.laws.specs.Lists.{kept-at}
@@ -15,16 +15,6 @@ use Rattle.rules.specs.Holdings.{withLong, withShort, afterLeg, withHold
 use Rattle.rules.specs.declared.Account.{Account}
 use Rattle.rules.specs.declared.Holding.{Holding}
 use Rattle.rules.specs.declared.Trade.{Trade}
-
--- ---- one place of a list replaced
-
--- what holds of each value, and of the new one, holds of each after it
-pub each-set : {A : Type 0} (P : A → Type 0) (l : List A) (i : ℕ) (y d : A) → ((k : ℕ) → P (getD l k d)) → P y → (k : ℕ) → P (getD (set l i y) k d)
-each-set P [] i y d h p k = h k
-each-set P (x ∷ xs) zero y d h p zero = p
-each-set P (x ∷ xs) zero y d h p (suc k) = h (suc k)
-each-set P (x ∷ xs) (suc i) y d h p zero = h zero
-each-set P (x ∷ xs) (suc i) y d h p (suc k) = each-set P xs i y d (λ j. h (suc j)) p k
 
 -- ---- one leg
 
@@ -82,10 +72,6 @@ module _ (l : List Account) (a c : ℕ) (sell : Bool) (close lots : ℕ) where
   unfolding bookLeg accountAt
   leg-kept f b = kept-at (λ x. f (x .balance) (x .maker)) l a _ noAccount refl b
 
-  leg-contracts : (b : ℕ) → length (accountAt (bookLeg l a c sell close lots) b .holdings) ≡ length (accountAt l b .holdings)
-  unfolding bookLeg accountAt
-  leg-contracts b = kept-at (λ x. length (x .holdings)) l a _ noAccount (length-set (getD l a noAccount .holdings) c _) b
-
   leg-start : startOfDay (bookLeg l a c sell close lots) ≡ startOfDay l
   unfolding bookLeg startOfDay accountAt holdingAt
   leg-start = map-set-same startAccount l a _ noAccount (account-start (getD l a noAccount) c sell close lots)
@@ -101,10 +87,6 @@ module _ (l : List Account) (t : Trade) where
   unfolding bookTrade
   trade-kept f b = leg-kept (bookBuyer l t) (t .seller) (t .contract) true (t .sellclose) (t .lots) f b ∙ leg-kept l (t .buyer) (t .contract) false (t .buyclose) (t .lots) f b
 
-  trade-contracts : (b : ℕ) → length (accountAt (bookTrade l t) b .holdings) ≡ length (accountAt l b .holdings)
-  unfolding bookTrade
-  trade-contracts b = leg-contracts (bookBuyer l t) (t .seller) (t .contract) true (t .sellclose) (t .lots) b ∙ leg-contracts l (t .buyer) (t .contract) false (t .buyclose) (t .lots) b
-
   trade-start : startOfDay (bookTrade l t) ≡ startOfDay l
   unfolding bookTrade
   trade-start = leg-start (bookBuyer l t) (t .seller) (t .contract) true (t .sellclose) (t .lots) ∙ leg-start l (t .buyer) (t .contract) false (t .buyclose) (t .lots)
@@ -114,14 +96,6 @@ module _ (l : List Account) (t : Trade) where
   unfolding bookTrade
   holding-other-trade b d apart =
       holding-other-contract (bookBuyer l t) (t .seller) (t .contract) true (t .sellclose) (t .lots) b d apart ∙ holding-other-contract l (t .buyer) (t .contract) false (t .buyclose) (t .lots) b d apart
-
-pub bookTrades-nil : (l : List Account) → bookTrades l [] ≡ l
-unfolding bookTrades
-bookTrades-nil l = refl
-
-pub bookTrades-cons : (l : List Account) (t : Trade) (ts : List Trade) → bookTrades l (t ∷ ts) ≡ bookTrades (bookTrade l t) ts
-unfolding bookTrades
-bookTrades-cons l t ts = refl
 
 pub bookTrades-append : (l : List Account) (ts us : List Trade) → bookTrades l (ts ++ us) ≡ bookTrades (bookTrades l ts) us
 unfolding bookTrades
@@ -145,12 +119,6 @@ booked-balance = booked-kept (λ balance maker. balance)
 pub booked-maker : (l : List Account) (ts : List Trade) (b : ℕ) → accountAt (bookTrades l ts) b .maker ≡ accountAt l b .maker
 booked-maker = booked-kept (λ balance maker. maker)
 
-pub booked-contracts : (l : List Account) (ts : List Trade) (b : ℕ)
-    → length (accountAt (bookTrades l ts) b .holdings) ≡ length (accountAt l b .holdings)
-unfolding bookTrades
-booked-contracts l [] b = refl
-booked-contracts l (t ∷ ts) b = booked-contracts (bookTrade l t) ts b ∙ trade-contracts l t b
-
 pub booked-start : (l : List Account) (ts : List Trade) → startOfDay (bookTrades l ts) ≡ startOfDay l
 unfolding bookTrades
 booked-start l [] = refl
@@ -169,12 +137,6 @@ booked-start-holding l ts b d = start-holding (bookTrades l ts) b d ∙ rw (book
 
 -- ---- the replay
 
--- a leg that is covered closes no more than is held, so that the difference is the plain one
-pub leg-covered : (l : List Account) (a c : ℕ) (sell : Bool) (close lots : ℕ) → legCovered l a c sell close lots ≡ true → (close ≡ 0 → ⊥)
-    → lots ≤ pick sell (holdingAt l a c .long) (holdingAt l a c .short)
-unfolding legCovered
-leg-covered l a c sell close lots e closes = leb-true lots (pick sell (holdingAt l a c .long) (holdingAt l a c .short)) (rw (ne-eqb close 0 closes) at e)
-
 pub open-covered : (l : List Account) (a c : ℕ) (sell : Bool) (lots : ℕ) → legCovered l a c sell 0 lots ≡ true
 unfolding legCovered
 open-covered l a c sell lots = refl
@@ -188,12 +150,6 @@ close-covered l a c sell close lots h =
 pub never-nil : (l : List Account) → neverBelowZero l [] ≡ true
 unfolding neverBelowZero
 never-nil l = refl
-
-pub never-cons : (l : List Account) (t : Trade) (ts : List Trade)
-    → neverBelowZero l (t ∷ ts)
-    ≡ (legCovered l (t .buyer) (t .contract) false (t .buyclose) (t .lots) && legCovered (bookBuyer l t) (t .seller) (t .contract) true (t .sellclose) (t .lots) && neverBelowZero (bookTrade l t) ts)
-unfolding neverBelowZero
-never-cons l t ts = refl
 
 and-assoc : (a b c : Bool) → (a && (b && c)) ≡ ((a && b) && c)
 and-assoc true b c = refl

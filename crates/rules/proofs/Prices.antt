@@ -1,7 +1,7 @@
 -- The prices of a sweep, by any pairing method: between the limit and the resting price, on the tick, and the same whether the
 -- last price is the one on arrival or the one just made. Assumes nothing.
 use mathlib.Core.Bool.{Bool, true, false, not}
-use mathlib.Core.List.{List, [], _∷_, _++_, map}
+use mathlib.Core.List.{List, [], _∷_, map}
 use mathlib.Core.Logic.{_⊎_, inl, inr, ⊎-elim}
 use mathlib.Core.Path.{_≡_, refl, ap, ap₂, _∙_}
 use Prim.Native.Nat.{ℕ, _+_, _*_, _/_, _%_, _<_, _≤_, min, max}
@@ -323,15 +323,6 @@ swept-allowed c some t rounds left last os limits =
         (rw (trade-price t o left last) a, allowed-facts c (tradePrice (t .method) (t .condition) (o .price) last) a .tick)
 
 -- ---- the last price after trades
-
-pub last-cons : (last : ℕ) (t : Trade) (ts : List Trade) → lastPrice last (t ∷ ts) ≡ lastPrice (t .price) ts
-unfolding lastPrice
-last-cons last t ts = refl
-
-pub last-append : (last : ℕ) (ts us : List Trade) → lastPrice last (ts ++ us) ≡ lastPrice (lastPrice last ts) us
-unfolding lastPrice
-last-append last [] us = refl
-last-append last (t ∷ ts) us = last-append (t .price) ts us
 
 pub last-test : (test : ℕ → Bool) (last : ℕ) (ts : List Trade) → test last ≡ true → allOf (λ t. test (t .price)) ts ≡ true
     → test (lastPrice last ts) ≡ true

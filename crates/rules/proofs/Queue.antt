@@ -7,7 +7,7 @@ use Prim.Native.Nat.{ℕ, suc, _+_, _≤_}
 use native.Mathlib.Omega.{arith}
 use lib.Dec.{eqb}
 use lib.ListN.{length}
-use Rattle.laws.specs.Choice.{pick, pick-either, allOf, allOf-append, both-true, true-both}
+use Rattle.laws.specs.Choice.{pick-either, allOf, allOf-append, both-true, true-both}
 use Rattle.laws.specs.Sums.{sumOf, sumOf-append}
 use Rattle.rules.specs.Exchange.{worse, lotsWhere}
 use Rattle.rules.specs.Matching.{restIn}
@@ -21,10 +21,6 @@ module _ (test : Order → Bool) where
   pub lots-nil : lotsWhere test [] ≡ 0
   unfolding lotsWhere sumOf
   lots-nil = refl
-
-  pub lots-cons : (o : Order) (os : List Order) → lotsWhere test (o ∷ os) ≡ pick (test o) (o .lots) 0 + lotsWhere test os
-  unfolding lotsWhere sumOf
-  lots-cons o os = refl
 
   pub lots-met : (o : Order) (os : List Order) → test o ≡ true → lotsWhere test (o ∷ os) ≡ o .lots + lotsWhere test os
   unfolding lotsWhere sumOf
@@ -68,18 +64,6 @@ module _ (test : Order → Bool) where
       by-test : (b : Bool) → test o ≡ b → length (without test os) ≤ length os → length (without test (o ∷ os)) ≤ suc (length os)
       by-test true e ih = rw (without-met o os e) (omega arith)
       by-test false e ih = rw (without-unmet o os e) (omega arith)
-
--- lots that none of the orders taken out has
-pub lots-without : (test other : Order → Bool) (os : List Order) → ((o : Order) → test o ≡ true → other o ≡ false)
-    → lotsWhere other (without test os) ≡ lotsWhere other os
-lots-without test other [] h = rw (without-nil test)
-lots-without test other (o ∷ os) h = by-tests (test o) (other o) refl refl (lots-without test other os h)
-  where
-    by-tests : (b c : Bool) → test o ≡ b → other o ≡ c → lotsWhere other (without test os) ≡ lotsWhere other os
-        → lotsWhere other (without test (o ∷ os)) ≡ lotsWhere other (o ∷ os)
-    by-tests true c e k ih = rw (without-met test o os e, lots-unmet other o os (h o e)) ih
-    by-tests false true e k ih = rw (without-unmet test o os e, lots-met other o (without test os) k, lots-met other o os k, ih)
-    by-tests false false e k ih = rw (without-unmet test o os e, lots-unmet other o (without test os) k, lots-unmet other o os k) ih
 
 -- ---- an order comes to rest
 

@@ -1,26 +1,24 @@
--- What a sweep leaves, and what every trade of it is: the opposite queue stays sorted and keeps its orders but for lots, and a
--- remainder that rests does not cross it. Assumes nothing.
+-- What a sweep leaves: the opposite queue stays sorted and keeps its orders but for lots, and a remainder that rests does not cross
+-- it. Assumes nothing.
 use mathlib.Core.Bool.{Bool, true, false, not}
-use mathlib.Core.List.{List, [], _∷_, _++_}
+use mathlib.Core.List.{List, [], _∷_}
 use mathlib.Core.Logic.{_⊎_, inl, inr, ⊎-elim}
-use mathlib.Core.Path.{_≡_, refl, sym, ap, _∙_}
-use Prim.Native.Nat.{ℕ, zero, suc, _-_, _<_, _≤_, min}
+use mathlib.Core.Path.{_≡_, refl, sym, _∙_}
+use Prim.Native.Nat.{ℕ, zero, suc, _-_, _<_, _≤_}
 use native.Mathlib.Omega.{arith}
-use borrow.Author.Tests.{leb-true, leb-false, le-leb, ltb-true, lt-ltb}
-use lib.Dec.{leb}
+use borrow.Author.Tests.{leb-false, ltb-true, lt-ltb}
 use lib.ListN.{length}
 use Rattle.laws.specs.Choice.{pick, allOf, both-true, true-both}
 use Rattle.laws.specs.Sums.{sumOf, sumOf-cons}
-use Rattle.rules.specs.Bounds.{within}
 use Rattle.rules.specs.Exchange.{worse}
-use Rattle.rules.specs.Matching.{meets, counterpart, tradeWith, withLots, sweep, tradedLots, restIn, remainder, restLots, restedLots, enter}
-use Rattle.rules.specs.WellFormed.{ahead, aheadOfFirst, sorted, uncrossed, numbers, listed}
+use Rattle.rules.specs.Matching.{meets, tradeWith, withLots, sweep, tradedLots, restIn, remainder, restLots, restedLots, enter}
+use Rattle.rules.specs.WellFormed.{ahead, aheadOfFirst, sorted, uncrossed}
 use Rattle.rules.specs.declared.Order.{Order}
 use Rattle.rules.specs.declared.PriceCondition.the-variants.{Limit}
 use Rattle.rules.specs.declared.Taker.{Taker}
 use Rattle.rules.proofs.Fillable.{traded-nil, traded-cons}
 use Rattle.rules.proofs.Sorted.{Behind, AllBehind, behind-refl, sorted-tail, sorted-behind}
-use Rattle.rules.proofs.Sweep.{Unmet, trade-lots, sweep-end, sweep-ind, swept-each}
+use Rattle.rules.proofs.Sweep.{Unmet, trade-lots, sweep-end, sweep-ind}
 
 -- ---- why it stopped
 
@@ -84,31 +82,6 @@ pub length-rest : (t : Taker) (left last : ℕ) (os : List Order) → length (sw
 length-rest t =
     sweep-ind t (λ left last os s. length (s .rest) ≤ length os) (λ left last os w. omega arith) (λ left last o os some met short. omega arith)
     (λ left last o os s some met enough ih. omega arith)
-
--- the numbers left are the last of those there were
-pub rest-numbers : (t : Taker) (left last : ℕ) (os : List Order) → (gone : List ℕ) × (numbers os ≡ gone ++ numbers (sweep t left last os .rest))
-unfolding listed
-rest-numbers t =
-    sweep-ind t (λ left last os s. (gone : List ℕ) × (numbers os ≡ gone ++ numbers (s .rest)))
-    (λ left last os w. ([], refl))
-    (λ left last o os some met short. ([], refl))
-    (λ left last o os s some met enough ih. (o .number ∷ ih .0, ap (λ (ks : List ℕ). o .number ∷ ks) (ih .1)))
-
--- ---- the trades
-
--- every trade has from one lot to as many as its resting order
-pub swept-trade-lots : (t : Taker) (most left last : ℕ) (os : List Order) → allOf (λ o. within 1 most (o .lots)) os ≡ true
-    → allOf (λ tr. within 1 most (tr .lots)) (sweep t left last os .trades) ≡ true
-swept-trade-lots t most left last os =
-    swept-each t (λ tr. within 1 most (tr .lots)) (λ o. within 1 most (o .lots)) (λ n. Unit {0}) one left last os tt
-  where
-    one : (o : Order) (left last : ℕ) → 0 < left → counterpart t o ≡ true → within 1 most (o .lots) ≡ true → Unit {0}
-        → (within 1 most (tradeWith t o left last .lots) ≡ true) × Unit {0}
-    one o left last some met h u =
-        let b = both-true (leb 1 (o .lots)) (leb (o .lots) most) h in
-        let l : 1 ≤ o .lots = leb-true 1 (o .lots) (b .0) in
-        let m : o .lots ≤ most = leb-true (o .lots) most (b .1) in
-        (rw (trade-lots t o left last) (true-both (leb 1 (min left (o .lots))) (leb (min left (o .lots)) most) (le-leb 1 (min left (o .lots)) (omega arith)) (le-leb (min left (o .lots)) most (omega arith))), tt)
 
 -- ---- a remainder that rests
 

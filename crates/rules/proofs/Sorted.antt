@@ -4,7 +4,7 @@ use mathlib.Core.List.{List, [], _∷_}
 use mathlib.Core.Path.{_≡_, refl}
 use Prim.Native.Nat.{ℕ, _≤_}
 use native.Mathlib.Omega.{arith}
-use borrow.Author.Tests.{ltb-true, ltb-false, eqb-true}
+use borrow.Author.Tests.{ltb-true, eqb-true}
 use lib.Dec.{ltb, eqb}
 use Rattle.laws.specs.Choice.{both-true}
 use Rattle.rules.specs.Exchange.{worse, bestPrice}
@@ -32,10 +32,6 @@ behind-antisym false a b h k = omega arith
 pub behind-worse : (sell : Bool) (a b : ℕ) → worse sell a b ≡ true → Behind sell a b
 behind-worse true a b e = omega (arith, ltb-true b a e)
 behind-worse false a b e = omega (arith, ltb-true a b e)
-
-pub behind-not-worse : (sell : Bool) (a b : ℕ) → worse sell b a ≡ false → Behind sell a b
-behind-not-worse true a b e = ltb-false a b e
-behind-not-worse false a b e = ltb-false b a e
 
 pub behind-ahead : (sell : Bool) (o p : Order) → ahead sell o p ≡ true → Behind sell (p .price) (o .price)
 unfolding ahead

@@ -30,7 +30,7 @@ use Rattle.invariants.proofs.MemoryKeeps.{read-back as memory-read}
 use Rattle.invariants.proofs.MemoryRoom.{memory-ok}
 use Rattle.invariants.proofs.SameInUse.{Same, same-answer, same-claim, same-run}
 use Rattle.saved.specs.Saved.{allEqual, loadedFrom, loadedInto, readCode, savedBytes, totalsEqual, writable, writeCode}
-use Rattle.saved.proofs.Loaded.{Loadable, loaded-declared, loaded-formed, loaded-in-use}
+use Rattle.saved.proofs.Loaded.{Loadable, loaded-formed, loaded-in-use}
 use Rattle.saved.proofs.Reading.{read-back, sound-back}
 use Rattle.saved.proofs.Savable.{Savable, writable-parts}
 
@@ -106,9 +106,6 @@ module _ (m : Memory) (d : Declared (m .state)) (w : wellFormedMemory m ≡ true
   unfolding readCode firstOf
   reads =
       rw (sound-back (exchangeOf m) its, ap allEqual back ∙ writable-parts (exchangeOf m) ready .equal-all, room)
-
-  pub read-declared : Declared (loadedInto n file .state)
-  read-declared = loaded-declared n e (loadedFrom file) its-loadable
 
   -- "Reading back what was written gives the same state in every place in use", and it is well formed
   pub same-in-use : Same (loadedInto n file) m

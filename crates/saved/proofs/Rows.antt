@@ -73,11 +73,6 @@ module _ {A : Type 0} {W : ℕ} {fit : A → Bool} {words : A → List ℕ} {fir
 
   -- ---- in a file
 
-  pub records-back : (p : List ℕ) (os : List A) (ys : List ℕ) (base : ℕ) → length p ≡ base → allOf fit os ≡ true
-      → records W first (p ++ (encode words os ++ ys)) base (length os) ≡ os
-  unfolding records
-  records-back p os ys base e h = rw (drop-at p (encode words os ++ ys) base e) (row-back os ys h)
-
   pub records-forth : (bs : List ℕ) (base n : ℕ) → Bytes bs → base + W * n ≤ length bs
       → encode words (records W first bs base n) ≡ take (W * n) (drop base bs)
   unfolding records

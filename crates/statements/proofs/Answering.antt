@@ -29,9 +29,6 @@ no-code : firstOf [] ≡ 0
 unfolding firstOf
 no-code = refl
 
-pub is-not : {t u : Bool} → t ≡ u → not t ≡ not u
-is-not e = ap not e
-
 -- ---- answers
 
 module _ (y : Exchange) (clients : ℕ) (out : List ℕ) where
