@@ -105,8 +105,8 @@ module _ (m : Memory) (d : Declared (m .state)) (x : Exchange) (f : Fits x) wher
   put-declared = record {
     contracts = array-kept (λ l. l .contract) (m .state .contracts) (d .contracts);
     accounts = length-putAccounts (x .accounts) (m .state .accounts) (omega (arith, f .accounts, d .accounts)) ∙ d .accounts;
-    buys = array-kept (λ l. length (l .buys)) (m .state .buycounts) (d .buys);
-    sells = array-kept (λ l. length (l .sells)) (m .state .sellcounts) (d .sells);
+    buycounts = array-kept (λ l. length (l .buys)) (m .state .buycounts) (d .buycounts);
+    sellcounts = array-kept (λ l. length (l .sells)) (m .state .sellcounts) (d .sellcounts);
     holdings = λ a l.
         wide-putAccounts maxContracts (x .accounts) (m .state .accounts) (f .holdings)
         (λ b k. d .holdings b (rw (d .accounts) at k)) a (rw (d .accounts) l);

@@ -426,8 +426,8 @@ module _ {s : State} {buys sells trades : List ℕ} (w : WellFormedState s buys 
             (record {
               contracts = d .contracts;
               accounts = d .accounts;
-              buys = length-set (s .buycounts) c (length (left false)) ∙ d .buys;
-              sells = length-set (s .sellcounts) c (length (left true)) ∙ d .sells;
+              buycounts = length-set (s .buycounts) c (length (left false)) ∙ d .buycounts;
+              sellcounts = length-set (s .sellcounts) c (length (left true)) ∙ d .sellcounts;
               holdings = d .holdings;
             })
 
@@ -461,10 +461,10 @@ module _ {s : State} {buys sells trades : List ℕ} (w : WellFormedState s buys 
               kept-other side e = rw (without-none (hasNumber number) (queue (not side)) (other side e)) (put-queue (area (not side)) c (count (not side)) (room (not side)))
 
               counts-in : c < length (s .buycounts)
-              counts-in = omega (arith, w .declared .buys, contract-here w account contract named, f .contracts-high)
+              counts-in = omega (arith, w .declared .buycounts, contract-here w account contract named, f .contracts-high)
 
               counts-in-sells : c < length (s .sellcounts)
-              counts-in-sells = omega (arith, w .declared .sells, contract-here w account contract named, f .contracts-high)
+              counts-in-sells = omega (arith, w .declared .sellcounts, contract-here w account contract named, f .contracts-high)
 
               count-is : (side : Bool) → r .sell ≡ side → sideCount side (t .state) c ≡ count side - 1
               count-is true e = rw gone-state (getD-set-same (s .sellcounts) c (length (left true)) 0 counts-in-sells ∙ out-length true e)

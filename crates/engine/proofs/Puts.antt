@@ -58,10 +58,10 @@ module _ (m : Memory) (f : Formed m) where
   fit-contracts = omega (arith, f .declared .contracts, f .contracts-high)
 
   fit-buys : m .state .contractcount ≤ length (m .state .buycounts)
-  fit-buys = omega (arith, f .declared .buys, f .contracts-high)
+  fit-buys = omega (arith, f .declared .buycounts, f .contracts-high)
 
   fit-sells : m .state .contractcount ≤ length (m .state .sellcounts)
-  fit-sells = omega (arith, f .declared .sells, f .contracts-high)
+  fit-sells = omega (arith, f .declared .sellcounts, f .contracts-high)
 
   -- ---- the rest of the state new: accounts, trades, counters
 

@@ -62,6 +62,9 @@ maxLimit = 100_000
 abbrev pub maxRate : ℕ
 maxRate = 10_000
 
+abbrev pub rateParts : ℕ
+rateParts = 10_000
+
 -- "a pairing method: 0 middle price, 1 average, 2 first-in price"
 abbrev pub maxMethod : ℕ
 maxMethod = 2

@@ -53,9 +53,18 @@ orderFrom ws =
 abbrev pub wordOf : ℕ → Order → ℕ
 wordOf word o = getD (orderWords o) word 0
 
+abbrev pub lotsWord : ℕ
+lotsWord = 3
+
+abbrev pub quoteWord : ℕ
+quoteWord = 6
+
 -- the trade area holds nine words for each trade of the day
 abbrev pub tradeStride : ℕ
 tradeStride = 9
+
+abbrev pub tradesWords : ℕ
+tradesWords = tradeStride * maxTrades
 
 abbrev pub tradeWords : Trade → List ℕ
 tradeWords t =
@@ -98,8 +107,8 @@ memory state buys sells trades = record { state = state; buys = buys; sells = se
 pub record Declared (s : State) : Type 0 where
   pub contracts : length (s .contracts) ≡ maxContracts
   pub accounts : length (s .accounts) ≡ maxAccounts
-  pub buys : length (s .buycounts) ≡ maxContracts
-  pub sells : length (s .sellcounts) ≡ maxContracts
+  pub buycounts : length (s .buycounts) ≡ maxContracts
+  pub sellcounts : length (s .sellcounts) ≡ maxContracts
   pub holdings : (a : ℕ) → a < maxAccounts → length (accountAt (s .accounts) a .holdings) ≡ maxContracts
 
 -- a contract in use with its queues
@@ -199,7 +208,7 @@ unfoldable pub hasRoom : Memory → Bool
 hasRoom m =
     leb (queueStride * m .state .contractcount) (length (m .buys))
     && leb (queueStride * m .state .contractcount) (length (m .sells))
-    && leb (tradeStride * maxTrades) (length (m .trades))
+    && leb tradesWords (length (m .trades))
 
 unfoldable pub wellFormedMemory : Memory → Bool
 wellFormedMemory m = countsInRange (m .state) && hasRoom m && wellFormedContents (exchangeOf m)

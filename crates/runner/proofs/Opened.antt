@@ -57,8 +57,8 @@ module _ (file : List ℕ) where
         record {
           contracts = length-padded 4 noContract (tabulate (contractsIn file) (openingContract file)) (rw length-tabulate (s .contracts));
           accounts = length-padded 32 (accountWith 0 0) (tabulate (accountsIn file) (openingHolder file)) (rw length-tabulate (s .accounts));
-          buys = refl;
-          sells = refl;
+          buycounts = refl;
+          sellcounts = refl;
           holdings = λ a l.
               every-filled (λ (v : Account). length (v .holdings) ≡ 4) (accountsIn file) (openingHolder file) (32 - length (tabulate (accountsIn file) (openingHolder file))) (accountWith 0 0) noAccount
               (λ i. refl) refl a (rw length-tabulate (omega arith));

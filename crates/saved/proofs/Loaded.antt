@@ -138,4 +138,4 @@ module _ (m : Memory) (d : Declared (m .state)) (x : Exchange) (s : Loadable x) 
         accounts = within-high 1 maxAccounts (length (x .accounts)) (s .accounts);
         holdings = λ (a : ℕ) (l : a < length (x .accounts)). omega (arith, wide a l, within-high 1 maxContracts (length (x .listings)) (s .contracts));
       }) in
-      record { contracts = k .contracts; accounts = k .accounts; buys = k .buys; sells = k .sells; holdings = k .holdings }
+      record { contracts = k .contracts; accounts = k .accounts; buycounts = k .buycounts; sellcounts = k .sellcounts; holdings = k .holdings }

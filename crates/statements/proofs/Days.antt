@@ -182,8 +182,8 @@ module _ {s : State} {buys sells area starts : List ℕ} {clients legs′ : ℕ}
         record {
           contracts = d .contracts;
           accounts = ap length e ∙ length-tabulate 32 (clientAccount (clientsWith clients starts));
-          buys = d .buys;
-          sells = d .sells;
+          buycounts = d .buycounts;
+          sellcounts = d .sellcounts;
           holdings = four-holdings;
         }
 
