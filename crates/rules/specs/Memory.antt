@@ -140,7 +140,7 @@ exchangeOf m =
     }
 
 -- ---- "Room beyond a count .. is unaltered, except that places newly in use are written, and places no longer in use are
--- set to zero." What that leaves at each place is one law: `put-told` (invariants, specs/ByPlace).
+-- set to zero." What that leaves at each place is one law: `put-told` (invariants, proofs/PutTold, in the words of specs/ByPlace).
 
 -- contract c's queue written over one of n orders
 unfoldable pub putQueue : List ℕ → ℕ → ℕ → List Order → List ℕ

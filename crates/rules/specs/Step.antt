@@ -1,7 +1,8 @@
--- What an accepted command of each kind answers and does (document 01). Assumes nothing.
+-- What an accepted command of kinds 1 to 7 answers and does (document 01); 8 and 9 have theirs in Quote.antt and Change.antt. Assumes
+-- nothing.
 use mathlib.Core.Bool.{Bool}
 use mathlib.Core.List.{List, [], _∷_, _++_}
-use Prim.Native.Nat.{ℕ, _+_, _-_}
+use Prim.Native.Nat.{ℕ, _+_}
 use lib.Dec.{eqb}
 use lib.IntN.{ℤ, pos, _+ℤ_, _-ℤ_}
 use lib.ListN.{set}

@@ -1,5 +1,5 @@
--- A state that is well formed, and near misses that are not, a clause each. One table, one statement, as in Examples.antt.
--- Assumes nothing.
+-- A state that is well formed, and near misses that are not, a clause each: three tables, a statement each, as in
+-- Examples.antt. Assumes nothing.
 use mathlib.Core.Bool.{true}
 use mathlib.Core.List.{List, [], _∷_}
 use mathlib.Core.Path.{_≡_, refl}

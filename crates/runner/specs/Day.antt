@@ -39,8 +39,8 @@ pub record DayIs (file buys sells trades : List ℕ) (day : Day) (m′ : Memory)
 unfoldable pub linesTo : List ℕ → ℕ → List ℕ
 linesTo file n = runLines 1 (opening file) (part file 0 n)
 
--- ---- a whole file: of its output so many bytes were handed to writes that told all was written. "whole" is told of all alone. How
--- many they are where a write fails the rules leave open, and no promise covers what a write does.
+-- ---- a whole file: of its output so many bytes were handed to writes that told all was written, and `whole` only where these are
+-- all of them. How many they are where a write fails the rules leave open, and no promise covers what a write does.
 pub record PrintedIs (file : List ℕ) (p : Printed) : Type 0 where
   pub front : p .bytes ≤ length (output file)
   pub all : p .whole ≡ true → p .bytes ≡ length (output file)
