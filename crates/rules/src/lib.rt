@@ -52,7 +52,7 @@ pub const ACCOUNT_WIDTH: usize = 8;
 
 pub const COMMAND_WIDTH: usize = 24;
 
-// How many words an order and a trade take in the lent areas, all the places of one queue, and all the trades of a day.
+// How many words an order, a trade and an answer take in the lent areas, all the places of one queue, and all the trades of a day.
 pub const ORDER_STRIDE: usize = 7;
 
 pub const QUEUE_STRIDE: usize = MAX_RESTING * ORDER_STRIDE;
@@ -60,6 +60,8 @@ pub const QUEUE_STRIDE: usize = MAX_RESTING * ORDER_STRIDE;
 pub const TRADE_STRIDE: usize = 9;
 
 pub const TRADES_WORDS: usize = TRADE_STRIDE * MAX_TRADES;
+
+pub const ANSWER_STRIDE: usize = 4;
 
 // The words of an order that hold its number, its remaining lots, its time stamp and its quote mark.
 pub const NUMBER_WORD: usize = 1;
