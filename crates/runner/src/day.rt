@@ -118,7 +118,7 @@ pub fn print_file(fd: i32, file: &[u8]) -> Printed
     }
     let mut buys = [0u32; rules::QUEUE_STRIDE * rules::MAX_CONTRACTS];
     let mut sells = [0u32; rules::QUEUE_STRIDE * rules::MAX_CONTRACTS];
-    let mut trades = [0u32; rules::TRADE_STRIDE * rules::MAX_TRADES];
+    let mut trades = [0u32; rules::sizes::TRADES_WORDS];
     let day = print_day(fd, file, &mut buys, &mut sells, &mut trades);
     Printed {
         bytes: day.bytes,
