@@ -9,7 +9,7 @@ use Rattle.laws.specs.Choice.{all, allOf}
 use Rattle.laws.specs.Chains.{passed}
 use Rattle.rules.specs.Bounds.{within, inAuction, maxPhase, termsInRange, tickMultiple, allowedToday, maxResting, maxTrades}
 use Rattle.rules.specs.Exchange.{Listing}
-use Rattle.rules.specs.Memory.{Memory, countsInRange, hasRoom, queueStride, tradeStride}
+use Rattle.rules.specs.Memory.{Memory, countsInRange, hasRoom, queueStride, tradesWords}
 use Rattle.rules.specs.WellFormed.{contractInRange, orderInRange, ordersInRange, queuesSorted, sorted, uncrossed, queueQuoted, listingQuoted}
 use Rattle.rules.specs.declared.Account.{Account}
 use Rattle.rules.specs.declared.Contract.{Contract}
@@ -36,7 +36,7 @@ counts-chain s = record { is = refl }
 pub room-chain : (m : Memory)
     → Chain (hasRoom m)
     (leb (queueStride * m .state .contractcount) (length (m .buys)) ∷ leb (queueStride * m .state .contractcount) (length (m .sells)) ∷ [])
-    (leb (tradeStride * maxTrades) (length (m .trades)))
+    (leb tradesWords (length (m .trades)))
 unfolding hasRoom
 room-chain m = record { is = refl }
 

@@ -64,7 +64,7 @@ pub fn has_room(s: State, buys: &[u32], sells: &[u32], trades: &[u32]) -> bool
     if sells.len() < words {
         return false;
     }
-    rules::TRADE_STRIDE * rules::MAX_TRADES <= trades.len()
+    rules::TRADES_WORDS <= trades.len()
 }
 
 // "the next order number 1 to 1,000,000", the next time stamp too; "Settlements: 250 a run."

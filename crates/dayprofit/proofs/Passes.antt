@@ -10,13 +10,14 @@ use lib.ListN.{length, getD, drop, replicate, getD-replicate, length-replicate}
 use Rattle.laws.specs.Choice.{pick}
 use Rattle.laws.specs.Sums.{sumOf, sumOf-append}
 use Rattle.rules.specs.Memory.{recordedTrades, tradeFrom, tradeStride}
+use Rattle.rules.specs.Bounds.{maxLots, maxPrice, maxAccounts, maxContracts}
 use Rattle.rules.specs.Settlement.{Leg, leg, Batch, only, firstLots}
 use Rattle.rules.specs.declared.Trade.{Trade}
 use Rattle.rules.proofs.Codecs.{length-trades, trade-at}
 use Rattle.accounting.specs.Article32.{lotsOf}
 use Rattle.dayprofit.specs.Day.{Sized, SizedTrades}
-use Rattle.dayprofit.specs.Sides.{same, lotsIf, valueIf, batchIf, batchesOf, openedToday, cost}
-use Rattle.dayprofit.specs.Slots.{slotOf, partyOf, closeOf, legSlot, changed, Placed, PlacedTrades, Addable, SumsAre, UsedAre}
+use Rattle.dayprofit.specs.Sides.{same, lotsIf, valueIf, batchIf, batchesOf, openedToday, cost, dayLotsMost, dayValueMost}
+use Rattle.dayprofit.specs.Slots.{slotOf, partyOf, closeOf, legSlot, changed, Placed, PlacedTrades, Addable, SumsAre, UsedAre, slots, slotLotsMost, slotValueMost}
 use Rattle.dayprofit.proofs.FirstIn.{lots-append, cost-append, first-append, first-other}
 use Rattle.dayprofit.proofs.Legs.{isKind, kind-itself, only-one, leg-lots, leg-value, value-small, legs-lots, legs-value, batches-append, batches-cost}
 use Rattle.dayprofit.proofs.Slots.{Pass, Kept, legOf, legsTo, slot-small, leg-addable, leg-more, trade-more, no-legs}
@@ -106,24 +107,24 @@ leg-reach f b ls here l h = rw (sumOf-append f ls (only here l), only-one f here
     chosen false = omega arith
 
 module _ (area : List ℕ) (count : ℕ) (g : SizedTrades area count) (i : ℕ) (h : i ≤ count) (a c : ℕ) (s k : Bool) where
-  pub lots-reach : sumOf (lotsIf s k) (legsTo area i a c) ≤ 1_024_000
+  pub lots-reach : sumOf (lotsIf s k) (legsTo area i a c) ≤ dayLotsMost
   lots-reach = omega (arith, legs-lots a c s k (recordedTrades area i) (sized-first area count g i h), length-trades area i, g .few)
 
-  pub value-reach : sumOf (valueIf s k) (legsTo area i a c) ≤ 1_024_000_000_000
+  pub value-reach : sumOf (valueIf s k) (legsTo area i a c) ≤ dayValueMost
   value-reach = omega (arith, legs-value a c s k (recordedTrades area i) (sized-first area count g i h), length-trades area i, g .few)
 
   module _ (sell : Bool) (t : Trade) (z : Sized t) where
-    pub lots-reach-leg : sumOf (lotsIf s k) (legsTo area i a c ++ legOf sell t a c) ≤ 2_000_000
+    pub lots-reach-leg : sumOf (lotsIf s k) (legsTo area i a c ++ legOf sell t a c) ≤ slotLotsMost
     lots-reach-leg =
         let l : Leg = leg sell (closeOf sell t) (t .price) (t .lots) in
-        let b : lotsIf s k l ≤ 1_000 = omega (arith, leg-lots s k sell (closeOf sell t) (t .price) (t .lots), z .lots) in
-        omega (arith, lots-reach, leg-reach (lotsIf s k) 1_000 (legsTo area i a c) (eqb (t .contract) c && eqb (partyOf sell t) a) l b)
+        let b : lotsIf s k l ≤ maxLots = omega (arith, leg-lots s k sell (closeOf sell t) (t .price) (t .lots), z .lots) in
+        omega (arith, lots-reach, leg-reach (lotsIf s k) maxLots (legsTo area i a c) (eqb (t .contract) c && eqb (partyOf sell t) a) l b)
 
-    pub value-reach-leg : sumOf (valueIf s k) (legsTo area i a c ++ legOf sell t a c) ≤ 2_000_000_000_000
+    pub value-reach-leg : sumOf (valueIf s k) (legsTo area i a c ++ legOf sell t a c) ≤ slotValueMost
     value-reach-leg =
         let l : Leg = leg sell (closeOf sell t) (t .price) (t .lots) in
-        let b : valueIf s k l ≤ 1_000_000_000 = rw (leg-value s k sell (closeOf sell t) (t .price) (t .lots)) (value-small t z _ (leg-lots s k sell (closeOf sell t) (t .price) (t .lots))) in
-        omega (arith, value-reach, leg-reach (valueIf s k) 1_000_000_000 (legsTo area i a c) (eqb (t .contract) c && eqb (partyOf sell t) a) l b)
+        let b : valueIf s k l ≤ maxPrice * maxLots = rw (leg-value s k sell (closeOf sell t) (t .price) (t .lots)) (value-small t z _ (leg-lots s k sell (closeOf sell t) (t .price) (t .lots))) in
+        omega (arith, value-reach, leg-reach (valueIf s k) (maxPrice * maxLots) (legsTo area i a c) (eqb (t .contract) c && eqb (partyOf sell t) a) l b)
 
 -- ---- the loop
 
@@ -167,28 +168,28 @@ module _ {area : List ℕ} {count i : ℕ} {t : Trade} (r : TradeRead area count
 
   -- lots are added too
   module _ (close : Bool) {us vs : List ℕ} (w : Passing (Added close) area count us vs i) where
-    pub buy-lots : getD us (legSlot false t) 0 ≤ 2_000_000
+    pub buy-lots : getD us (legSlot false t) 0 ≤ slotLotsMost
     buy-lots =
         omega (arith, w .kept .tells (t .buyer) (t .contract) false (its-places .buyer) (its-places .contract) .0, lots-reach area count (r .placed .trades) i (w .within) (t .buyer) (t .contract) false close)
 
-    pub sell-lots : {us′ vs′ : List ℕ} → Kept (Added close) (λ a c. legsTo area i a c ++ legOf false t a c) us′ vs′ → getD us′ (legSlot true t) 0 ≤ 2_000_000
+    pub sell-lots : {us′ vs′ : List ℕ} → Kept (Added close) (λ a c. legsTo area i a c ++ legOf false t a c) us′ vs′ → getD us′ (legSlot true t) 0 ≤ slotLotsMost
     sell-lots b =
         omega (arith, b .tells (t .seller) (t .contract) true (its-places .seller) (its-places .contract) .0, lots-reach-leg area count (r .placed .trades) i (w .within) (t .seller) (t .contract) true close false t its-size)
 
 -- before the first trade and after the last
 
-no-sum : (a c : ℕ) (s : Bool) → a < 32 → c < 4 → getD {A = ℕ} (replicate 256 0) (slotOf a c s) 0 ≡ 0
-no-sum a c s la lc = getD-replicate {A = ℕ} 256 (slotOf a c s) 0 0 (slot-small a c s la lc)
+no-sum : (a c : ℕ) (s : Bool) → a < maxAccounts → c < maxContracts → getD {A = ℕ} (replicate slots 0) (slotOf a c s) 0 ≡ 0
+no-sum a c s la lc = getD-replicate {A = ℕ} slots (slotOf a c s) 0 0 (slot-small a c s la lc)
 
-pub adding-none : (close : Bool) (area : List ℕ) (count : ℕ) (us vs : List ℕ) → us ≡ replicate 256 0 → vs ≡ replicate 256 0 → Passing (Added close) area count us vs 0
+pub adding-none : (close : Bool) (area : List ℕ) (count : ℕ) (us vs : List ℕ) → us ≡ replicate slots 0 → vs ≡ replicate slots 0 → Passing (Added close) area count us vs 0
 unfolding sumOf
 adding-none close area count us vs e f =
     rw (e, f)
     (record {
       within = omega arith;
       kept = record {
-        room = length-replicate {A = ℕ} 256 0;
-        room-too = length-replicate {A = ℕ} 256 0;
+        room = length-replicate {A = ℕ} slots 0;
+        room-too = length-replicate {A = ℕ} slots 0;
         tells = λ a c s la lc. rw (no-legs area a c) (no-sum a c s la lc, no-sum a c s la lc);
       };
     })
@@ -201,7 +202,7 @@ adding-done close area count us vs i h w =
       value-is = λ a c s la lc. rw (← e) (w .kept .tells a c s la lc .1);
     }
 
-pub taking-none : (area : List ℕ) (count : ℕ) (left vs : List ℕ) → length left ≡ 256 → vs ≡ replicate 256 0 → Passing (Taken left) area count left vs 0
+pub taking-none : (area : List ℕ) (count : ℕ) (left vs : List ℕ) → length left ≡ slots → vs ≡ replicate slots 0 → Passing (Taken left) area count left vs 0
 unfolding batchesOf firstLots cost lotsOf sumOf
 taking-none area count left vs h f =
     rw f
@@ -209,7 +210,7 @@ taking-none area count left vs h f =
       within = omega arith;
       kept = record {
         room = h;
-        room-too = length-replicate {A = ℕ} 256 0;
+        room-too = length-replicate {A = ℕ} slots 0;
         tells = λ a c s la lc. rw (no-legs area a c) (omega arith, no-sum a c s la lc);
       };
     })

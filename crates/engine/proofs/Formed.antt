@@ -13,7 +13,7 @@ use Rattle.laws.specs.Choice.{all, all-at, both-true}
 use Rattle.laws.specs.Chains.{passed}
 use Rattle.rules.specs.Bounds.{within, maxContracts, maxAccounts, maxResting, maxTrades, balanceMost}
 use Rattle.rules.specs.Exchange.{absent, accountAt, holdingAt, listingAt, isAbsent}
-use Rattle.rules.specs.Memory.{Memory, Declared, exchangeOf, inUse, listingIn, putAccounts, countsInRange, hasRoom, wellFormedMemory, memory, WellFormedState, queueStride, tradeStride}
+use Rattle.rules.specs.Memory.{Memory, Declared, exchangeOf, inUse, listingIn, putAccounts, countsInRange, hasRoom, wellFormedMemory, memory, WellFormedState, queueStride, tradeStride, tradesWords}
 use Rattle.rules.specs.WellFormed.{wellFormedContents}
 use Rattle.rules.specs.declared.Account.{Account}
 use Rattle.rules.specs.declared.State.{State}
@@ -32,7 +32,7 @@ pub record Formed (m : Memory) : Type 0 where
   pub sells-high : (c : ℕ) → c < m .state .contractcount → getD (m .state .sellcounts) c 0 ≤ maxResting
   pub buys-room : queueStride * m .state .contractcount ≤ length (m .buys)
   pub sells-room : queueStride * m .state .contractcount ≤ length (m .sells)
-  pub trades-room : tradeStride * maxTrades ≤ length (m .trades)
+  pub trades-room : tradesWords ≤ length (m .trades)
   pub contents : WellFormed (exchangeOf m)
   pub declared : Declared (m .state)
 

@@ -16,7 +16,7 @@ use Rattle.areas.specs.Lists.{removeAt}
 use Rattle.areas.proofs.Lists.{length-removeAt}
 use Rattle.rules.specs.Kinds.{codeOf, done, kindOf}
 use Rattle.rules.specs.Answers.{Refusal, cancelRefusals, firstOf, noSuchOrder, numbered, ofAnother, ownerRefusals, pullRefusals, removalRefused, restingOrder}
-use Rattle.rules.specs.Bounds.{maxLots, inAuction, maxResting, maxContracts}
+use Rattle.rules.specs.Bounds.{maxLots, inAuction, maxResting, maxContracts, continuous, noTrading}
 use Rattle.rules.specs.Exchange.{Listing, listingAt, lotsWhere, noListing, noOrder, isAbsent}
 use Rattle.rules.specs.Memory.{Memory, exchangeOf, listingIn, orderFrom, put, putQueue, queueIn, stepIn, memory, WellFormedState, firstWord}
 use Rattle.book.specs.Places.{firstWhere, indexOf}
@@ -46,21 +46,21 @@ use Rattle.engine.proofs.Tests.{place-below}
 -- ---- 4, by the contract's state
 
 module _ (c : Contract) (operator : Bool) where
-  pub in-continuous : c .phase ≡ 1 → false ≡ removalRefused c operator
+  pub in-continuous : c .phase ≡ continuous → false ≡ removalRefused c operator
   unfolding removalRefused
   in-continuous e = sym (rw e)
 
   pub in-auction : inAuction c ≡ true → false ≡ removalRefused c operator
   unfolding removalRefused
-  in-auction e = sym (ap not (either-true (eqb (c .phase) 1 || eqb (c .phase) 2 && operator) (inAuction c) e))
+  in-auction e = sym (ap not (either-true (eqb (c .phase) continuous || eqb (c .phase) noTrading && operator) (inAuction c) e))
 
-  pub in-no-trading : c .phase ≡ 2 → not operator ≡ removalRefused c operator
+  pub in-no-trading : c .phase ≡ noTrading → not operator ≡ removalRefused c operator
   unfolding removalRefused
   in-no-trading e = sym (rw e (elim operator [ true ↦ refl | false ↦ refl ]))
 
   pub in-any-other : c .phase ≢ 1 → c .phase ≢ 2 → inAuction c ≡ false → true ≡ removalRefused c operator
   unfolding removalRefused
-  in-any-other p q r = sym (rw (ne-eqb (c .phase) 1 p, ne-eqb (c .phase) 2 q, r))
+  in-any-other p q r = sym (rw (ne-eqb (c .phase) continuous p, ne-eqb (c .phase) noTrading q, r))
 
 -- ---- a cancel in one queue
 

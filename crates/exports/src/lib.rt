@@ -34,11 +34,6 @@ pub mod side;
 use crate::day::Opened;
 use crate::side::Part;
 
-// How many words the areas of buys and of sells need for every contract, and the area of trades for a day.
-pub const QUEUES_WORDS: usize = rules::QUEUE_STRIDE * rules::MAX_CONTRACTS;
-
-pub const TRADES_WORDS: usize = rules::TRADE_STRIDE * rules::MAX_TRADES;
-
 // The flags of an insert: what is not set is a buy, an open, limit and good for day.
 pub const FLAG_SELL: u8 = 1;
 

@@ -10,7 +10,7 @@ use lib.ListN.{length, getD}
 use Rattle.laws.specs.Choice.{all, all-at, all-true, both-true, true-both}
 use Rattle.laws.specs.Chains.{passed, join}
 use Rattle.rules.specs.Bounds.{within, maxContracts, maxAccounts, maxResting, maxTrades}
-use Rattle.rules.specs.Memory.{Memory, queueStride, tradeStride, exchangeOf, countsInRange, hasRoom, wellFormedMemory}
+use Rattle.rules.specs.Memory.{Memory, queueStride, exchangeOf, countsInRange, hasRoom, wellFormedMemory, tradesWords}
 use Rattle.rules.specs.WellFormed.{wellFormedContents}
 use Rattle.rules.specs.declared.State.{State}
 
@@ -71,11 +71,11 @@ module _ (s : State) where
 pub record RoomOk (m : Memory) : Type 0 where
   pub buys : queueStride * m .state .contractcount ≤ length (m .buys)
   pub sells : queueStride * m .state .contractcount ≤ length (m .sells)
-  pub trades : tradeStride * maxTrades ≤ length (m .trades)
+  pub trades : tradesWords ≤ length (m .trades)
 
 module _ (m : Memory) where
   abbrev roomTests : List Bool
-  roomTests = leb (queueStride * m .state .contractcount) (length (m .sells)) ∷ leb (tradeStride * maxTrades) (length (m .trades)) ∷ []
+  roomTests = leb (queueStride * m .state .contractcount) (length (m .sells)) ∷ leb tradesWords (length (m .trades)) ∷ []
 
   pub room-ok : hasRoom m ≡ true → RoomOk m
   unfolding hasRoom

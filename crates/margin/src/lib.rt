@@ -9,6 +9,7 @@ ghost use Rattle.margin.specs.Charge.{ChargeTerms, ChargeableIn, Chargea
 use book::scan;
 use rules::Contract;
 use rules::Holding;
+use rules::sizes::RATE_PARTS;
 
 // "The charge for one lot is multiplier x reference x rate / 10,000, rounded up."
 pub fn charge(c: Contract) -> u64
@@ -18,7 +19,7 @@ pub fn charge(c: Contract) -> u64
     let multiplier = c.multiplier as u64;
     let reference = c.reference as u64;
     let rate = c.rate as u64;
-    (multiplier * reference * rate + 9999) / 10000
+    (multiplier * reference * rate + (RATE_PARTS - 1)) / RATE_PARTS
 }
 
 fn larger_side(bought: u64, sold: u64) -> u64

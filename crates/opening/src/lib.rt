@@ -3,7 +3,7 @@
 ghost use mathlib.Core.Bool.{true};
 ghost use mathlib.Core.Path.{_≡_};
 ghost use Prim.Native.Nat.{_<_};
-ghost use Rattle.rules.specs.Bounds.{maxContracts};
+ghost use Rattle.rules.specs.Bounds.{continuous, maxContracts};
 ghost use Rattle.rules.specs.Memory.{WellFormedState, memory, stepIn};
 ghost use Rattle.rules.specs.declared.Command.the-variants.{Phase};
 ghost use Rattle.engine.specs.Outcome.{OutcomeIs, isMatch};
@@ -54,8 +54,8 @@ fn leave_auction(
     trades: &mut [u32],
     contract: u32,
 ) -> Outcome
-    requires { ⌜ WellFormedState state (now buys) (now sells) (now trades) × (isMatch state contract 1 ≡ true) ⌝ }
-    ensures { λ r. ⌜ OutcomeIs (stepIn (memory state (now (buys .entry)) (now (sells .entry)) (now (trades .entry))) (Phase contract 1)) r (now (buys .exit)) (now (sells .exit)) (now (trades .exit)) ⌝ }
+    requires { ⌜ WellFormedState state (now buys) (now sells) (now trades) × (isMatch state contract continuous ≡ true) ⌝ }
+    ensures { λ r. ⌜ OutcomeIs (stepIn (memory state (now (buys .entry)) (now (sells .entry)) (now (trades .entry))) (Phase contract continuous)) r (now (buys .exit)) (now (sells .exit)) (now (trades .exit)) ⌝ }
 {
     let c = laws::place_of(contract);
     let bids = state.buycounts;

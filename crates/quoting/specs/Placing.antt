@@ -3,13 +3,13 @@
 use mathlib.Core.Bool.{false}
 use mathlib.Core.List.{List, _++_}
 use mathlib.Core.Path.{_≡_}
-use Prim.Native.Nat.{ℕ, _+_, _-_, _*_}
+use Prim.Native.Nat.{ℕ, _+_, _*_}
 use lib.Dec.{eqb, leb}
 use lib.ListN.{length, take, drop}
 use Rattle.areas.specs.Lists.{over}
 use Rattle.laws.specs.Choice.{pick}
 use Rattle.rules.specs.Answers.{Refusal, firstOf, listingOf, namedRefusals, notContinuous, orderRefusals}
-use Rattle.rules.specs.Bounds.{maxResting, maxTrades}
+use Rattle.rules.specs.Bounds.{maxResting, tradesWithRoom}
 use Rattle.rules.specs.Exchange.{Exchange, accountAt, holderOf, listingAt, own, placeOf}
 use Rattle.rules.specs.Kinds.{refused}
 use Rattle.rules.specs.Memory.{Memory, AfterCommand, exchangeOf, inMemory, memory, put, queueStride, stepIn, tradeStride}
@@ -59,7 +59,7 @@ pub record Undoable (at n : ℕ) (before after : List ℕ) : Type 0 where
 
 -- where the trades begin that the buy can make, and those before the end of the day's room
 abbrev pub madeFrom : ℕ → ℕ
-madeFrom recorded = tradeStride * pick (leb recorded (maxTrades - maxResting)) recorded (maxTrades - maxResting)
+madeFrom recorded = tradeStride * pick (leb recorded tradesWithRoom) recorded tradesWithRoom
 
 -- accepted as the rules say; or refused with the rules' code, and each area can be put back
 pub record PlacedIs (s : State) (buys sells trades : List ℕ) (account contract lots buy sell : ℕ) (r : Outcome) (buys′ sells′ trades′ : List ℕ) : Type 0 where

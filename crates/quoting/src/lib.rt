@@ -18,6 +18,7 @@ use refusals::codes;
 use refusals::orders;
 use rules::NewOrder;
 use rules::State;
+use rules::sizes::TRADES_WITH_ROOM;
 
 // The words of the trades that one order can make: at most one with each order that it meets.
 const MADE: usize = rules::TRADE_STRIDE * rules::MAX_RESTING;
@@ -135,8 +136,8 @@ fn first_made(recorded: usize) -> usize
     requires { ⌜ recorded ≤ maxTrades ⌝ }
     ensures { λ r. ⌜ r ≡ madeFrom recorded ⌝ }
 {
-    if rules::MAX_TRADES - rules::MAX_RESTING < recorded {
-        return rules::TRADE_STRIDE * (rules::MAX_TRADES - rules::MAX_RESTING);
+    if TRADES_WITH_ROOM < recorded {
+        return rules::TRADE_STRIDE * TRADES_WITH_ROOM;
     }
     rules::TRADE_STRIDE * recorded
 }

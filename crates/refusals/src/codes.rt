@@ -27,6 +27,7 @@ use rules::PriceCondition;
 use rules::State;
 use rules::Taker;
 use rules::TimeCondition;
+use rules::sizes::TRADES_WITH_ROOM;
 
 // 4: "Insert needs continuous.", and auction.
 fn takes_orders(terms: Contract) -> bool
@@ -208,8 +209,8 @@ fn kill_refused(
     is_short(area, c, count, t, lots)
 }
 
-// 12: more trades than the day has room for. An order trades at most once with each order of the opposite queue, so up to 960
-// recorded trades nothing needs to be counted. In auction it makes no trades.
+// 12: more trades than the day has room for. An order trades at most once with each order of the opposite queue, so up to
+// `TRADES_WITH_ROOM` recorded trades nothing needs to be counted. In auction it makes no trades.
 fn trades_refused(
     terms: Contract,
     recorded: usize,
@@ -225,7 +226,7 @@ fn trades_refused(
     if terms.phase == AUCTION {
         return false;
     }
-    if recorded <= rules::MAX_TRADES - rules::MAX_RESTING {
+    if recorded <= TRADES_WITH_ROOM {
         return false;
     }
     rules::MAX_TRADES < recorded + book::scan::count_trades(area, c, count, t, lots)

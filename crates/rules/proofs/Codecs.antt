@@ -18,7 +18,7 @@ use Rattle.areas.proofs.Lists.{take-over, drop-over, drop-padded, padded-full}
 use Rattle.areas.proofs.Records.{length-encode, length-records, getD-records, length-store, store-front, store-append, store-records, records-store-front, records-store-before, records-store-after}
 use Rattle.rules.specs.Bounds.{maxResting, maxTrades}
 use Rattle.rules.specs.Exchange.{noOrder, noTrade}
-use Rattle.rules.specs.Memory.{orderWords, orderFrom, tradeWords, tradeFrom, queueIn, recordedTrades, putQueue, putQueues, putTrades, orderStride, queueStride, tradeStride, firstWord, wordOf}
+use Rattle.rules.specs.Memory.{orderWords, orderFrom, tradeWords, tradeFrom, queueIn, recordedTrades, putQueue, putQueues, putTrades, orderStride, queueStride, tradeStride, firstWord, wordOf, tradesWords}
 use Rattle.rules.specs.declared.Order.{Order}
 use Rattle.rules.specs.declared.Trade.{Trade}
 
@@ -281,6 +281,6 @@ module _ (area : List ℕ) (n : ℕ) where
     unfolding putTrades recordedTrades
     trades-put = records-put trade-codec noTrade area 0 n ts (omega arith)
 
-    pub length-putTrades : n ≤ maxTrades → length ts ≤ maxTrades → tradeStride * maxTrades ≤ length area → length (putTrades area n ts) ≡ length area
+    pub length-putTrades : n ≤ maxTrades → length ts ≤ maxTrades → tradesWords ≤ length area → length (putTrades area n ts) ≡ length area
     unfolding putTrades
     length-putTrades few short room = length-put trade-codec noTrade area 0 n ts (omega arith)

@@ -21,6 +21,10 @@ maxTrades = 1_024
 abbrev pub maxSettlements : ℕ
 maxSettlements = 250
 
+-- no rule: up to so many recorded trades there is room for one with each order of a queue
+abbrev pub tradesWithRoom : ℕ
+tradesWithRoom = maxTrades - maxResting
+
 -- "Order numbers: 1 to 999,999 each day": the next number is 1,000,000 when they are used up. Of time stamps too: "Stamps end at
 -- 999,999 a day." (document 02, ticket 8)
 abbrev pub numbersEnd : ℕ

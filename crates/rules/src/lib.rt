@@ -5,6 +5,8 @@
 //
 // A record with `#[repr(C)]` lies in memory as a C compiler lays it out: programs in other languages hand it in as it is.
 
+pub mod sizes;
+
 // "Numbers that bound everything", by the names that they have in specs/ (Bounds, Memory, DayFile).
 pub const MAX_CONTRACTS: usize = 4;
 
@@ -30,9 +32,6 @@ pub const MAX_LIMIT: u32 = 100000;
 
 pub const MAX_RATE: u32 = 10000;
 
-// A margin rate is so many parts of this.
-pub const RATE_PARTS: u64 = 10000;
-
 pub const MAX_BALANCE: u64 = 1000000000000000000;
 
 pub const MAX_AMOUNT: u64 = 1000000000000000;
@@ -52,28 +51,24 @@ pub const ACCOUNT_WIDTH: usize = 8;
 
 pub const COMMAND_WIDTH: usize = 24;
 
-// How many words an order, a trade and an answer take in the lent areas, all the places of one queue, and all the trades of a day.
+// How many words an order, all the places of one queue, a trade and an answer take in the lent areas.
 pub const ORDER_STRIDE: usize = 7;
 
 pub const QUEUE_STRIDE: usize = MAX_RESTING * ORDER_STRIDE;
 
 pub const TRADE_STRIDE: usize = 9;
 
-pub const TRADES_WORDS: usize = TRADE_STRIDE * MAX_TRADES;
-
 pub const ANSWER_STRIDE: usize = 4;
 
-// The words of an order that hold its number, its remaining lots, its time stamp and its quote mark.
+// How many words the areas of buys and of sells need for every contract, and the area of trades for a day.
+pub const QUEUES_WORDS: usize = QUEUE_STRIDE * MAX_CONTRACTS;
+
+pub const TRADES_WORDS: usize = TRADE_STRIDE * MAX_TRADES;
+
+// The words of an order that hold its number and its time stamp.
 pub const NUMBER_WORD: usize = 1;
 
-pub const LOTS_WORD: usize = 3;
-
 pub const STAMP_WORD: usize = 5;
-
-pub const QUOTE_WORD: usize = 6;
-
-// Up to so many recorded trades an order has room for all of its own: it makes at most one with each order of the opposite queue.
-pub const TRADES_WITH_ROOM: usize = MAX_TRADES - MAX_RESTING;
 
 // A contract's terms for the day, with the number of its pairing method, its phase (the paper's contract state) and its last
 // price. Rate and method are as wide as in the day file: four contracts then take 128 bytes, which a compiler still copies in

@@ -9,6 +9,7 @@ use lib.ListN.{length, getD, replicate}
 use Rattle.laws.specs.Tabulate.{tabulate, length-tabulate}
 use Rattle.areas.specs.Lists.{padded}
 use Rattle.areas.proofs.Lists.{length-padded}
+use Rattle.rules.specs.Bounds.{maxAccounts, maxContracts}
 use Rattle.rules.specs.Condition3.{Opening}
 use Rattle.rules.specs.DayFile.{accountsIn, contractsIn, opening, openingAccount, sound}
 use Rattle.rules.specs.Exchange.{Exchange, accountAt, holdingAt, noAccount, noContract, noHolding}
@@ -55,12 +56,12 @@ module _ (file : List ℕ) where
     opening-declared =
         let s = sound-layout file h in
         record {
-          contracts = length-padded 4 noContract (tabulate (contractsIn file) (openingContract file)) (rw length-tabulate (s .contracts));
-          accounts = length-padded 32 (accountWith 0 0) (tabulate (accountsIn file) (openingHolder file)) (rw length-tabulate (s .accounts));
+          contracts = length-padded maxContracts noContract (tabulate (contractsIn file) (openingContract file)) (rw length-tabulate (s .contracts));
+          accounts = length-padded maxAccounts (accountWith 0 0) (tabulate (accountsIn file) (openingHolder file)) (rw length-tabulate (s .accounts));
           buycounts = refl;
           sellcounts = refl;
           holdings = λ a l.
-              every-filled (λ (v : Account). length (v .holdings) ≡ 4) (accountsIn file) (openingHolder file) (32 - length (tabulate (accountsIn file) (openingHolder file))) (accountWith 0 0) noAccount
+              every-filled (λ (v : Account). length (v .holdings) ≡ maxContracts) (accountsIn file) (openingHolder file) (maxAccounts - length (tabulate (accountsIn file) (openingHolder file))) (accountWith 0 0) noAccount
               (λ i. refl) refl a (rw length-tabulate (omega arith));
         }
 

@@ -4,11 +4,11 @@ use mathlib.Core.List.{List}
 use mathlib.Core.Path.{_≡_}
 use Prim.Native.Nat.{ℕ, _≤_, _*_}
 use lib.ListN.{length}
-use Rattle.rules.specs.Bounds.{maxContracts, maxTrades}
+use Rattle.rules.specs.Bounds.{maxContracts}
 use Rattle.rules.specs.Condition3.{Condition3, opened, run}
 use Rattle.rules.specs.DayFile.{sound, commandsIn, opening, commandsOf}
 use Rattle.rules.specs.Lines.{output, runLines}
-use Rattle.rules.specs.Memory.{Memory, memory, queueStride, tradeStride}
+use Rattle.rules.specs.Memory.{Memory, memory, queueStride, tradesWords}
 use Rattle.dayfile.specs.Opening.{openingState}
 use Rattle.runner.specs.Parts.{part}
 use Rattle.runner.specs.declared.day.Day.{Day}
@@ -19,7 +19,7 @@ pub record Ready (file buys sells trades : List ℕ) : Type 0 where
   pub whole : sound file ≡ true
   pub buys-room : queueStride * maxContracts ≤ length buys
   pub sells-room : queueStride * maxContracts ≤ length sells
-  pub trades-room : tradeStride * maxTrades ≤ length trades
+  pub trades-room : tradesWords ≤ length trades
 
 abbrev pub openingOf : List ℕ → List ℕ → List ℕ → List ℕ → Memory
 openingOf file buys sells trades = memory (openingState file) buys sells trades

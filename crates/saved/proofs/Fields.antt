@@ -19,8 +19,8 @@ use Rattle.rules.specs.declared.Contract.{Contract}
 use Rattle.rules.specs.declared.Holding.{Holding}
 use Rattle.rules.specs.declared.Order.{Order}
 use Rattle.endian.specs.Numbers.{two, four, eight}
-use Rattle.statements.specs.Statement.{holdingBytes, unsigned}
-use Rattle.saved.specs.Saved.{asleep, contractBytes, savedContract, savedHolding, signEnd, signedOf}
+use Rattle.statements.specs.Statement.{holdingBytes, unsigned, holdingWidth}
+use Rattle.saved.specs.Saved.{asleep, contractBytes, savedContract, savedHolding, signEnd, signedOf, balanceWidth, savedAccountWidth, savedContractWidth}
 use Rattle.endian.proofs.Numbers.{Bytes, parts, two-back, four-back, eight-back, one-forth, two-forth, four-forth, eight-forth, below-8, u8-drop, u16-drop, u32-drop, u64-drop}
 use Rattle.saved.proofs.Rows.{Field}
 
@@ -84,7 +84,7 @@ listing-back l ys h =
             → _≡_ {A = Listing} (record { contract = c; buys = []; sells = [] }) (record { contract = c; buys = buys; sells = sells })
         same c buys sells b s = rw (b, s)
 
-listing-forth : (xs : List ℕ) → Bytes xs → 24 ≤ length xs → listingBytes (listingFrom xs) ≡ take 24 xs
+listing-forth : (xs : List ℕ) → Bytes xs → savedContractWidth ≤ length xs → listingBytes (listingFrom xs) ≡ take savedContractWidth xs
 unfolding savedContract contractBytes contractFrom
 listing-forth xs b h =
     rw (
@@ -105,7 +105,7 @@ listing-forth xs b h =
     )
     (parts 0 2 22 xs)
 
-pub listing : Field Listing 24 asleep listingBytes listingFrom
+pub listing : Field Listing savedContractWidth asleep listingBytes listingFrom
 unfolding contractBytes four two
 listing = record { wide = λ l h. refl; back = listing-back; forth = listing-forth }
 
@@ -122,7 +122,7 @@ abbrev pub entryBytes : Entry → List ℕ
 entryBytes e = eight (unsigned (e .balance)) ++ (e .mark ∷ [])
 
 abbrev pub savedEntry : List ℕ → Entry
-savedEntry xs = record { balance = signedOf (u64At xs 0); mark = u8At xs 8 }
+savedEntry xs = record { balance = signedOf (u64At xs 0); mark = u8At xs balanceWidth }
 
 abbrev pub fitsSigned : Entry → Bool
 fitsSigned e = ltb (natAbs (e .balance)) signEnd
@@ -132,11 +132,11 @@ unfolding u64At u32At u16At u8At eight four two
 entry-back e ys h =
     rw (eight-back (unsigned (e .balance)) [], signed-back (e .balance) (ltb-true (natAbs (e .balance)) signEnd h))
 
-entry-forth : (xs : List ℕ) → Bytes xs → 9 ≤ length xs → entryBytes (savedEntry xs) ≡ take 9 xs
+entry-forth : (xs : List ℕ) → Bytes xs → savedAccountWidth ≤ length xs → entryBytes (savedEntry xs) ≡ take savedAccountWidth xs
 entry-forth xs b h =
     rw (signed-forth (u64At xs 0) (below-8 xs b 0), eight-forth xs b 0 (omega arith), one-forth xs 8 (omega arith)) (parts 0 8 1 xs)
 
-pub entry : Field Entry 9 fitsSigned entryBytes savedEntry
+pub entry : Field Entry savedAccountWidth fitsSigned entryBytes savedEntry
 unfolding eight four two
 entry = record { wide = λ e h. refl; back = entry-back; forth = entry-forth }
 
@@ -159,11 +159,11 @@ holding-back o ys h =
       ← eqb-true (o .startshort) (o .short) (p .1),
     )
 
-holding-forth : (xs : List ℕ) → Bytes xs → 8 ≤ length xs → holdingBytes (holdingFrom xs) ≡ take 8 xs
+holding-forth : (xs : List ℕ) → Bytes xs → holdingWidth ≤ length xs → holdingBytes (holdingFrom xs) ≡ take holdingWidth xs
 unfolding savedHolding holdingBytes
 holding-forth xs b h = rw (four-forth xs b 0 (omega arith), four-forth xs b 4 (omega arith)) (parts 0 4 4 xs)
 
-pub holding : Field Holding 8 unmoved holdingBytes holdingFrom
+pub holding : Field Holding holdingWidth unmoved holdingBytes holdingFrom
 unfolding holdingBytes four two
 holding = record { wide = λ o h. refl; back = holding-back; forth = holding-forth }
 
@@ -185,7 +185,7 @@ module _ (bs : List ℕ) (at : ℕ) where
         add-zero at,
       )
 
-  pub entry-at : savedEntry (drop at bs) ≡ record { balance = signedOf (u64At bs at); mark = u8At bs (at + 8) }
+  pub entry-at : savedEntry (drop at bs) ≡ record { balance = signedOf (u64At bs at); mark = u8At bs (at + balanceWidth) }
   entry-at = rw (u64-drop bs at 0, u8-drop bs at 8, add-zero at)
 
   pub holding-at : savedHolding (drop at bs) 0 ≡ savedHolding bs at

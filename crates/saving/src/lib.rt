@@ -63,7 +63,7 @@ pub fn write_state(
 fn is_formed(state: State) -> bool
     ensures { λ r. ⌜ r ≡ wellFormedMemory (inSpare state) ⌝ }
 {
-    let spare = [0u32; rules::TRADE_STRIDE * rules::MAX_TRADES];
+    let spare = [0u32; rules::TRADES_WORDS];
     audit::well_formed(state, &spare[..], &spare[..], &spare[..])
 }
 

@@ -10,6 +10,8 @@ ghost use Rattle.rules.specs.Memory.{putAccount};
 ghost use Rattle.statements.specs.Statement.{holdingWidth};
 ghost use Rattle.saved.specs.Saved.{contractPlace, savedContract, signedOf, savedHolding, savedAccount, loadedAccount, loadedFrom, loadedState, savedContractWidth, savedAccountWidth};
 ghost use Rattle.saving.specs.Parts.{Laid};
+use crate::shape::BALANCE_WIDTH;
+use crate::shape::LOTS_WIDTH;
 use crate::shape::SAVED_ACCOUNT_WIDTH;
 use crate::shape::SAVED_CONTRACT_WIDTH;
 use crate::shape::SETTLEMENTS_WIDTH;
@@ -58,7 +60,7 @@ fn holding_from(file: &[u8], at: usize) -> Holding
     ensures { λ r. ⌜ r ≡ savedHolding (now (file .entry)) at ⌝ }
 {
     let long = u32_at(file, at);
-    let short = u32_at(file, at + 4);
+    let short = u32_at(file, at + LOTS_WIDTH);
     Holding {
         long,
         short,
@@ -106,7 +108,7 @@ fn account_over(file: &[u8], at: usize, row: usize, n: usize, room: Account) -> 
     ensures { λ r. ⌜ r ≡ putAccount (savedAccount (now (file .entry)) n at row) room ⌝ }
 {
     let balance = signed(u64_at(file, at));
-    let mark = u8_at(file, at + 8);
+    let mark = u8_at(file, at + BALANCE_WIDTH);
     let places = room.holdings;
     let holdings = holdings_over(file, row, n, places);
     Account {

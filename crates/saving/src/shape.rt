@@ -14,10 +14,19 @@ use endian::reading::u8_at;
 use endian::reading::u32_at;
 use statements::writing::HOLDING_WIDTH;
 
-// How many bytes a contract takes, the day file's and the last price; an account, its balance and its mark; and the settlement count.
-pub const SAVED_CONTRACT_WIDTH: usize = rules::CONTRACT_WIDTH + 4;
+// How many bytes a last price, a balance, a maker's mark and the lots of one side of a holding take.
+const PRICE_WIDTH: usize = 4;
 
-pub const SAVED_ACCOUNT_WIDTH: usize = 9;
+pub const BALANCE_WIDTH: usize = 8;
+
+const MARK_WIDTH: usize = 1;
+
+pub const LOTS_WIDTH: usize = 4;
+
+// A contract, the day file's and the last price; an account, its balance and its mark; and the settlement count.
+pub const SAVED_CONTRACT_WIDTH: usize = rules::CONTRACT_WIDTH + PRICE_WIDTH;
+
+pub const SAVED_ACCOUNT_WIDTH: usize = BALANCE_WIDTH + MARK_WIDTH;
 
 pub const SETTLEMENTS_WIDTH: usize = 4;
 
@@ -26,8 +35,8 @@ const COUNTS_WIDTH: usize = 4 * rules::COUNT_WIDTH + SETTLEMENTS_WIDTH;
 
 const LAST_SECTION: usize = rules::COUNT_WIDTH + SETTLEMENTS_WIDTH;
 
-// Before the first account's mark, the contracts aside: two counts and the balance's eight bytes.
-const FIRST_MARK: usize = TWO_COUNTS + 8;
+// Before the first account's mark, the contracts aside: two counts and the balance.
+const FIRST_MARK: usize = TWO_COUNTS + BALANCE_WIDTH;
 
 // How many bytes a file of so many contracts and accounts has.
 pub fn file_length(contracts: usize, accounts: usize) -> usize

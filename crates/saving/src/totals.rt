@@ -1,6 +1,6 @@
 // Whether a state may be written. For this crate: each requires counts within the arrays.
 ghost use mathlib.Core.Path.{_≡_};
-ghost use Prim.Native.Nat.{_≤_, _<_};
+ghost use Prim.Native.Nat.{_^_, _≤_, _<_};
 ghost use lib.ListN.{take};
 ghost use Rattle.laws.specs.Choice.{all};
 ghost use Rattle.rules.specs.Bounds.{maxContracts, maxAccounts};
@@ -11,7 +11,7 @@ use rules::State;
 
 // A cast as a call, which says how large the number is.
 fn wide(x: u32) -> u64
-    ensures { λ r. ⌜ (r ≡ x) × (r < 4294967296) ⌝ }
+    ensures { λ r. ⌜ (r ≡ x) × (r < 2 ^ 32) ⌝ }
 {
     x as u64
 }

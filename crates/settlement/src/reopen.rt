@@ -11,6 +11,7 @@ ghost use Rattle.rules.specs.Memory.{putFirst, putQueues};
 ghost use Rattle.rules.specs.Settlement as settlement;
 ghost use Rattle.settlement.specs.Settling.{Clearable, AllClearable, ClearedAre};
 use rules::Contract;
+use rules::PRE_OPEN;
 use rules::State;
 
 // "the settlement price becomes the reference, contracts return to pre-open"
@@ -19,7 +20,7 @@ fn reopened(contract: Contract, price: u32) -> Contract
 {
     let mut next = contract;
     next.reference = price;
-    next.phase = 0;
+    next.phase = PRE_OPEN;
     next
 }
 

@@ -85,7 +85,7 @@ pub fn posted_statement<'a>(
     ensures { λ r. ⌜ PostedIs (memory state (now (buys .entry)) (now (sells .entry)) (now (trades .entry))) place clients (now (starts .entry)) (now (postings .entry)) (now (out .entry)) r (now (out .exit)) ⌝ }
 {
     let count = state.tradecount;
-    let mut area = [0u32; rules::TRADE_STRIDE * rules::MAX_TRADES];
+    let mut area = [0u32; rules::TRADES_WORDS];
     let posting = clients::posting::post_trades(
         trades,
         count,
