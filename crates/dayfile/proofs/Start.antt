@@ -15,7 +15,7 @@ use Rattle.rules.specs.DayFile.{contractsIn, accountsIn, openingListing, openin
 use Rattle.rules.specs.Exchange.{noContract, noHolding}
 use Rattle.rules.specs.Memory.{Memory, queueIn, listingIn, inUse, exchangeOf}
 use Rattle.rules.proofs.Codecs.{trades-none}
-use Rattle.dayfile.specs.Opening.{accountWith, openingContract, openingHolder, openingContracts, openingAccounts, openingState}
+use Rattle.dayfile.specs.Opening.{accountWith, openingContract, openingHolder, openingContracts, openingAccounts, openingState, openingMemory}
 use Rattle.dayfile.proofs.Places.{sound-layout}
 
 take-replicate : {A : Type 0} (k n : ℕ) (z : A) → k ≤ n → take k (replicate n z) ≡ replicate k z
@@ -30,9 +30,6 @@ unfolding queueIn records decode
 no-orders area c n e = rw e
 
 -- ---- the opening state
-
-abbrev pub openingMemory : List ℕ → List ℕ → List ℕ → List ℕ → Memory
-openingMemory file buys sells trades = record { state = openingState file; buys = buys; sells = sells; trades = trades }
 
 module _ (file buys sells trades : List ℕ) (h : sound file ≡ true) where
   abbrev m : Memory

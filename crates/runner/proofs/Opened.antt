@@ -16,11 +16,11 @@ use Rattle.rules.specs.Memory.{Declared, Memory, exchangeOf, WellFormedState}
 use Rattle.rules.specs.declared.Account.{Account}
 use Rattle.rules.specs.declared.Holding.{Holding}
 use Rattle.invariants.proofs.Opening.{opening-well-formed}
-use Rattle.dayfile.specs.Opening.{accountWith, openingAccounts, openingContract, openingContracts, openingHolder, openingState}
+use Rattle.dayfile.specs.Opening.{accountWith, openingAccounts, openingContract, openingContracts, openingHolder, openingMemory, openingState}
 use Rattle.dayfile.proofs.Places.{sound-layout}
 use Rattle.dayfile.proofs.Start.{opening-exchange}
 use Rattle.dayfile.proofs.WellFormed.{opening-memory-well-formed}
-use Rattle.runner.specs.Day.{Ready, openingOf}
+use Rattle.runner.specs.Day.{Ready}
 
 -- what holds of a table's values, and of what stands past its end, holds at each place
 every-place : {A : Type 0} (P : A → Type 0) (n : ℕ) (f : ℕ → A) (d : A) → P d → ((i : ℕ) → P (f i)) → (i : ℕ) → P (getD (tabulate n f) i d)
@@ -66,7 +66,7 @@ module _ (file : List ℕ) where
 
   module _ {buys sells trades : List ℕ} (ready : Ready file buys sells trades) where
     abbrev m : Memory
-    m = openingOf file buys sells trades
+    m = openingMemory file buys sells trades
 
     pub opens-formed : WellFormedState (openingState file) buys sells trades
     opens-formed =
