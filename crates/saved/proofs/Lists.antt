@@ -15,7 +15,8 @@ use Rattle.rules.specs.DayFile.{u8At, u64At, contractsIn}
 use Rattle.rules.specs.Exchange.{Listing}
 use Rattle.rules.specs.declared.Account.{Account}
 use Rattle.rules.specs.declared.Holding.{Holding}
-use Rattle.saved.specs.Saved.{accountPlace, accountsIn, contractPlace, loadedAccount, loadedFrom, loadedListing, markSound, rowPlace, savedAccount, savedHolding, signedOf}
+use Rattle.endian.specs.Numbers.{signedOf}
+use Rattle.saved.specs.Saved.{accountPlace, accountsIn, contractPlace, loadedAccount, loadedFrom, loadedListing, markSound, rowPlace, savedAccount, savedHolding}
 use Rattle.saved.proofs.Fields.{Entry, contract-at, entry-at, entryOf, holding-at, holdingFrom, listingFrom, savedEntry}
 use Rattle.saved.proofs.Rows.{records-table}
 

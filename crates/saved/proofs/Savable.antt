@@ -17,8 +17,9 @@ use Rattle.rules.specs.WellFormed.{wellFormedContents}
 use Rattle.rules.specs.declared.Account.{Account}
 use Rattle.rules.specs.declared.Holding.{Holding}
 use Rattle.rules.specs.declared.Trade.{Trade}
+use Rattle.endian.specs.Numbers.{signEnd}
 use Rattle.invariants.proofs.Clauses.{well-formed}
-use Rattle.saved.specs.Saved.{allEqual, asleep, signEnd, writable}
+use Rattle.saved.specs.Saved.{allEqual, asleep, writable}
 use Rattle.saved.proofs.Fields.{entryOf, fitsSigned, holding, nothing-in, unmoved}
 use Rattle.saved.proofs.Rows.{fitRow}
 

@@ -1,7 +1,7 @@
 -- `codes::continuous_code` meets its contract: the three tests in their order. Assumes nothing.
 use mathlib.Core.Bool.{false, not}
 use mathlib.Core.List.{[]}
-use mathlib.Core.Path.{_≡_, sym, ap, _∙_}
+use mathlib.Core.Path.{_≡_, sym, ap}
 use native.Mathlib.Omega.{arith}
 use borrow.Author.Needs.{needs}
 use borrow.Author.Tests.{eq-eqb, ne-eqb}
