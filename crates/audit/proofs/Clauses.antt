@@ -7,6 +7,7 @@ use lib.Dec.{leb, ltb, eqb}
 use lib.ListN.{length, getD}
 use Rattle.laws.specs.Choice.{all, allOf}
 use Rattle.laws.specs.Chains.{passed}
+use Rattle.laws.specs.Tests.{Chain}
 use Rattle.rules.specs.Bounds.{within, inAuction, maxPhase, termsInRange, tickMultiple, allowedToday, maxResting, maxTrades}
 use Rattle.rules.specs.Exchange.{Listing}
 use Rattle.rules.specs.Memory.{Memory, countsInRange, hasRoom, queueStride, tradeStride}
@@ -19,7 +20,6 @@ use Rattle.rules.specs.declared.State.{State}
 use Rattle.rules.specs.declared.Trade.{Trade}
 use Rattle.audit.specs.Parts.{heldInRange, listingInRange}
 use Rattle.invariants.proofs.Clauses.{ListingOk, listing-ok}
-use Rattle.audit.proofs.Chains.{Chain}
 
 -- ---- counts and room
 

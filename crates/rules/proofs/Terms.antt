@@ -2,11 +2,11 @@
 use mathlib.Core.Bool.{Bool, true, false, _&&_}
 use mathlib.Core.List.{List, [], _∷_}
 use mathlib.Core.Path.{_≡_, refl}
-use Prim.Native.Nat.{ℕ, _≤_}
-use borrow.Author.Tests.{leb-true, le-leb}
+use Prim.Native.Nat.{ℕ, _<_, _≤_}
+use borrow.Author.Tests.{leb-true, le-leb, lt-leb}
 use lib.Dec.{leb}
 use Rattle.laws.specs.Chains.{join, passed}
-use Rattle.laws.specs.Choice.{both-true, true-both}
+use Rattle.laws.specs.Choice.{both-true, both-false, false-both, true-both}
 use Rattle.rules.specs.Bounds.{within, onTick, tickMultiple, termsInRange, maxPrice, maxMethod, maxPhase}
 use Rattle.rules.specs.WellFormed.{contractInRange}
 use Rattle.rules.specs.declared.Contract.{Contract}
@@ -20,6 +20,12 @@ module _ (low high n : ℕ) where
 
   pub within-test : low ≤ n → n ≤ high → within low high n ≡ true
   within-test h k = true-both (leb low n) (leb n high) (le-leb low n h) (le-leb n high k)
+
+  pub within-below : n < low → within low high n ≡ false
+  within-below h = false-both (leb low n) (leb n high) (lt-leb low n h)
+
+  pub within-above : high < n → within low high n ≡ false
+  within-above h = both-false (leb low n) (leb n high) (lt-leb n high h)
 
 -- ---- a tick multiple from one tick on
 
