@@ -8,7 +8,7 @@ use lib.ListN.{length, getD}
 use Rattle.laws.specs.Choice.{all, allOf}
 use Rattle.laws.specs.Chains.{passed}
 use Rattle.laws.specs.Tests.{Chain}
-use Rattle.rules.specs.Bounds.{within, inAuction, maxPhase, termsInRange, tickMultiple, allowedToday, maxResting, maxTrades}
+use Rattle.rules.specs.Bounds.{within, inAuction, phaseKnown, termsInRange, tickMultiple, allowedToday, maxResting, maxTrades}
 use Rattle.rules.specs.Exchange.{Listing}
 use Rattle.rules.specs.Memory.{Memory, countsInRange, hasRoom, queueStride, tradeStride}
 use Rattle.rules.specs.WellFormed.{contractInRange, orderInRange, ordersInRange, queuesSorted, sorted, uncrossed, queueQuoted, listingQuoted}
@@ -46,7 +46,7 @@ counters-chain next nextstamp settlements = record { is = refl }
 
 -- ---- a contract with its queues
 
-pub contract-chain : (c : Contract) → Chain (contractInRange c) (termsInRange c ∷ leb (c .phase) maxPhase ∷ []) (tickMultiple (c .tick) (c .last))
+pub contract-chain : (c : Contract) → Chain (contractInRange c) (termsInRange c ∷ phaseKnown (c .phase) ∷ []) (tickMultiple (c .tick) (c .last))
 unfolding contractInRange
 contract-chain c = record { is = refl }
 

@@ -11,7 +11,7 @@ use lib.ListN.{length, getD, replicate}
 use Rattle.laws.specs.Choice.{pick, all, all-at, both-true}
 use Rattle.laws.specs.Chains.{passed, join}
 use Rattle.laws.specs.Lists.{getD-same}
-use Rattle.rules.specs.Bounds.{within, preOpen, maxPhase, termsInRange, tickMultiple, maxContracts, maxAccounts, maxBalance}
+use Rattle.rules.specs.Bounds.{within, preOpen, maxPhase, phaseKnown, termsInRange, tickMultiple, maxContracts, maxAccounts, maxBalance}
 use Rattle.rules.specs.DayFile.{maxCommands, contractsIn, contractPlace, accountsIn, accountPlace, commandsIn, commandPlace, contractFrom, contractSound, balanceFrom, makerBit, makerFrom, accountSound, sound, openingListing, openingAccount, opening, u64At}
 use Rattle.rules.specs.Exchange.{noHolding}
 use Rattle.rules.specs.Holdings.{startHolding, startAccount}
@@ -47,7 +47,7 @@ module _ (file : List ℕ) (h : sound file ≡ true) where
   in-range c l =
       let t = all-at (contractSound file) c (contractsIn file) (passed (within 1 maxContracts (contractsIn file)) fileTests h .1 .1 .1 .1 .0) l in
       join (termsInRange (contractFrom file (contractPlace c)))
-      (leb preOpen maxPhase ∷ tickMultiple (contractFrom file (contractPlace c) .tick) (contractFrom file (contractPlace c) .reference) ∷ [])
+      (phaseKnown preOpen ∷ tickMultiple (contractFrom file (contractPlace c) .tick) (contractFrom file (contractPlace c) .reference) ∷ [])
       (t, (le-leb preOpen maxPhase (omega arith), multiple-test _ _ (terms (contractFrom file (contractPlace c)) t .reference)))
 
   start : (a : ℕ) → startAccount (openingAccount file a) ≡ openingAccount file a

@@ -7,7 +7,7 @@ use borrow.Author.Tests.{leb-true, le-leb, lt-leb}
 use lib.Dec.{leb}
 use Rattle.laws.specs.Chains.{join, passed}
 use Rattle.laws.specs.Choice.{both-true, both-false, false-both, true-both}
-use Rattle.rules.specs.Bounds.{within, onTick, tickMultiple, termsInRange, maxPrice, maxMethod, maxPhase}
+use Rattle.rules.specs.Bounds.{within, onTick, tickMultiple, termsInRange, maxPrice, maxMethod, phaseKnown}
 use Rattle.rules.specs.WellFormed.{contractInRange}
 use Rattle.rules.specs.declared.Contract.{Contract}
 
@@ -122,7 +122,7 @@ module _ (c : Contract) where
   -- a contract of a well-formed state has its terms in range
   pub terms-passed : contractInRange c ≡ true → termsInRange c ≡ true
   unfolding contractInRange
-  terms-passed h = passed (termsInRange c) (leb (c .phase) maxPhase ∷ tickMultiple (c .tick) (c .last) ∷ []) h .0
+  terms-passed h = passed (termsInRange c) (phaseKnown (c .phase) ∷ tickMultiple (c .tick) (c .last) ∷ []) h .0
 
   pub contract-terms : contractInRange c ≡ true → Terms c
   contract-terms h = terms (terms-passed h)
