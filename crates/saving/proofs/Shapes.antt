@@ -13,7 +13,7 @@ use Rattle.rules.specs.DayFile.{contractsIn, u8At, u32At}
 use Rattle.rules.proofs.Terms.{within-high, within-low, within-test}
 use Rattle.dayfile.specs.FileHead.{countBefore}
 use Rattle.dayfile.proofs.Counts.{counted, uncounted}
-use Rattle.dayfile.proofs.Places.{contracts-read}
+use Rattle.dayfile.proofs.Places.{contracts-are, contracts-read}
 use Rattle.saved.specs.Saved.{accountPlace, accountsIn, countsRight, markSound, rowPlace, settlementsPlace, shaped}
 use Rattle.saved.proofs.Again.{shape}
 use Rattle.saving.specs.Parts.{Laid}
@@ -64,21 +64,17 @@ module _ (bs : List ℕ) {c : ℕ} (ec : c ≡ countBefore bs 4 4) where
   pub no-contracts : c ≡ 0 → false ≡ shaped bs
   no-contracts z = sym (misshapen bs (λ l. uncounted bs 4 4 ec z (omega (arith, l .ends)) (omega (arith, l .some-contract, contracts-read bs)) (omega (arith, l .few-contracts, contracts-read bs))))
 
-  module _ (some : c ≡ 0 → ⊥) where
-    pub contracts-are : c ≡ contractsIn bs
-    contracts-are = counted bs 4 4 ec some .is ∙ sym (contracts-read bs)
+  module _ (some : c ≡ 0 → ⊥) {end a : ℕ} (is : end ≡ 8 + 24 * c) (ea : a ≡ countBefore bs end 32) where
+    count-there : u32At bs (end - 4) ≡ accountsIn bs
+    unfolding accountsIn
+    count-there = ap (u32At bs) (omega (arith, contracts-are bs ec some))
 
-    module _ {end a : ℕ} (is : end ≡ 8 + 24 * c) (ea : a ≡ countBefore bs end 32) where
-      count-there : u32At bs (end - 4) ≡ accountsIn bs
-      unfolding accountsIn
-      count-there = ap (u32At bs) (omega (arith, contracts-are))
+    pub no-accounts : a ≡ 0 → false ≡ shaped bs
+    no-accounts z =
+        sym (misshapen bs (λ l. uncounted bs end 32 ea z (omega (arith, l .ends, contracts-are bs ec some)) (omega (arith, l .some-account, count-there)) (omega (arith, l .few-accounts, count-there))))
 
-      pub no-accounts : a ≡ 0 → false ≡ shaped bs
-      no-accounts z =
-          sym (misshapen bs (λ l. uncounted bs end 32 ea z (omega (arith, l .ends, contracts-are)) (omega (arith, l .some-account, count-there)) (omega (arith, l .few-accounts, count-there))))
-
-      pub accounts-are : (a ≡ 0 → ⊥) → a ≡ accountsIn bs
-      accounts-are more = counted bs end 32 ea more .is ∙ count-there
+    pub accounts-are : (a ≡ 0 → ⊥) → a ≡ accountsIn bs
+    accounts-are more = counted bs end 32 ea more .is ∙ count-there
 
 -- ---- the tests in the order of the code, with what was read so far
 

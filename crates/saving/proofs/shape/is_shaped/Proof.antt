@@ -3,7 +3,8 @@ use mathlib.Core.Path.{_≡_, refl}
 use native.Mathlib.Omega.{arith}
 use Rattle.rules.specs.DayFile.{contractsIn}
 use Rattle.saved.specs.Saved.{accountsIn}
-use Rattle.saving.proofs.Shapes.{accounts-are, contracts-are, decided, laid, length-wrong, no-accounts, no-contracts}
+use Rattle.dayfile.proofs.Places.{contracts-are}
+use Rattle.saving.proofs.Shapes.{accounts-are, decided, laid, length-wrong, no-accounts, no-contracts}
 use borrow.Author.Needs.{needs}
 use Rattle.saving.proofs.shape.is_shaped.Statement.{statement}
 use Rattle.saving.proofs.shape.is_shaped.Tie as tie
