@@ -7,7 +7,8 @@ use lib.Dec.{leb, ltb, eqb}
 use lib.ListN.{length, getD}
 use Rattle.laws.specs.Choice.{all, allOf}
 use Rattle.laws.specs.Chains.{passed}
-use Rattle.rules.specs.Bounds.{within, inAuction, maxPhase, termsInRange, tickMultiple, allowedToday, maxResting, maxTrades}
+use Rattle.laws.specs.Tests.{Chain}
+use Rattle.rules.specs.Bounds.{within, inAuction, phaseKnown, termsInRange, tickMultiple, allowedToday, maxResting, maxTrades}
 use Rattle.rules.specs.Exchange.{Listing}
 use Rattle.rules.specs.Memory.{Memory, countsInRange, hasRoom, queueStride, tradesWords}
 use Rattle.rules.specs.WellFormed.{contractInRange, orderInRange, ordersInRange, queuesSorted, sorted, uncrossed, queueQuoted, listingQuoted}
@@ -19,7 +20,6 @@ use Rattle.rules.specs.declared.State.{State}
 use Rattle.rules.specs.declared.Trade.{Trade}
 use Rattle.audit.specs.Parts.{heldInRange, listingInRange}
 use Rattle.invariants.proofs.Clauses.{ListingOk, listing-ok}
-use Rattle.audit.proofs.Chains.{Chain}
 
 -- ---- counts and room
 
@@ -46,7 +46,7 @@ counters-chain next nextstamp settlements = record { is = refl }
 
 -- ---- a contract with its queues
 
-pub contract-chain : (c : Contract) → Chain (contractInRange c) (termsInRange c ∷ leb (c .phase) maxPhase ∷ []) (tickMultiple (c .tick) (c .last))
+pub contract-chain : (c : Contract) → Chain (contractInRange c) (termsInRange c ∷ phaseKnown (c .phase) ∷ []) (tickMultiple (c .tick) (c .last))
 unfolding contractInRange
 contract-chain c = record { is = refl }
 

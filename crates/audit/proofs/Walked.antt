@@ -6,10 +6,10 @@ use mathlib.Core.Path.{_≡_}
 use lib.ListN.{length, getD}
 use Rattle.laws.specs.Choice.{all, allOf, allOf-at, allOf-imp, allOf-true, same-test}
 use Rattle.laws.specs.Chains.{Passed, join, passed}
+use Rattle.laws.specs.Tests.{chain}
 use Rattle.rules.specs.Exchange.{Exchange, Listing, noListing}
 use Rattle.rules.specs.WellFormed.{countersInRange, contractInRange, markInRange, rangesKept, queuesSorted, ordersInRange, allNumbers, allStamps, usedOnce, listingQuoted, restingInRange, tradeInRange, replays, holdingsInRange, balanceInRange, wellFormedContents}
 use Rattle.audit.specs.Parts.{listingInRange}
-use Rattle.laws.specs.Tests.{chain}
 
 -- three tests of every contract, one after the other or together
 three-at-once : (p q r : Listing → Bool) (l : List Listing) → allOf (λ a. p a && q a && r a) l ≡ (allOf p l && allOf q l && allOf r l)

@@ -60,7 +60,7 @@ fn contents_are_well_formed(state: State, buys: &[u32], sells: &[u32], trades: &
 
 // "A state is well formed when": every clause of the paper, on any state and any areas.
 pub fn well_formed(state: State, buys: &[u32], sells: &[u32], trades: &[u32]) -> bool
-    ensures { λ r. ⌜ r ≡ wellFormedMemory (record { state = state; buys = now (buys .entry); sells = now (sells .entry); trades = now (trades .entry) }) ⌝ }
+    ensures { λ r. ⌜ r ≡ wellFormedMemory (memory state (now (buys .entry)) (now (sells .entry)) (now (trades .entry))) ⌝ }
 {
     if !counts::counts_in_range(state) {
         return false;

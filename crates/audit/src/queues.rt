@@ -21,7 +21,7 @@ fn contract_in_range(c: Contract) -> bool
     if !terms::terms_in_range(c) {
         return false;
     }
-    if rules::AUCTION < c.phase {
+    if rules::MAX_PHASE < c.phase {
         return false;
     }
     terms::tick_multiple(c.tick, c.last)

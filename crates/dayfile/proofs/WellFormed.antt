@@ -13,9 +13,9 @@ use Rattle.rules.specs.Bounds.{maxResting, maxContracts}
 use Rattle.rules.specs.DayFile.{contractsIn, accountsIn, opening, sound}
 use Rattle.rules.specs.Memory.{countsInRange, hasRoom, wellFormedMemory, queueStride, tradesWords}
 use Rattle.rules.specs.WellFormed.{wellFormedContents}
-use Rattle.dayfile.specs.Opening.{openingState}
+use Rattle.dayfile.specs.Opening.{openingState, openingMemory}
 use Rattle.dayfile.proofs.Places.{sound-layout}
-use Rattle.dayfile.proofs.Start.{openingMemory, opening-exchange}
+use Rattle.dayfile.proofs.Start.{opening-exchange}
 
 -- queue areas with room for four contracts, a trade area with room for a day's trades
 module _ (file buys sells trades : List ℕ) (h : sound file ≡ true) (room-buys : queueStride * maxContracts ≤ length buys)

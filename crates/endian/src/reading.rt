@@ -3,6 +3,8 @@ ghost use mathlib.Core.Path.{_≡_};
 ghost use Prim.Native.Nat.{_+_, _<_, _≤_};
 ghost use lib.ListN.{length};
 ghost use Rattle.rules.specs.DayFile.{u8At, u16At, u32At, u64At, recordFrom, commandWidth};
+ghost use Rattle.endian.specs.Numbers.{signedOf};
+use crate::EIGHT_MOST;
 use rules::Record;
 
 // A cast as a call: where a list's element is cast in place, the proof is asked that the element fits.
@@ -44,6 +46,21 @@ pub fn u64_at(file: &[u8], at: usize) -> u64
     let low = u32_at(file, at) as u64;
     let high = u32_at(file, at + 4) as u64;
     low + 4294967296 * high
+}
+
+// Where the numbers below zero begin among a signed number's eight bytes: 2^63.
+const SIGN_END: u64 = 9223372036854775808;
+
+// A signed number from its eight bytes.
+pub fn signed(n: u64) -> i64
+    ensures { λ r. ⌜ r ≡ signedOf n ⌝ }
+{
+    if n < SIGN_END {
+        return n as i64;
+    }
+    let size = EIGHT_MOST - n;
+    let opposite = 0 - size as i64;
+    opposite - 1
 }
 
 // "A command is 24 bytes"

@@ -31,11 +31,10 @@ use Rattle.rules.proofs.Codecs.{length-queue, order-at, put-queue}
 use Rattle.rules.proofs.Queue.{length-without, once-append}
 use Rattle.rules.proofs.Refusals.{failed, first-append}
 use Rattle.book.proofs.Places.{index-apart, index-notIn, first-within, lots-none, lots-number, numbered-found, numbered-none, numbered-append-found, numbered-append-none, without-none, without-number}
-use Rattle.book.specs.Removal.{PulledIs}
-use Rattle.book.specs.declared.removal.Pulled.{Pulled}
+use Rattle.book.specs.Removal.{RemovedIs}
 use Rattle.invariants.proofs.Clauses.{ListingOk, OrderOk, order-ok}
 use Rattle.engine.specs.Outcome.{OutcomeIs, refusedWith, acceptedWith, withCountsIn}
-use Rattle.engine.specs.Removal.{RemovedIs, CancelledIs}
+use Rattle.engine.specs.Removal.{CancelledIs}
 use Rattle.engine.specs.declared.answers.Outcome.{Outcome}
 use Rattle.engine.specs.declared.removal.Cancelled.{Cancelled}
 use Rattle.engine.proofs.Formed.{Formed, formed, contracts-count, listing-at, no-account, no-contract}
@@ -344,17 +343,15 @@ module _ {s : State} {buys sells trades : List ℕ} (w : WellFormedState s buys 
       side-lots false test = omega (arith, lots-high _ _ _ _ test (orders false) (in-range .orders false), length-queue buys place (count false), side-few false)
       side-lots true test = omega (arith, lots-high _ _ _ _ test (orders true) (in-range .orders true), length-queue sells place (count true), side-few true)
 
-      pub pulled-high : (sell : Bool) {p : Pulled} {area′ : List ℕ} → PulledIs (isOf (account - 1)) (area sell) place (count sell) p area′ → p .lots ≤ maxResting * maxLots
+      pub pulled-high : (sell : Bool) {stay gone : ℕ} {area′ : List ℕ} → RemovedIs (isOf (account - 1)) (area sell) place (count sell) stay gone area′ → gone ≤ maxResting * maxLots
       pulled-high sell b = rw (b .lots) (side-lots sell (isOf (account - 1)))
 
-      pub pull-accepted : {r : Outcome} {next : State} {lots : ℕ} {bid offer : Pulled} {buys′ sells′ : List ℕ}
-          → PulledIs (isOf (account - 1)) buys place (count false) bid buys′ → PulledIs (isOf (account - 1)) sells place (count true) offer sells′
-          → next ≡ withCountsIn s (set (s .buycounts) place (bid .count)) (set (s .sellcounts) place (offer .count)) → lots ≡ bid .lots + offer .lots
+      pub pull-accepted : {r : Outcome} {next : State} {lots bought sold bid offer : ℕ} {buys′ sells′ : List ℕ}
+          → RemovedIs (isOf (account - 1)) buys place (count false) bought bid buys′ → RemovedIs (isOf (account - 1)) sells place (count true) sold offer sells′
+          → next ≡ withCountsIn s (set (s .buycounts) place bought) (set (s .sellcounts) place sold) → lots ≡ bid + offer
           → r ≡ acceptedWith next 0 0 lots → OutcomeIs (stepIn m (Pull account contract operator)) r buys′ sells′ trades
       unfolding kindOf pulled
-      pull-accepted b o n l a =
-          removal-accepted (isOf (account - 1)) (record { queue = b .queue; count = b .count; lots = b .lots }) (record { queue = o .queue; count = o .count; lots = o .lots })
-          (Pull account contract operator) (pull-code ∙ none) refl n l a
+      pull-accepted b o n l a = removal-accepted (isOf (account - 1)) b o (Pull account contract operator) (pull-code ∙ none) refl n l a
 
   -- ---- refused by one of the tests that both kinds make first
 

@@ -1,5 +1,5 @@
 -- What a kind gives and leaves, against what the rules leave. Assumes nothing.
-use mathlib.Core.Bool.{Bool, not, _&&_}
+use mathlib.Core.Bool.{Bool, false, not, _&&_}
 use mathlib.Core.List.{List}
 use mathlib.Core.Path.{_≡_}
 use Prim.Native.Nat.{ℕ}
@@ -7,7 +7,7 @@ use lib.Dec.{eqb}
 use lib.IntN.{ℤ}
 use lib.ListN.{getD, set}
 use Rattle.rules.specs.Bounds.{continuous, inAuction}
-use Rattle.rules.specs.Answers.{Refusal, firstOf}
+use Rattle.rules.specs.Answers.{Refusal, absentRefusals, firstOf}
 use Rattle.rules.specs.Exchange.{Exchange, isAbsent, noAccount, noContract, placeOf}
 use Rattle.rules.specs.Step.{answerOf, withBalance, withPhase}
 use Rattle.rules.specs.Memory.{AfterCommand, Declared, exchangeOf, memory}
@@ -24,6 +24,12 @@ pub record OutcomeIs (response : AfterCommand) (r : Outcome) (buys sells trades 
 -- a code that is the first of some refusals on a state, whatever the areas lent with it hold: they are not read
 abbrev pub CodeIn : State → (Exchange → List Refusal) → ℕ → Type 0
 CodeIn s refusals code = Declared s → (buys sells trades : List ℕ) → code ≡ firstOf (refusals (exchangeOf (memory s buys sells trades)))
+
+-- 2 and 3 in any state with so many accounts and contracts in use; code 0 says that the account and the contract are
+pub record AbsentIs (accounts contracts account contract code : ℕ) : Type 0 where
+  pub first : (s : State) → s .accountcount ≡ accounts → s .contractcount ≡ contracts → CodeIn s (λ x. absentRefusals x account contract) code
+  pub account-in-use : code ≡ 0 → isAbsent account accounts ≡ false
+  pub contract-in-use : code ≡ 0 → isAbsent contract contracts ≡ false
 
 -- a change of a contract's state that makes a match: from auction to continuous
 unfoldable pub isMatch : State → ℕ → ℕ → Bool

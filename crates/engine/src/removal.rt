@@ -37,11 +37,9 @@ fn refusal(state: State, account: u32, contract: u32, operator: bool) -> u32
     requires { ⌜ (state .contractcount ≤ maxContracts) × (state .accountcount ≤ maxAccounts) ⌝ }
     ensures { λ r. ⌜ CodeIn state (λ x. pullRefusals x account contract operator) r ⌝ }
 {
-    if answers::is_absent(account, state.accountcount) {
-        return 2;
-    }
-    if answers::is_absent(contract, state.contractcount) {
-        return 3;
+    let absent = answers::absent_code(state.accountcount, state.contractcount, account, contract);
+    if absent != 0 {
+        return absent;
     }
     let place = laws::place_of(contract);
     let contracts = state.contracts;

@@ -92,7 +92,7 @@ module _ {s : State} {buys sells trades : List ℕ} (w : WellFormedState s buys 
 
   pub code-account : isAbsent (o .account) (s .accountcount) ≡ true → 2 ≡ codeOf x (Insert o)
   unfolding codeOf kindOf insertRefusals
-  code-account e = no-such-account (w .declared) (f .accounts-high) buys sells trades forbids (o .account) (o .contract) (orderRefusals x o) e
+  code-account e = no-such-account (w .declared) (f .accounts-high) buys sells trades (o .account) (o .contract) _ e
 
   module _ (a : isAbsent (o .account) (s .accountcount) ≡ false) where
     pub holder-low : 1 ≤ o .account
@@ -103,7 +103,7 @@ module _ {s : State} {buys sells trades : List ℕ} (w : WellFormedState s buys 
 
     pub code-contract : isAbsent (o .contract) (s .contractcount) ≡ true → 3 ≡ codeOf x (Insert o)
     unfolding codeOf kindOf insertRefusals
-    code-contract e = no-such-contract (w .declared) (f .accounts-high) buys sells trades forbids (o .account) (o .contract) (orderRefusals x o) a e
+    code-contract e = no-such-contract (w .declared) (f .accounts-high) buys sells trades (o .account) (o .contract) _ a e
 
     module _ (b : isAbsent (o .contract) (s .contractcount) ≡ false) {place : ℕ} (is : place ≡ o .contract - 1) {takes : Bool} (et : takes ≡ takesOrders (getD (s .contracts) place noContract)) where
       takes-is : takes ≡ takesOrders (getD (s .contracts) c noContract)

@@ -397,11 +397,9 @@ pub fn continuous_code(state: State, account: u32, contract: u32) -> u32
     requires { ⌜ (state .contractcount ≤ maxContracts) × (state .accountcount ≤ maxAccounts) ⌝ }
     ensures { λ r. ⌜ ContinuousIs state account contract r ⌝ }
 {
-    if answers::is_absent(account, state.accountcount) {
-        return 2;
-    }
-    if answers::is_absent(contract, state.contractcount) {
-        return 3;
+    let absent = answers::absent_code(state.accountcount, state.contractcount, account, contract);
+    if absent != 0 {
+        return absent;
     }
     let place = laws::place_of(contract);
     let contracts = state.contracts;

@@ -252,11 +252,17 @@ module _ (area counts : List ℕ) (queues : ℕ → List Order) where
             let l : c < b = ⊎-elim (λ p. absurd (apart (sym p))) (λ p. p) (eq-or-lt-of-le (le-of-suc-le-suc h)) in
             queue-put-other (putQueues area counts queues b) b (getD counts b 0) (queues b) (few b k) (short b k) c apart (length (queues c)) (short c (omega arith)) fits ∙ ih l
 
--- ---- the day's trades
+-- ---- nothing in use
+
+pub queue-none : (area : List ℕ) (c n : ℕ) → n ≡ 0 → queueIn area c n ≡ []
+unfolding queueIn records decode
+queue-none area c n e = rw e
 
 pub trades-none : (area : List ℕ) → recordedTrades area 0 ≡ []
 unfolding recordedTrades records decode
 trades-none area = refl
+
+-- ---- the day's trades
 
 module _ (area : List ℕ) (n : ℕ) where
   pub length-trades : length (recordedTrades area n) ≡ n

@@ -2,12 +2,12 @@
 use mathlib.Core.Bool.{Bool, true, false, _&&_}
 use mathlib.Core.List.{List, [], _∷_}
 use mathlib.Core.Path.{_≡_, refl}
-use Prim.Native.Nat.{ℕ, _≤_}
-use borrow.Author.Tests.{leb-true, le-leb}
+use Prim.Native.Nat.{ℕ, _<_, _≤_}
+use borrow.Author.Tests.{leb-true, le-leb, lt-leb}
 use lib.Dec.{leb}
 use Rattle.laws.specs.Chains.{join, passed}
-use Rattle.laws.specs.Choice.{both-true, true-both}
-use Rattle.rules.specs.Bounds.{within, onTick, tickMultiple, termsInRange, maxPrice, maxMethod, maxPhase, maxMultiplier, maxTick, maxLimit, maxRate}
+use Rattle.laws.specs.Choice.{both-true, true-both, both-false, false-both}
+use Rattle.rules.specs.Bounds.{within, onTick, tickMultiple, termsInRange, maxPrice, maxMethod, maxMultiplier, maxTick, maxLimit, maxRate, phaseKnown}
 use Rattle.rules.specs.WellFormed.{contractInRange}
 use Rattle.rules.specs.declared.Contract.{Contract}
 
@@ -20,6 +20,12 @@ module _ (low high n : ℕ) where
 
   pub within-test : low ≤ n → n ≤ high → within low high n ≡ true
   within-test h k = true-both (leb low n) (leb n high) (le-leb low n h) (le-leb n high k)
+
+  pub within-below : n < low → within low high n ≡ false
+  within-below h = false-both (leb low n) (leb n high) (lt-leb low n h)
+
+  pub within-above : high < n → within low high n ≡ false
+  within-above h = both-false (leb low n) (leb n high) (lt-leb n high h)
 
 -- ---- a tick multiple from one tick on
 
@@ -116,7 +122,7 @@ module _ (c : Contract) where
   -- a contract of a well-formed state has its terms in range
   pub terms-passed : contractInRange c ≡ true → termsInRange c ≡ true
   unfolding contractInRange
-  terms-passed h = passed (termsInRange c) (leb (c .phase) maxPhase ∷ tickMultiple (c .tick) (c .last) ∷ []) h .0
+  terms-passed h = passed (termsInRange c) (phaseKnown (c .phase) ∷ tickMultiple (c .tick) (c .last) ∷ []) h .0
 
   pub contract-terms : contractInRange c ≡ true → Terms c
   contract-terms h = terms (terms-passed h)

@@ -93,6 +93,9 @@ auction = 4
 abbrev pub maxPhase : ℕ
 maxPhase = auction
 
+abbrev pub phaseKnown : ℕ → Bool
+phaseKnown phase = leb phase maxPhase
+
 abbrev pub inAuction : Contract → Bool
 inAuction c = eqb (c .phase) auction
 

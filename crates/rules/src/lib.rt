@@ -97,6 +97,8 @@ pub const CLOSED: u32 = 3;
 
 pub const AUCTION: u32 = 4;
 
+pub const MAX_PHASE: u32 = AUCTION;
+
 // What one account holds in one contract: lots now, and lots at the start of the day.
 #[repr(C)]
 pub struct Holding {

@@ -8,7 +8,7 @@ use lib.Dec.{eqb}
 use lib.ListN.{length, take, drop, length-drop, take-append-drop}
 use lib.Seq.{take-all}
 use borrow.Author.Tests.{eq-eqb, eqb-true}
-use Rattle.laws.specs.Choice.{all, allOf, both-true}
+use Rattle.laws.specs.Choice.{all, allOf, allOf-map, both-true}
 use Rattle.laws.specs.Chains.{passed}
 use Rattle.areas.specs.Records.{encode, records}
 use Rattle.rules.specs.Bounds.{maxAccounts, maxContracts, within}
@@ -23,7 +23,7 @@ use Rattle.saved.proofs.Lists.{accounts-are, accountsOf, entries-again,
 use Rattle.endian.proofs.Numbers.{Bytes, four-forth, parts}
 use Rattle.saved.proofs.Reading.{entries-encoded, rows-encoded}
 use Rattle.saved.proofs.Rows.{Field, length-records, records-all, records-forth, row}
-use Rattle.saved.proofs.Savable.{Savable, allOf-map}
+use Rattle.saved.proofs.Savable.{Savable}
 
 -- ---- what the shape of a file says
 

@@ -1,15 +1,15 @@
 -- The file's records: a contract, an account's balance and mark, a holding. Assumes nothing.
-use mathlib.Core.Bool.{Bool, true, false, _&&_}
+use mathlib.Core.Bool.{Bool, true, _&&_}
 use mathlib.Core.List.{List, [], _∷_, _++_}
 use mathlib.Core.Path.{_≡_, refl}
-use Prim.Native.Nat.{ℕ, _+_, _-_, _≤_, _<_}
+use Prim.Native.Nat.{ℕ, _+_, _≤_}
 use native.Mathlib.Nat.{add-zero}
 use native.Mathlib.Omega.{arith}
 use lib.Dec.{ltb, eqb}
-use lib.IntN.{ℤ, pos, negsuc, natAbs}
+use lib.IntN.{ℤ, natAbs}
 use lib.ListN.{length, take, drop}
-use borrow.Author.Tests.{eqb-true, ltb-true, ltb-false, lt-ltb, le-ltb}
-use Rattle.laws.specs.Choice.{pick, both-true}
+use borrow.Author.Tests.{eqb-true, ltb-true}
+use Rattle.laws.specs.Choice.{both-true}
 use Rattle.laws.specs.Chains.{passed}
 use Rattle.rules.specs.Bounds.{preOpen}
 use Rattle.rules.specs.DayFile.{u8At, u16At, u32At, u64At, contractFrom}
@@ -18,28 +18,12 @@ use Rattle.rules.specs.declared.Account.{Account}
 use Rattle.rules.specs.declared.Contract.{Contract}
 use Rattle.rules.specs.declared.Holding.{Holding}
 use Rattle.rules.specs.declared.Order.{Order}
-use Rattle.endian.specs.Numbers.{two, four, eight}
-use Rattle.statements.specs.Statement.{holdingBytes, unsigned, holdingWidth}
-use Rattle.saved.specs.Saved.{asleep, contractBytes, savedContract, savedHolding, signEnd, signedOf, balanceWidth, savedAccountWidth, savedContractWidth}
+use Rattle.endian.specs.Numbers.{two, four, eight, unsigned, signEnd, signedOf}
+use Rattle.statements.specs.Statement.{holdingBytes, holdingWidth}
+use Rattle.saved.specs.Saved.{asleep, contractBytes, savedContract, savedHolding, balanceWidth, savedAccountWidth, savedContractWidth}
 use Rattle.endian.proofs.Numbers.{Bytes, parts, two-back, four-back, eight-back, one-forth, two-forth, four-forth, eight-forth, below-8, u8-drop, u16-drop, u32-drop, u64-drop}
+use Rattle.endian.proofs.Signs.{signed-back, signed-forth}
 use Rattle.saved.proofs.Rows.{Field}
-
--- ---- signed numbers
-
-pub signed-back : (z : ℤ) → natAbs z < signEnd → signedOf (unsigned z) ≡ z
-unfolding signedOf unsigned
-signed-back (pos n) h = rw (lt-ltb n signEnd h)
-signed-back (negsuc n) h =
-    let e : 18_446_744_073_709_551_615 - (18_446_744_073_709_551_615 - n) ≡ n = omega arith in
-    rw (le-ltb (18_446_744_073_709_551_615 - n) signEnd (omega arith), e)
-
-pub signed-forth : (n : ℕ) → n < 18_446_744_073_709_551_616 → unsigned (signedOf n) ≡ n
-unfolding signedOf unsigned
-signed-forth n h = either-sign (ltb n signEnd) refl
-  where
-    either-sign : (t : Bool) → ltb n signEnd ≡ t → unsigned (pick t (pos n) (negsuc (18_446_744_073_709_551_615 - n))) ≡ n
-    either-sign true e = refl
-    either-sign false e = omega (arith, ltb-false n signEnd e)
 
 -- ---- a contract in pre-open, without orders
 

@@ -6,16 +6,17 @@ use Prim.Native.Nat.{ℕ, zero, suc, _+_, _*_}
 use native.Mathlib.Nat.{zero-add}
 use native.Mathlib.Omega.{arith}
 use lib.Dec.{leb}
-use lib.ListN.{length, getD, drop}
+use lib.ListN.{length, drop}
 use lib.Seq.{drop-drop}
-use Rattle.laws.specs.Choice.{all, all-ext, allOf, allOf-all}
-use Rattle.laws.specs.Tabulate.{tabulate, tabulate-ext, getD-tabulate, length-tabulate}
+use Rattle.laws.specs.Choice.{all, all-ext, allOf}
+use Rattle.laws.specs.Tabulate.{tabulate, tabulate-ext, allOf-table}
 use Rattle.areas.specs.Records.{records}
 use Rattle.rules.specs.DayFile.{u8At, u64At, contractsIn, countWidth}
 use Rattle.rules.specs.Exchange.{Listing}
 use Rattle.rules.specs.declared.Account.{Account}
 use Rattle.rules.specs.declared.Holding.{Holding}
-use Rattle.saved.specs.Saved.{accountPlace, accountsIn, contractPlace, loadedAccount, loadedFrom, loadedListing, markSound, rowPlace, savedAccount, savedHolding, signedOf, balanceWidth, savedAccountWidth, savedContractWidth}
+use Rattle.endian.specs.Numbers.{signedOf}
+use Rattle.saved.specs.Saved.{accountPlace, accountsIn, contractPlace, loadedAccount, loadedFrom, loadedListing, markSound, rowPlace, savedAccount, savedHolding, balanceWidth, savedAccountWidth, savedContractWidth}
 use Rattle.saved.proofs.Fields.{Entry, contract-at, entry-at, entryOf, holding-at, holdingFrom, listingFrom, savedEntry}
 use Rattle.saved.proofs.Rows.{records-table}
 use Rattle.statements.specs.Statement.{holdingWidth}
@@ -59,12 +60,6 @@ abbrev pub marked : Entry → Bool
 marked e = leb (e .mark) 1
 
 -- ---- the file's lists
-
-pub allOf-table : {A : Type 0} (p : A → Bool) (n : ℕ) (f : ℕ → A) → allOf p (tabulate n f) ≡ all (λ i. p (f i)) n
-allOf-table p n f =
-    allOf-all p (tabulate n f) (f 0)
-    ∙ ap (all (λ i. p (getD (tabulate n f) i (f 0)))) (length-tabulate n f)
-    ∙ all-ext (λ i. p (getD (tabulate n f) i (f 0))) (λ i. p (f i)) n (λ i l. ap p (getD-tabulate n i f (f 0) l))
 
 abbrev pub savedRow : ℕ → List ℕ → List Holding
 savedRow contracts xs = records holdingWidth holdingFrom xs 0 contracts

@@ -7,7 +7,7 @@ use native.Mathlib.Omega.{arith}
 use lib.ListN.{length, length-append, length-map}
 use lib.Seq.{drop-at, drop-drop}
 use borrow.Author.Tests.{eq-eqb, le-leb}
-use Rattle.laws.specs.Choice.{all, allOf, allOf-true}
+use Rattle.laws.specs.Choice.{all, allOf, allOf-map, allOf-true}
 use Rattle.areas.specs.Records.{encode, records}
 use Rattle.rules.specs.DayFile.{u32At, contractsIn, countWidth}
 use Rattle.rules.specs.Exchange.{Exchange, Listing, accountAt, noAccount}
@@ -23,7 +23,7 @@ use Rattle.saved.proofs.Fields.{entry, entryBytes, entryOf, holding, li
 use Rattle.saved.proofs.Lists.{accounts-again, accounts-are, accountsOf, entriesOf, listings-are, listingsOf, marked, marks-are, rowsOf}
 use Rattle.endian.proofs.Numbers.{four-behind}
 use Rattle.saved.proofs.Rows.{Field, row, row-back, row-wide}
-use Rattle.saved.proofs.Savable.{Savable, allOf-map, entries-fit, holdings-fit, writable-parts}
+use Rattle.saved.proofs.Savable.{Savable, entries-fit, holdings-fit, writable-parts}
 
 -- ---- a section behind what begins a file: its count and its records
 

@@ -3,9 +3,8 @@
 use mathlib.Core.Bool.{Bool, not, _&&_}
 use mathlib.Core.List.{List, [], _∷_, _++_}
 use mathlib.Core.Path.{_≡_}
-use Prim.Native.Nat.{ℕ, _+_, _-_, _*_}
+use Prim.Native.Nat.{ℕ, _+_, _*_}
 use lib.Dec.{leb, ltb, eqb}
-use lib.IntN.{ℤ, pos, negsuc}
 use lib.ListN.{length, getD}
 use Rattle.laws.specs.Choice.{pick, all, allOf}
 use Rattle.laws.specs.Sums.{sumOf}
@@ -22,8 +21,8 @@ use Rattle.rules.specs.declared.Account.{Account}
 use Rattle.rules.specs.declared.Contract.{Contract}
 use Rattle.rules.specs.declared.Holding.{Holding}
 use Rattle.rules.specs.declared.State.{State}
-use Rattle.endian.specs.Numbers.{two, four, eight}
-use Rattle.statements.specs.Statement.{holdingBytes, section, unsigned, holdingWidth}
+use Rattle.endian.specs.Numbers.{two, four, eight, unsigned, signedOf}
+use Rattle.statements.specs.Statement.{holdingBytes, section, holdingWidth}
 
 -- ---- what is written: "Sections in a fixed order, each after its count"
 
@@ -121,13 +120,6 @@ savedContract bs at =
       phase = contractFrom bs at .phase;
       last = u32At bs (at + contractWidth);
     }
-
--- a signed number in eight bytes: from 2^63 on, what it is above -2^64
-abbrev pub signEnd : ℕ
-signEnd = 9_223_372_036_854_775_808
-
-unfoldable pub signedOf : ℕ → ℤ
-signedOf n = pick (ltb n signEnd) (pos n) (negsuc (18_446_744_073_709_551_615 - n))
 
 -- a loaded day starts with what is held
 unfoldable pub savedHolding : List ℕ → ℕ → Holding

@@ -16,9 +16,10 @@ use Rattle.rules.specs.declared.Account.{Account}
 use Rattle.rules.specs.declared.Contract.{Contract}
 use Rattle.rules.specs.declared.Holding.{Holding}
 use Rattle.rules.specs.declared.State.{State}
+use Rattle.endian.specs.Numbers.{signedOf}
 use Rattle.settlement.proofs.Places.{written-accounts, written-first}
 use Rattle.statements.specs.Statement.{holdingWidth}
-use Rattle.saved.specs.Saved.{accountPlace, accountsIn, contractPlace, loadedAccount, loadedFrom, loadedListing, loadedState, rowPlace, savedAccount, savedContract, savedHolding, settlementsPlace, signedOf, balanceWidth, savedAccountWidth, savedContractWidth, settlementsWidth}
+use Rattle.saved.specs.Saved.{accountPlace, accountsIn, contractPlace, loadedAccount, loadedFrom, loadedListing, loadedState, rowPlace, savedAccount, savedContract, savedHolding, settlementsPlace, balanceWidth, savedAccountWidth, savedContractWidth, settlementsWidth}
 use Rattle.saving.specs.Parts.{Laid}
 use Rattle.saving.proofs.Shapes.{few-bytes}
 

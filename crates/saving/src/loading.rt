@@ -8,7 +8,7 @@ ghost use Rattle.rules.specs.Bounds.{maxContracts};
 ghost use Rattle.rules.specs.Exchange.{noAccount};
 ghost use Rattle.rules.specs.Memory.{putAccount};
 ghost use Rattle.statements.specs.Statement.{holdingWidth};
-ghost use Rattle.saved.specs.Saved.{contractPlace, savedContract, signedOf, savedHolding, savedAccount, loadedAccount, loadedFrom, loadedState, savedContractWidth, savedAccountWidth};
+ghost use Rattle.saved.specs.Saved.{contractPlace, savedContract, savedHolding, savedAccount, loadedAccount, loadedFrom, loadedState, savedContractWidth, savedAccountWidth};
 ghost use Rattle.saving.specs.Parts.{Laid};
 use crate::shape::BALANCE_WIDTH;
 use crate::shape::LOTS_WIDTH;
@@ -17,6 +17,7 @@ use crate::shape::SAVED_CONTRACT_WIDTH;
 use crate::shape::SETTLEMENTS_WIDTH;
 use dayfile::bytes::contract_at;
 use dayfile::head::TWO_COUNTS;
+use endian::reading::signed;
 use endian::reading::u8_at;
 use endian::reading::u32_at;
 use endian::reading::u64_at;
@@ -85,21 +86,6 @@ fn holdings_over(
         c += 1;
     }
     list
-}
-
-// Where the numbers below zero begin among a signed number's eight bytes: 2^63.
-const SIGN_END: u64 = 9223372036854775808;
-
-// A signed number from its eight bytes.
-fn signed(n: u64) -> i64
-    ensures { λ r. ⌜ r ≡ signedOf n ⌝ }
-{
-    if n < SIGN_END {
-        return n as i64;
-    }
-    let size = 18446744073709551615 - n;
-    let opposite = 0 - size as i64;
-    opposite - 1
 }
 
 // An account over another, its holdings in contracts past the count as they were.

@@ -16,11 +16,11 @@ use endian::writing::put_byte;
 use endian::writing::put_u16;
 use endian::writing::put_u32;
 use endian::writing::put_u64;
+use endian::writing::unsigned;
 use rules::Account;
 use rules::Contract;
 use rules::State;
 use statements::writing::put_holdings;
-use statements::writing::unsigned;
 
 // "the day file's 20 bytes, then last price 4"
 fn put_contract(out: &mut [u8], at: usize, c: Contract) -> usize

@@ -22,9 +22,9 @@ use Rattle.rules.specs.Memory.{Memory, countsInRange, hasRoom, wellFormedMemory
 use Rattle.rules.specs.Settlement.{afterDayLeg, afterLegs, closingProfit, dayOf, dayStart, firstLots, gain, holdingGain, holdingProfit, legs, only, otherLots, priceFrom, settlementPrice, tradedValue, tradesIn, weightedPrice}
 use Rattle.rules.specs.WellFormed.{ahead, aheadOfFirst, allListed, balanceInRange, contractInRange, countersInRange, holdingInRange, holdingsInRange, listed, listingQuoted, markAllowed, markInRange, orderInRange, ordersInRange, queueQuoted, queuesSorted, quotes, rangesKept, replays, restingInRange, sorted, tradeInRange, uncrossed, usedOnce, wellFormedContents}
 use Rattle.rules.specs.declared.Trade.{Trade}
-use Rattle.endian.specs.Numbers.{two, four, eight}
+use Rattle.endian.specs.Numbers.{two, four, eight, unsigned}
 use Rattle.clients.specs.Clients.{Clients, clientAccount, clientExchange, clientPlace, clientTrade, holdingsNow, inRow, isPosted, legCount, legsIn, neverClosesMore, posted, postedTo, startsAddUp, total, tradePosted}
-use Rattle.statements.specs.Statement.{brokerRefusals, holdingBytes, holdingsBytes, legBytes, profitBytes, profitsBytes, statementCode, statementOf, tradeBytes, tradesBytes, unsigned}
+use Rattle.statements.specs.Statement.{brokerRefusals, holdingBytes, holdingsBytes, legBytes, profitBytes, profitsBytes, statementCode, statementOf, tradeBytes, tradesBytes}
 
 unfoldable pub trade : ℕ → ℕ → ℕ → ℕ → ℕ → ℕ → ℕ → ℕ → Trade
 trade price lots buyorder sellorder buyer seller buyclose sellclose =

@@ -5,13 +5,13 @@ use Prim.Native.Nat.{_-_, _<_, _≤_}
 use native.Mathlib.Omega.{arith}
 use borrow.Author.Needs.{needs}
 use Rattle.laws.specs.Choice.{all, all-more, all-none, all-stop}
+use Rattle.laws.specs.Tests.{passed, refused}
 use Rattle.rules.specs.Exchange.{accountAt, holdingAt}
 use Rattle.rules.specs.Memory.{listingIn}
 use Rattle.rules.specs.WellFormed.{holdingInRange}
 use Rattle.rules.proofs.Codecs.{length-queue}
 use Rattle.invariants.proofs.MemoryRoom.{counts-ok}
 use Rattle.audit.specs.Parts.{listing}
-use Rattle.audit.proofs.Chains.{passed, refused}
 use Rattle.audit.proofs.RestingSums.{held-same, orders-summable}
 use Rattle.audit.proofs.Rooms.{buys-room, contract-in, few-buys, few-sells, sells-room}
 use Rattle.audit.proofs.Walks.{all-end}

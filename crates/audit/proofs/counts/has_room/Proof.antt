@@ -1,8 +1,8 @@
 -- `audit::counts::has_room` meets its contract: the three tests in turn. Assumes nothing.
 use native.Mathlib.Omega.{arith}
 use borrow.Author.Tests.{le-leb, lt-leb}
+use Rattle.laws.specs.Tests.{fails, last}
 use Rattle.invariants.proofs.MemoryRoom.{counts-ok}
-use Rattle.audit.proofs.Chains.{fails, last}
 use Rattle.audit.proofs.Clauses.{room-chain}
 use Rattle.audit.proofs.counts.has_room.Statement.{statement}
 use Rattle.audit.proofs.counts.has_room.Tie as tie

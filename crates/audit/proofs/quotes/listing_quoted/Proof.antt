@@ -2,11 +2,11 @@
 use mathlib.Core.Bool.{true, false}
 use mathlib.Core.Path.{_∙_}
 use borrow.Author.Needs.{needs}
+use Rattle.laws.specs.Tests.{fails, last, passed, refused}
 use Rattle.rules.specs.Memory.{listingIn}
 use Rattle.rules.proofs.Codecs.{length-queue}
 use Rattle.invariants.proofs.MemoryRoom.{counts-ok}
 use Rattle.audit.specs.Parts.{listing}
-use Rattle.audit.proofs.Chains.{fails, last, passed, refused}
 use Rattle.audit.proofs.Clauses.{quoted-chain}
 use Rattle.audit.proofs.MarkedOrders.{orders-markable}
 use Rattle.audit.proofs.Rooms.{buys-room, contract-in, sells-room}

@@ -1,10 +1,10 @@
 -- `writing::unsigned` meets its contract. Assumes nothing.
 use native.Mathlib.Omega.{arith}
 use mir.Facts.{toZ-ofZ}
-use Rattle.statements.proofs.Sections.{some-below, unsigned-below, unsigned-above}
+use Rattle.endian.proofs.Signs.{some-below, unsigned-below, unsigned-above}
 use borrow.Author.Needs.{needs}
-use Rattle.statements.proofs.writing.unsigned.Statement.{statement}
-use Rattle.statements.proofs.writing.unsigned.Tie as tie
+use Rattle.endian.proofs.writing.unsigned.Statement.{statement}
+use Rattle.endian.proofs.writing.unsigned.Tie as tie
 
 magnitude-requires : tie.Need-magnitude-requires
 magnitude-requires c κs = search needs

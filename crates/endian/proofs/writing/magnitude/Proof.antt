@@ -1,10 +1,10 @@
--- `lines::number::magnitude` meets its contract: `steps` for a negative number. Assumes nothing.
+-- `writing::magnitude` meets its contract: `steps` for a negative number. Assumes nothing.
 use mir.Facts.{toZ-ofZ, fits-natAbs}
 use borrow.Author.Needs.{needs}
 use Rattle.laws.proofs.Signed.{nonNeg-ltZ}
-use Rattle.lines.proofs.Signs.{Steps, steps}
-use Rattle.lines.proofs.number.magnitude.Statement.{statement}
-use Rattle.lines.proofs.number.magnitude.Tie as tie
+use Rattle.endian.proofs.Signs.{Steps, steps}
+use Rattle.endian.proofs.writing.magnitude.Statement.{statement}
+use Rattle.endian.proofs.writing.magnitude.Tie as tie
 
 of-x : (c : tie.Then1) → Steps (c .before .args .x)
 of-x c = steps _ (c .before .fits .x) (rw (toZ-ofZ (c .before .fits .x)) at (c .if1 .taken))

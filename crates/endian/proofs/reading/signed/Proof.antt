@@ -1,8 +1,8 @@
--- `loading::signed` meets its contract. Assumes nothing.
-use Rattle.saving.proofs.Signs.{as-it-is, below-fits, below-is, opposite-fits}
+-- `reading::signed` meets its contract. Assumes nothing.
+use Rattle.endian.proofs.Signs.{as-it-is, below-fits, below-is, opposite-fits}
 use borrow.Author.Needs.{needs}
-use Rattle.saving.proofs.loading.signed.Statement.{statement}
-use Rattle.saving.proofs.loading.signed.Tie as tie
+use Rattle.endian.proofs.reading.signed.Statement.{statement}
+use Rattle.endian.proofs.reading.signed.Tie as tie
 
 cast-result : tie.Need-cast-result
 cast-result c = search needs
