@@ -14,8 +14,8 @@ use Rattle.laws.specs.Choice.{pick, allOf, allOf-imp, both-true, true-both, tru
 use Rattle.laws.specs.Tabulate.{tabulate}
 use Rattle.rules.specs.Answers.{listingOf, numbersUsedUp, stampsUsedUp, takerOf}
 use Rattle.rules.specs.Auction.{Matched, matchAt, matchOf}
-use Rattle.rules.specs.Change.{Asked, arriving, changed, gone, listingFor, listingLessened, placeKept, placeLost, reentered, unchanged}
-use Rattle.rules.specs.Exchange.{Exchange, Listing, listingAt, noListing, opposite, own, placeOf, worse}
+use Rattle.rules.specs.Change.{Asked, arriving, changed, gone, listingLessened, placeKept, placeLost, reentered, unchanged}
+use Rattle.rules.specs.Exchange.{Exchange, Listing, listingAt, listingNamed, noListing, opposite, own, placeOf, worse}
 use Rattle.rules.specs.Kinds.{lastOf}
 use Rattle.rules.specs.Matching.{enter, remainder, restLots, restWhole}
 use Rattle.rules.specs.Quote.{Offered, buyOf, quoted, sellOf, withBuy, withSell, withoutQuote}
@@ -198,9 +198,9 @@ module _ (x : Exchange) (new : List Arrival) where
     kept-follow =
         relisted-follow x (lastOf x (placeKept x k .stages)) (placeOf (k .contract)) _ refl same-follow by-side
       where
-        by-side : (sell : Bool) → allOf (follows x new (placeOf (k .contract)) sell) (own sell (listingLessened k (listingFor x k))) ≡ true
-        by-side true = rw (same-all (k .number) (k .lots) (follows x new (placeOf (k .contract)) true) (λ o. refl) (listingFor x k .sells)) (same-follow (placeOf (k .contract)) true)
-        by-side false = rw (same-all (k .number) (k .lots) (follows x new (placeOf (k .contract)) false) (λ o. refl) (listingFor x k .buys)) (same-follow (placeOf (k .contract)) false)
+        by-side : (sell : Bool) → allOf (follows x new (placeOf (k .contract)) sell) (own sell (listingLessened k (listingNamed x (k .contract)))) ≡ true
+        by-side true = rw (same-all (k .number) (k .lots) (follows x new (placeOf (k .contract)) true) (λ o. refl) (listingNamed x (k .contract) .sells)) (same-follow (placeOf (k .contract)) true)
+        by-side false = rw (same-all (k .number) (k .lots) (follows x new (placeOf (k .contract)) false) (λ o. refl) (listingNamed x (k .contract) .buys)) (same-follow (placeOf (k .contract)) false)
 
 -- ---- what an insert, a change and a quote enter
 
