@@ -196,10 +196,10 @@ fn lose_place(
         put_back(buys, sells, c, count, r);
         return answers::refused(state, code);
     }
-    let arriving = insertion::arrival_of(gone, o, number, 0);
+    let arrival = insertion::arrival_of(gone, o, number, 0);
     let accounts = gone.accounts;
-    let e = insertion::enter(accounts, arriving, buys, sells, trades);
-    let after = insertion::with_entry(gone, arriving, e, gone.next);
+    let e = insertion::enter(accounts, arrival, buys, sells, trades);
+    let after = insertion::with_entry(gone, arrival, e, gone.next);
     answers::accepted(after, number, e.traded, e.rested)
 }
 

@@ -10,7 +10,7 @@ ghost use Rattle.laws.specs.Choice.{pick};
 ghost use Rattle.rules.specs.Exchange.{placeOf};
 ghost use Rattle.rules.specs.Memory.{stepIn, memory, WellFormedState};
 ghost use Rattle.rules.specs.declared.Command.the-variants.{Insert};
-ghost use Rattle.insertion.specs.Arrival.{Arriving, Arrived, EnteredIs, Ready, arrivalOf, withEntry};
+ghost use Rattle.insertion.specs.Arrival.{Arriving, Arrived, ArrivedIs, Ready, arrivalOf, withEntry};
 ghost use Rattle.engine.specs.Outcome.{OutcomeIs};
 use engine::answers;
 use engine::answers::Outcome;
@@ -128,7 +128,7 @@ pub fn enter(
     trades: &mut [u32],
 ) -> Entry
     requires { ⌜ Ready accounts a (now buys) (now sells) (now trades) ⌝ }
-    ensures { λ r. ⌜ EnteredIs accounts a (now (buys .entry)) (now (sells .entry)) (now (trades .entry)) r (now (buys .exit)) (now (sells .exit)) (now (trades .exit)) ⌝ }
+    ensures { λ r. ⌜ ArrivedIs accounts a (now (buys .entry)) (now (sells .entry)) (now (trades .entry)) r (now (buys .exit)) (now (sells .exit)) (now (trades .exit)) ⌝ }
 {
     let o = a.order;
     if o.sell {
@@ -195,9 +195,9 @@ pub fn insert(
         return answers::refused(state, refusal);
     }
     let number = state.next;
-    let arriving = arrival_of(state, o, number, 0);
+    let arrival = arrival_of(state, o, number, 0);
     let accounts = state.accounts;
-    let e = enter(accounts, arriving, buys, sells, trades);
-    let after = with_entry(state, arriving, e, number + 1);
+    let e = enter(accounts, arrival, buys, sells, trades);
+    let after = with_entry(state, arrival, e, number + 1);
     answers::accepted(after, number, e.traded, e.rested)
 }

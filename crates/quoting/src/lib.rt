@@ -82,10 +82,10 @@ fn enter_marked(
         return answers::refused(state, code);
     }
     let number = state.next;
-    let arriving = insertion::arrival_of(state, o, number, 1);
+    let arrival = insertion::arrival_of(state, o, number, 1);
     let accounts = state.accounts;
-    let e = insertion::enter(accounts, arriving, buys, sells, trades);
-    let after = insertion::with_entry(state, arriving, e, number + 1);
+    let e = insertion::enter(accounts, arrival, buys, sells, trades);
+    let after = insertion::with_entry(state, arrival, e, number + 1);
     answers::accepted(after, number, e.traded, e.rested)
 }
 
