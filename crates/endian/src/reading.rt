@@ -6,7 +6,7 @@ ghost use Rattle.rules.specs.DayFile.{u8At, u16At, u32At, u64At, recordFrom, co
 use rules::Record;
 
 // A cast as a call: where a list's element is cast in place, the proof is asked that the element fits.
-fn wide(x: u8) -> u16
+fn wide_byte(x: u8) -> u16
     ensures { λ r. ⌜ (r ≡ x) × (r < 256) ⌝ }
 {
     x as u16
@@ -23,8 +23,8 @@ pub fn u16_at(file: &[u8], at: usize) -> u16
     requires { ⌜ at + 2 ≤ length (now file) ⌝ }
     ensures { λ r. ⌜ r ≡ u16At (now (file .entry)) at ⌝ }
 {
-    let low = wide(u8_at(file, at));
-    let high = wide(u8_at(file, at + 1));
+    let low = wide_byte(u8_at(file, at));
+    let high = wide_byte(u8_at(file, at + 1));
     low + 256 * high
 }
 

@@ -127,7 +127,7 @@ fn accounts_over(
 {
     let first = TWO_COUNTS + SAVED_CONTRACT_WIDTH * contracts;
     let rows = first + SAVED_ACCOUNT_WIDTH * accounts + rules::COUNT_WIDTH;
-    let wide = HOLDING_WIDTH * contracts;
+    let row_width = HOLDING_WIDTH * contracts;
     let mut list = places;
     let mut a: usize = 0;
     while a < accounts {
@@ -135,7 +135,7 @@ fn accounts_over(
         list[a] = account_over(
             file,
             first + SAVED_ACCOUNT_WIDTH * a,
-            rows + wide * a,
+            rows + row_width * a,
             contracts,
             room,
         );

@@ -10,7 +10,7 @@ use rules::Account;
 use rules::State;
 
 // A cast as a call, which says how large the number is.
-fn wide(x: u32) -> u64
+fn wide_lots(x: u32) -> u64
     ensures { λ r. ⌜ (r ≡ x) × (r < 4294967296) ⌝ }
 {
     x as u64
@@ -27,8 +27,8 @@ fn totals_equal(list: [Account; rules::MAX_ACCOUNTS], accounts: usize, c: usize)
     while a < accounts {
         let holder = list[a];
         let h = holder.holdings[c];
-        long += wide(h.long);
-        short += wide(h.short);
+        long += wide_lots(h.long);
+        short += wide_lots(h.short);
         a += 1;
     }
     long == short
