@@ -72,12 +72,12 @@ withAccountsIn s accounts =
 
 -- other counts of resting orders
 abbrev pub withCountsIn : State → List ℕ → List ℕ → State
-withCountsIn s buys sells =
+withCountsIn s buycounts sellcounts =
     record {
       contracts = s .contracts;
       accounts = s .accounts;
-      buycounts = buys;
-      sellcounts = sells;
+      buycounts = buycounts;
+      sellcounts = sellcounts;
       contractcount = s .contractcount;
       accountcount = s .accountcount;
       tradecount = s .tradecount;

@@ -58,12 +58,12 @@ pub fn with_counts(state: State, c: usize, bought: usize, sold: usize) -> State
     ensures { λ r. ⌜ r ≡ withCountsIn state (set (state .buycounts) c bought) (set (state .sellcounts) c sold) ⌝ }
 {
     let mut next = state;
-    let mut bids = state.buycounts;
-    let mut offers = state.sellcounts;
-    bids[c] = bought;
-    offers[c] = sold;
-    next.buycounts = bids;
-    next.sellcounts = offers;
+    let mut buycounts = state.buycounts;
+    let mut sellcounts = state.sellcounts;
+    buycounts[c] = bought;
+    sellcounts[c] = sold;
+    next.buycounts = buycounts;
+    next.sellcounts = sellcounts;
     next
 }
 

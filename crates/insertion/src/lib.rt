@@ -45,15 +45,15 @@ pub fn arrival_of(state: State, o: NewOrder, number: u32, quote: u32) -> Arrival
 {
     let place = laws::place_of(o.contract);
     let contracts = state.contracts;
-    let bids = state.buycounts;
-    let offers = state.sellcounts;
+    let buycounts = state.buycounts;
+    let sellcounts = state.sellcounts;
     let terms = contracts[place];
     Arrival {
         order: o,
         terms,
         place,
-        bought: bids[place],
-        sold: offers[place],
+        bought: buycounts[place],
+        sold: sellcounts[place],
         recorded: state.tradecount,
         number,
         stamp: state.nextstamp,
@@ -152,19 +152,19 @@ pub fn with_entry(state: State, a: Arrival, e: Entry, next: u32) -> State
     let o = a.order;
     let c = a.place;
     let mut contracts = state.contracts;
-    let mut bids = state.buycounts;
-    let mut offers = state.sellcounts;
+    let mut buycounts = state.buycounts;
+    let mut sellcounts = state.sellcounts;
     let accounts = e.accounts;
     let mut terms = a.terms;
     terms.last = e.last;
     contracts[c] = terms;
-    bids[c] = by_side(o.sell, e.opposite, e.own);
-    offers[c] = by_side(o.sell, e.own, e.opposite);
+    buycounts[c] = by_side(o.sell, e.opposite, e.own);
+    sellcounts[c] = by_side(o.sell, e.own, e.opposite);
     State {
         contracts,
         accounts,
-        buycounts: bids,
-        sellcounts: offers,
+        buycounts,
+        sellcounts,
         contractcount: state.contractcount,
         accountcount: state.accountcount,
         tradecount: e.made,

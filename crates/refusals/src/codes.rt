@@ -139,16 +139,16 @@ fn money_refused<'a>(
     let balance = who.balance;
     let holdings = held.holdings;
     let contracts = state.contracts;
-    let bids = state.buycounts;
-    let offers = state.sellcounts;
+    let buycounts = state.buycounts;
+    let sellcounts = state.sellcounts;
     let charged = margin::charged(
         holdings,
         contracts,
         state.contractcount,
         buys,
-        bids,
+        buycounts,
         sells,
-        offers,
+        sellcounts,
         a,
     );
     margin::too_little(balance, charged)

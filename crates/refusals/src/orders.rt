@@ -111,12 +111,12 @@ pub fn side_count(sell: bool, state: State, c: usize) -> usize
     requires { ⌜ c < maxContracts ⌝ }
     ensures { λ r. ⌜ r ≡ sideCount sell state c ⌝ }
 {
-    let bids = state.buycounts;
-    let offers = state.sellcounts;
+    let buycounts = state.buycounts;
+    let sellcounts = state.sellcounts;
     if sell {
-        return offers[c];
+        return sellcounts[c];
     }
-    bids[c]
+    buycounts[c]
 }
 
 // The best price of a queue, 0 where it is empty.

@@ -107,15 +107,15 @@ module _ (s : State) (bs : List ℕ) (c a : ℕ) (l : Laid bs c a) where
       let p : length bs - 4 ≡ settlementsPlace c a = omega (arith, l .ends) in
       sym (ap (u32At bs) (p ∙ rw (l .contracts-are, l .accounts-are)))
 
-  module _ {terms : List Contract} {holders : List Account} {buys sells : List ℕ} {settlements : ℕ} where
+  module _ {terms : List Contract} {accounts : List Account} {buycounts sellcounts : List ℕ} {settlements : ℕ} where
     pub state-made : a ≤ length (s .accounts) → terms ≡ written (λ i. savedContract bs (contractPlace i)) (s .contracts) c
-        → holders ≡ written (λ i. putAccount (loadedAccount bs i) (getD (s .accounts) i noAccount)) (s .accounts) a
-        → buys ≡ putFirst (tabulate c (λ i. 0)) (s .buycounts) → sells ≡ putFirst (tabulate c (λ i. 0)) (s .sellcounts) → settlements ≡ u32At bs (length bs - 4)
+        → accounts ≡ written (λ i. putAccount (loadedAccount bs i) (getD (s .accounts) i noAccount)) (s .accounts) a
+        → buycounts ≡ putFirst (tabulate c (λ i. 0)) (s .buycounts) → sellcounts ≡ putFirst (tabulate c (λ i. 0)) (s .sellcounts) → settlements ≡ u32At bs (length bs - 4)
         → record {
           contracts = terms;
-          accounts = holders;
-          buycounts = buys;
-          sellcounts = sells;
+          accounts = accounts;
+          buycounts = buycounts;
+          sellcounts = sellcounts;
           contractcount = c;
           accountcount = a;
           tradecount = 0;

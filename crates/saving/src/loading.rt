@@ -149,19 +149,19 @@ pub fn loaded_state(file: &[u8], contracts: usize, accounts: usize, state: State
     ensures { λ r. ⌜ r ≡ loadedState state (loadedFrom (now (file .entry))) ⌝ }
 {
     let old_terms = state.contracts;
-    let old_holders = state.accounts;
-    let old_buys = state.buycounts;
-    let old_sells = state.sellcounts;
+    let old_accounts = state.accounts;
+    let old_buycounts = state.buycounts;
+    let old_sellcounts = state.sellcounts;
     let terms = contracts_over(file, contracts, old_terms);
-    let holders = accounts_over(file, contracts, accounts, old_holders);
-    let buys = no_orders(old_buys, contracts);
-    let sells = no_orders(old_sells, contracts);
+    let new_accounts = accounts_over(file, contracts, accounts, old_accounts);
+    let buycounts = no_orders(old_buycounts, contracts);
+    let sellcounts = no_orders(old_sellcounts, contracts);
     let settlements = u32_at(file, file.len() - SETTLEMENTS_WIDTH);
     State {
         contracts: terms,
-        accounts: holders,
-        buycounts: buys,
-        sellcounts: sells,
+        accounts: new_accounts,
+        buycounts,
+        sellcounts,
         contractcount: contracts,
         accountcount: accounts,
         tradecount: 0,

@@ -57,15 +57,15 @@ fn all_asleep(state: State) -> bool
     let mut c: usize = 0;
     while c < contracts {
         let terms = state.contracts[c];
-        let bids = state.buycounts[c];
-        let asks = state.sellcounts[c];
+        let buycount = state.buycounts[c];
+        let sellcount = state.sellcounts[c];
         if terms.phase != rules::PRE_OPEN {
             return false;
         }
-        if bids != 0 {
+        if buycount != 0 {
             return false;
         }
-        if asks != 0 {
+        if sellcount != 0 {
             return false;
         }
         c += 1;
@@ -80,8 +80,8 @@ pub fn is_writable(state: State) -> bool
     if !all_asleep(state) {
         return false;
     }
-    let holders = state.accounts;
-    if !all_equal(holders, state.accountcount, state.contractcount) {
+    let accounts = state.accounts;
+    if !all_equal(accounts, state.accountcount, state.contractcount) {
         return false;
     }
     if state.tradecount != 0 {
