@@ -120,18 +120,18 @@ module _ {s : State} {buys sells trades : List ℕ} (w : WellFormedState s buys 
       unfolding listingIn
       order-is = rw (resting-is, rs .order, listing-is) refl
 
-    module _ {place : ℕ} (is : place ≡ c) {bids offers : ℕ} (eb : bids ≡ getD (s .buycounts) place 0) (es : offers ≡ getD (s .sellcounts) place 0) {r : Resting}
-        (rs : RestingIs number (queueIn buys place bids) (queueIn sells place offers) r) {code : ℕ}
-        (ec : code ≡ firstOf (restingRefusals (getD (s .contracts) place noContract) (account - 1) r lots price)) where
+    module _ {place : ℕ} (is : place ≡ c) {buycount sellcount : ℕ} (eb : buycount ≡ getD (s .buycounts) place 0) (es : sellcount ≡ getD (s .sellcounts) place 0) {r : Resting}
+        (rs : RestingIs number (queueIn buys place buycount) (queueIn sells place sellcount) r) {owner : ℕ} (mine : owner ≡ placeOf account) {code : ℕ}
+        (ec : code ≡ firstOf (restingRefusals (getD (s .contracts) place noContract) owner r lots price)) where
       found-here : RestingIs number bought sold r
       found-here = rw (eb, es, is) at rs
 
       pub order-refused : (code ≡ 0 → ⊥) → {o : Outcome} → o ≡ refusedWith s code → OutcomeIs (stepIn m command) o buys sells trades
       order-refused h a =
-          refusal s buys sells trades command code (omega arith) (in-parts ∙ rw (st, order-first, order-is found-here, ← (rw is at ec), ne-eqb code 0 h)) a
+          refusal s buys sells trades command code (omega arith) (in-parts ∙ rw (st, order-first, order-is found-here, ← (rw (is, mine) at ec), ne-eqb code 0 h)) a
 
       pub changeable : code ≡ 0 → Changeable s buys sells trades account contract number lots price r
-      changeable e = record { state = st; resting = found-here; order = sym (rw is at ec) ∙ e }
+      changeable e = record { state = st; resting = found-here; order = sym (rw (is, mine) at ec) ∙ e }
 
   -- ---- none of these holds
 

@@ -224,10 +224,10 @@ pub fn change(
     let c = laws::place_of(contract);
     let contracts = state.contracts;
     let terms = contracts[c];
-    let bids = orders::side_count(false, state, c);
-    let offers = orders::side_count(true, state, c);
-    let r = resting_order(&buys[..], bids, &sells[..], offers, c, number);
-    let code = resting_code(terms, account - 1, r, lots, price);
+    let buycount = orders::side_count(false, state, c);
+    let sellcount = orders::side_count(true, state, c);
+    let r = resting_order(&buys[..], buycount, &sells[..], sellcount, c, number);
+    let code = resting_code(terms, laws::place_word(account), r, lots, price);
     if code != 0 {
         return answers::refused(state, code);
     }

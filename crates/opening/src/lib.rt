@@ -77,7 +77,7 @@ fn leave_auction(
         sold,
         trades,
         state.tradecount,
-        contract - 1,
+        laws::place_word(contract),
         chosen,
         terms.last,
         accounts,

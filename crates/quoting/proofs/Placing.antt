@@ -78,13 +78,20 @@ entered-lots y number mark o =
     (λ h. (swept-at-most (takerOf y number mark o) (o .lots) (listingOf y o .contract .last) (opposite (o .sell) (listingOf y o)), rested-lots (isGoodForDay (o .time)) (o .lots) _))
 
 -- what the code takes out of the two queues is the account's old quote
-pub gone-written : {s : State} {buys sells trades : List ℕ} (w : WellFormedState s buys sells trades) (account contract : ℕ) → firstOf (pullRefusals (exchangeOf (memory s buys sells trades)) account contract false) ≡ 0 → {place : ℕ} → place ≡ placeOf contract
-    → {r : State} {bid offer : Pulled} {buys′ sells′ : List ℕ}
-    → PulledIs (isQuoteOf (placeOf account)) buys place (getD (s .buycounts) place 0) bid buys′ → PulledIs (isQuoteOf (placeOf account)) sells place (getD (s .sellcounts) place 0) offer sells′
-    → r ≡ withCountsIn s (set (s .buycounts) place (bid .count)) (set (s .sellcounts) place (offer .count)) → memory r buys′ sells′ trades ≡ goneIn (memory s buys sells trades) account contract
-gone-written w account contract none is b o e =
-    rw e
-    (sym (lies w account contract false none is (isQuoteOf (placeOf account)) (record { queue = b .queue; count = b .count; lots = b .lots }) (record { queue = o .queue; count = o .count; lots = o .lots })))
+module _ {s : State} {buys sells trades : List ℕ} (w : WellFormedState s buys sells trades) (account contract : ℕ) (none : firstOf (pullRefusals (exchangeOf (memory s buys sells trades)) account contract false) ≡ 0) {place : ℕ} (is : place ≡ placeOf contract)
+    {owner : ℕ} (mine : owner ≡ placeOf account) {bid offer : Pulled} {buys′ sells′ : List ℕ}
+    (from-buys : PulledIs (isQuoteOf owner) buys place (getD (s .buycounts) place 0) bid buys′) (from-sells : PulledIs (isQuoteOf owner) sells place (getD (s .sellcounts) place 0) offer sells′) where
+  own-buys : PulledIs (isQuoteOf (placeOf account)) buys place (getD (s .buycounts) place 0) bid buys′
+  own-buys = rw mine at from-buys
+
+  own-sells : PulledIs (isQuoteOf (placeOf account)) sells place (getD (s .sellcounts) place 0) offer sells′
+  own-sells = rw mine at from-sells
+
+  pub gone-written : {r : State} → r ≡ withCountsIn s (set (s .buycounts) place (bid .count)) (set (s .sellcounts) place (offer .count))
+      → memory r buys′ sells′ trades ≡ goneIn (memory s buys sells trades) account contract
+  gone-written e =
+      rw e
+      (sym (lies w account contract false none is (isQuoteOf (placeOf account)) (record { queue = own-buys .queue; count = own-buys .count; lots = own-buys .lots }) (record { queue = own-sells .queue; count = own-sells .count; lots = own-sells .lots })))
 
 -- ---- 2, 3 and 4, then 23 and 24, as the code tries them
 

@@ -55,12 +55,13 @@ fn remove_quote(
     ensures { λ r. ⌜ memory r (now (buys .exit)) (now (sells .exit)) (now (trades .entry)) ≡ goneIn (memory state (now (buys .entry)) (now (sells .entry)) (now (trades .entry))) account contract ⌝ }
 {
     let c = laws::place_of(contract);
-    let bids = state.buycounts;
-    let offers = state.sellcounts;
-    let bought = bids[c];
-    let sold = offers[c];
-    let bid = book::removal::pull(buys, c, bought, account - 1, true);
-    let offer = book::removal::pull(sells, c, sold, account - 1, true);
+    let a = laws::place_word(account);
+    let buycounts = state.buycounts;
+    let sellcounts = state.sellcounts;
+    let bought = buycounts[c];
+    let sold = sellcounts[c];
+    let bid = book::removal::pull(buys, c, bought, a, true);
+    let offer = book::removal::pull(sells, c, sold, a, true);
     engine::removal::with_counts(state, c, bid.count, offer.count)
 }
 

@@ -61,7 +61,7 @@ pub fn client_statement<'a>(
         buys,
         sells,
         trades,
-        account - 1,
+        laws::place_word(account),
         clients,
         starts,
         postings,
