@@ -6,7 +6,7 @@ use Prim.Native.Nat.{ℕ, _+_, _*_}
 use lib.Dec.{leb, ltb, eqb}
 use lib.ListN.{length, getD}
 use Rattle.laws.specs.Choice.{all, allOf}
-use Rattle.laws.specs.Chains.{passed}
+use Rattle.laws.specs.Chains.{all-passed}
 use Rattle.laws.specs.Tests.{Chain}
 use Rattle.rules.specs.Bounds.{within, inAuction, phaseKnown, termsInRange, tickMultiple, allowedToday, maxResting, maxTrades}
 use Rattle.rules.specs.Exchange.{Listing}
@@ -80,7 +80,7 @@ listing-chain accounts next nextstamp l = record { is = flat (contractInRange (l
 pub listing-tested : (accounts next nextstamp : ℕ) (l : Listing) → listingInRange accounts next nextstamp l ≡ true → ListingOk accounts next nextstamp l
 unfolding listingInRange
 listing-tested accounts next nextstamp l h =
-    let p = passed (contractInRange (l .contract)) (queuesSorted l ∷ ordersInRange accounts next nextstamp l ∷ []) h in
+    let p = all-passed (contractInRange (l .contract)) (queuesSorted l ∷ ordersInRange accounts next nextstamp l ∷ []) h in
     listing-ok accounts next nextstamp l (p .0) (p .1 .0) (p .1 .1)
 
 pub quoted-chain : (accounts : List Account) (l : Listing) → Chain (listingQuoted accounts l) (queueQuoted accounts (l .buys) ∷ []) (queueQuoted accounts (l .sells))

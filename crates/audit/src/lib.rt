@@ -39,23 +39,23 @@ fn contents_are_well_formed(state: State, buys: &[u32], sells: &[u32], trades: &
         return false;
     }
     let held = state.accounts;
-    let holders = state.accountcount;
-    if !accounts::marks_in_range(held, holders) {
+    let accountcount = state.accountcount;
+    if !accounts::marks_in_range(held, accountcount) {
         return false;
     }
     let contracts = state.contractcount;
     let count = state.tradecount;
     let list = state.contracts;
-    if !recorded::trades_in_range(list, contracts, holders, next, trades, count) {
+    if !recorded::trades_in_range(list, contracts, accountcount, next, trades, count) {
         return false;
     }
     if !accounts::holdings_in_range(state, buys, sells) {
         return false;
     }
-    if !replay::replays(held, contracts, holders, trades, count) {
+    if !replay::replays(held, contracts, accountcount, trades, count) {
         return false;
     }
-    accounts::balances_in_range(held, holders, settlements)
+    accounts::balances_in_range(held, accountcount, settlements)
 }
 
 // "A state is well formed when": every clause of the paper, on any state and any areas.

@@ -19,7 +19,7 @@ use Rattle.rules.specs.Settlement.{Leg, leg, only, legs, dayOf, holdingGain, se
 use Rattle.rules.specs.WellFormed.{replays}
 use Rattle.rules.specs.declared.Holding.{Holding}
 use Rattle.rules.specs.declared.Trade.{Trade}
-use Rattle.accounting.specs.Article32.{flow, net}
+use Rattle.accounting.specs.DayLegs.{flow, net}
 use Rattle.accounting.proofs.DayProfit.{day-profit, flow-append, net-append}
 use Rattle.accounting.proofs.Replay.{day-covered, replay-covered}
 use Rattle.accounting.proofs.Trades.{boughtBy, soldBy, sumTo-sub}

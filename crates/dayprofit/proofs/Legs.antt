@@ -13,10 +13,10 @@ use mir.Syntax.{w32, w64}
 use mir.Val.{Fits}
 use Rattle.laws.specs.Choice.{pick, pick-same}
 use Rattle.laws.specs.Sums.{sumOf, sumOf-append}
+use Rattle.rules.specs.Article32.{lotsIn}
 use Rattle.rules.specs.Settlement.{Leg, leg, only, legs, buyLeg, sellLeg}
 use Rattle.rules.specs.Bounds.{maxLots, maxPrice}
 use Rattle.rules.specs.declared.Trade.{Trade}
-use Rattle.accounting.specs.Article32.{lotsOf}
 use Rattle.accounting.proofs.Trades.{legs-append}
 use Rattle.dayprofit.specs.Day.{Sized, AllSized}
 use Rattle.dayprofit.specs.Sides.{same, lotsIf, valueIf, batchIf, batchesOf, cost}
@@ -129,8 +129,8 @@ module _ (a c : ℕ) (sell close : Bool) where
 
 -- ---- the same legs as batches
 
-no-lots : lotsOf [] ≡ 0
-unfolding lotsOf sumOf
+no-lots : lotsIn [] ≡ 0
+unfolding sumOf
 no-lots = refl
 
 no-cost : cost [] ≡ 0
@@ -143,11 +143,11 @@ module _ (sell close : Bool) where
   batches-append [] ms = refl
   batches-append (l ∷ ls) ms = rw (batches-append ls ms) (sym (append-assoc (batchIf sell close l) (batchesOf sell close ls) (batchesOf sell close ms)))
 
-  batch-lots : (l : Leg) → lotsOf (batchIf sell close l) ≡ lotsIf sell close l
-  unfolding batchIf lotsIf lotsOf sumOf
+  batch-lots : (l : Leg) → lotsIn (batchIf sell close l) ≡ lotsIf sell close l
+  unfolding batchIf lotsIf sumOf
   batch-lots (leg s k p n) = counted (isKind sell close s k)
     where
-      counted : (b : Bool) → lotsOf (pick b (record { price = p; lots = n } ∷ []) []) ≡ pick b n 0
+      counted : (b : Bool) → lotsIn (pick b (record { price = p; lots = n } ∷ []) []) ≡ pick b n 0
       counted true = omega arith
       counted false = refl
 
@@ -159,7 +159,7 @@ module _ (sell close : Bool) where
       counted true = omega arith
       counted false = refl
 
-  pub batches-lots : (ls : List Leg) → lotsOf (batchesOf sell close ls) ≡ sumOf (lotsIf sell close) ls
+  pub batches-lots : (ls : List Leg) → lotsIn (batchesOf sell close ls) ≡ sumOf (lotsIf sell close) ls
   unfolding batchesOf sumOf
   batches-lots [] = no-lots
   batches-lots (l ∷ ls) = lots-append (batchIf sell close l) (batchesOf sell close ls) ∙ rw (batch-lots l, batches-lots ls)

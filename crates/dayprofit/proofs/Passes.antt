@@ -9,12 +9,12 @@ use lib.Dec.{eqb}
 use lib.ListN.{length, getD, drop, replicate, getD-replicate, length-replicate}
 use Rattle.laws.specs.Choice.{pick}
 use Rattle.laws.specs.Sums.{sumOf, sumOf-append}
+use Rattle.rules.specs.Article32.{lotsIn}
 use Rattle.rules.specs.Memory.{recordedTrades, tradeFrom, tradeStride}
 use Rattle.rules.specs.Bounds.{maxLots, maxPrice, maxAccounts, maxContracts}
 use Rattle.rules.specs.Settlement.{Leg, leg, Batch, only, firstLots}
 use Rattle.rules.specs.declared.Trade.{Trade}
 use Rattle.rules.proofs.Codecs.{length-trades, trade-at}
-use Rattle.accounting.specs.Article32.{lotsOf}
 use Rattle.dayprofit.specs.Day.{Sized, SizedTrades}
 use Rattle.dayprofit.specs.Sides.{same, lotsIf, valueIf, batchIf, batchesOf, openedToday, cost, dayLotsMost, dayValueMost}
 use Rattle.dayprofit.specs.Slots.{slotOf, partyOf, closeOf, legSlot, changed, Placed, PlacedTrades, Addable, SumsAre, UsedAre, slots, slotLotsMost, slotValueMost}
@@ -58,7 +58,7 @@ adding close =
 -- ---- the first lots opened on each side, as many as `left` says
 
 abbrev pub Taken : List ℕ → ℕ → Bool → List Leg → ℕ → ℕ → Type 0
-Taken left q s ls u v = (u ≡ getD left q 0 - lotsOf (openedToday s ls)) × (v ≡ cost (firstLots (getD left q 0) (openedToday s ls)))
+Taken left q s ls u v = (u ≡ getD left q 0 - lotsIn (openedToday s ls)) × (v ≡ cost (firstLots (getD left q 0) (openedToday s ls)))
 
 batch-if : (s k s₀ k₀ b : Bool) (p n : ℕ) → isKind s k s₀ k₀ ≡ b → batchesOf s k (leg s₀ k₀ p n ∷ []) ≡ pick b (record { price = p; lots = n } ∷ []) []
 unfolding batchesOf batchIf
@@ -69,8 +69,8 @@ last-batch : (s k s₀ k₀ b : Bool) (ls : List Leg) (p n : ℕ) → isKind s k
 last-batch s k s₀ k₀ b ls p n e =
     batches-append s k ls (leg s₀ k₀ p n ∷ []) ∙ ap (λ (bs : List Batch). batchesOf s k ls ++ bs) (batch-if s k s₀ k₀ b p n e)
 
-one-lots : (p n : ℕ) → lotsOf (record { price = p; lots = n } ∷ []) ≡ n
-unfolding lotsOf sumOf
+one-lots : (p n : ℕ) → lotsIn (record { price = p; lots = n } ∷ []) ≡ n
+unfolding sumOf
 one-lots p n = omega arith
 
 one-taken : (p n m : ℕ) → cost (firstLots m (record { price = p; lots = n } ∷ [])) ≡ p * min m n
@@ -78,8 +78,8 @@ unfolding cost firstLots sumOf
 one-taken p n m = omega arith
 
 -- one batch more, of which m lots are taken where m were still to be
-module _ (due : ℕ) (bs : List Batch) (u v p n : ℕ) (e : u ≡ due - lotsOf bs) (f : v ≡ cost (firstLots due bs)) where
-  batch-left : u - min u n ≡ due - lotsOf (bs ++ (record { price = p; lots = n } ∷ []))
+module _ (due : ℕ) (bs : List Batch) (u v p n : ℕ) (e : u ≡ due - lotsIn bs) (f : v ≡ cost (firstLots due bs)) where
+  batch-left : u - min u n ≡ due - lotsIn (bs ++ (record { price = p; lots = n } ∷ []))
   batch-left = rw (lots-append bs (record { price = p; lots = n } ∷ []), one-lots p n) (omega arith)
 
   batch-taken : v + p * min u n ≡ cost (firstLots due (bs ++ (record { price = p; lots = n } ∷ [])))
@@ -203,7 +203,7 @@ adding-done close area count us vs i h w =
     }
 
 pub taking-none : (area : List ℕ) (count : ℕ) (left vs : List ℕ) → length left ≡ slots → vs ≡ replicate slots 0 → Passing (Taken left) area count left vs 0
-unfolding batchesOf firstLots cost lotsOf sumOf
+unfolding batchesOf firstLots cost sumOf
 taking-none area count left vs h f =
     rw f
     (record {

@@ -8,7 +8,7 @@ use crate::EIGHT_MOST;
 use rules::Record;
 
 // A cast as a call: where a list's element is cast in place, the proof is asked that the element fits.
-fn wide(x: u8) -> u16
+fn wide_byte(x: u8) -> u16
     ensures { λ r. ⌜ (r ≡ x) × (r < 256) ⌝ }
 {
     x as u16
@@ -25,8 +25,8 @@ pub fn u16_at(file: &[u8], at: usize) -> u16
     requires { ⌜ at + 2 ≤ length (now file) ⌝ }
     ensures { λ r. ⌜ r ≡ u16At (now (file .entry)) at ⌝ }
 {
-    let low = wide(u8_at(file, at));
-    let high = wide(u8_at(file, at + 1));
+    let low = wide_byte(u8_at(file, at));
+    let high = wide_byte(u8_at(file, at + 1));
     low + 256 * high
 }
 

@@ -71,12 +71,12 @@ module _ (m : Memory) (f : Formed m) where
     sameListings = record { listings = exchangeOf m .listings; accounts = accounts; trades = trades; next = next; nextstamp = nextstamp; settlements = settlements }
 
     abbrev pub stateOf : List Contract → List ℕ → List ℕ → State
-    stateOf contracts buys sells =
+    stateOf contracts buycounts sellcounts =
         record {
           contracts = contracts;
           accounts = putAccounts accounts (m .state .accounts);
-          buycounts = buys;
-          sellcounts = sells;
+          buycounts = buycounts;
+          sellcounts = sellcounts;
           contractcount = m .state .contractcount;
           accountcount = m .state .accountcount;
           tradecount = length trades;

@@ -17,9 +17,9 @@ use Rattle.rules.specs.declared.State.{State}
 use Rattle.engine.specs.declared.answers.Outcome.{Outcome}
 
 -- the answer, the state, and the full content of the three areas
-pub record OutcomeIs (response : AfterCommand) (r : Outcome) (buys sells trades : List ℕ) : Type 0 where
-  pub answer : r .answer ≡ response .answer
-  pub memory : memory (r .state) buys sells trades ≡ response .memory
+pub record OutcomeIs (after : AfterCommand) (r : Outcome) (buys sells trades : List ℕ) : Type 0 where
+  pub answer : r .answer ≡ after .answer
+  pub memory : memory (r .state) buys sells trades ≡ after .memory
 
 -- a code that is the first of some refusals on a state, whatever the areas lent with it hold: they are not read
 abbrev pub CodeIn : State → (Exchange → List Refusal) → ℕ → Type 0
@@ -78,12 +78,12 @@ withAccountsIn s accounts =
 
 -- other counts of resting orders
 abbrev pub withCountsIn : State → List ℕ → List ℕ → State
-withCountsIn s buys sells =
+withCountsIn s buycounts sellcounts =
     record {
       contracts = s .contracts;
       accounts = s .accounts;
-      buycounts = buys;
-      sellcounts = sells;
+      buycounts = buycounts;
+      sellcounts = sellcounts;
       contractcount = s .contractcount;
       accountcount = s .accountcount;
       tradecount = s .tradecount;

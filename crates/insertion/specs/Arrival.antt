@@ -88,8 +88,8 @@ abbrev pub Ready : List Account → Arrival → List ℕ → List ℕ → List �
 Ready accounts a buys sells area =
     Arriving accounts a (sideArea (a .order .sell) buys sells) (countOf (a .order .sell) a) (sideArea (not (a .order .sell)) buys sells) (countOf (not (a .order .sell)) a) area
 
-abbrev pub EnteredIs : List Account → Arrival → List ℕ → List ℕ → List ℕ → Entry → List ℕ → List ℕ → List ℕ → Type 0
-EnteredIs accounts a buys sells area r buys′ sells′ area′ =
+abbrev pub ArrivedIs : List Account → Arrival → List ℕ → List ℕ → List ℕ → Entry → List ℕ → List ℕ → List ℕ → Type 0
+ArrivedIs accounts a buys sells area r buys′ sells′ area′ =
     Arrived accounts a (sideArea (a .order .sell) buys sells) (countOf (a .order .sell) a) (sideArea (not (a .order .sell)) buys sells) (countOf (not (a .order .sell)) a) area r
     (sideArea (a .order .sell) buys′ sells′) (sideArea (not (a .order .sell)) buys′ sells′) area′
 

@@ -11,7 +11,7 @@ use lib.Dec.{eqb}
 use lib.ListN.{length}
 use lib.Seq.{getD-set-same}
 use Rattle.laws.specs.Choice.{pick, allOf, allOf-imp}
-use Rattle.laws.specs.Chains.{passed, join}
+use Rattle.laws.specs.Chains.{all-passed, join}
 use Rattle.laws.specs.Sums.{sumOf-at}
 use Rattle.rules.specs.Answers.{_when_, firstOf, phaseRefusals}
 use Rattle.rules.specs.Auction.{Matched, auctionMatch, chosenPrice, matchAt, matchOf, volume}
@@ -53,7 +53,7 @@ allows-changed c last phase price h = h
 contract-phase : (c : Contract) (phase : ℕ) → phase ≤ maxPhase → contractInRange c ≡ true → contractInRange (withPhase c phase) ≡ true
 unfolding contractInRange termsInRange
 contract-phase c phase l h =
-    let p = passed (termsInRange c) (phaseKnown (c .phase) ∷ tickMultiple (c .tick) (c .last) ∷ []) h in
+    let p = all-passed (termsInRange c) (phaseKnown (c .phase) ∷ tickMultiple (c .tick) (c .last) ∷ []) h in
     join (termsInRange c) (phaseKnown phase ∷ tickMultiple (c .tick) (c .last) ∷ []) (p .0, (le-leb phase maxPhase l, p .1 .1))
 
 -- ---- the match

@@ -10,7 +10,7 @@ use lib.Dec.{leb, eqb}
 use lib.ListN.{length, getD, List·getD-map}
 use Rattle.laws.specs.Choice.{pick, allOf, allOf-imp, both-true, true-both}
 use Rattle.laws.specs.Sums.{sumOf}
-use Rattle.laws.specs.Chains.{passed, join}
+use Rattle.laws.specs.Chains.{all-passed, join}
 use Rattle.rules.specs.Answers.{firstOf, settleRefusals}
 use Rattle.rules.specs.Bounds.{within, tickMultiple, termsInRange, maxPrice, maxSettlements, preOpen, maxPhase, phaseKnown}
 use Rattle.rules.specs.Exchange.{Exchange, listingAt, accountAt, holdingAt, own, noHolding}
@@ -56,7 +56,7 @@ module _ (x : Exchange) (c : ℕ) (k : ListingOk (length (x .accounts)) (x .next
   unfolding contractInRange
   its-terms =
       terms (listingAt x c .contract)
-      (passed (termsInRange (listingAt x c .contract))
+      (all-passed (termsInRange (listingAt x c .contract))
       (phaseKnown (listingAt x c .contract .phase) ∷ tickMultiple tick (listingAt x c .contract .last) ∷ []) (k .contract) .0)
 
   -- its own trades
@@ -106,7 +106,7 @@ module _ (x : Exchange) (c : ℕ) (k : ListingOk (length (x .accounts)) (x .next
 contract-settled : (c : Contract) (price : ℕ) → contractInRange c ≡ true → Multiple (c .tick) price → contractInRange (settledContract c price) ≡ true
 unfolding contractInRange settledContract
 contract-settled c price h m =
-    let p = passed (termsInRange c) (phaseKnown (c .phase) ∷ tickMultiple (c .tick) (c .last) ∷ []) h in
+    let p = all-passed (termsInRange c) (phaseKnown (c .phase) ∷ tickMultiple (c .tick) (c .last) ∷ []) h in
     let t = terms c (p .0) in
     join (termsInRange (settledContract c price)) (phaseKnown preOpen ∷ tickMultiple (c .tick) (c .last) ∷ []) (
       terms-test (settledContract c price)

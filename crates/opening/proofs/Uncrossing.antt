@@ -182,8 +182,9 @@ module _ {s : State} {buys sells trades : List ℕ} (w : WellFormedState s buys 
                   };
             }
 
-        pub left-ready : MatchReady (levelMatch c level (queueIn buys c (getD (s .buycounts) place 0)) (queueIn sells c (getD (s .sellcounts) place 0))) c (s .accounts) buys (getD (s .buycounts) place 0) sells (getD (s .sellcounts) place 0) trades (s .tradecount)
-        left-ready = rw is ready
+        pub left-ready : {word : ℕ} → word ≡ c
+            → MatchReady (levelMatch word level (queueIn buys word (getD (s .buycounts) place 0)) (queueIn sells word (getD (s .sellcounts) place 0))) word (s .accounts) buys (getD (s .buycounts) place 0) sells (getD (s .sellcounts) place 0) trades (s .tradecount)
+        left-ready same = rw (is, same) ready
 
         -- ---- what it leaves
 
@@ -198,10 +199,10 @@ module _ {s : State} {buys sells trades : List ℕ} (w : WellFormedState s buys 
         unfolding codeOf kindOf phaseChanged exchangeMatched
         counted = phase-counted x contract 1 accepted (f .contents) (sound m (w .formed) .counts)
 
-        module _ {r : Match} {buys′ sells′ area′ : List ℕ}
-            (outcome : MatchedIs (levelMatch c level (queueIn buys c (getD (s .buycounts) place 0)) (queueIn sells c (getD (s .sellcounts) place 0))) c (getD (s .contracts) place noContract .last) (s .accounts) buys (getD (s .buycounts) place 0) sells (getD (s .sellcounts) place 0) trades (s .tradecount) r buys′ sells′ area′) where
+        module _ {word : ℕ} (same : word ≡ c) {r : Match} {buys′ sells′ area′ : List ℕ}
+            (outcome : MatchedIs (levelMatch word level (queueIn buys word (getD (s .buycounts) place 0)) (queueIn sells word (getD (s .sellcounts) place 0))) word (getD (s .contracts) place noContract .last) (s .accounts) buys (getD (s .buycounts) place 0) sells (getD (s .sellcounts) place 0) trades (s .tradecount) r buys′ sells′ area′) where
           made : MatchedIs matched c (terms .last) (s .accounts) buys (getD (s .buycounts) c 0) sells (getD (s .sellcounts) c 0) trades (s .tradecount) r buys′ sells′ area′
-          made = rw (is, level-is) at outcome
+          made = rw (is, same, level-is) at outcome
 
           lies : written m (kindOf x (Phase contract continuous) .effect .stages) ≡ memory (withMatch s place r) buys′ sells′ area′
           unfolding kindOf phaseChanged exchangeMatched listingMatched exchangeOf listingIn

@@ -77,11 +77,18 @@ entered-lots y number mark o =
     (λ h. (swept-at-most (takerOf y number mark o) (o .lots) (listingOf y o .contract .last) (opposite (o .sell) (listingOf y o)), rested-lots (isGoodForDay (o .time)) (o .lots) _))
 
 -- what the code takes out of the two queues is the account's old quote
-pub gone-written : {s : State} {buys sells trades : List ℕ} (w : WellFormedState s buys sells trades) (account contract : ℕ) → firstOf (pullRefusals (exchangeOf (memory s buys sells trades)) account contract false) ≡ 0 → {place : ℕ} → place ≡ placeOf contract
-    → {r : State} {bought sold bid offer : ℕ} {buys′ sells′ : List ℕ}
-    → RemovedIs (isQuoteOf (placeOf account)) buys place (getD (s .buycounts) place 0) bought bid buys′ → RemovedIs (isQuoteOf (placeOf account)) sells place (getD (s .sellcounts) place 0) sold offer sells′
-    → r ≡ withCountsIn s (set (s .buycounts) place bought) (set (s .sellcounts) place sold) → memory r buys′ sells′ trades ≡ goneIn (memory s buys sells trades) account contract
-gone-written w account contract none is b o e = rw e (sym (lies w account contract false none is (isQuoteOf (placeOf account)) b o))
+module _ {s : State} {buys sells trades : List ℕ} (w : WellFormedState s buys sells trades) (account contract : ℕ) (none : firstOf (pullRefusals (exchangeOf (memory s buys sells trades)) account contract false) ≡ 0) {place : ℕ} (is : place ≡ placeOf contract)
+    {owner : ℕ} (mine : owner ≡ placeOf account) {bought sold bid offer : ℕ} {buys′ sells′ : List ℕ}
+    (from-buys : RemovedIs (isQuoteOf owner) buys place (getD (s .buycounts) place 0) bought bid buys′) (from-sells : RemovedIs (isQuoteOf owner) sells place (getD (s .sellcounts) place 0) sold offer sells′) where
+  own-buys : RemovedIs (isQuoteOf (placeOf account)) buys place (getD (s .buycounts) place 0) bought bid buys′
+  own-buys = rw mine at from-buys
+
+  own-sells : RemovedIs (isQuoteOf (placeOf account)) sells place (getD (s .sellcounts) place 0) sold offer sells′
+  own-sells = rw mine at from-sells
+
+  pub gone-written : {r : State} → r ≡ withCountsIn s (set (s .buycounts) place bought) (set (s .sellcounts) place sold)
+      → memory r buys′ sells′ trades ≡ goneIn (memory s buys sells trades) account contract
+  gone-written e = rw e (sym (lies w account contract false none is (isQuoteOf (placeOf account)) own-buys own-sells))
 
 -- ---- 2, 3 and 4, then 23 and 24, as the code tries them
 

@@ -5,7 +5,7 @@ use mathlib.Core.Path.{_≡_, refl}
 use Prim.Native.Nat.{ℕ, _<_, _≤_}
 use borrow.Author.Tests.{leb-true, le-leb, lt-leb}
 use lib.Dec.{leb}
-use Rattle.laws.specs.Chains.{join, passed}
+use Rattle.laws.specs.Chains.{all-passed, join}
 use Rattle.laws.specs.Choice.{both-true, true-both, both-false, false-both}
 use Rattle.rules.specs.Bounds.{within, onTick, tickMultiple, termsInRange, maxPrice, maxMethod, maxMultiplier, maxTick, maxLimit, maxRate, phaseKnown}
 use Rattle.rules.specs.WellFormed.{contractInRange}
@@ -84,7 +84,7 @@ module _ (c : Contract) where
   pub terms : termsInRange c ≡ true → Terms c
   unfolding termsInRange
   terms h =
-      let p = passed (within 1 1_000 (c .multiplier)) termTests h in
+      let p = all-passed (within 1 1_000 (c .multiplier)) termTests h in
       record {
         multiplier-low = within-low 1 maxMultiplier (c .multiplier) (p .0);
         multiplier-high = within-high 1 maxMultiplier (c .multiplier) (p .0);
@@ -122,7 +122,7 @@ module _ (c : Contract) where
   -- a contract of a well-formed state has its terms in range
   pub terms-passed : contractInRange c ≡ true → termsInRange c ≡ true
   unfolding contractInRange
-  terms-passed h = passed (termsInRange c) (phaseKnown (c .phase) ∷ tickMultiple (c .tick) (c .last) ∷ []) h .0
+  terms-passed h = all-passed (termsInRange c) (phaseKnown (c .phase) ∷ tickMultiple (c .tick) (c .last) ∷ []) h .0
 
   pub contract-terms : contractInRange c ≡ true → Terms c
   contract-terms h = terms (terms-passed h)

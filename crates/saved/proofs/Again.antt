@@ -9,7 +9,7 @@ use lib.ListN.{length, take, drop, length-drop, take-append-drop}
 use lib.Seq.{take-all}
 use borrow.Author.Tests.{eq-eqb, eqb-true}
 use Rattle.laws.specs.Choice.{all, allOf, allOf-map, both-true}
-use Rattle.laws.specs.Chains.{passed}
+use Rattle.laws.specs.Chains.{all-passed}
 use Rattle.areas.specs.Records.{encode, records}
 use Rattle.rules.specs.Bounds.{maxAccounts, maxContracts, within}
 use Rattle.rules.specs.DayFile.{u32At, contractFrom, contractsIn, countWidth}
@@ -39,7 +39,7 @@ unfolding shaped countsRight
 shape bs h =
     let c = contractsIn bs in
     let a = accountsIn bs in
-    let p = passed (within 1 maxContracts c) (within 1 maxAccounts a ∷ eqb (length bs) (settlementsPlace c a + 4) ∷ countsRight bs ∷ []) h in
+    let p = all-passed (within 1 maxContracts c) (within 1 maxAccounts a ∷ eqb (length bs) (settlementsPlace c a + 4) ∷ countsRight bs ∷ []) h in
     let q = both-true (eqb (u32At bs (accountPlace c a)) (a * c)) (eqb (u32At bs (rowPlace c a a)) 1) (p .1 .1 .1) in
     record {
       contracts = p .0;
@@ -57,7 +57,7 @@ pub record Sound (bs : List ℕ) : Type 0 where
 pub sound-parts : (bs : List ℕ) → savedSound bs ≡ true → Sound bs
 unfolding savedSound
 sound-parts bs h =
-    let p = passed (shaped bs) (all (markSound bs) (accountsIn bs) ∷ wellFormedContents (loadedFrom bs) ∷ []) h in
+    let p = all-passed (shaped bs) (all (markSound bs) (accountsIn bs) ∷ wellFormedContents (loadedFrom bs) ∷ []) h in
     record { shape-is = shape bs (p .0); marks = p .1 .0; formed = p .1 .1 }
 
 -- ---- a section is written as it was read

@@ -10,7 +10,7 @@ use lib.IntN.{ℤ, natAbs}
 use lib.ListN.{length, take, drop}
 use borrow.Author.Tests.{eqb-true, ltb-true}
 use Rattle.laws.specs.Choice.{both-true}
-use Rattle.laws.specs.Chains.{passed}
+use Rattle.laws.specs.Chains.{all-passed}
 use Rattle.rules.specs.Bounds.{preOpen}
 use Rattle.rules.specs.DayFile.{u8At, u16At, u32At, u64At, contractFrom}
 use Rattle.rules.specs.Exchange.{Listing}
@@ -55,7 +55,7 @@ contract-back c ys h =
 listing-back : (l : Listing) (ys : List ℕ) → asleep l ≡ true → listingFrom (listingBytes l ++ ys) ≡ l
 unfolding asleep
 listing-back l ys h =
-    let p = passed (eqb (l .contract .phase) preOpen) (eqb (length (l .buys)) 0 ∷ eqb (length (l .sells)) 0 ∷ []) h in
+    let p = all-passed (eqb (l .contract .phase) preOpen) (eqb (length (l .buys)) 0 ∷ eqb (length (l .sells)) 0 ∷ []) h in
     let c = contract-back (l .contract) ys (eqb-true (l .contract .phase) preOpen (p .0)) in
     let b = nothing-in (l .buys) (p .1 .0) in
     let s = nothing-in (l .sells) (p .1 .1) in

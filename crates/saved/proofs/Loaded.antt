@@ -10,7 +10,7 @@ use lib.ListN.{length, getD, drop}
 use lib.Seq.{take-at}
 use borrow.Author.Tests.{eqb-true}
 use Rattle.laws.specs.Choice.{allOf, allOf-at, both-true}
-use Rattle.laws.specs.Chains.{passed}
+use Rattle.laws.specs.Chains.{all-passed}
 use Rattle.laws.specs.Tabulate.{tabulate, tabulate-eq}
 use Rattle.rules.specs.Bounds.{maxAccounts, maxContracts, preOpen, within}
 use Rattle.rules.specs.Exchange.{Exchange, accountAt, listingAt, noAccount, noContract, noListing}
@@ -57,7 +57,7 @@ module _ (m : Memory) (d : Declared (m .state)) (x : Exchange) (s : Loadable x) 
   unfolding asleep listingAt
   still c l =
       let n = getD (x .listings) c noListing in
-      let p = passed (eqb (n .contract .phase) preOpen) (eqb (length (n .buys)) 0 ∷ eqb (length (n .sells)) 0 ∷ []) (allOf-at asleep (x .listings) c noListing (s .asleep-all) l) in
+      let p = all-passed (eqb (n .contract .phase) preOpen) (eqb (length (n .buys)) 0 ∷ eqb (length (n .sells)) 0 ∷ []) (allOf-at asleep (x .listings) c noListing (s .asleep-all) l) in
       record { buys = nothing-in (n .buys) (p .1 .0); sells = nothing-in (n .sells) (p .1 .1) }
 
   buy-count : (c : ℕ) → c < length (x .listings) → getD (put .state .buycounts) c 0 ≡ 0

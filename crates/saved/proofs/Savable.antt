@@ -9,7 +9,7 @@ use lib.IntN.{natAbs}
 use lib.ListN.{length, getD}
 use borrow.Author.Tests.{eqb-true, lt-ltb}
 use Rattle.laws.specs.Choice.{allOf, allOf-map, allOf-true, both-true, true-both}
-use Rattle.laws.specs.Chains.{passed}
+use Rattle.laws.specs.Chains.{all-passed}
 use Rattle.rules.specs.Bounds.{within, maxAccounts, maxContracts}
 use Rattle.rules.specs.Exchange.{Exchange, accountAt, noAccount}
 use Rattle.rules.specs.Holdings.{bookTrades, startHolding, startOfDay, sameLots, sameHoldings}
@@ -43,7 +43,7 @@ pub record Writable (x : Exchange) : Type 0 where
 pub writable-parts : (x : Exchange) → writable x ≡ true → Writable x
 unfolding writable
 writable-parts x h =
-    let w = passed (allOf asleep (x .listings)) (allEqual x ∷ eqb (length (x .trades)) 0 ∷ eqb (x .next) 1 ∷ eqb (x .nextstamp) 1 ∷ []) h in
+    let w = all-passed (allOf asleep (x .listings)) (allEqual x ∷ eqb (length (x .trades)) 0 ∷ eqb (x .next) 1 ∷ eqb (x .nextstamp) 1 ∷ []) h in
     record {
       asleep-all = w .0;
       equal-all = w .1 .0;

@@ -56,17 +56,17 @@ module _ (bs : List ℕ) (c a : ℕ) (l : Laid bs c a) (i : ℕ) (h : i < a) whe
         small = omega (arith, row-ends, few-bytes c a (l .few-contracts) (l .few-accounts));
       }
 
-  account-placed : (first rows wide : ℕ) → first ≡ 8 + 24 * c → rows ≡ first + 9 * a + 4 → wide ≡ 8 * c
-      → savedAccount bs c (first + 9 * i) (rows + wide * i) ≡ loadedAccount bs i
+  account-placed : (first rows width : ℕ) → first ≡ 8 + 24 * c → rows ≡ first + 9 * a + 4 → width ≡ 8 * c
+      → savedAccount bs c (first + 9 * i) (rows + width * i) ≡ loadedAccount bs i
   unfolding loadedAccount
-  account-placed first rows wide e f g =
+  account-placed first rows width e f g =
       let p : first + 9 * i ≡ accountPlace c i = omega arith in
-      let q : rows + wide * i ≡ rowPlace c a i = rw g (omega arith) in
+      let q : rows + width * i ≡ rowPlace c a i = rw g (omega arith) in
       ap₂ (λ (x y : ℕ). savedAccount bs c x y) p q ∙ rw (l .contracts-are, l .accounts-are)
 
-  pub account-over : (first rows wide : ℕ) → first ≡ 8 + 24 * c → rows ≡ first + 9 * a + 4 → wide ≡ 8 * c → (r room : Account)
-      → r ≡ putAccount (savedAccount bs c (first + 9 * i) (rows + wide * i)) room → r ≡ putAccount (loadedAccount bs i) room
-  account-over first rows wide e f g r room p = p ∙ ap (λ (o : Account). putAccount o room) (account-placed first rows wide e f g)
+  pub account-over : (first rows width : ℕ) → first ≡ 8 + 24 * c → rows ≡ first + 9 * a + 4 → width ≡ 8 * c → (r room : Account)
+      → r ≡ putAccount (savedAccount bs c (first + 9 * i) (rows + width * i)) room → r ≡ putAccount (loadedAccount bs i) room
+  account-over first rows width e f g r room p = p ∙ ap (λ (o : Account). putAccount o room) (account-placed first rows width e f g)
 
 -- ---- the state
 
@@ -110,15 +110,15 @@ module _ (s : State) (bs : List ℕ) (c a : ℕ) (l : Laid bs c a) where
       let p : length bs - settlementsWidth ≡ settlementsPlace c a = omega (arith, l .ends) in
       sym (ap (u32At bs) (p ∙ rw (l .contracts-are, l .accounts-are)))
 
-  module _ {terms : List Contract} {holders : List Account} {buys sells : List ℕ} {settlements : ℕ} where
+  module _ {terms : List Contract} {accounts : List Account} {buycounts sellcounts : List ℕ} {settlements : ℕ} where
     pub state-made : a ≤ length (s .accounts) → terms ≡ written (λ i. savedContract bs (contractPlace i)) (s .contracts) c
-        → holders ≡ written (λ i. putAccount (loadedAccount bs i) (getD (s .accounts) i noAccount)) (s .accounts) a
-        → buys ≡ putFirst (tabulate c (λ i. 0)) (s .buycounts) → sells ≡ putFirst (tabulate c (λ i. 0)) (s .sellcounts) → settlements ≡ u32At bs (length bs - settlementsWidth)
+        → accounts ≡ written (λ i. putAccount (loadedAccount bs i) (getD (s .accounts) i noAccount)) (s .accounts) a
+        → buycounts ≡ putFirst (tabulate c (λ i. 0)) (s .buycounts) → sellcounts ≡ putFirst (tabulate c (λ i. 0)) (s .sellcounts) → settlements ≡ u32At bs (length bs - settlementsWidth)
         → record {
           contracts = terms;
-          accounts = holders;
-          buycounts = buys;
-          sellcounts = sells;
+          accounts = accounts;
+          buycounts = buycounts;
+          sellcounts = sellcounts;
           contractcount = c;
           accountcount = a;
           tradecount = 0;

@@ -115,7 +115,7 @@ fn accounts_over(
 {
     let first = TWO_COUNTS + SAVED_CONTRACT_WIDTH * contracts;
     let rows = first + SAVED_ACCOUNT_WIDTH * accounts + rules::COUNT_WIDTH;
-    let wide = HOLDING_WIDTH * contracts;
+    let row_width = HOLDING_WIDTH * contracts;
     let mut list = places;
     let mut a: usize = 0;
     while a < accounts {
@@ -123,7 +123,7 @@ fn accounts_over(
         list[a] = account_over(
             file,
             first + SAVED_ACCOUNT_WIDTH * a,
-            rows + wide * a,
+            rows + row_width * a,
             contracts,
             room,
         );
@@ -137,19 +137,19 @@ pub fn loaded_state(file: &[u8], contracts: usize, accounts: usize, state: State
     ensures { λ r. ⌜ r ≡ loadedState state (loadedFrom (now (file .entry))) ⌝ }
 {
     let old_terms = state.contracts;
-    let old_holders = state.accounts;
-    let old_buys = state.buycounts;
-    let old_sells = state.sellcounts;
+    let old_accounts = state.accounts;
+    let old_buycounts = state.buycounts;
+    let old_sellcounts = state.sellcounts;
     let terms = contracts_over(file, contracts, old_terms);
-    let holders = accounts_over(file, contracts, accounts, old_holders);
-    let buys = no_orders(old_buys, contracts);
-    let sells = no_orders(old_sells, contracts);
+    let new_accounts = accounts_over(file, contracts, accounts, old_accounts);
+    let buycounts = no_orders(old_buycounts, contracts);
+    let sellcounts = no_orders(old_sellcounts, contracts);
     let settlements = u32_at(file, file.len() - SETTLEMENTS_WIDTH);
     State {
         contracts: terms,
-        accounts: holders,
-        buycounts: buys,
-        sellcounts: sells,
+        accounts: new_accounts,
+        buycounts,
+        sellcounts,
         contractcount: contracts,
         accountcount: accounts,
         tradecount: 0,

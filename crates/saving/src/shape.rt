@@ -30,8 +30,9 @@ pub const SAVED_ACCOUNT_WIDTH: usize = BALANCE_WIDTH + MARK_WIDTH;
 
 pub const SETTLEMENTS_WIDTH: usize = 4;
 
-// The counts of all four sections with the settlement count, and the last section.
-const COUNTS_WIDTH: usize = 4 * rules::COUNT_WIDTH + SETTLEMENTS_WIDTH;
+// What every file has, however many contracts and accounts: the counts of all four sections with the settlement count. And the last
+// section.
+const FIXED_WIDTH: usize = 4 * rules::COUNT_WIDTH + SETTLEMENTS_WIDTH;
 
 const LAST_SECTION: usize = rules::COUNT_WIDTH + SETTLEMENTS_WIDTH;
 
@@ -43,7 +44,7 @@ pub fn file_length(contracts: usize, accounts: usize) -> usize
     requires { ⌜ (contracts ≤ maxContracts) × (accounts ≤ maxAccounts) ⌝ }
     ensures { λ r. ⌜ (r ≡ saved.settlementsPlace contracts accounts + saved.settlementsWidth) × (r ≤ savedMost) ⌝ }
 {
-    COUNTS_WIDTH
+    FIXED_WIDTH
         + SAVED_CONTRACT_WIDTH * contracts
         + SAVED_ACCOUNT_WIDTH * accounts
         + HOLDING_WIDTH * contracts * accounts

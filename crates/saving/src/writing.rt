@@ -139,11 +139,11 @@ pub fn put_state(state: State, out: &mut [u8])
     ensures { λ r. ⌜ now (out .exit) ≡ over (now (out .entry)) 0 (stateBytes state) ⌝ }
 {
     let contracts = state.contractcount;
-    let accounts = state.accountcount;
+    let accountcount = state.accountcount;
     let terms = state.contracts;
-    let holders = state.accounts;
+    let accounts = state.accounts;
     let first = put_contract_section(out, 0, terms, contracts);
-    let second = put_account_section(out, first, holders, accounts);
-    let third = put_holding_section(out, second, holders, accounts, contracts);
+    let second = put_account_section(out, first, accounts, accountcount);
+    let third = put_holding_section(out, second, accounts, accountcount, contracts);
     put_settlements(out, third, state.settlements);
 }

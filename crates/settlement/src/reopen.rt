@@ -81,10 +81,10 @@ pub fn clear_areas(state: State, buys: &mut [u32], sells: &mut [u32], trades: &m
     ensures { λ _. ⌜ ClearedAre state (now (buys .entry)) (now (sells .entry)) (now (trades .entry)) (now (buys .exit)) (now (sells .exit)) (now (trades .exit)) ⌝ }
 {
     let contracts = state.contractcount;
-    let bids = state.buycounts;
-    let offers = state.sellcounts;
+    let buycounts = state.buycounts;
+    let sellcounts = state.sellcounts;
     let e = rules::TRADE_STRIDE * state.tradecount;
-    clear_queues(buys, bids, contracts);
-    clear_queues(sells, offers, contracts);
+    clear_queues(buys, buycounts, contracts);
+    clear_queues(sells, sellcounts, contracts);
     areas::clear(&mut trades[..e]);
 }

@@ -2,7 +2,7 @@
 use mathlib.Core.Bool.{Bool, true, false, not, _&&_, _||_}
 use mathlib.Core.List.{List}
 use mathlib.Core.Path.{_≡_, refl, sym, ap, _∙_}
-use Prim.Native.Nat.{ℕ, _-_, _<_, _≤_}
+use Prim.Native.Nat.{ℕ, _<_, _≤_}
 use native.Mathlib.Omega.{arith}
 use borrow.Author.Tests.{eqb-false, le-ltb, lt-ltb, ltb-false, not-false}
 use lib.Dec.{eqb, ltb}
@@ -93,7 +93,7 @@ module _ (s : State) (buys sells trades : List ℕ) (f : WellFormedState s buys 
     too-many h r w = by-25 memory′ account b′ out (f .formed) there (true-either _ _ (lt-ltb maxClients clients h)) r w
 
     -- t: the code's answer whether the clients' lots add up, read at the account's place
-    module _ (few : clients ≤ maxClients) (k : ℕ) (ek : k ≡ clients) (place : ℕ) (ep : place ≡ account - 1) (t : Bool)
+    module _ (few : clients ≤ maxClients) (k : ℕ) (ek : k ≡ clients) (place : ℕ) (ep : place ≡ placeOf account) (t : Bool)
         (et : t ≡ all (λ c. eqb (total k (λ i. startLong starts i c)) (getD (getD (s .accounts) place noAccount .holdings) c noHolding .startlong)
         && eqb (total k (λ i. startShort starts i c)) (getD (getD (s .accounts) place noAccount .holdings) c noHolding .startshort)) (s .contractcount)) where
       adds-is : t ≡ startsAddUp (exchangeOf memory′) (placeOf account) b′
@@ -103,15 +103,15 @@ module _ (s : State) (buys sells trades : List ℕ) (f : WellFormedState s buys 
           ∙ rw (ek, ep, contracts-in-use memory′)
           (all-ext _ _ (s .contractcount)
           (λ c lc. ap (λ (h : Holding). eqb (total clients (λ i. startLong starts i c)) (h .startlong) && eqb (total clients (λ i. startShort starts i c)) (h .startshort))
-          (sym (holding-in-use memory′ (account - 1) c (omega (arith, account-low account (s .accountcount) present, account-high account (s .accountcount) present)) lc))))
+          (sym (holding-in-use memory′ (placeOf account) c (omega (arith, account-low account (s .accountcount) present, account-high account (s .accountcount) present)) lc))))
 
       pub not-adding : not t ≡ true → (r : Statement) → r ≡ refusedWith 25 → StatementIs memory′ account b′ out r out
       not-adding h r w = by-25 memory′ account b′ out (f .formed) there (either-true (ltb maxClients clients) _ (ap not (sym adds-is) ∙ h)) r w
 
       module _ (h : not t ≡ false) where
-        pub postable : Postable s buys sells trades (account - 1) clients starts
+        at-place : Postable s buys sells trades (placeOf account) clients starts
         unfolding startsAddUp
-        postable =
+        at-place =
             record {
               formed = f;
               account = omega (arith, account-low account (s .accountcount) present, account-high account (s .accountcount) present);
@@ -119,7 +119,11 @@ module _ (s : State) (buys sells trades : List ℕ) (f : WellFormedState s buys 
               adds = sym adds-is ∙ not-false t h;
             }
 
-        pub adding : (r : Statement) (out′ : List ℕ) → PostedIs memory′ (account - 1) clients starts postings out r out′ → StatementIs memory′ account b′ out r out′
-        adding r out′ a =
-            from-26 memory′ account b′ out (f .formed) there
-            (rw (le-ltb maxClients clients few) (ap not (sym adds-is) ∙ h)) r out′ a
+        module _ {word : ℕ} (same : word ≡ placeOf account) where
+          pub postable : Postable s buys sells trades word clients starts
+          postable = rw same at-place
+
+          pub adding : (r : Statement) (out′ : List ℕ) → PostedIs memory′ word clients starts postings out r out′ → StatementIs memory′ account b′ out r out′
+          adding r out′ a =
+              from-26 memory′ account b′ out (f .formed) there
+              (rw (le-ltb maxClients clients few) (ap not (sym adds-is) ∙ h)) r out′ (rw same at a)

@@ -76,16 +76,16 @@ fn same_counts(a: [usize; rules::MAX_CONTRACTS], b: [usize; rules::MAX_CONTRACTS
 pub fn same_state(a: State, b: State) -> bool {
     let contracts = a.contracts;
     let accounts = a.accounts;
-    let buys = a.buycounts;
-    let sells = a.sellcounts;
+    let buycounts = a.buycounts;
+    let sellcounts = a.sellcounts;
     let other_contracts = b.contracts;
     let other_accounts = b.accounts;
-    let other_buys = b.buycounts;
-    let other_sells = b.sellcounts;
+    let other_buycounts = b.buycounts;
+    let other_sellcounts = b.sellcounts;
     same_contracts(contracts, other_contracts)
         && same_accounts(accounts, other_accounts)
-        && same_counts(buys, other_buys)
-        && same_counts(sells, other_sells)
+        && same_counts(buycounts, other_buycounts)
+        && same_counts(sellcounts, other_sellcounts)
         && a.contractcount == b.contractcount
         && a.accountcount == b.accountcount
         && a.tradecount == b.tradecount

@@ -23,7 +23,7 @@ pub struct Length {
 // No file and no area is so long.
 const FAR: usize = 1000000;
 
-fn wide(x: u8) -> u64 {
+fn byte_as_u64(x: u8) -> u64 {
     x as u64
 }
 
@@ -71,14 +71,14 @@ pub fn number(file: &[u8], at: usize) -> Found {
     let mut next = sum(at, 1);
     if first < 248 {
         return Found {
-            value: wide(first),
+            value: byte_as_u64(first),
             next,
         };
     }
     let mut value: u64 = 0;
     let mut k: u8 = 247;
     while k < first {
-        value = (value << 8) | wide(byte_at(file, next));
+        value = (value << 8) | byte_as_u64(byte_at(file, next));
         next = sum(next, 1);
         k += 1;
     }

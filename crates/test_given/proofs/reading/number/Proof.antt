@@ -16,8 +16,8 @@ byte-at-requires c κs = search needs
 sum-requires : tie.Need-sum-requires Inv-loop μ-loop
 sum-requires c κs = search needs
 
-wide-requires : tie.Need-wide-requires Inv-loop μ-loop
-wide-requires c κs = search needs
+byte-as-u64-requires : tie.Need-byte-as-u64-requires Inv-loop μ-loop
+byte-as-u64-requires c κs = search needs
 
 returns : tie.Need-returns Inv-loop μ-loop
 returns c = search needs
@@ -28,8 +28,8 @@ loop-holds c = search needs
 byte-at-requires-2 : tie.Need-byte-at-requires-2 Inv-loop μ-loop
 byte-at-requires-2 c κs = search needs
 
-wide-requires-2 : tie.Need-wide-requires-2 Inv-loop μ-loop
-wide-requires-2 c κs = search needs
+byte-as-u64-requires-2 : tie.Need-byte-as-u64-requires-2 Inv-loop μ-loop
+byte-as-u64-requires-2 c κs = search needs
 
 sum-requires-2 : tie.Need-sum-requires-2 Inv-loop μ-loop
 sum-requires-2 c κs = search needs
@@ -54,11 +54,11 @@ number-spec =
     μ-loop
     byte-at-requires
     sum-requires
-    wide-requires
+    byte-as-u64-requires
     returns
     loop-holds
     byte-at-requires-2
-    wide-requires-2
+    byte-as-u64-requires-2
     sum-requires-2
     add-k
     loop-less

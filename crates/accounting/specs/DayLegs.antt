@@ -2,14 +2,10 @@
 -- open, and when each close finds the lots that it closes. Assumes nothing.
 use mathlib.Core.Bool.{true, false}
 use mathlib.Core.List.{List, [], _∷_}
-use Prim.Native.Nat.{ℕ, _*_, _≤_}
+use Prim.Native.Nat.{_*_, _≤_}
 use lib.IntN.{ℤ, pos, negℤ, _+ℤ_, _-ℤ_}
-use Rattle.laws.specs.Sums.{sumOf}
-use Rattle.rules.specs.Settlement.{Leg, leg, Batch, Day, afterDayLeg}
-
--- the lots of batches
-unfoldable pub lotsOf : List Batch → ℕ
-lotsOf bs = sumOf (λ b. b .lots) bs
+use Rattle.rules.specs.Article32.{lotsIn}
+use Rattle.rules.specs.Settlement.{Leg, leg, Day, afterDayLeg}
 
 -- what legs sold for less what they cost, open or close
 unfoldable pub flow : List Leg → ℤ
@@ -25,14 +21,14 @@ net (leg false close p n ∷ ls) = pos n +ℤ net ls
 
 -- long lots less short lots
 unfoldable pub netOpen : Day → ℤ
-netOpen d = pos (lotsOf (d .long)) -ℤ pos (lotsOf (d .short))
+netOpen d = pos (lotsIn (d .long)) -ℤ pos (lotsIn (d .short))
 
 -- a leg closes no more lots than are open on the side that it closes: a sell closes long lots, a buy short ones
 unfoldable pub Covered : Day → Leg → Type 0
 Covered d (leg false false p n) = Unit {0}
 Covered d (leg true false p n) = Unit {0}
-Covered d (leg true true p n) = n ≤ lotsOf (d .long)
-Covered d (leg false true p n) = n ≤ lotsOf (d .short)
+Covered d (leg true true p n) = n ≤ lotsIn (d .long)
+Covered d (leg false true p n) = n ≤ lotsIn (d .short)
 
 -- each leg in turn
 unfoldable pub AllCovered : Day → List Leg → Type 0
