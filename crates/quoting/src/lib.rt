@@ -56,11 +56,11 @@ fn remove_quote(
     ensures { λ r. ⌜ memory r (now (buys .exit)) (now (sells .exit)) (now (trades .entry)) ≡ goneIn (memory state (now (buys .entry)) (now (sells .entry)) (now (trades .entry))) account contract ⌝ }
 {
     let c = laws::place_of(contract);
-    let a = laws::place_word(account);
     let buycounts = state.buycounts;
     let sellcounts = state.sellcounts;
     let bought = buycounts[c];
     let sold = sellcounts[c];
+    let a = laws::place_word(account);
     let bid = book::removal::pull(buys, c, bought, a, true);
     let offer = book::removal::pull(sells, c, sold, a, true);
     engine::removal::with_counts(state, c, bid.count, offer.count)
