@@ -41,7 +41,10 @@ keptBytes file first (suc k) =
     keptBytes file first k
     ++ pick (eqb (reason file first k (kept file first k)) 0) (take commandWidth (drop (first + commandWidth * k) file)) []
 
--- "The list is an 8-byte count, then each dropped record in file order": the width of an entry in bytes
+-- "The list is an 8-byte count, then each dropped record in file order": the widths in bytes
+abbrev pub listCountWidth : ℕ
+listCountWidth = 8
+
 abbrev pub entryWidth : ℕ
 entryWidth = 9
 
