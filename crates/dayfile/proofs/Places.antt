@@ -2,7 +2,7 @@
 -- that each record spoken of lies within it. Assumes nothing.
 use mathlib.Core.Bool.{Bool, true, false, true≢false, _&&_}
 use mathlib.Core.List.{List}
-use mathlib.Core.Path.{_≡_, refl, sym, ap, _∙_}
+use mathlib.Core.Path.{_≡_, refl, sym, ap, ap₂, _∙_}
 use Prim.Native.Nat.{ℕ, _+_, _-_, _*_, _%_, _≤_, _<_, _^_}
 use native.Mathlib.Omega.{arith}
 use lib.Dec.{leb, eqb}
@@ -14,7 +14,8 @@ use Rattle.rules.specs.Bounds.{within, maxBalance}
 use Rattle.rules.specs.DayFile.{u32At, u64At, contractsIn, contractPlace, accountsIn, accountPlace, commandsIn, commandPlace, contractSound, accountSound, balanceFrom, makerBit, makerFrom, commandFrom, commandsOf, sound}
 use Rattle.rules.specs.declared.Command.{Command}
 use Rattle.rules.proofs.Terms.{within-low, within-high}
-use Rattle.dayfile.specs.FileHead.{headWhole, headSound}
+use Rattle.dayfile.specs.FileHead.{countBefore, headWhole, headSound}
+use Rattle.dayfile.proofs.Counts.{counted, uncounted}
 
 -- ---- places
 
@@ -72,6 +73,9 @@ module _ (file : List ℕ) where
 
 -- ---- what a head says
 
+some-of : {n : ℕ} → (n ≡ 0 → ⊥) → 1 ≤ n
+some-of {n} h = omega (arith, h)
+
 pub record Head (file : List ℕ) : Type 0 where
   pub some-contract : 1 ≤ contractsIn file
   pub contracts : contractsIn file ≤ 4
@@ -113,6 +117,32 @@ module _ (file : List ℕ) where
         le-leb (accountsIn file) 32 k,
         e,
       )
+
+  -- the same by the counts as the code reads them
+  module _ {c : ℕ} (ec : c ≡ countBefore file 4 4) where
+    pub no-contracts : c ≡ 0 → false ≡ headWhole file
+    no-contracts z = sym (refused (λ l. uncounted file 4 4 ec z (omega (arith, l .long)) (omega (arith, l .some-contract, contracts-read file)) (omega (arith, l .contracts, contracts-read file))))
+
+    module _ (some : c ≡ 0 → ⊥) where
+      pub contracts-are : c ≡ contractsIn file
+      contracts-are = counted file 4 4 ec some .is ∙ sym (contracts-read file)
+
+      module _ {end a : ℕ} (is : end ≡ 8 + 20 * c) (ea : a ≡ countBefore file end 32) where
+        read-there : u32At file (end - 4) ≡ accountsIn file
+        read-there = ap (u32At file) (omega (arith, contracts-are)) ∙ sym (accounts-read file)
+
+        pub no-accounts : a ≡ 0 → false ≡ headWhole file
+        no-accounts z =
+            sym (refused (λ l. uncounted file end 32 ea z (omega (arith, l .long, contracts-are)) (omega (arith, l .some-account, read-there)) (omega (arith, l .accounts, read-there))))
+
+        module _ (more : a ≡ 0 → ⊥) where
+          pub accounts-are : a ≡ accountsIn file
+          accounts-are = counted file end 32 ea more .is ∙ read-there
+
+          pub reach-decides : c ≤ 4 → a ≤ 32 → leb (12 + 20 * c + 8 * a) (length file) ≡ headWhole file
+          reach-decides h k =
+              ap₂ (λ (m n : ℕ). leb (12 + 20 * m + 8 * n) (length file)) contracts-are accounts-are
+              ∙ sym (length-decides (omega (arith, contracts-are, some-of some)) (omega (arith, contracts-are)) (omega (arith, accounts-are, some-of more)) (omega (arith, accounts-are)))
 
   abbrev contracts-sound : Bool
   contracts-sound = all (contractSound file) (contractsIn file)

@@ -11,6 +11,9 @@ use borrow.Author.Tests.{eq-eqb, ne-eqb, le-leb, lt-leb}
 use Rattle.laws.specs.Choice.{false-both}
 use Rattle.rules.specs.DayFile.{contractsIn, u8At, u32At}
 use Rattle.rules.proofs.Terms.{within-high, within-low, within-test}
+use Rattle.dayfile.specs.FileHead.{countBefore}
+use Rattle.dayfile.proofs.Counts.{counted, uncounted}
+use Rattle.dayfile.proofs.Places.{contracts-are, contracts-read}
 use Rattle.saved.specs.Saved.{accountPlace, accountsIn, countsRight, markSound, rowPlace, settlementsPlace, shaped}
 use Rattle.saved.proofs.Again.{shape}
 use Rattle.saving.specs.Parts.{Laid}
@@ -54,6 +57,24 @@ counts-decide bs l =
       within-test 1 32 (accountsIn bs) (l .some-account) (l .few-accounts),
       eq-eqb (length bs) (settlementsPlace (contractsIn bs) (accountsIn bs) + 4) (l .ends),
     )
+
+-- ---- the counts as the code reads them
+
+module _ (bs : List ℕ) {c : ℕ} (ec : c ≡ countBefore bs 4 4) where
+  pub no-contracts : c ≡ 0 → false ≡ shaped bs
+  no-contracts z = sym (misshapen bs (λ l. uncounted bs 4 4 ec z (omega (arith, l .ends)) (omega (arith, l .some-contract, contracts-read bs)) (omega (arith, l .few-contracts, contracts-read bs))))
+
+  module _ (some : c ≡ 0 → ⊥) {end a : ℕ} (is : end ≡ 8 + 24 * c) (ea : a ≡ countBefore bs end 32) where
+    count-there : u32At bs (end - 4) ≡ accountsIn bs
+    unfolding accountsIn
+    count-there = ap (u32At bs) (omega (arith, contracts-are bs ec some))
+
+    pub no-accounts : a ≡ 0 → false ≡ shaped bs
+    no-accounts z =
+        sym (misshapen bs (λ l. uncounted bs end 32 ea z (omega (arith, l .ends, contracts-are bs ec some)) (omega (arith, l .some-account, count-there)) (omega (arith, l .few-accounts, count-there))))
+
+    pub accounts-are : (a ≡ 0 → ⊥) → a ≡ accountsIn bs
+    accounts-are more = counted bs end 32 ea more .is ∙ count-there
 
 -- ---- the tests in the order of the code, with what was read so far
 

@@ -9,7 +9,7 @@ ghost use Rattle.rules.specs.DayFile.{contractsIn, countWidth};
 ghost use Rattle.saved.specs.Saved as saved;
 ghost use Rattle.saving.specs.Parts.{Laid, savedMost};
 use dayfile::head::TWO_COUNTS;
-use dayfile::head::contract_count;
+use dayfile::head::count_before;
 use endian::reading::u8_at;
 use endian::reading::u32_at;
 use statements::writing::HOLDING_WIDTH;
@@ -66,24 +66,13 @@ fn counts_right(file: &[u8], contracts: usize, accounts: usize) -> bool
 pub fn is_shaped(file: &[u8]) -> bool
     ensures { λ r. ⌜ r ≡ saved.shaped (now (file .entry)) ⌝ }
 {
-    if file.len() < rules::COUNT_WIDTH {
+    let contracts = count_before(file, rules::COUNT_WIDTH, rules::MAX_CONTRACTS);
+    if contracts == 0 {
         return false;
     }
-    let contracts = contract_count(file);
-    if contracts < 1 {
-        return false;
-    }
-    if rules::MAX_CONTRACTS < contracts {
-        return false;
-    }
-    if file.len() < TWO_COUNTS + SAVED_CONTRACT_WIDTH * contracts {
-        return false;
-    }
-    let accounts = account_count(file, contracts);
-    if accounts < 1 {
-        return false;
-    }
-    if rules::MAX_ACCOUNTS < accounts {
+    let end = TWO_COUNTS + SAVED_CONTRACT_WIDTH * contracts;
+    let accounts = count_before(file, end, rules::MAX_ACCOUNTS);
+    if accounts == 0 {
         return false;
     }
     if file.len() != file_length(contracts, accounts) {
