@@ -73,6 +73,7 @@ extern "C" {
 #define ZELVORM_NO_TRADING 2u
 #define ZELVORM_CLOSED 3u
 #define ZELVORM_AUCTION 4u
+#define ZELVORM_MAX_PHASE 4u
 
 /* The flags of an insert: what is not set is a buy, an open, limit and good for day. */
 #define ZELVORM_FLAG_SELL 1u

@@ -61,6 +61,7 @@ CONTINUOUS = 1
 NO_TRADING = 2
 CLOSED = 3
 AUCTION = 4
+MAX_PHASE = 4
 
 # The flags of an insert: what is not set is a buy, an open, limit and good for day.
 FLAG_SELL = 1

@@ -63,6 +63,7 @@ pub const CONTINUOUS: u32 = 1;
 pub const NO_TRADING: u32 = 2;
 pub const CLOSED: u32 = 3;
 pub const AUCTION: u32 = 4;
+pub const MAX_PHASE: u32 = 4;
 
 // The flags of an insert: what is not set is a buy, an open, limit and good for day.
 pub const FLAG_SELL: u8 = 1;
