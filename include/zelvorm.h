@@ -67,7 +67,7 @@ extern "C" {
 #define ZELVORM_NUMBER_WORD 1u
 #define ZELVORM_STAMP_WORD 5u
 
-/* A contract's phases. */
+/* A contract's phases, and the largest of them. */
 #define ZELVORM_PRE_OPEN 0u
 #define ZELVORM_CONTINUOUS 1u
 #define ZELVORM_NO_TRADING 2u

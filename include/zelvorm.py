@@ -55,7 +55,7 @@ TRADES_WORDS = 9216
 NUMBER_WORD = 1
 STAMP_WORD = 5
 
-# A contract's phases.
+# A contract's phases, and the largest of them.
 PRE_OPEN = 0
 CONTINUOUS = 1
 NO_TRADING = 2

@@ -57,7 +57,7 @@ pub const TRADES_WORDS: usize = 9216;
 pub const NUMBER_WORD: usize = 1;
 pub const STAMP_WORD: usize = 5;
 
-// A contract's phases.
+// A contract's phases, and the largest of them.
 pub const PRE_OPEN: u32 = 0;
 pub const CONTINUOUS: u32 = 1;
 pub const NO_TRADING: u32 = 2;

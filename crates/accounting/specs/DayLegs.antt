@@ -1,5 +1,5 @@
--- Article 32 of document 002, for one account's day in one contract: what the day's legs sold for and bought, which lots are
--- open, and when each close finds the lots that it closes. Assumes nothing.
+-- The legs of one account's day in one contract: what they sold for and bought, which lots are open, and when each close finds the
+-- lots that it closes. Assumes nothing.
 use mathlib.Core.Bool.{true, false}
 use mathlib.Core.List.{List, [], _∷_}
 use Prim.Native.Nat.{_*_, _≤_}

@@ -46,6 +46,6 @@ openingState file =
       settlements = 0;
     }
 
--- with the areas lent to it: what stands in them is of no account
+-- the memory that a run begins with: the opening state, and areas in which whatever stands plays no part
 abbrev pub openingMemory : List ℕ → List ℕ → List ℕ → List ℕ → Memory
 openingMemory file buys sells trades = memory (openingState file) buys sells trades

@@ -70,8 +70,8 @@ pub fn accounts_sound(file: &[u8], start: usize, accounts: usize) -> bool
     true
 }
 
-// The count that ends at a place, of any bytes: 0 where the file ends before, or the count is above the most. Another crate reads its
-// counts by it too.
+// The count that ends at a place, of any bytes: 0 where the file ends before, or the count is above the most. For the crates of this
+// repository: a saved state's counts are read by it too. Requires a place behind four bytes.
 pub fn count_before(file: &[u8], end: usize, most: usize) -> usize
     requires { ⌜ countWidth ≤ end ⌝ }
     ensures { λ r. ⌜ (r ≡ countBefore (now (file .entry)) end most) × (r ≤ most) ⌝ }

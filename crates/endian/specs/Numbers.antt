@@ -26,7 +26,7 @@ unfoldable pub unsigned : ℤ → ℕ
 unsigned (pos n) = n
 unsigned (negsuc n) = eightMost - n
 
--- where the numbers below zero begin: 2^63
+-- where the numbers below zero begin among eight bytes: 2^63. From there on a number is what it is above -2^64
 abbrev pub signEnd : ℕ
 signEnd = 9_223_372_036_854_775_808
 

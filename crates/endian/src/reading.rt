@@ -1,4 +1,5 @@
-// Little-endian numbers and a command's record. For the crates of this repository: each requires its bytes within the file.
+// Little-endian numbers, signed ones too, and a command's record. For the crates of this repository: a call that reads a file requires
+// its bytes within it.
 ghost use mathlib.Core.Path.{_≡_};
 ghost use Prim.Native.Nat.{_+_, _<_, _≤_};
 ghost use lib.ListN.{length};

@@ -1,5 +1,5 @@
-// Bytes and little-endian numbers written into a lent area. Each call gives the place after what it wrote. For the
-// crates of this repository: each requires room.
+// Bytes and little-endian numbers written into a lent area, and a signed number as eight bytes hold it. For the crates of this
+// repository: a call that writes requires room, and gives the place after what it wrote.
 ghost use mathlib.Core.List.{[], _∷_};
 ghost use mathlib.Core.Path.{_≡_};
 ghost use Prim.Native.Nat.{_+_, _≤_};

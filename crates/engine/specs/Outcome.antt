@@ -1,4 +1,4 @@
--- What a kind gives and leaves, against what the rules leave. Assumes nothing.
+-- What a kind gives and leaves, against what the rules give and leave. Assumes nothing.
 use mathlib.Core.Bool.{Bool, false, not, _&&_}
 use mathlib.Core.List.{List}
 use mathlib.Core.Path.{_≡_}

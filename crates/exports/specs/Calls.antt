@@ -56,6 +56,6 @@ askedWords state buys sells sell contract = sideWords buys sells sell contract (
 
 -- ".. as a part of whichever lent area holds it": where the part begins and how many words it has; an empty one begins at 0
 pub record SideIs (state : State) (buys sells : List ℕ) (sell : Bool) (contract : ℕ) (r : Part) : Type 0 where
-  pub first : r .first ≡ pick (eqb (length (askedWords state buys sells sell contract)) 0) 0 (queueStride * (placeOf contract))
+  pub first : r .first ≡ pick (eqb (length (askedWords state buys sells sell contract)) 0) 0 (queueStride * placeOf contract)
   pub words : r .words ≡ length (askedWords state buys sells sell contract)
   pub part : take (r .words) (drop (r .first) (pick sell sells buys)) ≡ askedWords state buys sells sell contract

@@ -1,6 +1,6 @@
 // The library for programs in other languages. Each export is a proved call under a C name: none requires anything, and each
-// promises what that call promises, by the same definition, but for a day file opened and one side's orders, which have one of their
-// own. `tools/make_header.py` makes `include/zelvorm.h` from this file, and what stands above a call here stands above it there.
+// promises what that call promises, by the same definition, but for a day file opened and one side's orders, which have definitions of
+// their own. `tools/make_header.py` makes `include/zelvorm.h` from this file, and what stands above a call here stands above it there.
 ghost use mathlib.Core.Path.{_≡_};
 ghost use Prim.Native.Nat.{_/_};
 ghost use lib.ListN.{length};

@@ -30,6 +30,9 @@ orderStride = 7
 abbrev pub queueStride : ℕ
 queueStride = maxResting * orderStride
 
+abbrev pub queuesWords : ℕ
+queuesWords = queueStride * maxContracts
+
 -- the first word of the order at place i of contract c's queue
 abbrev pub firstWord : ℕ → ℕ → ℕ
 firstWord c i = queueStride * c + orderStride * i

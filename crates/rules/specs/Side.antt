@@ -21,7 +21,7 @@ noQueue area contract contracts count =
 
 unfoldable pub queueWords : List ℕ → ℕ → ℕ → ℕ → List ℕ
 queueWords area contract contracts count =
-    pick (noQueue area contract contracts count) [] (take (orderStride * count) (drop (queueStride * (placeOf contract)) area))
+    pick (noQueue area contract contracts count) [] (take (orderStride * count) (drop (queueStride * placeOf contract) area))
 
 -- "a part of whichever lent area holds it"
 unfoldable pub sideWords : List ℕ → List ℕ → Bool → ℕ → ℕ → ℕ → List ℕ

@@ -97,7 +97,7 @@ limitOf (Limit limit) = limit
 limitOf Market = 0
 limitOf Best = 0
 
--- what an order trades and leaves, of a contract with these terms, by its own queue and the opposite one
+-- what an order trades and leaves in a contract with these terms, by its own queue and the opposite one.
 -- "In auction, limit good-for-day orders rest without matching" (02, ticket 4)
 abbrev pub enteredAmong : Contract → Taker → NewOrder → List Order → List Order → Entered
 enteredAmong terms t o own opposite =
@@ -117,7 +117,7 @@ unfoldable pub exchangeAfter : Exchange → NewOrder → Entered → ℕ → Exc
 exchangeAfter x o e next =
     withTrades x (placeOf (o .contract)) (listingAfter (listingOf x o) (o .sell) e) (e .trades) next (x .nextstamp + 1)
 
--- an order entered with a number and a quote mark: its answer's numbers, and the state with it
+-- an order entered with a number and a quote mark, after which the next order number is `next`: its answer's numbers, and the state
 abbrev pub enteredAs : Exchange → NewOrder → ℕ → ℕ → ℕ → Effect
 enteredAs x o number quote next =
     accepted number (tradedLots (enteredOf x number quote o .trades)) (enteredOf x number quote o .rested)

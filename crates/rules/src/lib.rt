@@ -86,7 +86,7 @@ pub struct Contract {
     pub last: u32,
 }
 
-// A contract's phases.
+// A contract's phases, and the largest of them.
 pub const PRE_OPEN: u32 = 0;
 
 pub const CONTINUOUS: u32 = 1;

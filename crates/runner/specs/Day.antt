@@ -4,21 +4,20 @@ use mathlib.Core.List.{List}
 use mathlib.Core.Path.{_≡_}
 use Prim.Native.Nat.{ℕ, _≤_, _*_}
 use lib.ListN.{length}
-use Rattle.rules.specs.Bounds.{maxContracts}
 use Rattle.rules.specs.Condition3.{Condition3, opened, run}
 use Rattle.rules.specs.DayFile.{sound, commandsIn, opening, commandsOf}
 use Rattle.rules.specs.Lines.{output, runLines}
-use Rattle.rules.specs.Memory.{Memory, memory, queueStride, tradesWords}
+use Rattle.rules.specs.Memory.{Memory, queuesWords, tradesWords}
 use Rattle.dayfile.specs.Opening.{openingMemory}
 use Rattle.runner.specs.Parts.{part}
 use Rattle.runner.specs.declared.day.Day.{Day}
 use Rattle.runner.specs.declared.day.Printed.{Printed}
 
--- a sound file, room for the queues of four contracts and for a day's trades; what stands in that room is of no account
+-- a sound file, room for the queues of four contracts and for a day's trades; what stands in that room plays no part
 pub record Ready (file buys sells trades : List ℕ) : Type 0 where
   pub whole : sound file ≡ true
-  pub buys-room : queueStride * maxContracts ≤ length buys
-  pub sells-room : queueStride * maxContracts ≤ length sells
+  pub buys-room : queuesWords ≤ length buys
+  pub sells-room : queuesWords ≤ length sells
   pub trades-room : tradesWords ≤ length trades
 
 -- The memory is the rules' run of the commands played, from the file's opening state, which has no holdings, and condition 3 holds
@@ -36,8 +35,8 @@ pub record DayIs (file buys sells trades : List ℕ) (day : Day) (m′ : Memory)
 unfoldable pub linesTo : List ℕ → ℕ → List ℕ
 linesTo file n = runLines 1 (opening file) (part file 0 n)
 
--- ---- a whole file: of its output so many bytes were handed to writes that told all was written, and `whole` only where these are
--- all of them. How many they are where a write fails the rules leave open, and no promise covers what a write does.
+-- ---- a whole file: so many bytes of its output were handed to writes that told all was written, and `whole` is told only where these
+-- are all of them. How many they are where a write fails the rules leave open, and no promise covers what a write does.
 pub record PrintedIs (file : List ℕ) (p : Printed) : Type 0 where
   pub front : p .bytes ≤ length (output file)
   pub all : p .whole ≡ true → p .bytes ≡ length (output file)

@@ -27,7 +27,7 @@ pub record InRange (r : Response) (trades : List ℕ) : Type 0 where
   pub count : r .state .tradecount ≤ maxTrades
   pub room : tradesWords ≤ length trades
 
--- the rules' response in memory, and the rules' lines of command k in the buffer from `at` on
+-- the memory that the rules leave, and the rules' lines of command k in the buffer from `at` on
 pub record TurnIs (m : Memory) (command : Command) (k : ℕ) (before : List ℕ) (at : ℕ) (turn : Turn) (m′ : Memory) (after : List ℕ) : Type 0 where
   pub memory : m′ ≡ respond m command .memory
   pub lines : Written commandMost before at (stepLines k (exchangeOf m) command) after (turn .end)

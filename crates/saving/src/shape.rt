@@ -30,8 +30,8 @@ pub const SAVED_ACCOUNT_WIDTH: usize = BALANCE_WIDTH + MARK_WIDTH;
 
 pub const SETTLEMENTS_WIDTH: usize = 4;
 
-// What every file has, however many contracts and accounts: the counts of all four sections with the settlement count. And the last
-// section.
+// How many bytes every file has, however many contracts and accounts: the counts of all four sections and the settlement count; and
+// how many of them are the last section's.
 const FIXED_WIDTH: usize = 4 * rules::COUNT_WIDTH + SETTLEMENTS_WIDTH;
 
 const LAST_SECTION: usize = rules::COUNT_WIDTH + SETTLEMENTS_WIDTH;

@@ -10,7 +10,7 @@ use rules::Account;
 use rules::State;
 
 // The counts of the three sections.
-const THREE_COUNTS: usize = 3 * rules::COUNT_WIDTH;
+const SECTION_COUNTS: usize = 3 * rules::COUNT_WIDTH;
 
 // The state with clients in place of its accounts.
 fn with_clients(state: State, accounts: [Account; rules::MAX_ACCOUNTS], clients: usize) -> State
@@ -43,7 +43,7 @@ fn tell<'a>(
     if !held.covered {
         return refused(27);
     }
-    let length = THREE_COUNTS
+    let length = SECTION_COUNTS
         + writing::LEG_WIDTH * legs
         + writing::HOLDING_WIDTH * (clients * contracts)
         + writing::PROFIT_WIDTH * clients;
