@@ -53,25 +53,27 @@ extern "C" {
 #define ZELVORM_ACCOUNT_WIDTH 8u
 #define ZELVORM_COMMAND_WIDTH 24u
 
-/* How many words an order and a trade take in the lent areas, and all the places of one queue. */
+/* How many words an order, all the places of one queue, a trade and an answer take in the lent areas. */
 #define ZELVORM_ORDER_STRIDE 7u
 #define ZELVORM_QUEUE_STRIDE 448u
 #define ZELVORM_TRADE_STRIDE 9u
+#define ZELVORM_ANSWER_STRIDE 4u
+
+/* How many words the areas of buys and of sells need for every contract, and the area of trades for a day. */
+#define ZELVORM_QUEUES_WORDS 1792u
+#define ZELVORM_TRADES_WORDS 9216u
 
 /* The words of an order that hold its number and its time stamp. */
 #define ZELVORM_NUMBER_WORD 1u
 #define ZELVORM_STAMP_WORD 5u
 
-/* A contract's phases. */
+/* A contract's phases, and the largest of them. */
 #define ZELVORM_PRE_OPEN 0u
 #define ZELVORM_CONTINUOUS 1u
 #define ZELVORM_NO_TRADING 2u
 #define ZELVORM_CLOSED 3u
 #define ZELVORM_AUCTION 4u
-
-/* How many words the areas of buys and of sells need for every contract, and the area of trades for a day. */
-#define ZELVORM_QUEUES_WORDS 1792u
-#define ZELVORM_TRADES_WORDS 9216u
+#define ZELVORM_MAX_PHASE 4u
 
 /* The flags of an insert: what is not set is a buy, an open, limit and good for day. */
 #define ZELVORM_FLAG_SELL 1u
@@ -160,7 +162,8 @@ extern "C" {
 #define ZELVORM_CODE_SETTLEMENTS_USED_UP 19u
 
 /* the day file or the file of a saved state is broken (of a day file printed as X 20, and no command is carried out); a
- * file to be mended: its contracts, its accounts or the four bytes of its command count are not whole and in range */
+ * file to be mended: its contracts or its accounts are not whole and in range, or the four bytes of its command count
+ * are not whole */
 #define ZELVORM_CODE_BROKEN_FILE 20u
 
 /* the state is not well formed (cannot happen in a day file's run) */

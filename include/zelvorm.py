@@ -41,25 +41,27 @@ CONTRACT_WIDTH = 20
 ACCOUNT_WIDTH = 8
 COMMAND_WIDTH = 24
 
-# How many words an order and a trade take in the lent areas, and all the places of one queue.
+# How many words an order, all the places of one queue, a trade and an answer take in the lent areas.
 ORDER_STRIDE = 7
 QUEUE_STRIDE = 448
 TRADE_STRIDE = 9
+ANSWER_STRIDE = 4
+
+# How many words the areas of buys and of sells need for every contract, and the area of trades for a day.
+QUEUES_WORDS = 1792
+TRADES_WORDS = 9216
 
 # The words of an order that hold its number and its time stamp.
 NUMBER_WORD = 1
 STAMP_WORD = 5
 
-# A contract's phases.
+# A contract's phases, and the largest of them.
 PRE_OPEN = 0
 CONTINUOUS = 1
 NO_TRADING = 2
 CLOSED = 3
 AUCTION = 4
-
-# How many words the areas of buys and of sells need for every contract, and the area of trades for a day.
-QUEUES_WORDS = 1792
-TRADES_WORDS = 9216
+MAX_PHASE = 4
 
 # The flags of an insert: what is not set is a buy, an open, limit and good for day.
 FLAG_SELL = 1
@@ -148,7 +150,8 @@ CODE_NOT_CLOSED = 18
 CODE_SETTLEMENTS_USED_UP = 19
 
 # the day file or the file of a saved state is broken (of a day file printed as X 20, and no command is carried out); a
-# file to be mended: its contracts, its accounts or the four bytes of its command count are not whole and in range
+# file to be mended: its contracts or its accounts are not whole and in range, or the four bytes of its command count
+# are not whole
 CODE_BROKEN_FILE = 20
 
 # the state is not well formed (cannot happen in a day file's run)

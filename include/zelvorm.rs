@@ -43,25 +43,27 @@ pub const CONTRACT_WIDTH: usize = 20;
 pub const ACCOUNT_WIDTH: usize = 8;
 pub const COMMAND_WIDTH: usize = 24;
 
-// How many words an order and a trade take in the lent areas, and all the places of one queue.
+// How many words an order, all the places of one queue, a trade and an answer take in the lent areas.
 pub const ORDER_STRIDE: usize = 7;
 pub const QUEUE_STRIDE: usize = 448;
 pub const TRADE_STRIDE: usize = 9;
+pub const ANSWER_STRIDE: usize = 4;
+
+// How many words the areas of buys and of sells need for every contract, and the area of trades for a day.
+pub const QUEUES_WORDS: usize = 1792;
+pub const TRADES_WORDS: usize = 9216;
 
 // The words of an order that hold its number and its time stamp.
 pub const NUMBER_WORD: usize = 1;
 pub const STAMP_WORD: usize = 5;
 
-// A contract's phases.
+// A contract's phases, and the largest of them.
 pub const PRE_OPEN: u32 = 0;
 pub const CONTINUOUS: u32 = 1;
 pub const NO_TRADING: u32 = 2;
 pub const CLOSED: u32 = 3;
 pub const AUCTION: u32 = 4;
-
-// How many words the areas of buys and of sells need for every contract, and the area of trades for a day.
-pub const QUEUES_WORDS: usize = 1792;
-pub const TRADES_WORDS: usize = 9216;
+pub const MAX_PHASE: u32 = 4;
 
 // The flags of an insert: what is not set is a buy, an open, limit and good for day.
 pub const FLAG_SELL: u8 = 1;
@@ -150,7 +152,8 @@ pub const CODE_NOT_CLOSED: u32 = 18;
 pub const CODE_SETTLEMENTS_USED_UP: u32 = 19;
 
 /// the day file or the file of a saved state is broken (of a day file printed as X 20, and no command is carried out);
-/// a file to be mended: its contracts, its accounts or the four bytes of its command count are not whole and in range
+/// a file to be mended: its contracts or its accounts are not whole and in range, or the four bytes of its command
+/// count are not whole
 pub const CODE_BROKEN_FILE: u32 = 20;
 
 /// the state is not well formed (cannot happen in a day file's run)

@@ -140,7 +140,7 @@ class Refusals(unittest.TestCase):
 
     def test_malformed(self):
         record = "raw {} 01 01 {} 01000000 64000000 00000000 0000000000000000"
-        self.assert_refused(record.format("0a", "00"), 1, "There is no kind 10; the kinds are 1 deposit, 2 withdraw,")
+        self.assert_refused(record.format("ff", "00"), 1, "There is no kind 255; the kinds are 1 deposit, 2 withdraw,")
         self.assert_refused(
             record.format("01", "00"),
             1,

@@ -1,4 +1,4 @@
-"""The model against the papers' examples, the team's readings of them, and days worked out by hand."""
+"""The model against the papers' examples, the readings of docs/DECISIONS.md, and days worked out by hand."""
 
 import copy
 import random

@@ -14,7 +14,7 @@ use Rattle.laws.specs.Ring.{split, d-eq, d-inj, ring, *ℤ-add}
 use Rattle.laws.specs.Sums.{sumTo, sumTo-ext, sumTo-add, sumTo-first}
 use Rattle.rules.specs.Exchange.{Exchange, listingAt, holdingAt}
 use Rattle.rules.specs.Settlement.{Leg, leg, legs, dayOf, holdingGain, settlementPrice, closingProfit, holdingProfit}
-use Rattle.accounting.specs.Article32.{flow, net}
+use Rattle.accounting.specs.DayLegs.{flow, net}
 use Rattle.accounting.specs.Pairing.{Side, long, short, opens, closes, Lot, noLot, lotsOfLegs, openLots, closedLots, Pairing, gained, closingBy, holdingBy, heldAtStart, openOf, closedOf, PairsDay, dayClosing, dayHolding, pairedClosing, pairedHolding, SameDayProfit}
 use Rattle.accounting.proofs.DayProfit.{day-profit}
 use Rattle.accounting.proofs.Paired.{met-and-others, paired-covered}

@@ -2,8 +2,8 @@
 use mathlib.Core.Path.{_≡_, refl}
 use Prim.Native.Nat.{_+_}
 use Rattle.laws.specs.Lists.{kept-at}
-use Rattle.rules.specs.Change.{Asked, arriving, changeTrades, changed, gone, listingFor, placeKept, placeLost, reentered, unchanged}
-use Rattle.rules.specs.Exchange.{Exchange, Listing, listingAt, noListing, placeOf}
+use Rattle.rules.specs.Change.{Asked, arriving, changeTrades, changed, gone, placeKept, placeLost, reentered, unchanged}
+use Rattle.rules.specs.Exchange.{Exchange, Listing, listingAt, listingNamed, noListing, placeOf}
 use Rattle.rules.specs.Kinds.{makes, lastOf}
 use Rattle.rules.specs.Step.{cancelled, exchangeAfter, hasNumber, listingAfter, listingWithout, removed}
 use Rattle.rules.proofs.Changes.{changed-either, lost-once}
@@ -26,7 +26,7 @@ module _ (x : Exchange) (k : Asked) where
 
   -- what is told of a contract is told of it still when the order is gone
   gone-listing : {A : Type 0} (f : Listing → A) →
-      f (listingWithout (hasNumber (k .number)) (listingFor x k)) ≡ f (listingFor x k) → f (listingFor (gone x k) k) ≡ f (listingFor x k)
+      f (listingWithout (hasNumber (k .number)) (listingNamed x (k .contract))) ≡ f (listingNamed x (k .contract)) → f (listingNamed (gone x k) (k .contract)) ≡ f (listingNamed x (k .contract))
   unfolding gone listingAt
   gone-listing f e = kept-at f (x .listings) (placeOf (k .contract)) _ noListing e (placeOf (k .contract))
 

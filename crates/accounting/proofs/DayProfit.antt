@@ -10,8 +10,9 @@ use native.Mathlib.Omega.{arith}
 use lib.IntN.{ℤ, pos, negℤ, _+ℤ_, _-ℤ_, _*ℤ_, +ℤ-assoc, +ℤ-idl, +ℤ-idr}
 use Rattle.laws.specs.Ring.{split, d-eq, d-inj, ring}
 use Rattle.laws.specs.Sums.{sumOf, sumOf-append}
+use Rattle.rules.specs.Article32.{lotsIn}
 use Rattle.rules.specs.Settlement.{Leg, leg, Batch, Day, dayStart, gain, firstLots, otherLots, opened, afterDayLeg, afterLegs, holdingGain}
-use Rattle.accounting.specs.Article32.{lotsOf, flow, net, netOpen, Covered, AllCovered}
+use Rattle.accounting.specs.DayLegs.{flow, net, netOpen, Covered, AllCovered}
 
 -- ---- the gain of batches
 
@@ -35,9 +36,9 @@ cut p s q A B C k n G H K e f ih =
     (simp ring (d-eq _ _ _ _ (omega (arith, d-inj _ _ _ _ (simp ring at (rw (split G, split H, split K) at ih)))))))
 
 -- the first n lots sold at p and the others valued at s are all valued at s, and the difference on n lots
-pub gain-cut : (p s n : ℕ) (bs : List Batch) → n ≤ lotsOf bs →
+pub gain-cut : (p s n : ℕ) (bs : List Batch) → n ≤ lotsIn bs →
     gain p (firstLots n bs) +ℤ gain s (otherLots n bs) ≡ gain s bs +ℤ (pos p -ℤ pos s) *ℤ pos n
-unfolding gain firstLots otherLots lotsOf sumOf
+unfolding gain firstLots otherLots sumOf
 gain-cut p s n [] h = let e : n ≡ 0 = omega arith in rw e (simp ring (d-eq _ _ _ _ (omega arith)))
 gain-cut p s n (b ∷ bs) h =
     cut p s (b .price) (min n (b .lots)) (b .lots - n) (n - b .lots) (b .lots) n _ _ _
@@ -113,23 +114,23 @@ day-profit ref s long short ls c = legs-value s (dayStart ref long short) ls c �
 
 -- ---- the lots open on each side
 
-pub lots-opened : (bs : List Batch) (p n : ℕ) → lotsOf (opened bs p n) ≡ lotsOf bs + n
-unfolding lotsOf sumOf
+pub lots-opened : (bs : List Batch) (p n : ℕ) → lotsIn (opened bs p n) ≡ lotsIn bs + n
+unfolding sumOf
 lots-opened bs p n = sumOf-append (λ b. b .lots) bs (record { price = p; lots = n } ∷ []) ∙ omega arith
 
-pub lots-first : (n : ℕ) (bs : List Batch) → n ≤ lotsOf bs → lotsOf (firstLots n bs) ≡ n
-unfolding lotsOf sumOf firstLots
+pub lots-first : (n : ℕ) (bs : List Batch) → n ≤ lotsIn bs → lotsIn (firstLots n bs) ≡ n
+unfolding sumOf firstLots
 lots-first n [] h = omega arith
 lots-first n (b ∷ bs) h = let e = lots-first (n - b .lots) bs (omega arith) in omega arith
 
-pub lots-other : (n : ℕ) (bs : List Batch) → lotsOf (otherLots n bs) ≡ lotsOf bs - n
-unfolding lotsOf sumOf otherLots
+pub lots-other : (n : ℕ) (bs : List Batch) → lotsIn (otherLots n bs) ≡ lotsIn bs - n
+unfolding sumOf otherLots
 lots-other n [] = omega arith
 lots-other n (b ∷ bs) = let e = lots-other (n - b .lots) bs in omega arith
 
 pub lots-start : (ref long short : ℕ) →
-    (lotsOf (dayStart ref long short .long) ≡ long) × (lotsOf (dayStart ref long short .short) ≡ short)
-unfolding lotsOf sumOf dayStart
+    (lotsIn (dayStart ref long short .long) ≡ long) × (lotsIn (dayStart ref long short .short) ≡ short)
+unfolding sumOf dayStart
 lots-start ref long short = (omega arith, omega arith)
 
 -- ---- long less short moves by the net of the legs
@@ -148,8 +149,8 @@ leg-net : (d : Day) (l : Leg) → Covered d l → netOpen (afterDayLeg d l) ≡ 
 unfolding netOpen afterDayLeg Covered legNet
 leg-net d (leg false false p n) c = rw (lots-opened (d .long) p n) (simp ring (d-eq _ _ _ _ (omega arith)))
 leg-net d (leg true false p n) c = rw (lots-opened (d .short) p n) (simp ring (d-eq _ _ _ _ (omega arith)))
-leg-net d (leg true true p n) c = rw (lots-other n (d .long)) (less (lotsOf (d .long)) (lotsOf (d .short)) n c)
-leg-net d (leg false true p n) c = rw (lots-other n (d .short)) (less-short (lotsOf (d .long)) (lotsOf (d .short)) n c)
+leg-net d (leg true true p n) c = rw (lots-other n (d .long)) (less (lotsIn (d .long)) (lotsIn (d .short)) n c)
+leg-net d (leg false true p n) c = rw (lots-other n (d .short)) (less-short (lotsIn (d .long)) (lotsIn (d .short)) n c)
 
 net-cons : (l : Leg) (ls : List Leg) → net (l ∷ ls) ≡ legNet l +ℤ net ls
 unfolding net legNet

@@ -10,7 +10,7 @@ use borrow.Author.Tests.{leb-true}
 use lib.Dec.{leb}
 use lib.ListN.{length, getD, take, drop, length-append, length-take, length-drop, length-map}
 use Rattle.laws.specs.Choice.{all, both-true}
-use Rattle.laws.specs.Chains.{passed}
+use Rattle.laws.specs.Chains.{all-passed}
 use Rattle.rules.specs.Bounds.{within, maxContracts, maxAccounts, maxTrades, maxResting}
 use Rattle.rules.specs.Exchange.{Exchange, Listing, noAccount, accountAt}
 use Rattle.rules.specs.Kinds.{kindOf}
@@ -38,8 +38,8 @@ pub counts : (m : Memory) → wellFormedMemory m ≡ true → Counts (m .state)
 unfolding wellFormedMemory countsInRange
 counts m w =
     let s = m .state in
-    let c = passed (countsInRange s) (hasRoom m ∷ wellFormedContents (exchangeOf m) ∷ []) w in
-    let p = passed (within 1 maxContracts (s .contractcount))
+    let c = all-passed (countsInRange s) (hasRoom m ∷ wellFormedContents (exchangeOf m) ∷ []) w in
+    let p = all-passed (within 1 maxContracts (s .contractcount))
     (within 1 maxAccounts (s .accountcount) ∷ leb (s .tradecount) maxTrades
     ∷ all (λ i. leb (getD (s .buycounts) i 0) maxResting) (s .contractcount)
     ∷ all (λ i. leb (getD (s .sellcounts) i 0) maxResting) (s .contractcount) ∷ []) (c .0) in
@@ -105,8 +105,8 @@ module _ (m : Memory) (d : Declared (m .state)) (x : Exchange) (f : Fits x) wher
   put-declared = record {
     contracts = array-kept (λ l. l .contract) (m .state .contracts) (d .contracts);
     accounts = length-putAccounts (x .accounts) (m .state .accounts) (omega (arith, f .accounts, d .accounts)) ∙ d .accounts;
-    buys = array-kept (λ l. length (l .buys)) (m .state .buycounts) (d .buys);
-    sells = array-kept (λ l. length (l .sells)) (m .state .sellcounts) (d .sells);
+    buycounts = array-kept (λ l. length (l .buys)) (m .state .buycounts) (d .buycounts);
+    sellcounts = array-kept (λ l. length (l .sells)) (m .state .sellcounts) (d .sellcounts);
     holdings = λ a l.
         wide-putAccounts maxContracts (x .accounts) (m .state .accounts) (f .holdings)
         (λ b k. d .holdings b (rw (d .accounts) at k)) a (rw (d .accounts) l);

@@ -10,7 +10,7 @@ use borrow.Author.Tests.{leb-true, ltb-true}
 use lib.Dec.{leb, ltb, eqb}
 use lib.ListN.{length}
 use Rattle.laws.specs.Choice.{all, allOf, all-at, allOf-at, both-true}
-use Rattle.laws.specs.Chains.{Passed, passed}
+use Rattle.laws.specs.Chains.{Passed, all-passed}
 use Rattle.rules.specs.Bounds.{within, onTick, dayLow, dayHigh, allowedToday, maxPrice, maxLots}
 use Rattle.rules.specs.Exchange.{Exchange, Listing, noListing, listingAt, holdingAt, restingOpens, restingCloses}
 use Rattle.rules.specs.WellFormed.{countersInRange, contractInRange, markInRange, rangesKept, queuesSorted, orderInRange, ordersInRange, allNumbers, allStamps, usedOnce, listingQuoted, restingInRange, tradeInRange, replays, holdingInRange, holdingsInRange, balanceInRange, wellFormedContents}
@@ -34,7 +34,7 @@ pub order-price : (accounts next nextstamp : ℕ) (c : Contract) (o : Order) →
 unfolding orderInRange
 order-price accounts next nextstamp c o h =
     allowed-price c (o .price)
-    (passed (within 1 maxLots (o .lots))
+    (all-passed (within 1 maxLots (o .lots))
     (ltb (o .account) accounts ∷ allowedToday c (o .price) ∷ leb 1 (o .number) ∷ ltb (o .number) next ∷ leb (o .close) 1 ∷ leb 1 (o .stamp) ∷ ltb (o .stamp) nextstamp ∷ leb (o .quote) 1 ∷ []) h .1 .1 .0)
 
 -- ---- a recorded trade
@@ -50,7 +50,7 @@ pub record TradeFacts (x : Exchange) (t : Trade) : Type 0 where
 pub trade-facts : (x : Exchange) (t : Trade) → tradeInRange x t ≡ true → TradeFacts x t
 unfolding tradeInRange
 trade-facts x t h =
-    let p = passed (ltb (t .contract) (length (x .listings)))
+    let p = all-passed (ltb (t .contract) (length (x .listings)))
     (ltb (t .buyer) (length (x .accounts)) ∷ ltb (t .seller) (length (x .accounts)) ∷ not (eqb (t .buyorder) (t .sellorder))
     ∷ leb 1 (t .buyorder) ∷ ltb (t .buyorder) (x .next) ∷ leb 1 (t .sellorder) ∷ ltb (t .sellorder) (x .next)
     ∷ allowedToday (listingAt x (t .contract) .contract) (t .price) ∷ within 1 maxLots (t .lots)
@@ -80,19 +80,19 @@ module _ (x : Exchange) (h : wellFormedContents x ≡ true) where
       (allOf queuesSorted (x .listings) ∷ restingInRange x ∷ allOf (tradeInRange x) (x .trades) ∷ replays x ∷ all (holdingsInRange x) (length (x .accounts)) ∷ allOf (balanceInRange (x .settlements)) (x .accounts) ∷ [])
   unfolding wellFormedContents
   clauses =
-      passed (rangesKept x)
+      all-passed (rangesKept x)
       (allOf queuesSorted (x .listings) ∷ restingInRange x ∷ allOf (tradeInRange x) (x .trades) ∷ replays x ∷ all (holdingsInRange x) (length (x .accounts)) ∷ allOf (balanceInRange (x .settlements)) (x .accounts) ∷ []) h
 
   contract-at : (c : ℕ) → c < length (x .listings) → contractInRange (listingAt x c .contract) ≡ true
   unfolding rangesKept listingAt
   contract-at c l =
-      let p = passed (countersInRange x) (allOf (λ l. contractInRange (l .contract)) (x .listings) ∷ allOf markInRange (x .accounts) ∷ []) (clauses .0) in
+      let p = all-passed (countersInRange x) (allOf (λ l. contractInRange (l .contract)) (x .listings) ∷ allOf markInRange (x .accounts) ∷ []) (clauses .0) in
       allOf-at (λ l. contractInRange (l .contract)) (x .listings) c noListing (p .1 .0) l
 
   buys-at : (c : ℕ) → c < length (x .listings) → allOf (orderInRange (length (x .accounts)) (x .next) (x .nextstamp) (listingAt x c .contract)) (listingAt x c .buys) ≡ true
   unfolding restingInRange ordersInRange listingAt
   buys-at c l =
-      let p = passed (allOf (ordersInRange (length (x .accounts)) (x .next) (x .nextstamp)) (x .listings))
+      let p = all-passed (allOf (ordersInRange (length (x .accounts)) (x .next) (x .nextstamp)) (x .listings))
       (usedOnce (allNumbers (x .listings)) ∷ usedOnce (allStamps (x .listings)) ∷ allOf (listingQuoted (x .accounts)) (x .listings) ∷ []) (clauses .1 .1 .0) in
       both-true _ _ (allOf-at (ordersInRange (length (x .accounts)) (x .next) (x .nextstamp)) (x .listings) c noListing (p .0) l) .0
 
@@ -110,7 +110,7 @@ module _ (x : Exchange) (h : wellFormedContents x ≡ true) where
       (k .startlong ≤ m .contract .limit) × (k .startshort ≤ m .contract .limit)
   unfolding holdingInRange
   start-lots m a k e =
-      let p = passed (leb (k .startlong) (m .contract .limit))
+      let p = all-passed (leb (k .startlong) (m .contract .limit))
       (leb (k .startshort) (m .contract .limit)
       ∷ leb (k .long + restingOpens a (m .buys)) (m .contract .limit) ∷ leb (k .short + restingOpens a (m .sells)) (m .contract .limit)
       ∷ leb (restingCloses a (m .sells)) (k .long) ∷ leb (restingCloses a (m .buys)) (k .short) ∷ []) e in

@@ -14,10 +14,11 @@ use lib.ListN.{length, getD, drop, replicate, length-append, length-drop, length
 use Rattle.laws.specs.Choice.{pick}
 use Rattle.laws.specs.Ring.{split, d-eq, d-inj, ring}
 use Rattle.laws.specs.Sums.{sumOf, sumTo, sumTo-first}
+use Rattle.rules.specs.Article32.{lotsIn}
 use Rattle.rules.specs.Exchange.{Exchange, listingAt, holdingAt}
 use Rattle.rules.specs.Settlement.{Leg, leg, legs, Batch, Day, dayStart, gain, firstLots, otherLots, opened, afterDayLeg, afterLegs, dayOf, holdingGain, settlementPrice}
 use Rattle.rules.specs.WellFormed.{wellFormedContents}
-use Rattle.accounting.specs.Article32.{lotsOf, Covered, AllCovered}
+use Rattle.accounting.specs.DayLegs.{Covered, AllCovered}
 use Rattle.accounting.specs.Pairing.{Side, long, short, opens, closes, Lot, noLot, lotsOfLegs, openLots, closedLots, Pairing, gained, closingBy, inOrder, heldAtStart, openOf, closedOf, PairsDay, dayClosing, dayHolding}
 use Rattle.accounting.proofs.AnyPairing.{any-pairing}
 use Rattle.accounting.proofs.DayProfit.{lots-opened, lots-other, lots-start}
@@ -57,8 +58,8 @@ Runs side k (leg sell close p n ∷ ls) =
     × Runs side (k - pick (closes side (leg sell close p n)) n 0 + pick (opens side (leg sell close p n)) n 0) ls
 
 openNow : Side → Day → ℕ
-openNow long d = lotsOf (d .long)
-openNow short d = lotsOf (d .short)
+openNow long d = lotsIn (d .long)
+openNow short d = lotsIn (d .short)
 
 runs-leg : (side : Side) (d : Day) (sell close : Bool) (p n : ℕ) → Covered d (leg sell close p n) →
     (pick (closes side (leg sell close p n)) n 0 ≤ openNow side d)
@@ -252,10 +253,10 @@ module _ (side : Side) (p : ℕ) where
       let u : 0 - b .lots ≡ 0 = omega arith in
       rw (e, u, none-other bs)
 
-  gains-close : (n : ℕ) (bs : List Batch) (os cs : List ℕ) → n ≤ lotsOf bs →
+  gains-close : (n : ℕ) (bs : List Batch) (os cs : List ℕ) → n ≤ lotsIn bs →
       gains side (singly bs ++ os) (replicate n p ++ cs)
       ≡ closeGain side p (firstLots n bs) +ℤ gains side (singly (otherLots n bs) ++ os) cs
-  unfolding singly closeGain firstLots otherLots lotsOf sumOf
+  unfolding singly closeGain firstLots otherLots sumOf
   gains-close n [] os cs h = let e : n ≡ 0 = omega arith in rw e (sym (+ℤ-idl (gains side os cs)))
   gains-close n (b ∷ bs) os cs h =
       ap (λ (l : List ℕ). gains side l (replicate n p ++ cs)) (append-assoc (replicate (b .lots) (b .price)) (singly bs) os)

@@ -18,7 +18,7 @@ use Rattle.rules.specs.Article32.{ByArticle32, Figures, among, closedHistory, c
 use Rattle.rules.specs.Exchange.{Exchange, listingAt, holdingAt}
 use Rattle.rules.specs.Settlement.{Leg, leg, legs, Batch, Day, dayStart, gain, firstLots, otherLots, opened, afterDayLeg, afterLegs, dayOf, holdingGain, settlementPrice, closingProfit, holdingProfit}
 use Rattle.rules.specs.WellFormed.{wellFormedContents}
-use Rattle.accounting.specs.Article32.{lotsOf, Covered, AllCovered}
+use Rattle.accounting.specs.DayLegs.{Covered, AllCovered}
 use Rattle.accounting.proofs.DayProfit.{lots-opened, lots-other}
 use Rattle.accounting.proofs.Facts.{facts}
 use Rattle.accounting.proofs.Replay.{day-covered}
@@ -50,8 +50,8 @@ other-other n k (b ∷ bs) =
     ap₂ (λ (l : ℕ) (r : List Batch). record { price = b .price; lots = l } ∷ r) e
     (other-other (n - b .lots) (k - (b .lots - n)) bs ∙ ap (λ (j : ℕ). otherLots j bs) (omega arith))
 
-other-opened : (n : ℕ) (bs : List Batch) (p m : ℕ) → n ≤ lotsOf bs → opened (otherLots n bs) p m ≡ otherLots n (opened bs p m)
-unfolding otherLots lotsOf sumOf
+other-opened : (n : ℕ) (bs : List Batch) (p m : ℕ) → n ≤ lotsIn bs → opened (otherLots n bs) p m ≡ otherLots n (opened bs p m)
+unfolding otherLots sumOf
 other-opened n [] p m h = let e : m - n ≡ m = omega arith in rw e
 other-opened n (b ∷ bs) p m h =
     ap (λ (r : List Batch). record { price = b .price; lots = b .lots - n } ∷ r) (other-opened (n - b .lots) bs p m (omega arith))
@@ -127,14 +127,14 @@ other-among value n b (c ∷ bs) =
 -- ---- sums over a line
 
 module _ (part : ℕ → ℕ → ℕ → ℤ) where
-  Σover-append : (b : ℕ) (bs cs : List Batch) → Σover b (bs ++ cs) part ≡ Σover b bs part +ℤ Σover (b + lotsOf bs) cs part
-  unfolding Σover lotsOf sumOf
+  Σover-append : (b : ℕ) (bs cs : List Batch) → Σover b (bs ++ cs) part ≡ Σover b bs part +ℤ Σover (b + lotsIn bs) cs part
+  unfolding Σover sumOf
   Σover-append b [] cs = let e : b + 0 ≡ b = omega arith in rw e (sym (+ℤ-idl (Σover b cs part)))
   Σover-append b (c ∷ bs) cs =
       ap (λ (z : ℤ). part b (c .price) (c .lots) +ℤ z)
       (Σover-append (b + c .lots) bs cs
-      ∙ ap (λ (k : ℕ). Σover (b + c .lots) bs part +ℤ Σover k cs part) (add-assoc b (c .lots) (lotsOf bs)))
-      ∙ sym (+ℤ-assoc (part b (c .price) (c .lots)) (Σover (b + c .lots) bs part) (Σover (b + (c .lots + lotsOf bs)) cs part))
+      ∙ ap (λ (k : ℕ). Σover (b + c .lots) bs part +ℤ Σover k cs part) (add-assoc b (c .lots) (lotsIn bs)))
+      ∙ sym (+ℤ-assoc (part b (c .price) (c .lots)) (Σover (b + c .lots) bs part) (Σover (b + (c .lots + lotsIn bs)) cs part))
 
   Σover-ext : (other : ℕ → ℕ → ℕ → ℤ) → ((b p n : ℕ) → part b p n ≡ other b p n) → (b : ℕ) (bs : List Batch) → Σover b bs part ≡ Σover b bs other
   unfolding Σover
@@ -166,7 +166,7 @@ nothing-behind value a n b (c ∷ bs) h =
     nought v = rw (split v) (simp ring (d-eq _ _ _ _ (omega arith)))
 
 -- a close of n lots behind `gone` others, against the whole line of the day: what comes behind it plays no part
-one-close : (value : ℕ → ℤ) (gone n : ℕ) (line more : List Batch) → gone + n ≤ lotsOf line →
+one-close : (value : ℕ → ℤ) (gone n : ℕ) (line more : List Batch) → gone + n ≤ lotsIn line →
     worth value (firstLots n (otherLots gone line)) ≡ Σover 0 (line ++ more) (λ b q m. value q *ℤ pos (among b m gone n))
 one-close value gone n line more h =
     let e : n ≡ gone + n - max 0 gone = omega arith in
@@ -175,7 +175,7 @@ one-close value gone n line more h =
     ∙ first-among value gone n 0 line
     ∙ sym (+ℤ-idr (Σover 0 line (λ b q m. value q *ℤ pos (among b m gone n))))
     ∙ ap (λ (z : ℤ). Σover 0 line (λ b q m. value q *ℤ pos (among b m gone n)) +ℤ z)
-    (sym (nothing-behind value gone n (0 + lotsOf line) more (omega arith)))
+    (sym (nothing-behind value gone n (0 + lotsIn line) more (omega arith)))
     ∙ sym (Σover-append (λ b q m. value q *ℤ pos (among b m gone n)) 0 line more)
 
 -- ---- a day from its legs
@@ -206,7 +206,7 @@ closesOn value gone closes line = Σover gone closes (λ a p n. Σover 0 line (�
 -- a side's open lots are its line without those that are gone
 record Stands (open′ line : List Batch) (gone : ℕ) : Type 0 where
   left-over : open′ ≡ otherLots gone line
-  covered : gone ≤ lotsOf line
+  covered : gone ≤ lotsIn line
 
 opens-behind : {open′ line : List Batch} {gone : ℕ} (p n : ℕ) → Stands open′ line gone → Stands (opened open′ p n) (opened line p n) gone
 opens-behind {open′} {line} {gone} p n s =
@@ -215,15 +215,15 @@ opens-behind {open′} {line} {gone} p n s =
       covered = omega (arith, lots-opened line p n, s .covered);
     }
 
-closes-front : {open′ line : List Batch} {gone : ℕ} (n : ℕ) → n ≤ lotsOf open′ → Stands open′ line gone → Stands (otherLots n open′) line (gone + n)
+closes-front : {open′ line : List Batch} {gone : ℕ} (n : ℕ) → n ≤ lotsIn open′ → Stands open′ line gone → Stands (otherLots n open′) line (gone + n)
 closes-front {open′} {line} {gone} n h s =
     record {
       left-over = ap (otherLots n) (s .left-over) ∙ other-other gone n line;
-      covered = omega (arith, ap lotsOf (s .left-over), lots-other gone line, s .covered);
+      covered = omega (arith, ap lotsIn (s .left-over), lots-other gone line, s .covered);
     }
 
 -- what a close of a side's lots is worth, by its price
-paid : {open′ line : List Batch} {gone : ℕ} (value : ℕ → ℤ) (n : ℕ) (more : List Batch) → n ≤ lotsOf open′ → Stands open′ line gone →
+paid : {open′ line : List Batch} {gone : ℕ} (value : ℕ → ℤ) (n : ℕ) (more : List Batch) → n ≤ lotsIn open′ → Stands open′ line gone →
     worth value (firstLots n open′) ≡ Σover 0 (line ++ more) (λ b q m. value q *ℤ pos (among b m gone n))
 paid {open′} {line} {gone} value n more h s =
     ap (λ (bs : List Batch). worth value (firstLots n bs)) (s .left-over) ∙ one-close value gone n line more (closes-front n h s .covered)

@@ -10,7 +10,7 @@ use Rattle.rules.specs.Condition3.{sales, costs, netHolding}
 use Rattle.rules.specs.Exchange.{Exchange, listingAt, holdingAt}
 use Rattle.rules.specs.Settlement.{legs, dayOf, holdingGain, settlementPrice}
 use Rattle.rules.specs.WellFormed.{replays, wellFormedContents}
-use Rattle.accounting.specs.Article32.{net, netOpen}
+use Rattle.accounting.specs.DayLegs.{net, netOpen}
 use Rattle.accounting.specs.Money.{proceeds, netNow, netAtStart}
 use Rattle.accounting.specs.Shape.{Placed, Shaped}
 use Rattle.accounting.proofs.DayProfit.{day-profit, day-net, lots-start}

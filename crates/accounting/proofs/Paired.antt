@@ -12,8 +12,9 @@ use lib.ListN.{length, getD, replicate}
 use Rattle.laws.specs.Choice.{pick, both, all, all-true}
 use Rattle.laws.specs.Ring.{split, d-eq, ring}
 use Rattle.laws.specs.Sums.{sumOf, sumOf-append, sumOf-replicate, sumTo, sumTo-ext, sumTo-add, sumTo-at, sumTo-first}
+use Rattle.rules.specs.Article32.{lotsIn}
 use Rattle.rules.specs.Settlement.{Leg, leg, Day, dayStart, afterDayLeg}
-use Rattle.accounting.specs.Article32.{lotsOf, Covered, AllCovered}
+use Rattle.accounting.specs.DayLegs.{Covered, AllCovered}
 use Rattle.accounting.specs.Pairing.{Side, long, short, opens, closes, Lot, noLot, lotsOfLegs, openLots, closedLots, Pairing, unpaired}
 use Rattle.accounting.proofs.DayProfit.{lots-opened, lots-other, lots-start}
 
@@ -157,34 +158,34 @@ module _ (side : Side) (have t : ℕ) (sell close : Bool) (p n : ℕ) (ls : List
   unfolding Enough
   enough-later have′ e u b = let q = rw (lt-ltb t u (omega arith)) at (at-time u (omega arith)) in omega (arith, q)
 
-covered-legs : (d : Day) (t : ℕ) (ls : List Leg) → Enough long (lotsOf (d .long)) t ls → Enough short (lotsOf (d .short)) t ls → AllCovered d ls
+covered-legs : (d : Day) (t : ℕ) (ls : List Leg) → Enough long (lotsIn (d .long)) t ls → Enough short (lotsIn (d .short)) t ls → AllCovered d ls
 unfolding AllCovered Covered afterDayLeg opens closes
 covered-legs d t [] hl hs = tt
 covered-legs d t (leg false false p n ∷ ls) hl hs = (
   tt,
   covered-legs (afterDayLeg d (leg false false p n)) (suc t) ls
-      (enough-later long (lotsOf (d .long)) t false false p n ls hl _ (rw (lots-opened (d .long) p n) (omega arith)))
-      (enough-later short (lotsOf (d .short)) t false false p n ls hs _ refl),
+      (enough-later long (lotsIn (d .long)) t false false p n ls hl _ (rw (lots-opened (d .long) p n) (omega arith)))
+      (enough-later short (lotsIn (d .short)) t false false p n ls hs _ refl),
 )
 covered-legs d t (leg true false p n ∷ ls) hl hs = (
   tt,
   covered-legs (afterDayLeg d (leg true false p n)) (suc t) ls
-      (enough-later long (lotsOf (d .long)) t true false p n ls hl _ refl)
-      (enough-later short (lotsOf (d .short)) t true false p n ls hs _ (rw (lots-opened (d .short) p n) (omega arith))),
+      (enough-later long (lotsIn (d .long)) t true false p n ls hl _ refl)
+      (enough-later short (lotsIn (d .short)) t true false p n ls hs _ (rw (lots-opened (d .short) p n) (omega arith))),
 )
 covered-legs d t (leg true true p n ∷ ls) hl hs =
-    let q : n ≤ lotsOf (d .long) = leg-covered long (lotsOf (d .long)) t true true p n ls hl in (
+    let q : n ≤ lotsIn (d .long) = leg-covered long (lotsIn (d .long)) t true true p n ls hl in (
       q,
       covered-legs (afterDayLeg d (leg true true p n)) (suc t) ls
-          (enough-later long (lotsOf (d .long)) t true true p n ls hl _ (rw (lots-other n (d .long)) (omega arith)))
-          (enough-later short (lotsOf (d .short)) t true true p n ls hs _ refl),
+          (enough-later long (lotsIn (d .long)) t true true p n ls hl _ (rw (lots-other n (d .long)) (omega arith)))
+          (enough-later short (lotsIn (d .short)) t true true p n ls hs _ refl),
     )
 covered-legs d t (leg false true p n ∷ ls) hl hs =
-    let q : n ≤ lotsOf (d .short) = leg-covered short (lotsOf (d .short)) t false true p n ls hs in (
+    let q : n ≤ lotsIn (d .short) = leg-covered short (lotsIn (d .short)) t false true p n ls hs in (
       q,
       covered-legs (afterDayLeg d (leg false true p n)) (suc t) ls
-          (enough-later long (lotsOf (d .long)) t false true p n ls hl _ refl)
-          (enough-later short (lotsOf (d .short)) t false true p n ls hs _ (rw (lots-other n (d .short)) (omega arith))),
+          (enough-later long (lotsIn (d .long)) t false true p n ls hl _ refl)
+          (enough-later short (lotsIn (d .short)) t false true p n ls hs _ (rw (lots-other n (d .short)) (omega arith))),
     )
 
 paired-enough : (side : Side) (reference held : ℕ) (ls : List Leg) (of : ℕ → ℕ) → Pairing (openLots side reference held ls) (closedLots side ls) of → Enough side held 1 ls

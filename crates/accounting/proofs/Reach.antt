@@ -8,8 +8,9 @@ use native.Mathlib.Omega.{arith}
 use lib.IntN.{_+ℤ_}
 use Rattle.laws.specs.Bound.{Within, within-le, within-zero, within-add, within-sub, within-diff, within-times}
 use Rattle.laws.specs.Sums.{sumOf}
+use Rattle.rules.specs.Article32.{lotsIn}
 use Rattle.rules.specs.Settlement.{Leg, leg, Batch, Day, dayStart, gain, firstLots, otherLots, opened, afterDayLeg, afterLegs, holdingGain}
-use Rattle.accounting.specs.Article32.{lotsOf, Covered, AllCovered}
+use Rattle.accounting.specs.DayLegs.{Covered, AllCovered}
 use Rattle.accounting.proofs.DayProfit.{lots-opened, lots-first, lots-other}
 
 -- ---- batches at prices to M
@@ -18,8 +19,8 @@ unfoldable pub PricedTo : ℕ → List Batch → Type 0
 PricedTo M [] = Unit {0}
 PricedTo M (b ∷ bs) = (b .price ≤ M) × PricedTo M bs
 
-gain-within : (M p : ℕ) (bs : List Batch) → p ≤ M → PricedTo M bs → Within (M * lotsOf bs) (gain p bs)
-unfolding gain lotsOf sumOf PricedTo
+gain-within : (M p : ℕ) (bs : List Batch) → p ≤ M → PricedTo M bs → Within (M * lotsIn bs) (gain p bs)
+unfolding gain sumOf PricedTo
 gain-within M p [] h q = within-le (omega arith) within-zero
 gain-within M p (b ∷ bs) h q =
     within-le (omega arith) (within-add (within-times (b .lots) (within-diff h (q .0))) (gain-within M p bs h (q .1)))
@@ -40,7 +41,7 @@ opened-priced M p n [] q h = (h, tt)
 opened-priced M p n (b ∷ bs) q h = (q .0, opened-priced M p n bs (q .1) h)
 
 -- what n closed lots can have gained
-closed-within : (M p n : ℕ) (bs : List Batch) → p ≤ M → n ≤ lotsOf bs → PricedTo M bs → Within (M * n) (gain p (firstLots n bs))
+closed-within : (M p n : ℕ) (bs : List Batch) → p ≤ M → n ≤ lotsIn bs → PricedTo M bs → Within (M * n) (gain p (firstLots n bs))
 closed-within M p n bs h c q =
     subst (λ (k : ℕ). Within (M * k) (gain p (firstLots n bs))) (lots-first n bs c) (gain-within M p (firstLots n bs) h (first-priced M n bs q))
 
@@ -59,7 +60,7 @@ openedLots (leg sell true p n ∷ ls) = openedLots ls
 
 pub record Reach (M lots : ℕ) (d : Day) : Type 0 where
   pub closed : ℕ
-  pub counted : closed + lotsOf (d .long) + lotsOf (d .short) ≡ lots
+  pub counted : closed + lotsIn (d .long) + lotsIn (d .short) ≡ lots
   pub closing : Within (M * closed) (d .closing)
   pub long : PricedTo M (d .long)
   pub short : PricedTo M (d .short)
@@ -112,7 +113,7 @@ reach-legs M lots d (leg sell close p n ∷ ls) q c r =
     (reach-legs M _ (afterDayLeg d (leg sell close p n)) ls (q .1) (c .1) (reach-leg M lots d sell close p n (q .0) (c .0) r))
 
 reach-start : (M reference long short : ℕ) → reference ≤ M → Reach M (long + short) (dayStart reference long short)
-unfolding dayStart lotsOf sumOf PricedTo
+unfolding dayStart sumOf PricedTo
 reach-start M reference long short h = record {
   closed = 0;
   counted = omega arith;

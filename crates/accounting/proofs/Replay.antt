@@ -10,6 +10,7 @@ use borrow.Author.Tests.{eqb-true, eqb-false, leb-true}
 use lib.Dec.{leb, eqb}
 use lib.ListN.{getD}
 use Rattle.laws.specs.Choice.{pick, both-true}
+use Rattle.rules.specs.Article32.{lotsIn}
 use Rattle.rules.specs.Exchange.{Exchange, noHolding, listingAt, accountAt, holdingAt}
 use Rattle.rules.specs.Holdings.{afterLeg, bookLeg, bookBuyer, bookTrade, bookTrades, legCovered, neverBelowZero, startOfDay, sameLots, sameHoldings}
 use Rattle.rules.specs.Settlement.{leg, Day, dayStart, only, legs, afterDayLeg, afterLegs, dayOf}
@@ -17,7 +18,7 @@ use Rattle.rules.specs.WellFormed.{replays}
 use Rattle.rules.specs.declared.Account.{Account}
 use Rattle.rules.specs.declared.Holding.{Holding}
 use Rattle.rules.specs.declared.Trade.{Trade}
-use Rattle.accounting.specs.Article32.{lotsOf, Covered, AllCovered}
+use Rattle.accounting.specs.DayLegs.{Covered, AllCovered}
 use Rattle.accounting.specs.Shape.{Placed}
 use Rattle.accounting.proofs.Booking.{booked-here, booked-elsewhere, booked-or-none, booked-placed, start-holding, start-placed}
 use Rattle.accounting.proofs.DayProfit.{lots-opened, lots-other, lots-start, afterLegs-append, covered-nil, covered-append}
@@ -26,8 +27,8 @@ use Rattle.accounting.proofs.Trades.{boughtBy, soldBy}
 -- ---- how the lots of a holding and the open lots of a day compare, side by side: equal, or no more
 
 pub record Lots (R : ℕ → ℕ → Type 0) (h : Holding) (d : Day) : Type 0 where
-  pub long : R (h .long) (lotsOf (d .long))
-  pub short : R (h .short) (lotsOf (d .short))
+  pub long : R (h .long) (lotsIn (d .long))
+  pub short : R (h .short) (lotsIn (d .short))
 
 -- a comparison that an open and a close keep
 pub record Kept (R : ℕ → ℕ → Type 0) : Type 0 where
@@ -216,7 +217,7 @@ module _ (x : Exchange) (r : replays x ≡ true) (a c : ℕ) where
   day-covered = replay-covered a c (x .accounts) (x .trades) _ (replays-parts x r .0)
 
   pub day-holdings : Placed (x .accounts) a c →
-      (lotsOf (dayOf x a c .long) ≡ holdingAt (x .accounts) a c .long) × (lotsOf (dayOf x a c .short) ≡ holdingAt (x .accounts) a c .short)
+      (lotsIn (dayOf x a c .long) ≡ holdingAt (x .accounts) a c .long) × (lotsIn (dayOf x a c .short) ≡ holdingAt (x .accounts) a c .short)
   unfolding dayOf
   day-holdings p =
       let l = replay-lots (x .accounts) a c p (x .trades) (listingAt x c .contract .reference) in

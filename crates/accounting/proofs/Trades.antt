@@ -13,7 +13,7 @@ use Rattle.laws.specs.Sums.{sumOf, sumTo, sumOf-append, sumTo-ext, sumTo-add, s
 use Rattle.rules.specs.Condition3.{sales, costs, bought, sold, netHolding}
 use Rattle.rules.specs.Settlement.{Leg, leg, buyLeg, sellLeg, only, legs}
 use Rattle.rules.specs.declared.Trade.{Trade}
-use Rattle.accounting.specs.Article32.{flow, net}
+use Rattle.accounting.specs.DayLegs.{flow, net}
 use Rattle.accounting.specs.Money.{proceeds, AllKnown}
 use Rattle.accounting.proofs.DayProfit.{flow-append, net-append}
 

@@ -1,5 +1,5 @@
 -- What is claimed of money beside the rules: quantities that no settlement changes, any pairing of lots. Assumes nothing.
-pub mod Article32
+pub mod DayLegs
 pub mod Pairing
 pub mod PairingExamples
 pub mod Shape

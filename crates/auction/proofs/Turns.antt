@@ -26,7 +26,7 @@ use Rattle.rules.proofs.Codecs.{trade-codec}
 use Rattle.holdings.proofs.Bookings.{held-more, held-trade}
 use Rattle.book.proofs.Queues.{next-order, no-more}
 use Rattle.book.proofs.Trading.{Booked, booked, booked-trade, all-booked, still-made}
-use Rattle.auction.specs.Matched.{FilledIs, MatchReady, Parties, fits}
+use Rattle.auction.specs.Matched.{FilledIs, MatchReady, MatchParties, fits}
 use Rattle.auction.proofs.Filling.{Side, left-in, side-begins, side-filled, left-filled, side-part, left-part}
 
 -- ---- why a match stops
@@ -91,7 +91,7 @@ pub record Going
   pub selling : Side sells₀ c sold sells j
   pub long : length area ≡ length area₀
   pub some : done ≤ 1_000 * (i + j)
-  pub parties : Parties (1_000_000 + done + done) c held (drop i (queueIn buys c bought)) (drop j (queueIn sells c sold))
+  pub parties : MatchParties (1_000_000 + done + done) c held (drop i (queueIn buys c bought)) (drop j (queueIn sells c sold))
   pub answer : finish done made latest held area (matchAt c price (drop i (queueIn buys c bought)) (drop j (queueIn sells c sold)))
       ≡ finish 0 before last held₀ area₀ (matchAt c price (queueIn buys₀ c bought) (queueIn sells₀ c sold))
 

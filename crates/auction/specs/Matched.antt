@@ -23,7 +23,7 @@ abbrev pub fits : ℕ → Order → Bool
 fits used o = ltb (o .account) used && leb (o .lots) maxLots
 
 -- the queues' orders are of accounts in use, and no account in use holds more than b lots of the contract on either side
-pub record Parties (b c : ℕ) (held : List Account) (buys sells : List Order) : Type 0 where
+pub record MatchParties (b c : ℕ) (held : List Account) (buys sells : List Order) : Type 0 where
   pub used : ℕ
   pub few : used ≤ maxAccounts
   pub buyers : allOf (fits used) buys ≡ true
@@ -36,7 +36,7 @@ pub record MatchReady
   pub contract : c < maxContracts
   pub queues : QueuesRoom buys bought sells sold c
   pub room : tradeStride * (before + length (m .trades)) ≤ length area
-  pub parties : Parties heldMost c held (queueIn buys c bought) (queueIn sells c sold)
+  pub parties : MatchParties heldMost c held (queueIn buys c bought) (queueIn sells c sold)
 
 -- the orders that stay of a queue of n: those from place i on, behind the filled ones
 pub record LeftIn (queue : List Order) (area : List ℕ) (c n i : ℕ) (area′ : List ℕ) : Type 0 where

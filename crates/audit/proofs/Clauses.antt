@@ -6,10 +6,11 @@ use Prim.Native.Nat.{ℕ, _+_, _*_}
 use lib.Dec.{leb, ltb, eqb}
 use lib.ListN.{length, getD}
 use Rattle.laws.specs.Choice.{all, allOf}
-use Rattle.laws.specs.Chains.{passed}
-use Rattle.rules.specs.Bounds.{within, inAuction, maxPhase, termsInRange, tickMultiple, allowedToday, maxResting, maxTrades}
+use Rattle.laws.specs.Chains.{all-passed}
+use Rattle.laws.specs.Tests.{Chain}
+use Rattle.rules.specs.Bounds.{within, inAuction, phaseKnown, termsInRange, tickMultiple, allowedToday, maxResting, maxTrades}
 use Rattle.rules.specs.Exchange.{Listing}
-use Rattle.rules.specs.Memory.{Memory, countsInRange, hasRoom, queueStride, tradeStride}
+use Rattle.rules.specs.Memory.{Memory, countsInRange, hasRoom, queueStride, tradesWords}
 use Rattle.rules.specs.WellFormed.{contractInRange, orderInRange, ordersInRange, queuesSorted, sorted, uncrossed, queueQuoted, listingQuoted}
 use Rattle.rules.specs.declared.Account.{Account}
 use Rattle.rules.specs.declared.Contract.{Contract}
@@ -19,7 +20,6 @@ use Rattle.rules.specs.declared.State.{State}
 use Rattle.rules.specs.declared.Trade.{Trade}
 use Rattle.audit.specs.Parts.{heldInRange, listingInRange}
 use Rattle.invariants.proofs.Clauses.{ListingOk, listing-ok}
-use Rattle.audit.proofs.Chains.{Chain}
 
 -- ---- counts and room
 
@@ -36,7 +36,7 @@ counts-chain s = record { is = refl }
 pub room-chain : (m : Memory)
     → Chain (hasRoom m)
     (leb (queueStride * m .state .contractcount) (length (m .buys)) ∷ leb (queueStride * m .state .contractcount) (length (m .sells)) ∷ [])
-    (leb (tradeStride * maxTrades) (length (m .trades)))
+    (leb tradesWords (length (m .trades)))
 unfolding hasRoom
 room-chain m = record { is = refl }
 
@@ -46,7 +46,7 @@ counters-chain next nextstamp settlements = record { is = refl }
 
 -- ---- a contract with its queues
 
-pub contract-chain : (c : Contract) → Chain (contractInRange c) (termsInRange c ∷ leb (c .phase) maxPhase ∷ []) (tickMultiple (c .tick) (c .last))
+pub contract-chain : (c : Contract) → Chain (contractInRange c) (termsInRange c ∷ phaseKnown (c .phase) ∷ []) (tickMultiple (c .tick) (c .last))
 unfolding contractInRange
 contract-chain c = record { is = refl }
 
@@ -80,7 +80,7 @@ listing-chain accounts next nextstamp l = record { is = flat (contractInRange (l
 pub listing-tested : (accounts next nextstamp : ℕ) (l : Listing) → listingInRange accounts next nextstamp l ≡ true → ListingOk accounts next nextstamp l
 unfolding listingInRange
 listing-tested accounts next nextstamp l h =
-    let p = passed (contractInRange (l .contract)) (queuesSorted l ∷ ordersInRange accounts next nextstamp l ∷ []) h in
+    let p = all-passed (contractInRange (l .contract)) (queuesSorted l ∷ ordersInRange accounts next nextstamp l ∷ []) h in
     listing-ok accounts next nextstamp l (p .0) (p .1 .0) (p .1 .1)
 
 pub quoted-chain : (accounts : List Account) (l : Listing) → Chain (listingQuoted accounts l) (queueQuoted accounts (l .buys) ∷ []) (queueQuoted accounts (l .sells))

@@ -1,5 +1,4 @@
 -- The laws that the proofs of this crate apply. Assumes nothing.
-pub mod Chains
 pub mod Clauses
 pub mod FieldLists
 pub mod Limits

@@ -10,7 +10,7 @@ use lib.ListN.{length, getD, set, take, replicate, getD-replicate, length-replic
 use lib.Seq.{getD-set-other, getD-set-same, take-all}
 use Rattle.laws.specs.Choice.{pick, allOf-at, false-both, both-false, true-both}
 use Rattle.laws.specs.Sums.{sumOf, sumOf-more}
-use Rattle.rules.specs.Bounds.{maxAccounts}
+use Rattle.rules.specs.Bounds.{maxAccounts, maxLots}
 use Rattle.rules.specs.Exchange.{Listing, lotsWhere, noOrder, own, resting}
 use Rattle.rules.specs.WellFormed.{holdingInRange, orderInRange}
 use Rattle.rules.specs.declared.Holding.{Holding}
@@ -28,17 +28,17 @@ orders-summable accounts next nextstamp l few h sell i b =
 
 -- `lots` has the resting lots of the first i orders by account, the opens of each before its closes
 pub record Summing (queue : List Order) (i : ℕ) (lots : List ℕ) : Type 0 where
-  pub room : length lots ≡ 64
-  pub small : (k : ℕ) → k < 64 → getD lots k 0 ≤ 1_000 * i
+  pub room : length lots ≡ 2 * maxAccounts
+  pub small : (k : ℕ) → k < 2 * maxAccounts → getD lots k 0 ≤ maxLots * i
   pub sums : (a close : ℕ) → a < maxAccounts → close ≤ 1 → getD lots (2 * a + close) 0 ≡ resting close a (take i queue)
 
-pub summing-none : (queue : List Order) → Summing queue 0 (replicate 64 0)
+pub summing-none : (queue : List Order) → Summing queue 0 (replicate (2 * maxAccounts) 0)
 unfolding resting lotsWhere sumOf
 summing-none queue =
     record {
-      room = length-replicate {A = ℕ} 64 0;
-      small = λ k l. omega (arith, getD-replicate {A = ℕ} 64 k 0 0 l);
-      sums = λ a close l m. getD-replicate {A = ℕ} 64 (2 * a + close) 0 0 (omega arith);
+      room = length-replicate {A = ℕ} (2 * maxAccounts) 0;
+      small = λ k l. omega (arith, getD-replicate {A = ℕ} (2 * maxAccounts) k 0 0 l);
+      sums = λ a close l m. getD-replicate {A = ℕ} (2 * maxAccounts) (2 * a + close) 0 0 (omega arith);
     }
 
 pub summing-all : {queue : List Order} {i : ℕ} {lots : List ℕ} → Summing queue i lots → i ≡ length queue → Summed queue lots
@@ -61,7 +61,7 @@ module _ {queue : List Order} {i : ℕ} {lots : List ℕ} (m : Summing queue i l
   unfolding resting lotsWhere
   resting-more close a = sumOf-more (λ o. pick (eqb (o .account) a && eqb (o .close) close) (o .lots) 0) queue i noOrder there ∙ rw it
 
-  inside : at < 64
+  inside : at < 2 * maxAccounts
   inside = omega (arith, s .account, s .close)
 
   same-place : (a close : ℕ) → close ≤ 1 → 2 * a + close ≡ at → (o .account ≡ a) × (o .close ≡ close)
@@ -79,7 +79,7 @@ module _ {queue : List Order} {i : ℕ} {lots : List ℕ} (m : Summing queue i l
         sums = λ a close l h. sums a close (eqb (2 * a + close) at) refl l h;
       }
     where
-      small : (k : ℕ) (b : Bool) → eqb k at ≡ b → k < 64 → getD (set lots at (getD lots at 0 + o .lots)) k 0 ≤ 1_000 * (i + 1)
+      small : (k : ℕ) (b : Bool) → eqb k at ≡ b → k < 2 * maxAccounts → getD (set lots at (getD lots at 0 + o .lots)) k 0 ≤ maxLots * (i + 1)
       small k true e l = rw (eqb-true k at e, getD-set-same lots at (getD lots at 0 + o .lots) 0 (omega (arith, m .room, inside))) (omega (arith, m .small at inside, s .lots))
       small k false e l = rw (getD-set-other lots at k (getD lots at 0 + o .lots) 0 (eqb-false k at e)) (omega (arith, m .small k l))
 

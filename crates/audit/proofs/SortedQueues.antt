@@ -58,10 +58,10 @@ module _ (sell : Bool) (area : List ℕ) (c n i : ℕ) {b : Bool} (so-far : b �
 
 -- ---- uncrossed
 
-pub no-buys : (buys : List ℕ) (bids c : ℕ) (sells : List Order) → bids ≡ 0 → true ≡ uncrossed (queueIn buys c bids) sells
+pub no-buys : (buys : List ℕ) (buycount c : ℕ) (sells : List Order) → buycount ≡ 0 → true ≡ uncrossed (queueIn buys c buycount) sells
 unfolding uncrossed
-no-buys buys bids c sells e =
-    let q : queueIn buys c bids ≡ [] = no-more buys c bids 0 (omega arith) in
+no-buys buys buycount c sells e =
+    let q : queueIn buys c buycount ≡ [] = no-more buys c buycount 0 (omega arith) in
     rw q
 
 uncrossed-none : (os : List Order) → true ≡ uncrossed os []
@@ -69,16 +69,16 @@ unfolding uncrossed
 uncrossed-none [] = refl
 uncrossed-none (o ∷ os) = refl
 
-pub no-sells : (buys : List Order) (sells : List ℕ) (asks c : ℕ) → asks ≡ 0 → true ≡ uncrossed buys (queueIn sells c asks)
-no-sells buys sells asks c e =
-    let q : queueIn sells c asks ≡ [] = no-more sells c asks 0 (omega arith) in
+pub no-sells : (buys : List Order) (sells : List ℕ) (sellcount c : ℕ) → sellcount ≡ 0 → true ≡ uncrossed buys (queueIn sells c sellcount)
+no-sells buys sells sellcount c e =
+    let q : queueIn sells c sellcount ≡ [] = no-more sells c sellcount 0 (omega arith) in
     rw q (uncrossed-none buys)
 
-pub best-apart : (buys : List ℕ) (bids : ℕ) (sells : List ℕ) (asks c : ℕ) (b s : Order) → (bids ≡ 0 → ⊥) → (asks ≡ 0 → ⊥)
+pub best-apart : (buys : List ℕ) (buycount : ℕ) (sells : List ℕ) (sellcount c : ℕ) (b s : Order) → (buycount ≡ 0 → ⊥) → (sellcount ≡ 0 → ⊥)
     → b ≡ orderFrom (drop (firstWord c 0) buys) → s ≡ orderFrom (drop (firstWord c 0) sells)
-    → ltb (b .price) (s .price) ≡ uncrossed (queueIn buys c bids) (queueIn sells c asks)
+    → ltb (b .price) (s .price) ≡ uncrossed (queueIn buys c buycount) (queueIn sells c sellcount)
 unfolding uncrossed
-best-apart buys bids sells asks c b s nb ns eb es =
-    let qb : queueIn buys c bids ≡ b ∷ drop 1 (queueIn buys c bids) = next-order buys c bids 0 b (omega arith) eb in
-    let qs : queueIn sells c asks ≡ s ∷ drop 1 (queueIn sells c asks) = next-order sells c asks 0 s (omega arith) es in
+best-apart buys buycount sells sellcount c b s nb ns eb es =
+    let qb : queueIn buys c buycount ≡ b ∷ drop 1 (queueIn buys c buycount) = next-order buys c buycount 0 b (omega arith) eb in
+    let qs : queueIn sells c sellcount ≡ s ∷ drop 1 (queueIn sells c sellcount) = next-order sells c sellcount 0 s (omega arith) es in
     rw (qb, qs)

@@ -6,13 +6,13 @@ use Prim.Native.Nat.{ℕ, _<_}
 use lib.Dec.{leb, ltb, eqb}
 use lib.ListN.{getD, length-replicate}
 use Rattle.laws.specs.Tabulate.{length-tabulate, getD-tabulate}
+use Rattle.laws.specs.Tests.{Chain, group}
 use Rattle.rules.specs.Bounds.{within, allowedToday}
 use Rattle.rules.specs.Exchange.{Listing, listingAt, noContract, noListing}
 use Rattle.rules.specs.WellFormed.{tradeInRange}
 use Rattle.rules.specs.declared.Contract.{Contract}
 use Rattle.rules.specs.declared.Trade.{Trade}
 use Rattle.audit.specs.Parts.{tested}
-use Rattle.audit.proofs.Chains.{Chain, group}
 
 -- ---- a trade
 

@@ -5,11 +5,11 @@ use mathlib.Core.List.{List, [], _∷_}
 use mathlib.Core.Path.{_≡_}
 use lib.ListN.{length, getD}
 use Rattle.laws.specs.Choice.{all, allOf, allOf-at, allOf-imp, allOf-true, same-test}
-use Rattle.laws.specs.Chains.{Passed, join, passed}
+use Rattle.laws.specs.Chains.{Passed, all-passed, join}
+use Rattle.laws.specs.Tests.{chain}
 use Rattle.rules.specs.Exchange.{Exchange, Listing, noListing}
 use Rattle.rules.specs.WellFormed.{countersInRange, contractInRange, markInRange, rangesKept, queuesSorted, ordersInRange, allNumbers, allStamps, usedOnce, listingQuoted, restingInRange, tradeInRange, replays, holdingsInRange, balanceInRange, wellFormedContents}
 use Rattle.audit.specs.Parts.{listingInRange}
-use Rattle.laws.specs.Tests.{chain}
 
 -- three tests of every contract, one after the other or together
 three-at-once : (p q r : Listing → Bool) (l : List Listing) → allOf (λ a. p a && q a && r a) l ≡ (allOf p l && allOf q l && allOf r l)
@@ -19,13 +19,13 @@ three-at-once p q r l =
       allOf-imp (λ a. p a && q a && r a) p l (λ a e. apart a e .0) h,
       (allOf-imp (λ a. p a && q a && r a) q l (λ a e. apart a e .1 .0) h, allOf-imp (λ a. p a && q a && r a) r l (λ a e. apart a e .1 .1) h),
     ))
-    (λ h. let k = passed (allOf p l) (allOf q l ∷ allOf r l ∷ []) h in
+    (λ h. let k = all-passed (allOf p l) (allOf q l ∷ allOf r l ∷ []) h in
     allOf-true (λ a. p a && q a && r a) l noListing
     (λ i b. join (p (getD l i noListing)) (q (getD l i noListing) ∷ r (getD l i noListing) ∷ [])
     (allOf-at p l i noListing (k .0) b, (allOf-at q l i noListing (k .1 .0) b, allOf-at r l i noListing (k .1 .1) b))))
   where
     apart : (a : Listing) → (p a && q a && r a) ≡ true → Passed (p a) (q a ∷ r a ∷ [])
-    apart a e = passed (p a) (q a ∷ r a ∷ []) e
+    apart a e = all-passed (p a) (q a ∷ r a ∷ []) e
 
 -- the same tests in another order
 reordered : (counters terms marks queues orders numbers stamps quotes trades replay holdings balances : Bool) →
@@ -33,12 +33,12 @@ reordered : (counters terms marks queues orders numbers stamps quotes trades rep
     ≡ (counters && (terms && queues && orders) && numbers && stamps && quotes && marks && trades && replay && holdings && balances)
 reordered counters terms marks queues orders numbers stamps quotes trades replay holdings balances =
     same-test _ _
-    (λ h. let p = passed counters (terms ∷ marks ∷ queues ∷ (orders && numbers && stamps && quotes) ∷ rest) h in
-    let o = passed orders (numbers ∷ stamps ∷ quotes ∷ []) (p .1 .1 .1 .1 .0) in
+    (λ h. let p = all-passed counters (terms ∷ marks ∷ queues ∷ (orders && numbers && stamps && quotes) ∷ rest) h in
+    let o = all-passed orders (numbers ∷ stamps ∷ quotes ∷ []) (p .1 .1 .1 .1 .0) in
     join counters ((terms && queues && orders) ∷ numbers ∷ stamps ∷ quotes ∷ marks ∷ rest)
     (p .0, (join terms (queues ∷ orders ∷ []) (p .1 .0, (p .1 .1 .1 .0, o .0)), (o .1 .0, (o .1 .1 .0, (o .1 .1 .1, (p .1 .1 .0, p .1 .1 .1 .1 .1)))))))
-    (λ h. let p = passed counters ((terms && queues && orders) ∷ numbers ∷ stamps ∷ quotes ∷ marks ∷ rest) h in
-    let l = passed terms (queues ∷ orders ∷ []) (p .1 .0) in
+    (λ h. let p = all-passed counters ((terms && queues && orders) ∷ numbers ∷ stamps ∷ quotes ∷ marks ∷ rest) h in
+    let l = all-passed terms (queues ∷ orders ∷ []) (p .1 .0) in
     join counters (terms ∷ marks ∷ queues ∷ (orders && numbers && stamps && quotes) ∷ rest)
     (p .0, (l .0, (p .1 .1 .1 .1 .1 .0, (l .1 .0, (join orders (numbers ∷ stamps ∷ quotes ∷ []) (l .1 .1, (p .1 .1 .0, (p .1 .1 .1 .0, p .1 .1 .1 .1 .0))), p .1 .1 .1 .1 .1 .1))))))
   where

@@ -2,14 +2,15 @@
 -- tests behind it. Assumes nothing.
 use mathlib.Core.Bool.{Bool, true, _&&_}
 use mathlib.Core.List.{List, [], _∷_, map}
-use mathlib.Core.Path.{_≡_, refl, ap, ap₂, _∙_}
+use mathlib.Core.Path.{_≡_, refl, ap₂, _∙_}
 use Prim.Native.Nat.{ℕ, zero, suc, _*_, _<_, _≤_}
 use native.Mathlib.Omega.{arith}
 use borrow.Author.Tests.{leb-true}
 use lib.Dec.{leb}
 use lib.ListN.{length, getD, take, length-map, length-replicate}
-use Rattle.laws.specs.Choice.{all, allOf, all-at, all-ext, allOf-all, allOf-at, both-true}
-use Rattle.laws.specs.Tabulate.{tabulate, length-tabulate, getD-tabulate}
+use Rattle.laws.specs.Choice.{all, allOf, all-at, all-ext, allOf-at, allOf-ext, allOf-map, both-true}
+use Rattle.laws.specs.Tabulate.{tabulate, allOf-table, length-tabulate, getD-tabulate}
+use Rattle.laws.specs.Tests.{Chain}
 use Rattle.rules.specs.Bounds.{within, termsInRange}
 use Rattle.rules.specs.Exchange.{Exchange, Listing, listingAt, accountAt, holdingAt, noContract, noListing, noTrade}
 use Rattle.rules.specs.Memory.{Memory, exchangeOf, inUse, listingIn, recordedTrades, countsInRange, hasRoom, wellFormedMemory, used, memory, tradeStride}
@@ -25,27 +26,8 @@ use Rattle.invariants.proofs.Clauses.{holding-ok, trade-ok}
 use Rattle.invariants.proofs.MemoryRoom.{counts-ok, room-ok}
 use Rattle.replaying.specs.Parts.{Booked}
 use Rattle.audit.specs.Parts.{Ready, listing, listingInRange, replayed, tested}
-use Rattle.audit.proofs.Chains.{Chain}
 use Rattle.audit.proofs.Clauses.{listing-tested}
 use Rattle.audit.proofs.Walked.{walked}
-
--- ---- tests of every element
-
-all-of-table : {A : Type 0} (p : A → Bool) (n : ℕ) (f : ℕ → A) (d : A) → allOf p (tabulate n f) ≡ all (λ i. p (f i)) n
-all-of-table p n f d =
-    allOf-all p (tabulate n f) d
-    ∙ ap (all (λ i. p (getD (tabulate n f) i d))) (length-tabulate n f)
-    ∙ all-ext (λ i. p (getD (tabulate n f) i d)) (λ i. p (f i)) n (λ i h. ap p (getD-tabulate n i f d h))
-
-all-of-map : {A B : Type 0} (p : B → Bool) (f : A → B) (l : List A) → allOf p (map f l) ≡ allOf (λ a. p (f a)) l
-unfolding allOf
-all-of-map p f [] = refl
-all-of-map p f (a ∷ l) = ap (λ b. p (f a) && b) (all-of-map p f l)
-
-same-tests : {A : Type 0} (p q : A → Bool) (l : List A) → ((a : A) → p a ≡ q a) → allOf p l ≡ allOf q l
-unfolding allOf
-same-tests p q [] e = refl
-same-tests p q (a ∷ l) e = ap₂ (λ x y. x && y) (e a) (same-tests p q l e)
 
 -- two tables of listings with the same contracts
 same-contracts : (n : ℕ) (f g : ℕ → Listing) (c : ℕ) → ((i : ℕ) → f i .contract ≡ g i .contract) → getD (tabulate n f) c noListing .contract ≡ getD (tabulate n g) c noListing .contract
@@ -65,7 +47,7 @@ queue-in-use : (contracts : ℕ) (l : List Account) (queue : List Order) → que
 unfolding queueQuoted markAllowed
 queue-in-use contracts l queue =
     ap₂ (λ x n. x && all (λ a. leb (quotes a queue) 1) n)
-    (same-tests (markAllowed (map (inUse contracts) l)) (markAllowed l) queue (λ o. rw (maker-in-use contracts l (o .account)) refl)) (length-map l (inUse contracts))
+    (allOf-ext (markAllowed (map (inUse contracts) l)) (markAllowed l) queue (λ o. rw (maker-in-use contracts l (o .account)) refl)) (length-map l (inUse contracts))
 
 quoted-in-use : (contracts : ℕ) (l : List Account) (m : Listing) → listingQuoted (map (inUse contracts) l) m ≡ listingQuoted l m
 unfolding listingQuoted
@@ -122,7 +104,7 @@ module _ (s : State) (buys sells trades : List ℕ) where
 
     in-table : allOf (listingInRange (s .accountcount) (exchangeOf m .next) (exchangeOf m .nextstamp)) (exchangeOf m .listings) ≡ listingsTest
     unfolding exchangeOf listingIn
-    in-table = all-of-table (listingInRange (s .accountcount) (s .next) (s .nextstamp)) (s .contractcount) (listingIn m) noListing
+    in-table = allOf-table (listingInRange (s .accountcount) (s .next) (s .nextstamp)) (s .contractcount) (listingIn m)
 
     listings-same : allOf (listingInRange (length (exchangeOf m .accounts)) (exchangeOf m .next) (exchangeOf m .nextstamp)) (exchangeOf m .listings) ≡ listingsTest
     listings-same = rw accounts-count in-table
@@ -138,13 +120,13 @@ module _ (s : State) (buys sells trades : List ℕ) where
     quotes-same : allOf (listingQuoted (exchangeOf m .accounts)) (exchangeOf m .listings) ≡ quotesTest
     unfolding exchangeOf listingIn
     quotes-same =
-        same-tests (listingQuoted (used (s .contractcount) (s .accountcount) (s .accounts))) (listingQuoted (take (s .accountcount) (s .accounts))) (tabulate (s .contractcount) (listingIn m))
+        allOf-ext (listingQuoted (used (s .contractcount) (s .accountcount) (s .accounts))) (listingQuoted (take (s .accountcount) (s .accounts))) (tabulate (s .contractcount) (listingIn m))
         (quoted-in-use (s .contractcount) (take (s .accountcount) (s .accounts)))
-        ∙ all-of-table (listingQuoted (take (s .accountcount) (s .accounts))) (s .contractcount) (listingIn m) noListing
+        ∙ allOf-table (listingQuoted (take (s .accountcount) (s .accounts))) (s .contractcount) (listingIn m)
 
     makers-same : allOf markInRange (exchangeOf m .accounts) ≡ makersTest
     unfolding exchangeOf markInRange
-    makers-same = all-of-map markInRange (inUse (s .contractcount)) (take (s .accountcount) (s .accounts))
+    makers-same = allOf-map markInRange (inUse (s .contractcount)) (take (s .accountcount) (s .accounts))
 
     trade-same : (t : Trade) → tradeInRange (exchangeOf m) t ≡ tradeInRange asked t
     unfolding tradeInRange tested exchangeOf listingAt listingIn
@@ -159,7 +141,7 @@ module _ (s : State) (buys sells trades : List ℕ) where
 
     trades-same : allOf (tradeInRange (exchangeOf m)) (exchangeOf m .trades) ≡ tradesTest
     unfolding exchangeOf
-    trades-same = same-tests (tradeInRange (exchangeOf m)) (tradeInRange asked) (recordedTrades trades (s .tradecount)) trade-same
+    trades-same = allOf-ext (tradeInRange (exchangeOf m)) (tradeInRange asked) (recordedTrades trades (s .tradecount)) trade-same
 
     replay-same : replays (exchangeOf m) ≡ replayTest
     unfolding replays exchangeOf
@@ -177,7 +159,7 @@ module _ (s : State) (buys sells trades : List ℕ) where
 
     balances-same : allOf (balanceInRange (exchangeOf m .settlements)) (exchangeOf m .accounts) ≡ balancesTest
     unfolding exchangeOf balanceInRange
-    balances-same = all-of-map (balanceInRange (s .settlements)) (inUse (s .contractcount)) (take (s .accountcount) (s .accounts))
+    balances-same = allOf-map (balanceInRange (s .settlements)) (inUse (s .contractcount)) (take (s .accountcount) (s .accounts))
 
     pub contents-chain :
         Chain (wellFormedContents (exchangeOf m)) (countersTest ∷ listingsTest ∷ numbersTest ∷ stampsTest ∷ quotesTest ∷ makersTest ∷ tradesTest ∷ replayTest ∷ holdingsTest ∷ []) balancesTest

@@ -81,11 +81,11 @@ fn held_in_range(state: State, c: usize, buys: &[u32], sells: &[u32]) -> bool
 {
     let contract = state.contracts[c];
     let limit = contract.limit;
-    let bids = state.buycounts[c];
-    let asks = state.sellcounts[c];
+    let buycount = state.buycounts[c];
+    let sellcount = state.sellcounts[c];
     let accounts = state.accountcount;
-    let bought = resting_lots(buys, c, bids);
-    let sold = resting_lots(sells, c, asks);
+    let bought = resting_lots(buys, c, buycount);
+    let sold = resting_lots(sells, c, sellcount);
     let mut a: usize = 0;
     while a < accounts {
         let who = state.accounts[a];

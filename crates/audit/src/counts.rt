@@ -44,12 +44,12 @@ pub fn counts_in_range(s: State) -> bool
     if rules::MAX_TRADES < s.tradecount {
         return false;
     }
-    let buys = s.buycounts;
-    if !few_orders(buys, contracts) {
+    let buycounts = s.buycounts;
+    if !few_orders(buycounts, contracts) {
         return false;
     }
-    let sells = s.sellcounts;
-    few_orders(sells, contracts)
+    let sellcounts = s.sellcounts;
+    few_orders(sellcounts, contracts)
 }
 
 // "each queue area has room for 64 orders and the trade area for 1,024 trades". Requires counts within their ranges.
@@ -64,7 +64,7 @@ pub fn has_room(s: State, buys: &[u32], sells: &[u32], trades: &[u32]) -> bool
     if sells.len() < words {
         return false;
     }
-    rules::TRADE_STRIDE * rules::MAX_TRADES <= trades.len()
+    rules::TRADES_WORDS <= trades.len()
 }
 
 // "the next order number 1 to 1,000,000", the next time stamp too; "Settlements: 250 a run."

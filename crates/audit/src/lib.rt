@@ -39,28 +39,28 @@ fn contents_are_well_formed(state: State, buys: &[u32], sells: &[u32], trades: &
         return false;
     }
     let held = state.accounts;
-    let holders = state.accountcount;
-    if !accounts::marks_in_range(held, holders) {
+    let accountcount = state.accountcount;
+    if !accounts::marks_in_range(held, accountcount) {
         return false;
     }
     let contracts = state.contractcount;
     let count = state.tradecount;
     let list = state.contracts;
-    if !recorded::trades_in_range(list, contracts, holders, next, trades, count) {
+    if !recorded::trades_in_range(list, contracts, accountcount, next, trades, count) {
         return false;
     }
     if !accounts::holdings_in_range(state, buys, sells) {
         return false;
     }
-    if !replay::replays(held, contracts, holders, trades, count) {
+    if !replay::replays(held, contracts, accountcount, trades, count) {
         return false;
     }
-    accounts::balances_in_range(held, holders, settlements)
+    accounts::balances_in_range(held, accountcount, settlements)
 }
 
 // "A state is well formed when": every clause of the paper, on any state and any areas.
 pub fn well_formed(state: State, buys: &[u32], sells: &[u32], trades: &[u32]) -> bool
-    ensures { λ r. ⌜ r ≡ wellFormedMemory (record { state = state; buys = now (buys .entry); sells = now (sells .entry); trades = now (trades .entry) }) ⌝ }
+    ensures { λ r. ⌜ r ≡ wellFormedMemory (memory state (now (buys .entry)) (now (sells .entry)) (now (trades .entry))) ⌝ }
 {
     if !counts::counts_in_range(state) {
         return false;

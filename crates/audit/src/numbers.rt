@@ -59,10 +59,10 @@ fn with_listing(
     requires { ⌜ (before .count ≤ 2 * maxResting * c) × Ready state (now buys) (now sells) × (c < state .contractcount) × (word < orderStride) ⌝ }
     ensures { λ r. ⌜ Behind before (wellformed.listed (wordOf word) (listing state (now (buys .entry)) (now (sells .entry)) c .buys) ++ wellformed.listed (wordOf word) (listing state (now (buys .entry)) (now (sells .entry)) c .sells)) r ⌝ }
 {
-    let bids = state.buycounts[c];
-    let asks = state.sellcounts[c];
-    let listed = with_queue(before, buys, c, bids, word);
-    with_queue(listed, sells, c, asks, word)
+    let buycount = state.buycounts[c];
+    let sellcount = state.sellcounts[c];
+    let listed = with_queue(before, buys, c, buycount, word);
+    with_queue(listed, sells, c, sellcount, word)
 }
 
 fn all_listed(state: State, buys: &[u32], sells: &[u32], word: usize) -> Listed

@@ -21,7 +21,7 @@ fn contract_in_range(c: Contract) -> bool
     if !terms::terms_in_range(c) {
         return false;
     }
-    if rules::AUCTION < c.phase {
+    if rules::MAX_PHASE < c.phase {
         return false;
     }
     terms::tick_multiple(c.tick, c.last)
@@ -58,14 +58,14 @@ fn is_sorted(area: &[u32], c: usize, count: usize, sell: bool) -> bool
 }
 
 // "the two are uncrossed (best buy below best sell)"
-fn is_uncrossed(buys: &[u32], bids: usize, sells: &[u32], asks: usize, c: usize) -> bool
-    requires { ⌜ (firstWord c bids ≤ length (now buys)) × (firstWord c asks ≤ length (now sells)) ⌝ }
-    ensures { λ r. ⌜ r ≡ uncrossed (queueIn (now (buys .entry)) c bids) (queueIn (now (sells .entry)) c asks) ⌝ }
+fn is_uncrossed(buys: &[u32], buycount: usize, sells: &[u32], sellcount: usize, c: usize) -> bool
+    requires { ⌜ (firstWord c buycount ≤ length (now buys)) × (firstWord c sellcount ≤ length (now sells)) ⌝ }
+    ensures { λ r. ⌜ r ≡ uncrossed (queueIn (now (buys .entry)) c buycount) (queueIn (now (sells .entry)) c sellcount) ⌝ }
 {
-    if bids == 0 {
+    if buycount == 0 {
         return true;
     }
-    if asks == 0 {
+    if sellcount == 0 {
         return true;
     }
     let b = queue::order_at(buys, c, 0);
@@ -77,18 +77,18 @@ fn is_uncrossed(buys: &[u32], bids: usize, sells: &[u32], asks: usize, c: usize)
 fn is_apart(
     contract: Contract,
     buys: &[u32],
-    bids: usize,
+    buycount: usize,
     sells: &[u32],
-    asks: usize,
+    sellcount: usize,
     c: usize,
 ) -> bool
-    requires { ⌜ (firstWord c bids ≤ length (now buys)) × (firstWord c asks ≤ length (now sells)) ⌝ }
-    ensures { λ r. ⌜ r ≡ (inAuction contract || uncrossed (queueIn (now (buys .entry)) c bids) (queueIn (now (sells .entry)) c asks)) ⌝ }
+    requires { ⌜ (firstWord c buycount ≤ length (now buys)) × (firstWord c sellcount ≤ length (now sells)) ⌝ }
+    ensures { λ r. ⌜ r ≡ (inAuction contract || uncrossed (queueIn (now (buys .entry)) c buycount) (queueIn (now (sells .entry)) c sellcount)) ⌝ }
 {
     if contract.phase == rules::AUCTION {
         return true;
     }
-    is_uncrossed(buys, bids, sells, asks, c)
+    is_uncrossed(buys, buycount, sells, sellcount, c)
 }
 
 // "1 to 1,000 lots, an existing account, a price allowed today, and a number below the next", and a time stamp below the next; a quote
@@ -154,27 +154,27 @@ fn listing_in_range(state: State, c: usize, buys: &[u32], sells: &[u32]) -> bool
     ensures { λ r. ⌜ r ≡ listingInRange (state .accountcount) (state .next) (state .nextstamp) (listing state (now (buys .entry)) (now (sells .entry)) c) ⌝ }
 {
     let contract = state.contracts[c];
-    let bids = state.buycounts[c];
-    let asks = state.sellcounts[c];
+    let buycount = state.buycounts[c];
+    let sellcount = state.sellcounts[c];
     let accounts = state.accountcount;
     let next = state.next;
     let nextstamp = state.nextstamp;
     if !contract_in_range(contract) {
         return false;
     }
-    if !is_sorted(buys, c, bids, false) {
+    if !is_sorted(buys, c, buycount, false) {
         return false;
     }
-    if !is_sorted(sells, c, asks, true) {
+    if !is_sorted(sells, c, sellcount, true) {
         return false;
     }
-    if !is_apart(contract, buys, bids, sells, asks, c) {
+    if !is_apart(contract, buys, buycount, sells, sellcount, c) {
         return false;
     }
-    if !orders_in_range(buys, c, bids, accounts, next, nextstamp, contract) {
+    if !orders_in_range(buys, c, buycount, accounts, next, nextstamp, contract) {
         return false;
     }
-    orders_in_range(sells, c, asks, accounts, next, nextstamp, contract)
+    orders_in_range(sells, c, sellcount, accounts, next, nextstamp, contract)
 }
 
 pub fn listings_in_range(state: State, buys: &[u32], sells: &[u32]) -> bool

@@ -48,12 +48,12 @@ fn listing_quoted(state: State, c: usize, buys: &[u32], sells: &[u32]) -> bool
     requires { ⌜ Ready state (now buys) (now sells) × (c < state .contractcount) × (listingInRange (state .accountcount) (state .next) (state .nextstamp) (listing state (now buys) (now sells) c) ≡ true) ⌝ }
     ensures { λ r. ⌜ r ≡ listingQuoted (take (state .accountcount) (state .accounts)) (listing state (now (buys .entry)) (now (sells .entry)) c) ⌝ }
 {
-    let bids = state.buycounts[c];
-    let asks = state.sellcounts[c];
-    if !queue_quoted(state, buys, c, bids) {
+    let buycount = state.buycounts[c];
+    let sellcount = state.sellcounts[c];
+    if !queue_quoted(state, buys, c, buycount) {
         return false;
     }
-    queue_quoted(state, sells, c, asks)
+    queue_quoted(state, sells, c, sellcount)
 }
 
 pub fn listings_quoted(state: State, buys: &[u32], sells: &[u32]) -> bool

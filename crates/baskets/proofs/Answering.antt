@@ -13,7 +13,7 @@ use Rattle.areas.specs.Records.{Codec, store}
 use Rattle.areas.proofs.Lists.{sets-over}
 use Rattle.areas.proofs.Records.{encode-one, store-append, store-nil}
 use Rattle.rules.specs.Condition3.{run}
-use Rattle.rules.specs.DayFile.{commandFrom}
+use Rattle.rules.specs.DayFile.{commandFrom, commandWidth}
 use Rattle.rules.specs.Memory.{Memory, respond, wellFormedMemory}
 use Rattle.rules.specs.declared.Answer.{Answer}
 use Rattle.rules.specs.declared.Command.{Command}
@@ -21,14 +21,14 @@ use Rattle.rules.specs.declared.Command.the-variants.{Malformed}
 use Rattle.accounting.proofs.Runs.{run-last, run-stays}
 use Rattle.invariants.proofs.MemoryKeeps.{run-keeps}
 use Rattle.exchange.specs.Run.{firstCommands}
-use Rattle.baskets.specs.Bundle.{answerWords, answerFrom, answersTo}
+use Rattle.baskets.specs.Bundle.{answerWords, answerFrom, answersTo, answerStride}
 
-pub answer-codec : Codec Answer 4 answerWords answerFrom
+pub answer-codec : Codec Answer answerStride answerWords answerFrom
 unfolding tabulate
-answer-codec = record { wide = λ a. refl; back = λ a ys. refl; forth = λ xs h. tabulate-take 4 xs 0 h }
+answer-codec = record { wide = λ a. refl; back = λ a ys. refl; forth = λ xs h. tabulate-take answerStride xs 0 h }
 
 -- four stores write an answer
-pub stored-answer : (area : List ℕ) (at : ℕ) (a : Answer) → at + 4 ≤ length area → sets area at (answerWords a) ≡ store answerWords area at (a ∷ [])
+pub stored-answer : (area : List ℕ) (at : ℕ) (a : Answer) → at + answerStride ≤ length area → sets area at (answerWords a) ≡ store answerWords area at (a ∷ [])
 unfolding store
 stored-answer area at a room = rw (encode-one answer-codec a) (sets-over area at (answerWords a) room)
 
@@ -75,7 +75,7 @@ module _ (m : Memory) (cs : List Command) (area : List ℕ) where
 
   -- one more, on the state that the first k left
   one-answered : (k : ℕ) {c : Command} → k < length cs → getD cs k Malformed ≡ c → {m′ : Memory} {now after : List ℕ} → m′ ≡ run m (take k cs)
-      → now ≡ answered k → after ≡ store answerWords now (4 * k) (respond m′ c .answer ∷ []) → after ≡ answered (k + 1)
+      → now ≡ answered k → after ≡ store answerWords now (answerStride * k) (respond m′ c .answer ∷ []) → after ≡ answered (k + 1)
   unfolding answered
   one-answered k {c} h same {m′} {now} {after} e before put =
       let first : List Command = take k cs in
@@ -84,8 +84,8 @@ module _ (m : Memory) (cs : List Command) (area : List ℕ) where
       let last : answersTo m (first ++ (c ∷ [])) ≡ answersTo m first ++ (a ∷ []) =
       answers-last m first c ∙ ap (λ (v : Memory). answersTo m first ++ (respond v c .answer ∷ [])) (sym e) in
       put
-      ∙ ap (λ (l : List ℕ). store answerWords l (4 * k) (a ∷ [])) before
-      ∙ ap (λ (n : ℕ). store answerWords (store answerWords area 0 (answersTo m first)) n (a ∷ [])) (sym (zero-add (4 * length (answersTo m first)) ∙ ap (λ (n : ℕ). 4 * n) long))
+      ∙ ap (λ (l : List ℕ). store answerWords l (answerStride * k) (a ∷ [])) before
+      ∙ ap (λ (n : ℕ). store answerWords (store answerWords area 0 (answersTo m first)) n (a ∷ [])) (sym (zero-add (answerStride * length (answersTo m first)) ∙ ap (λ (n : ℕ). answerStride * n) long))
       ∙ sym (store-append answer-codec area 0 (answersTo m first) (a ∷ []) (omega arith))
       ∙ rw (longer m cs k h, same, last) refl
 
@@ -111,7 +111,7 @@ module _ {m : Memory} {cs : List Command} {area : List ℕ} {n k : ℕ} {m′ : 
 
   -- one more command is answered
   pub answering-more : k < n → n ≤ length cs → {c : Command} → getD cs k Malformed ≡ c → {m″ : Memory} {after : List ℕ} → m″ ≡ respond m′ c .memory
-      → after ≡ store answerWords now (4 * k) (respond m′ c .answer ∷ []) → length (m″ .buys) ≡ length (m′ .buys) → length (m″ .sells) ≡ length (m′ .sells)
+      → after ≡ store answerWords now (answerStride * k) (respond m′ c .answer ∷ []) → length (m″ .buys) ≡ length (m′ .buys) → length (m″ .sells) ≡ length (m′ .sells)
       → length (m″ .trades) ≡ length (m′ .trades) → length after ≡ length now → AnsweredTo m cs area n (k + 1) m″ after
   answering-more l long same ran put buys sells trades answers =
       record {
@@ -137,11 +137,11 @@ module _ {m : Memory} {cs : List Command} {area : List ℕ} {n k : ℕ} {m′ : 
 module _ (bytes : List ℕ) (n : ℕ) where
   pub length-first : length (firstCommands bytes n) ≡ n
   unfolding firstCommands
-  length-first = length-tabulate n (λ i. commandFrom bytes (24 * i))
+  length-first = length-tabulate n (λ i. commandFrom bytes (commandWidth * i))
 
-  pub command-at : (k : ℕ) → k < n → getD (firstCommands bytes n) k Malformed ≡ commandFrom bytes (24 * k)
+  pub command-at : (k : ℕ) → k < n → getD (firstCommands bytes n) k Malformed ≡ commandFrom bytes (commandWidth * k)
   unfolding firstCommands
-  command-at k h = getD-tabulate n k (λ i. commandFrom bytes (24 * i)) Malformed h
+  command-at k h = getD-tabulate n k (λ i. commandFrom bytes (commandWidth * i)) Malformed h
 
   pub take-first : take n (firstCommands bytes n) ≡ firstCommands bytes n
   take-first = take-all n (firstCommands bytes n) (omega (arith, length-first))

@@ -13,6 +13,7 @@ use Rattle.areas.specs.Records.{store}
 use Rattle.areas.proofs.Records.{store-nil}
 use Rattle.rules.specs.Answers.{firstOf, _when_}
 use Rattle.rules.specs.Condition3.{MoneyKept, run}
+use Rattle.rules.specs.DayFile.{commandWidth}
 use Rattle.rules.specs.Memory.{Declared, Memory, respond, wellFormedMemory}
 use Rattle.rules.specs.declared.Command.{Command}
 use Rattle.rules.proofs.Refusals.{failed}
@@ -20,7 +21,7 @@ use Rattle.accounting.proofs.Runs.{run-append}
 use Rattle.invariants.proofs.Condition3.{money-left}
 use Rattle.exchange.specs.Run.{firstCommands, wholeCommands}
 use Rattle.baskets.specs.Answered.{AnsweredIs, playedCommands, playedOf}
-use Rattle.baskets.specs.Bundle.{BundleIs, answerWords, answersTo, bundleCode, carried, maxBundle}
+use Rattle.baskets.specs.Bundle.{BundleIs, answerWords, answersTo, bundleCode, carried, maxBundle, answerStride}
 use Rattle.baskets.specs.Calls.{Call, single, list, bundle, afterCalls, commandsRead}
 use Rattle.baskets.specs.declared.basket.Receipt.{Receipt}
 use Rattle.baskets.specs.declared.list.Ran.{Ran}
@@ -37,26 +38,26 @@ module _ (m : Memory) (count words : ℕ) where
   unfolding bundleCode firstOf
   over-many w h = rw (w, lt-ltb maxBundle count h)
 
-  pub too-short : wellFormedMemory m ≡ true → count ≤ maxBundle → words < 4 * count → 22 ≡ bundleCode m count words
+  pub too-short : wellFormedMemory m ≡ true → count ≤ maxBundle → words < answerStride * count → 22 ≡ bundleCode m count words
   unfolding bundleCode firstOf
-  too-short w h k = rw (w, le-ltb maxBundle count h, lt-ltb words (4 * count) k)
+  too-short w h k = rw (w, le-ltb maxBundle count h, lt-ltb words (answerStride * count) k)
 
-  pub no-refusal : wellFormedMemory m ≡ true → count ≤ maxBundle → 4 * count ≤ words → 0 ≡ bundleCode m count words
+  pub no-refusal : wellFormedMemory m ≡ true → count ≤ maxBundle → answerStride * count ≤ words → 0 ≡ bundleCode m count words
   unfolding bundleCode firstOf
-  no-refusal w h k = rw (w, le-ltb maxBundle count h, le-ltb words (4 * count) k)
+  no-refusal w h k = rw (w, le-ltb maxBundle count h, le-ltb words (answerStride * count) k)
 
 -- what a bundle is that is not refused
 pub record Unrefused (m : Memory) (count words : ℕ) : Type 0 where
   pub formed : wellFormedMemory m ≡ true
   pub few : count ≤ maxBundle
-  pub room : 4 * count ≤ words
+  pub room : answerStride * count ≤ words
 
 pub not-refused : (m : Memory) (count words : ℕ) → bundleCode m count words ≡ 0 → Unrefused m count words
 unfolding bundleCode
 not-refused m count words e =
-    let told = failed ((21 when not (wellFormedMemory m)) ∷ (22 when (ltb maxBundle count || ltb words (4 * count))) ∷ []) (omega arith, (omega arith, tt)) e in
-    let fits = either-false (ltb maxBundle count) (ltb words (4 * count)) (told .1 .0) in
-    record { formed = not-false (wellFormedMemory m) (told .0); few = ltb-false maxBundle count (fits .0); room = ltb-false words (4 * count) (fits .1) }
+    let told = failed ((21 when not (wellFormedMemory m)) ∷ (22 when (ltb maxBundle count || ltb words (answerStride * count))) ∷ []) (omega arith, (omega arith, tt)) e in
+    let fits = either-false (ltb maxBundle count) (ltb words (answerStride * count)) (told .1 .0) in
+    record { formed = not-false (wellFormedMemory m) (told .0); few = ltb-false maxBundle count (fits .0); room = ltb-false words (answerStride * count) (fits .1) }
 
 -- ---- what a bundle leaves
 
@@ -84,7 +85,7 @@ module _ (m : Memory) (d : Declared (m .state)) (cs : List Command) (count : ℕ
       record { code = f ∙ sym e; memory = left; answers-are = rw all told; money = money-left m d done m′ left }
 
 -- the commands of a bundle's bytes are its whole records'
-pub whole-carried : (m : Memory) (d : Declared (m .state)) (bytes area : List ℕ) {count : ℕ} {b : Receipt} {m′ : Memory} {answers : List ℕ} → count ≡ length bytes / 24
+pub whole-carried : (m : Memory) (d : Declared (m .state)) (bytes area : List ℕ) {count : ℕ} {b : Receipt} {m′ : Memory} {answers : List ℕ} → count ≡ length bytes / commandWidth
     → bundleCode m count (length area) ≡ 0 → b .code ≡ 0 → m′ ≡ run m (firstCommands bytes count)
     → answers ≡ store answerWords area 0 (answersTo m (firstCommands bytes count)) → BundleIs m (wholeCommands bytes) count area b m′ answers
 whole-carried m d bytes area {count} {m′ = m′} {answers = answers} e code f ran told =
@@ -94,7 +95,7 @@ whole-carried m d bytes area {count} {m′ = m′} {answers = answers} e code f 
 -- ---- what a list with answers leaves
 
 pub list-answered : (m : Memory) (d : Declared (m .state)) (bytes area : List ℕ) {n : ℕ} {r : Ran} {m′ : Memory} {answers : List ℕ}
-    → n ≡ min (length bytes / 24) (length area / 4) → r .played ≡ n → m′ ≡ run m (firstCommands bytes n)
+    → n ≡ min (length bytes / commandWidth) (length area / answerStride) → r .played ≡ n → m′ ≡ run m (firstCommands bytes n)
     → answers ≡ store answerWords area 0 (answersTo m (firstCommands bytes n)) → AnsweredIs m bytes area r m′ answers
 unfolding playedOf
 list-answered m d bytes area {m′ = m′} {answers = answers} e f ran told =

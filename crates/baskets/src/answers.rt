@@ -11,14 +11,11 @@ use rules::Answer;
 use rules::Command;
 use rules::State;
 
-// How many words an answer takes.
-pub const ANSWER_STRIDE: usize = 4;
-
 pub fn put_answer(area: &mut [u32], k: usize, a: Answer)
     requires { ⌜ answerStride * k + answerStride ≤ length (now area) ⌝ }
     ensures { λ _. ⌜ now (area .exit) ≡ store answerWords (now (area .entry)) (answerStride * k) (a ∷ []) ⌝ }
 {
-    let at = ANSWER_STRIDE * k;
+    let at = rules::ANSWER_STRIDE * k;
     area[at] = a.code;
     area[at + 1] = a.number;
     area[at + 2] = a.traded;

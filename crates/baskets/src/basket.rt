@@ -10,7 +10,6 @@ ghost use Rattle.rules.specs.DayFile.{commandWidth};
 ghost use Rattle.rules.specs.Memory.{memory, wellFormedMemory};
 ghost use Rattle.exchange.specs.Run.{wholeCommands};
 ghost use Rattle.baskets.specs.Bundle.{BundleIs, answerWords, answersTo, bundleCode, maxBundle, answerStride};
-use crate::answers::ANSWER_STRIDE;
 use crate::answers::answer_command;
 use crate::list::answer_records;
 use rules::Command;
@@ -43,7 +42,7 @@ fn refusal(
     if count > MAX_BUNDLE {
         return 22;
     }
-    if words < ANSWER_STRIDE * count {
+    if words < rules::ANSWER_STRIDE * count {
         return 22;
     }
     0

@@ -9,7 +9,6 @@ ghost use Rattle.rules.specs.Memory.{memory, wellFormedMemory};
 ghost use Rattle.exchange.specs.Run.{firstCommands};
 ghost use Rattle.baskets.specs.Answered.{AnsweredIs};
 ghost use Rattle.baskets.specs.Bundle.{answerWords, answersTo, answerStride};
-use crate::answers::ANSWER_STRIDE;
 use crate::answers::answer_command;
 use rules::State;
 
@@ -68,7 +67,7 @@ pub fn run(
     let formed = audit::well_formed(state, &buys[..], &sells[..], &trades[..]);
     let count = fewer(
         bytes.len() / rules::COMMAND_WIDTH,
-        answers.len() / ANSWER_STRIDE,
+        answers.len() / rules::ANSWER_STRIDE,
     );
     let next = answer_records(formed, state, buys, sells, trades, bytes, count, answers);
     Ran {

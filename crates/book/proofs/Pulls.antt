@@ -22,7 +22,7 @@ use Rattle.rules.specs.Step.{without}
 use Rattle.rules.specs.declared.Order.{Order}
 use Rattle.rules.proofs.Codecs.{order-codec, length-queue, order-at}
 use Rattle.rules.proofs.Queue.{lots-nil, lots-met, lots-unmet, lots-append, without-nil, without-met, without-unmet, without-append}
-use Rattle.book.specs.Removal.{isPulled, PulledIs}
+use Rattle.book.specs.Removal.{isPulled, RemovedIs}
 use Rattle.book.proofs.Queues.{put-over}
 
 -- ---- the orders meant
@@ -145,7 +145,7 @@ module _ (test : Order → Bool) (start : List ℕ) (c n : ℕ) (room : firstWor
 
   -- all are read
   pub pull-end : (s e : ℕ) (part : List ℕ) → n ≤ i → s ≡ firstWord c kept → e ≡ firstWord c n → part ≡ replicate (length (take (e - s) (drop s area))) 0
-      → PulledIs test start c n (record { count = kept; lots = lots }) (putMid s (e - s) area part)
+      → RemovedIs test start c n kept lots (putMid s (e - s) area part)
   pull-end s e part all es ee ep =
       let read : take i (queueIn start c n) ≡ queueIn start c n = take-all i (queueIn start c n) (rw (length-queue start c n) all) in
       record { queue = cleared s e part es ee ep ∙ rw read; count = p .count ∙ rw read; lots = p .pulled ∙ rw read }

@@ -19,7 +19,7 @@ use Rattle.areas.proofs.Records.{insert-store, set-store}
 use Rattle.rules.specs.Change.{unmarked}
 use Rattle.rules.specs.Exchange.{noOrder}
 use Rattle.rules.specs.Matching.{restIn, withLots}
-use Rattle.rules.specs.Memory.{orderWords, orderFrom, queueIn, putQueue, orderStride, queueStride, firstWord}
+use Rattle.rules.specs.Memory.{orderWords, orderFrom, queueIn, putQueue, orderStride, queueStride, firstWord, lotsWord, quoteWord}
 use Rattle.book.specs.Places.{firstWhere, placeIn}
 use Rattle.rules.specs.declared.Order.{Order}
 use Rattle.rules.proofs.Codecs.{order-codec, length-queue, order-at}
@@ -98,28 +98,28 @@ put-full area c n q h =
     rw (e, append-nil)
 
 -- the fourth word of an order is its lots
-set-fourth : (area : List ℕ) (s lots : ℕ) → s + orderStride ≤ length area → set area (s + 3) lots ≡ over area s (orderWords (withLots (orderFrom (drop s area)) lots))
+set-fourth : (area : List ℕ) (s lots : ℕ) → s + orderStride ≤ length area → set area (s + lotsWord) lots ≡ over area s (orderWords (withLots (orderFrom (drop s area)) lots))
 unfolding over
 set-fourth area s lots h =
     let o : Order = orderFrom (drop s area) in
     let f : orderWords o ≡ take orderStride (drop s area) = order-codec .forth (drop s area) (rw length-drop (omega arith)) in
     let w : drop s area ≡ orderWords o ++ drop (s + orderStride) area = sym (take-append-drop orderStride (drop s area)) ∙ ap (λ (l : List ℕ). l ++ drop orderStride (drop s area)) (sym f) ∙ ap (λ (l : List ℕ). orderWords o ++ l) (drop-drop orderStride s area) in
-    let t : take s (set area (s + 3) lots) ≡ take s area = take-set-le s area (s + 3) lots (omega arith) in
-    let d : drop s (set area (s + 3) lots) ≡ orderWords (withLots o lots) ++ drop (s + orderStride) area = drop-set-add s area 3 lots ∙ ap (λ (l : List ℕ). set l 3 lots) w in
-    sym (take-append-drop s (set area (s + 3) lots)) ∙ rw (t, d)
+    let t : take s (set area (s + lotsWord) lots) ≡ take s area = take-set-le s area (s + lotsWord) lots (omega arith) in
+    let d : drop s (set area (s + lotsWord) lots) ≡ orderWords (withLots o lots) ++ drop (s + orderStride) area = drop-set-add s area lotsWord lots ∙ ap (λ (l : List ℕ). set l lotsWord lots) w in
+    sym (take-append-drop s (set area (s + lotsWord) lots)) ∙ rw (t, d)
 
 -- and the seventh its mark
 set-unmarked : (area : List ℕ) (s lots : ℕ) → s + orderStride ≤ length area
-    → set (set area (s + 3) lots) (s + 6) 0 ≡ over area s (orderWords (unmarked (withLots (orderFrom (drop s area)) lots)))
+    → set (set area (s + lotsWord) lots) (s + quoteWord) 0 ≡ over area s (orderWords (unmarked (withLots (orderFrom (drop s area)) lots)))
 unfolding over
 set-unmarked area s lots h =
     let o : Order = orderFrom (drop s area) in
     let f : orderWords o ≡ take orderStride (drop s area) = order-codec .forth (drop s area) (rw length-drop (omega arith)) in
     let w : drop s area ≡ orderWords o ++ drop (s + orderStride) area = sym (take-append-drop orderStride (drop s area)) ∙ ap (λ (l : List ℕ). l ++ drop orderStride (drop s area)) (sym f) ∙ ap (λ (l : List ℕ). orderWords o ++ l) (drop-drop orderStride s area) in
-    let t : take s (set (set area (s + 3) lots) (s + 6) 0) ≡ take s area = take-set-le s (set area (s + 3) lots) (s + 6) 0 (omega arith) ∙ take-set-le s area (s + 3) lots (omega arith) in
-    let d : drop s (set (set area (s + 3) lots) (s + 6) 0) ≡ orderWords (unmarked (withLots o lots)) ++ drop (s + orderStride) area =
-    drop-set-add s (set area (s + 3) lots) 6 0 ∙ ap (λ (l : List ℕ). set l 6 0) (drop-set-add s area 3 lots) ∙ ap (λ (l : List ℕ). set (set l 3 lots) 6 0) w in
-    sym (take-append-drop s (set (set area (s + 3) lots) (s + 6) 0)) ∙ rw (t, d)
+    let t : take s (set (set area (s + lotsWord) lots) (s + quoteWord) 0) ≡ take s area = take-set-le s (set area (s + lotsWord) lots) (s + quoteWord) 0 (omega arith) ∙ take-set-le s area (s + lotsWord) lots (omega arith) in
+    let d : drop s (set (set area (s + lotsWord) lots) (s + quoteWord) 0) ≡ orderWords (unmarked (withLots o lots)) ++ drop (s + orderStride) area =
+    drop-set-add s (set area (s + lotsWord) lots) quoteWord 0 ∙ ap (λ (l : List ℕ). set l quoteWord 0) (drop-set-add s area lotsWord lots) ∙ ap (λ (l : List ℕ). set (set l lotsWord lots) quoteWord 0) w in
+    sym (take-append-drop s (set (set area (s + lotsWord) lots) (s + quoteWord) 0)) ∙ rw (t, d)
 
 module _ (area : List ℕ) (c n : ℕ) where
   -- a place that was searched for is at most the number of orders
@@ -175,12 +175,12 @@ module _ (area : List ℕ) (c n : ℕ) where
 
   -- the lots of the order at place i written over
   pub changed-lots : (i lots : ℕ) → i < n → firstWord c n ≤ length area
-      → set area (firstWord c i + 3) lots ≡ putQueue area c n (set (queueIn area c n) i (withLots (getD (queueIn area c n) i noOrder) lots))
+      → set area (firstWord c i + lotsWord) lots ≡ putQueue area c n (set (queueIn area c n) i (withLots (getD (queueIn area c n) i noOrder) lots))
   changed-lots i lots h room = replaced-order (λ o. withLots o lots) i h room (set-fourth area (firstWord c i) lots (omega arith))
 
   -- and its mark
   pub unmarked-lots : (i lots : ℕ) → i < n → firstWord c n ≤ length area
-      → set (set area (firstWord c i + 3) lots) (firstWord c i + 6) 0 ≡ putQueue area c n (set (queueIn area c n) i (unmarked (withLots (getD (queueIn area c n) i noOrder) lots)))
+      → set (set area (firstWord c i + lotsWord) lots) (firstWord c i + quoteWord) 0 ≡ putQueue area c n (set (queueIn area c n) i (unmarked (withLots (getD (queueIn area c n) i noOrder) lots)))
   unmarked-lots i lots h room = replaced-order (λ o. unmarked (withLots o lots)) i h room (set-unmarked area (firstWord c i) lots (omega arith))
 
 -- the first order taken out

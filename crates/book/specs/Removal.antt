@@ -9,14 +9,14 @@ use Rattle.rules.specs.Memory.{queueIn, putQueue}
 use Rattle.rules.specs.Step.{without, isOf}
 use Rattle.rules.specs.WellFormed.{isQuoteOf}
 use Rattle.rules.specs.declared.Order.{Order}
-use Rattle.book.specs.declared.removal.Pulled.{Pulled}
 
 -- the orders of an account, or those of its quote alone
 abbrev pub isPulled : Bool → ℕ → Order → Bool
 isPulled true account = isQuoteOf account
 isPulled false account = isOf account
 
-pub record PulledIs (test : Order → Bool) (area : List ℕ) (c n : ℕ) (r : Pulled) (area′ : List ℕ) : Type 0 where
+-- contract c's queue of n orders without those that satisfy a test: the area, the orders that stay, the lots taken out
+pub record RemovedIs (test : Order → Bool) (area : List ℕ) (c n stay gone : ℕ) (area′ : List ℕ) : Type 0 where
   pub queue : area′ ≡ putQueue area c n (without test (queueIn area c n))
-  pub count : r .count ≡ length (without test (queueIn area c n))
-  pub lots : r .lots ≡ lotsWhere test (queueIn area c n)
+  pub count : stay ≡ length (without test (queueIn area c n))
+  pub lots : gone ≡ lotsWhere test (queueIn area c n)

@@ -12,6 +12,8 @@ ghost use Rattle.rules.specs.Matching as matching;
 ghost use Rattle.rules.specs.Memory.{queueIn, putQueue, orderFrom, orderWords, orderStride, firstWord, wordOf};
 ghost use Rattle.book.specs.Places.{placeIn};
 use rules::Order;
+use rules::sizes::LOTS_WORD;
+use rules::sizes::QUOTE_WORD;
 
 // The order at a place.
 pub fn order_at(area: &[u32], c: usize, i: usize) -> Order
@@ -148,7 +150,7 @@ pub fn set_lots(area: &mut [u32], c: usize, count: usize, i: usize, lots: u32)
     requires { ⌜ (i < count) × (firstWord c count ≤ length (now area)) ⌝ }
     ensures { λ _. ⌜ now (area .exit) ≡ putQueue (now (area .entry)) c count (set (queueIn (now (area .entry)) c count) i (matching.withLots (getD (queueIn (now (area .entry)) c count) i exchange.noOrder) lots)) ⌝ }
 {
-    let at = rules::QUEUE_STRIDE * c + rules::ORDER_STRIDE * i + 3;
+    let at = rules::QUEUE_STRIDE * c + rules::ORDER_STRIDE * i + LOTS_WORD;
     area[at] = lots;
 }
 
@@ -158,6 +160,6 @@ pub fn set_lots_unmarked(area: &mut [u32], c: usize, count: usize, i: usize, lot
     ensures { λ _. ⌜ now (area .exit) ≡ putQueue (now (area .entry)) c count (set (queueIn (now (area .entry)) c count) i (unmarked (matching.withLots (getD (queueIn (now (area .entry)) c count) i exchange.noOrder) lots))) ⌝ }
 {
     let at = rules::QUEUE_STRIDE * c + rules::ORDER_STRIDE * i;
-    area[at + 3] = lots;
-    area[at + 6] = 0;
+    area[at + LOTS_WORD] = lots;
+    area[at + QUOTE_WORD] = 0;
 }

@@ -5,7 +5,7 @@ ghost use lib.ListN.{length};
 ghost use Rattle.rules.specs.Bounds.{maxResting};
 ghost use Rattle.rules.specs.Memory.{queueIn, firstWord};
 ghost use Rattle.book.specs.Places.{indexOf};
-ghost use Rattle.book.specs.Removal.{isPulled, PulledIs};
+ghost use Rattle.book.specs.Removal.{isPulled, RemovedIs};
 use crate::queue;
 use rules::Order;
 
@@ -48,7 +48,7 @@ fn is_pulled(o: Order, account: u32, quote: bool) -> bool
 // to zero.
 pub fn pull(area: &mut [u32], c: usize, count: usize, account: u32, quote: bool) -> Pulled
     requires { ⌜ (count ≤ maxResting) × (firstWord c count ≤ length (now area)) ⌝ }
-    ensures { λ r. ⌜ PulledIs (isPulled quote account) (now (area .entry)) c count r (now (area .exit)) ⌝ }
+    ensures { λ r. ⌜ RemovedIs (isPulled quote account) (now (area .entry)) c count (r .count) (r .lots) (now (area .exit)) ⌝ }
 {
     let mut kept: usize = 0;
     let mut lots: u64 = 0;

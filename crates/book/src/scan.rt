@@ -2,7 +2,7 @@
 // crates: each asks for the room of the orders it names.
 ghost use mathlib.Core.List.{_∷_, []};
 ghost use mathlib.Core.Path.{_≡_};
-ghost use Prim.Native.Nat.{_+_, _≤_};
+ghost use Prim.Native.Nat.{_≤_};
 ghost use lib.ListN.{length};
 ghost use Rattle.rules.specs.Bounds.{maxResting};
 ghost use Rattle.book.specs.EarlyStop as early;

@@ -15,8 +15,8 @@ use Rattle.areas.proofs.Lists.{length-removeAt}
 use Rattle.rules.specs.Answers as rules
 use Rattle.rules.specs.Answers.{Refusal, cancelRefusals, dayLimitOrder, firstOf, listingOf, namedRefusals, noSuchOrder, notContinuous, numbered, ofAnother, ownerRefusals, pullRefusals, restingOrder}
 use Rattle.rules.specs.Bounds.{maxResting, numbersEnd, maxLots, maxContracts}
-use Rattle.rules.specs.Change.{Asked, arriving, asked, changeRefusals, changed, gone, isSell, lessened, listingFor, listingLessened, loses, losesPlace, newFieldsRefusals, oldOrder, placeKept, placeLost, reentered, reentryRefusals, unchanged}
-use Rattle.rules.specs.Exchange.{Exchange, noAccount, noContract, noOrder, own, placeOf}
+use Rattle.rules.specs.Change.{Asked, arriving, asked, changeRefusals, changed, gone, isSell, lessened, listingLessened, loses, losesPlace, newFieldsRefusals, oldOrder, placeKept, placeLost, reentered, reentryRefusals, unchanged}
+use Rattle.rules.specs.Exchange.{Exchange, listingNamed, noAccount, noContract, noOrder, own, placeOf}
 use Rattle.rules.specs.Kinds.{codeOf, decide, done, kindOf, lastOf, step}
 use Rattle.rules.specs.Matching.{Entered, tradedLots}
 use Rattle.rules.specs.Memory.{Declared, Memory, AfterCommand, WellFormedState, exchangeOf, firstWord, listingIn, memory, orderStride, put, putQueue, queueIn, stepIn, written}
@@ -39,7 +39,7 @@ use Rattle.invariants.proofs.ChangeKeeps.{change-counted, change-keeps}
 use Rattle.invariants.proofs.Clauses.{Counted, WellFormed, well-formed-test}
 use Rattle.invariants.proofs.MemoryKeeps.{sound, step-in-keeps, step-in-read}
 use Rattle.engine.specs.Outcome.{OutcomeIs, acceptedWith, refusedWith, withCountsIn}
-use Rattle.engine.specs.Removal.{RemovedIs}
+use Rattle.book.specs.Removal.{RemovedIs}
 use Rattle.engine.specs.declared.answers.Outcome.{Outcome}
 use Rattle.engine.proofs.Formed.{Formed, formed, listing-at}
 use Rattle.engine.proofs.Outcomes.{acceptance, refusal}
@@ -81,13 +81,13 @@ module _ {s : State} {buys sells trades : List ℕ} (w : WellFormedState s buys 
   -- ---- the list in its parts
 
   abbrev resting : List Order
-  resting = restingOrder (listingFor x k) number
+  resting = restingOrder (listingNamed x (k .contract)) number
 
   abbrev stated : List Refusal
   stated = namedRefusals x notContinuous account contract
 
   abbrev orderPart : List Refusal
-  orderPart = ownerRefusals (placeOf account) resting ++ newFieldsRefusals (listingFor x k .contract) lots price
+  orderPart = ownerRefusals (placeOf account) resting ++ newFieldsRefusals (listingNamed x (k .contract) .contract) lots price
 
   abbrev lostPart : List Refusal
   lostPart = pick (losesPlace x k) (reentryRefusals (gone x k) number (arriving x k)) []
@@ -106,7 +106,7 @@ module _ {s : State} {buys sells trades : List ℕ} (w : WellFormedState s buys 
   -- ---- in continuous, the account and the contract in use
 
   module _ (st : firstOf stated ≡ 0) where
-    listing-is : listingFor x k ≡ listingIn m c
+    listing-is : listingNamed x (k .contract) ≡ listingIn m c
     listing-is = listing-at m f c (contract-here w account contract (failed stated (omega arith) st))
 
     resting-is : resting ≡ numbered number (bought ++ sold)
@@ -120,18 +120,18 @@ module _ {s : State} {buys sells trades : List ℕ} (w : WellFormedState s buys 
       unfolding listingIn
       order-is = rw (resting-is, rs .order, listing-is) refl
 
-    module _ {place : ℕ} (is : place ≡ c) {bids offers : ℕ} (eb : bids ≡ getD (s .buycounts) place 0) (es : offers ≡ getD (s .sellcounts) place 0) {r : Resting}
-        (rs : RestingIs number (queueIn buys place bids) (queueIn sells place offers) r) {code : ℕ}
-        (ec : code ≡ firstOf (restingRefusals (getD (s .contracts) place noContract) (account - 1) r lots price)) where
+    module _ {place : ℕ} (is : place ≡ c) {buycount sellcount : ℕ} (eb : buycount ≡ getD (s .buycounts) place 0) (es : sellcount ≡ getD (s .sellcounts) place 0) {r : Resting}
+        (rs : RestingIs number (queueIn buys place buycount) (queueIn sells place sellcount) r) {owner : ℕ} (mine : owner ≡ placeOf account) {code : ℕ}
+        (ec : code ≡ firstOf (restingRefusals (getD (s .contracts) place noContract) owner r lots price)) where
       found-here : RestingIs number bought sold r
       found-here = rw (eb, es, is) at rs
 
       pub order-refused : (code ≡ 0 → ⊥) → {o : Outcome} → o ≡ refusedWith s code → OutcomeIs (stepIn m command) o buys sells trades
       order-refused h a =
-          refusal s buys sells trades command code (omega arith) (in-parts ∙ rw (st, order-first, order-is found-here, ← (rw is at ec), ne-eqb code 0 h)) a
+          refusal s buys sells trades command code (omega arith) (in-parts ∙ rw (st, order-first, order-is found-here, ← (rw (is, mine) at ec), ne-eqb code 0 h)) a
 
       pub changeable : code ≡ 0 → Changeable s buys sells trades account contract number lots price r
-      changeable e = record { state = st; resting = found-here; order = sym (rw is at ec) ∙ e }
+      changeable e = record { state = st; resting = found-here; order = sym (rw (is, mine) at ec) ∙ e }
 
   -- ---- none of these holds
 
@@ -353,7 +353,7 @@ module _ {s : State} {buys sells trades : List ℕ} (w : WellFormedState s buys 
         less-few : (side : Bool) → length (lessened number lots (queue side)) ≤ maxResting
         less-few side = omega (arith, less-length number lots (queue side), length-queue (area side) c (count side), few side)
 
-        less-lies : put m (withListing x c (listingLessened k (listingFor x k)))
+        less-lies : put m (withListing x c (listingLessened k (listingNamed x (k .contract))))
             ≡ memory s (pick (r .sell) buys (lessenedIn buys c (count (r .sell)) (r .place) lots)) (pick (r .sell) (lessenedIn sells c (count (r .sell)) (r .place) lots) sells) trades
         unfolding listingIn
         less-lies =
@@ -426,8 +426,8 @@ module _ {s : State} {buys sells trades : List ℕ} (w : WellFormedState s buys 
             (record {
               contracts = d .contracts;
               accounts = d .accounts;
-              buys = length-set (s .buycounts) c (length (left false)) ∙ d .buys;
-              sells = length-set (s .sellcounts) c (length (left true)) ∙ d .sells;
+              buycounts = length-set (s .buycounts) c (length (left false)) ∙ d .buycounts;
+              sellcounts = length-set (s .sellcounts) c (length (left true)) ∙ d .sellcounts;
               holdings = d .holdings;
             })
 
@@ -461,10 +461,10 @@ module _ {s : State} {buys sells trades : List ℕ} (w : WellFormedState s buys 
               kept-other side e = rw (without-none (hasNumber number) (queue (not side)) (other side e)) (put-queue (area (not side)) c (count (not side)) (room (not side)))
 
               counts-in : c < length (s .buycounts)
-              counts-in = omega (arith, w .declared .buys, contract-here w account contract named, f .contracts-high)
+              counts-in = omega (arith, w .declared .buycounts, contract-here w account contract named, f .contracts-high)
 
               counts-in-sells : c < length (s .sellcounts)
-              counts-in-sells = omega (arith, w .declared .sells, contract-here w account contract named, f .contracts-high)
+              counts-in-sells = omega (arith, w .declared .sellcounts, contract-here w account contract named, f .contracts-high)
 
               count-is : (side : Bool) → r .sell ≡ side → sideCount side (t .state) c ≡ count side - 1
               count-is true e = rw gone-state (getD-set-same (s .sellcounts) c (length (left true)) 0 counts-in-sells ∙ out-length true e)

@@ -29,52 +29,52 @@ use Rattle.changing.specs.Resting.{RestingIs, putBackIn}
 
 -- ---- the order found: bid and offer are the places that the two searches gave
 
-module _ (number : ℕ) (buys sells : List ℕ) (c bids offers : ℕ) where
+module _ (number : ℕ) (buys sells : List ℕ) (c buycount sellcount : ℕ) where
   abbrev bought : List Order
-  bought = queueIn buys c bids
+  bought = queueIn buys c buycount
 
   abbrev sold : List Order
-  sold = queueIn sells c offers
+  sold = queueIn sells c sellcount
 
   module _ {bid : ℕ} (eb : bid ≡ indexOf number bought) where
-    pub among-buys : {o : Order} → bid < bids → o ≡ orderFrom (drop (firstWord c bid) buys)
+    pub among-buys : {o : Order} → bid < buycount → o ≡ orderFrom (drop (firstWord c bid) buys)
         → RestingIs number bought sold (record { order = o; place = bid; found = true; sell = false })
     unfolding noSuchOrder
     among-buys {o} h eo =
-        let l : indexOf number bought < length bought = rw (← eb, length-queue buys c bids) h in
-        let is : getD bought (indexOf number bought) noOrder ≡ o = rw (← eb) (order-at buys c bids bid h ∙ sym eo) in
+        let l : indexOf number bought < length bought = rw (← eb, length-queue buys c buycount) h in
+        let is : getD bought (indexOf number bought) noOrder ≡ o = rw (← eb) (order-at buys c buycount bid h ∙ sym eo) in
         record {
           order = numbered-append-found number bought sold l ∙ ap (λ (p : Order). p ∷ []) is;
           sell = λ e. sym (rw (numbered-found number bought l));
           place = λ e. eb;
-          within = λ e. rw (length-queue buys c bids) h;
+          within = λ e. rw (length-queue buys c buycount) h;
         }
 
-    missing : bids ≤ bid → indexOf number bought ≡ length bought
-    missing h = omega (arith, eb, length-queue buys c bids, first-within (hasNumber number) bought)
+    missing : buycount ≤ bid → indexOf number bought ≡ length bought
+    missing h = omega (arith, eb, length-queue buys c buycount, first-within (hasNumber number) bought)
 
-    module _ (past : bids ≤ bid) {offer : ℕ} (es : offer ≡ indexOf number sold) where
-      pub among-sells : {o : Order} → offer < offers → o ≡ orderFrom (drop (firstWord c offer) sells)
+    module _ (past : buycount ≤ bid) {offer : ℕ} (es : offer ≡ indexOf number sold) where
+      pub among-sells : {o : Order} → offer < sellcount → o ≡ orderFrom (drop (firstWord c offer) sells)
           → RestingIs number bought sold (record { order = o; place = offer; found = true; sell = true })
       unfolding noSuchOrder
       among-sells {o} h eo =
-          let l : indexOf number sold < length sold = rw (← es, length-queue sells c offers) h in
-          let is : getD sold (indexOf number sold) noOrder ≡ o = rw (← es) (order-at sells c offers offer h ∙ sym eo) in
+          let l : indexOf number sold < length sold = rw (← es, length-queue sells c sellcount) h in
+          let is : getD sold (indexOf number sold) noOrder ≡ o = rw (← es) (order-at sells c sellcount offer h ∙ sym eo) in
           let its : numbered number (bought ++ sold) ≡ o ∷ [] =
           numbered-append-none number bought sold (missing past) ∙ numbered-found number sold l ∙ ap (λ (p : Order). p ∷ []) is in
           record {
             order = its;
             sell = λ e. sym (rw (numbered-none number bought (missing past)));
             place = λ e. es;
-            within = λ e. rw (length-queue sells c offers) h;
+            within = λ e. rw (length-queue sells c sellcount) h;
           }
 
-      pub nowhere : offers ≤ offer → (o : Order) (place : ℕ) (sell : Bool) → RestingIs number bought sold (record { order = o; place = place; found = false; sell = sell })
+      pub nowhere : sellcount ≤ offer → (o : Order) (place : ℕ) (sell : Bool) → RestingIs number bought sold (record { order = o; place = place; found = false; sell = sell })
       unfolding noSuchOrder
       nowhere h o place sell =
           let none : numbered number (bought ++ sold) ≡ [] =
           numbered-append-none number bought sold (missing past)
-          ∙ numbered-none number sold (omega (arith, es, length-queue sells c offers, first-within (hasNumber number) sold)) in
+          ∙ numbered-none number sold (omega (arith, es, length-queue sells c sellcount, first-within (hasNumber number) sold)) in
           record {
             order = none;
             sell = λ e. absurd (false≢true e);

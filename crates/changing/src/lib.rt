@@ -35,17 +35,17 @@ struct Resting {
 // "buys first"
 fn resting_order<'a>(
     buys: &'a [u32],
-    bids: usize,
+    buycount: usize,
     sells: &'a [u32],
-    offers: usize,
+    sellcount: usize,
     c: usize,
     number: u32,
 ) -> Resting
-    requires { ⌜ (firstWord c bids ≤ length (now buys)) × (firstWord c offers ≤ length (now sells)) ⌝ }
-    ensures { λ r. ⌜ RestingIs number (queueIn (now (buys .entry)) c bids) (queueIn (now (sells .entry)) c offers) r ⌝ }
+    requires { ⌜ (firstWord c buycount ≤ length (now buys)) × (firstWord c sellcount ≤ length (now sells)) ⌝ }
+    ensures { λ r. ⌜ RestingIs number (queueIn (now (buys .entry)) c buycount) (queueIn (now (sells .entry)) c sellcount) r ⌝ }
 {
-    let bid = book::removal::find(buys, c, bids, number);
-    if bid < bids {
+    let bid = book::removal::find(buys, c, buycount, number);
+    if bid < buycount {
         let order = queue::order_at(buys, c, bid);
         return Resting {
             order,
@@ -54,8 +54,8 @@ fn resting_order<'a>(
             sell: false,
         };
     }
-    let offer = book::removal::find(sells, c, offers, number);
-    if offer < offers {
+    let offer = book::removal::find(sells, c, sellcount, number);
+    if offer < sellcount {
         let order = queue::order_at(sells, c, offer);
         return Resting {
             order,
@@ -158,15 +158,15 @@ fn take_out(state: State, buys: &mut [u32], sells: &mut [u32], c: usize, r: Rest
     ensures { λ _. ⌜ now (buys .exit) ≡ pick (r .sell) (now (buys .entry)) (removedIn (now (buys .entry)) c (sideCount false state c) (r .place)) ⌝ }
     ensures { λ _. ⌜ now (sells .exit) ≡ pick (r .sell) (removedIn (now (sells .entry)) c (sideCount true state c) (r .place)) (now (sells .entry)) ⌝ }
 {
-    let bids = orders::side_count(false, state, c);
-    let offers = orders::side_count(true, state, c);
+    let buycount = orders::side_count(false, state, c);
+    let sellcount = orders::side_count(true, state, c);
     let place = r.place;
     if r.sell {
-        queue::remove(sells, c, offers, place);
-        return removal::with_counts(state, c, bids, offers - 1);
+        queue::remove(sells, c, sellcount, place);
+        return removal::with_counts(state, c, buycount, sellcount - 1);
     }
-    queue::remove(buys, c, bids, place);
-    removal::with_counts(state, c, bids - 1, offers)
+    queue::remove(buys, c, buycount, place);
+    removal::with_counts(state, c, buycount - 1, sellcount)
 }
 
 // The place lost: "tested as though the old order were gone, then matched at once". A refusal puts it back.
@@ -196,10 +196,10 @@ fn lose_place(
         put_back(buys, sells, c, count, r);
         return answers::refused(state, code);
     }
-    let arriving = insertion::arrival_of(gone, o, number, 0);
+    let arrival = insertion::arrival_of(gone, o, number, 0);
     let accounts = gone.accounts;
-    let e = insertion::enter(accounts, arriving, buys, sells, trades);
-    let after = insertion::with_entry(gone, arriving, e, gone.next);
+    let e = insertion::enter(accounts, arrival, buys, sells, trades);
+    let after = insertion::with_entry(gone, arrival, e, gone.next);
     answers::accepted(after, number, e.traded, e.rested)
 }
 
@@ -224,10 +224,10 @@ pub fn change(
     let c = laws::place_of(contract);
     let contracts = state.contracts;
     let terms = contracts[c];
-    let bids = orders::side_count(false, state, c);
-    let offers = orders::side_count(true, state, c);
-    let r = resting_order(&buys[..], bids, &sells[..], offers, c, number);
-    let code = resting_code(terms, account - 1, r, lots, price);
+    let buycount = orders::side_count(false, state, c);
+    let sellcount = orders::side_count(true, state, c);
+    let r = resting_order(&buys[..], buycount, &sells[..], sellcount, c, number);
+    let code = resting_code(terms, laws::place_word(account), r, lots, price);
     if code != 0 {
         return answers::refused(state, code);
     }

@@ -4,7 +4,7 @@
 use mathlib.Core.Bool.{Bool, true, false, not, _&&_, _||_, false≢true}
 use mathlib.Core.List.{List, [], _∷_, _++_, map}
 use mathlib.Core.Path.{_≡_, refl, sym, ap, ap₂, _∙_}
-use Prim.Native.Nat.{ℕ, zero, suc, _+_, _<_, _≤_}
+use Prim.Native.Nat.{ℕ, zero, suc, _<_, _≤_}
 use native.Mathlib.Omega.{arith}
 use borrow.Author.Tests.{eqb-true, ne-eqb}
 use lib.Dec.{eqb}
@@ -13,16 +13,17 @@ use lib.ListN.{length}
 use Rattle.laws.specs.Choice.{pick, both-true, all-at, allOf}
 use Rattle.laws.specs.Ring.{d-eq, ring, *ℤ-add}
 use Rattle.laws.specs.Sums.{sumTo, sumTo-add, sumTo-at, sumTo-ext, sumTo-mul, sumTo-zero}
+use Rattle.rules.specs.Bounds.{maxContracts}
 use Rattle.rules.specs.Exchange.{Exchange, Listing, holdingAt, listingAt}
 use Rattle.rules.specs.Settlement.{Leg, leg, only, legs, dayOf, holdingGain, settlementPrice, closingProfit, holdingProfit}
 use Rattle.rules.specs.WellFormed.{replays}
 use Rattle.rules.specs.declared.Holding.{Holding}
 use Rattle.rules.specs.declared.Trade.{Trade}
-use Rattle.accounting.specs.Article32.{flow, net}
+use Rattle.accounting.specs.DayLegs.{flow, net}
 use Rattle.accounting.proofs.DayProfit.{day-profit, flow-append, net-append}
 use Rattle.accounting.proofs.Replay.{day-covered, replay-covered}
 use Rattle.accounting.proofs.Trades.{boughtBy, soldBy, sumTo-sub}
-use Rattle.clients.specs.Clients.{Clients, isPosted, tradePosted, clientPlace, clientTrade, clientExchange, startsAddUp, startLong, startShort, neverClosesMore, total}
+use Rattle.clients.specs.Clients.{Clients, isPosted, tradePosted, clientPlace, clientTrade, clientExchange, startsAddUp, startLong, startShort, neverClosesMore, total, maxClients, others}
 use Rattle.clients.proofs.Posted.{posted-place, start-at, same-listing, same-price}
 
 -- ---- what adds up over legs adds up over the clients' legs
@@ -38,7 +39,7 @@ unfolding sumTo total
 total-pos zero f = refl
 total-pos (suc n) f = rw (total-pos n f) (simp ring (d-eq _ _ _ _ (omega arith)))
 
-module _ (F : List Leg → ℤ) (nil : F [] ≡ pos 0) (add : (ls ms : List Leg) → F (ls ++ ms) ≡ F ls +ℤ F ms) (n : ℕ) (few : n ≤ 16) where
+module _ (F : List Leg → ℤ) (nil : F [] ≡ pos 0) (add : (ls ms : List Leg) → F (ls ++ ms) ≡ F ls +ℤ F ms) (n : ℕ) (few : n ≤ maxClients) where
   at-one : (whose : Bool) (l : Leg) → F (only whose l) ≡ pick whose (F (l ∷ [])) (pos 0)
   unfolding only
   at-one true l = refl
@@ -49,7 +50,7 @@ module _ (F : List Leg → ℤ) (nil : F [] ≡ pos 0) (add : (ls ms : List Leg)
 
   -- one leg, whose client stands at `place` where it is the account's
   one-leg : (here whose : Bool) (place close p q : ℕ) (sell : Bool) → (whose ≡ true → place < n)
-      → sumTo n (λ k. F (only (here && eqb (pick whose place 16) k) (leg sell (not (eqb (pick whose close 0) 0)) p q)))
+      → sumTo n (λ k. F (only (here && eqb (pick whose place others) k) (leg sell (not (eqb (pick whose close 0) 0)) p q)))
       ≡ F (only (here && whose) (leg sell (not (eqb close 0)) p q))
   unfolding only
   one-leg false whose place close p q sell h = none
@@ -57,7 +58,7 @@ module _ (F : List Leg → ℤ) (nil : F [] ≡ pos 0) (add : (ls ms : List Leg)
       sumTo-ext n _ (λ k. pick (eqb place k) (F (leg sell (not (eqb close 0)) p q ∷ [])) (pos 0)) (λ k l. at-one (eqb place k) _)
       ∙ sumTo-at n place _ (h refl)
   one-leg true false place close p q sell h =
-      sumTo-ext n _ (λ k. F []) (λ k l. ap (λ (w : Bool). F (only w (leg sell false p q))) (ne-eqb 16 k (λ e. omega arith))) ∙ none
+      sumTo-ext n _ (λ k. F []) (λ k l. ap (λ (w : Bool). F (only w (leg sell false p q))) (ne-eqb others k (λ e. omega arith))) ∙ none
 
   module _ (a : ℕ) (b : Clients) (all : b .count ≡ n) (c : ℕ) where
     whose-place : (whose : Bool) (number : ℕ) → (not whose || isPosted (b .count) (b .postings) number) ≡ true → whose ≡ true → clientPlace (b .count) (b .postings) number < n
@@ -85,7 +86,7 @@ module _ (F : List Leg → ℤ) (nil : F [] ≡ pos 0) (add : (ls ms : List Leg)
 
 -- what has passed the refusals 25, 26 and 27
 pub record Granted (x : Exchange) (a : ℕ) (b : Clients) : Type 0 where
-  pub few : b .count ≤ 16
+  pub few : b .count ≤ maxClients
   pub adds : startsAddUp x a b ≡ true
   pub posted : allOf (tradePosted a (b .count) (b .postings)) (x .trades) ≡ true
   pub covered : neverClosesMore (clientExchange x a b) ≡ true
@@ -101,7 +102,7 @@ sum-money n s ref f d k =
     ∙ ap (λ (z : ℤ). sumTo n f +ℤ z) (sumTo-mul n (pos s) (λ i. d i +ℤ k i) ∙ ap (λ (z : ℤ). pos s *ℤ z) (sumTo-add n d k)))
     (sumTo-mul n (pos ref) d)
 
-module _ (x : Exchange) (r : replays x ≡ true) (contracts : length (x .listings) ≤ 4) (a : ℕ) (b : Clients) (g : Granted x a b) where
+module _ (x : Exchange) (r : replays x ≡ true) (contracts : length (x .listings) ≤ maxContracts) (a : ℕ) (b : Clients) (g : Granted x a b) where
   abbrev cx : Exchange
   cx = clientExchange x a b
 

@@ -11,13 +11,14 @@ use lib.ListN.{length, getD}
 use Rattle.laws.specs.Choice.{pick, both-true}
 use Rattle.laws.specs.Sums.{sumOf}
 use Rattle.laws.specs.Tabulate.{tabulate, getD-tabulate}
+use Rattle.rules.specs.Bounds.{maxContracts}
 use Rattle.rules.specs.Exchange.{Exchange, holdingAt, accountAt, noAccount, noHolding, listingAt}
 use Rattle.rules.specs.Matching.{tradedLots}
 use Rattle.rules.specs.Settlement.{tradesIn, tradedValue, weightedPrice, priceFrom, settlementPrice}
 use Rattle.rules.specs.declared.Order.{Order}
 use Rattle.rules.specs.declared.Trade.{Trade}
 use Rattle.rules.proofs.InUse.{used-holding}
-use Rattle.clients.specs.Clients.{Clients, isPosted, clientPlace, clientTrade, clientAccount, clientExchange, startHolding, posted}
+use Rattle.clients.specs.Clients.{Clients, isPosted, clientPlace, clientTrade, clientAccount, clientExchange, startHolding, posted, clientPlaces, maxClients}
 
 -- ---- postings
 
@@ -34,18 +35,18 @@ posted-place clients postings number e =
 -- ---- accounts
 
 module _ (b : Clients) where
-  pub client-holding : (k c : ℕ) → k < b .count → k < 17 → c < 4 → holdingAt (tabulate 17 (clientAccount b)) k c ≡ startHolding (b .starts) k c
+  pub client-holding : (k c : ℕ) → k < b .count → k < clientPlaces → c < maxContracts → holdingAt (tabulate clientPlaces (clientAccount b)) k c ≡ startHolding (b .starts) k c
   unfolding holdingAt accountAt clientAccount
   client-holding k c l few h =
-      rw (getD-tabulate 17 k (clientAccount b) noAccount few, lt-ltb k (b .count) l)
-      (getD-tabulate 4 c (startHolding (b .starts) k) noHolding h)
+      rw (getD-tabulate clientPlaces k (clientAccount b) noAccount few, lt-ltb k (b .count) l)
+      (getD-tabulate maxContracts c (startHolding (b .starts) k) noHolding h)
 
   module _ (x : Exchange) (a : ℕ) where
-    pub start-at : (k c : ℕ) → k < b .count → b .count ≤ 16 → c < length (x .listings) → length (x .listings) ≤ 4
+    pub start-at : (k c : ℕ) → k < b .count → b .count ≤ maxClients → c < length (x .listings) → length (x .listings) ≤ maxContracts
         → holdingAt (clientExchange x a b .accounts) k c ≡ startHolding (b .starts) k c
     unfolding clientExchange
     start-at k c l few h four′ =
-        used-holding (length (x .listings)) 17 (tabulate 17 (clientAccount b)) k c (omega arith) h
+        used-holding (length (x .listings)) clientPlaces (tabulate clientPlaces (clientAccount b)) k c (omega arith) h
         ∙ client-holding k c l (omega arith) (omega arith)
 
     pub same-listing : (c : ℕ) → listingAt (clientExchange x a b) c ≡ listingAt x c

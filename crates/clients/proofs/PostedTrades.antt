@@ -18,25 +18,25 @@ use Rattle.rules.proofs.Codecs.{trade-codec, length-trades, trades-none, trade-
 use Rattle.dayprofit.proofs.Trading.{more-trades}
 use Rattle.replaying.proofs.Trades.{next-trade}
 use Rattle.clients.specs.Parts.{before, clientTrades, PostingIs}
-use Rattle.clients.specs.Clients.{isPosted, clientPlace, clientTrade, tradePosted, isClient, legsIn, legCount, total}
+use Rattle.clients.specs.Clients.{isPosted, clientPlace, clientTrade, tradePosted, isClient, legsIn, legCount, total, maxClients, others}
 use Rattle.clients.specs.declared.posting.Posting.{Posting}
 use Rattle.clients.proofs.Posted.{posted-place}
 use Rattle.clients.proofs.Rows.{total-more, total-ext}
 
 -- ---- one trade
 
-module _ (a clients : ℕ) (postings : List ℕ) (few : clients ≤ 16) where
+module _ (a clients : ℕ) (postings : List ℕ) (few : clients ≤ maxClients) where
   -- a leg of the account has a client just where its order is posted
   leg-posted : (whose : Bool) (number : ℕ)
-      → (not whose || isClient (pick whose (clientPlace clients postings number) 16)) ≡ (not whose || isPosted clients postings number)
+      → (not whose || isClient (pick whose (clientPlace clients postings number) others)) ≡ (not whose || isPosted clients postings number)
   unfolding clientPlace
   leg-posted false number = refl
   leg-posted true number = by-posted (isPosted clients postings number) refl
     where
-      by-posted : (p : Bool) → isPosted clients postings number ≡ p → ltb (clientPlace clients postings number) 16 ≡ isPosted clients postings number
+      by-posted : (p : Bool) → isPosted clients postings number ≡ p → ltb (clientPlace clients postings number) maxClients ≡ isPosted clients postings number
       by-posted true e =
-          let l : clientPlace clients postings number < 16 = omega (arith, posted-place clients postings number e) in
-          lt-ltb (clientPlace clients postings number) 16 l ∙ sym e
+          let l : clientPlace clients postings number < maxClients = omega (arith, posted-place clients postings number e) in
+          lt-ltb (clientPlace clients postings number) maxClients l ∙ sym e
       by-posted false e = rw e
 
   pub trade-posted : (t u : Trade) → u ≡ clientTrade a clients postings t

@@ -9,7 +9,7 @@ use lib.Dec.{eqb, leb}
 use lib.ListN.{length, getD, length-append}
 use Rattle.laws.specs.Choice.{pick}
 use Rattle.rules.specs.declared.Trade.{Trade}
-use Rattle.clients.specs.Clients.{inRow, postedTo, posted, isPosted, clientPlace, clientTrade, isClient, legsIn}
+use Rattle.clients.specs.Clients.{inRow, postedTo, posted, isPosted, clientPlace, clientTrade, isClient, legsIn, others}
 use Rattle.clients.proofs.Rows.{row-more}
 
 module _ (postings : List ℕ) (number : ℕ) where
@@ -63,20 +63,20 @@ module _ (postings : List ℕ) (number : ℕ) where
     all-met : i ≡ length postings / 2
     all-met = omega (arith, m .within)
 
-    pub place-times : (times ≡ 1 → ⊥) → 16 ≡ clientPlace clients postings number
+    pub place-times : (times ≡ 1 → ⊥) → others ≡ clientPlace clients postings number
     unfolding clientPlace isPosted posted
     place-times h = rw (← all-met, ← m .count, ne-eqb times 1 h)
 
-    pub place-single : times ≡ 1 → clientPlace clients postings number ≡ pick (leb 1 client && leb client clients) (client - 1) 16
+    pub place-single : times ≡ 1 → clientPlace clients postings number ≡ pick (leb 1 client && leb client clients) (client - 1) others
     unfolding clientPlace isPosted posted
     place-single h = rw (← all-met, m .one h)
 
     module _ (h : times ≡ 1) where
-      pub place-zero : client < 1 → 16 ≡ clientPlace clients postings number
+      pub place-zero : client < 1 → others ≡ clientPlace clients postings number
       place-zero z = sym (place-single h ∙ rw (lt-leb 1 client z))
 
       module _ (some : 1 ≤ client) where
-        pub place-past : clients < client → 16 ≡ clientPlace clients postings number
+        pub place-past : clients < client → others ≡ clientPlace clients postings number
         place-past z = sym (place-single h ∙ rw (le-leb 1 client some, lt-leb client clients z))
 
         pub place-known : client ≤ clients → client - 1 ≡ clientPlace clients postings number
@@ -89,8 +89,8 @@ unfolding legsIn
 legs-counted t buys sells e f = rw (e, f)
 
 pub as-clients : (t : Trade) (a clients : ℕ) (postings : List ℕ) (buyer seller buyclose sellclose : ℕ)
-    → buyer ≡ pick (eqb (t .buyer) a) (clientPlace clients postings (t .buyorder)) 16
-    → seller ≡ pick (eqb (t .seller) a) (clientPlace clients postings (t .sellorder)) 16
+    → buyer ≡ pick (eqb (t .buyer) a) (clientPlace clients postings (t .buyorder)) others
+    → seller ≡ pick (eqb (t .seller) a) (clientPlace clients postings (t .sellorder)) others
     → buyclose ≡ pick (eqb (t .buyer) a) (t .buyclose) 0
     → sellclose ≡ pick (eqb (t .seller) a) (t .sellclose) 0
     → record {

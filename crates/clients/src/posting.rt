@@ -50,7 +50,7 @@ fn client_place(postings: &[u32], number: u32, clients: u32) -> u32
     if clients < client {
         return OTHERS;
     }
-    client - 1
+    laws::place_word(client)
 }
 
 // The place of a leg: its client's, or the others'.

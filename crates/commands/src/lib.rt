@@ -176,7 +176,7 @@ fn phase_of(r: Record) -> Command
         return Command::Malformed;
     }
     let phase = r.flags as u32;
-    if rules::AUCTION < phase {
+    if rules::MAX_PHASE < phase {
         return Command::Malformed;
     }
     Command::Phase {

@@ -1,4 +1,5 @@
 -- The laws that the proofs of this crate apply. Assumes nothing.
+pub mod Counts
 pub mod Filled
 pub mod Places
 pub mod Start

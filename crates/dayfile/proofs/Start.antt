@@ -1,21 +1,20 @@
 -- The opening state in memory is the opening exchange, whatever stands in the areas lent with it: none of their places is in
 -- use. Assumes nothing.
 use mathlib.Core.Bool.{true}
-use mathlib.Core.List.{List, [], _∷_, map}
+use mathlib.Core.List.{List, _∷_, map}
 use mathlib.Core.Path.{_≡_, refl, ap, _∙_}
 use Prim.Native.Nat.{ℕ, zero, suc, _≤_, _<_}
 use native.Mathlib.Nat.{le-of-suc-le-suc, not-suc-le-zero}
 use native.Mathlib.Omega.{arith}
 use lib.ListN.{getD, take, replicate, getD-replicate}
 use Rattle.areas.specs.Lists.{padded}
-use Rattle.areas.specs.Records.{decode, records}
 use Rattle.areas.proofs.Lists.{getD-padded, take-padded}
 use Rattle.laws.specs.Tabulate.{tabulate, length-tabulate, getD-tabulate, tabulate-below, map-tabulate}
 use Rattle.rules.specs.DayFile.{contractsIn, accountsIn, openingListing, openingAccount, opening, sound}
 use Rattle.rules.specs.Exchange.{noContract, noHolding}
-use Rattle.rules.specs.Memory.{Memory, queueIn, listingIn, inUse, exchangeOf}
-use Rattle.rules.proofs.Codecs.{trades-none}
-use Rattle.dayfile.specs.Opening.{accountWith, openingContract, openingHolder, openingContracts, openingAccounts, openingState}
+use Rattle.rules.specs.Memory.{Memory, listingIn, inUse, exchangeOf}
+use Rattle.rules.proofs.Codecs.{queue-none, trades-none}
+use Rattle.dayfile.specs.Opening.{accountWith, openingContract, openingHolder, openingContracts, openingAccounts, openingState, openingMemory}
 use Rattle.dayfile.proofs.Places.{sound-layout}
 
 take-replicate : {A : Type 0} (k n : ℕ) (z : A) → k ≤ n → take k (replicate n z) ≡ replicate k z
@@ -23,16 +22,7 @@ take-replicate zero n z h = refl
 take-replicate (suc k) zero z h = absurd (not-suc-le-zero h)
 take-replicate {A} (suc k) (suc n) z h = ap (λ (l : List A). z ∷ l) (take-replicate k n z (le-of-suc-le-suc h))
 
--- ---- no order and no trade is in use
-
-no-orders : (area : List ℕ) (c n : ℕ) → n ≡ 0 → queueIn area c n ≡ []
-unfolding queueIn records decode
-no-orders area c n e = rw e
-
 -- ---- the opening state
-
-abbrev pub openingMemory : List ℕ → List ℕ → List ℕ → List ℕ → Memory
-openingMemory file buys sells trades = record { state = openingState file; buys = buys; sells = sells; trades = trades }
 
 module _ (file buys sells trades : List ℕ) (h : sound file ≡ true) where
   abbrev m : Memory
@@ -51,8 +41,8 @@ module _ (file buys sells trades : List ℕ) (h : sound file ≡ true) where
       let e : _≡_ {A = ℕ} (getD (replicate 4 0) c 0) 0 = getD-replicate 4 c 0 0 (omega arith) in
       rw (
         at-contract c l,
-        no-orders buys c (getD (replicate 4 0) c 0) e,
-        no-orders sells c (getD (replicate 4 0) c 0) e,
+        queue-none buys c (getD (replicate 4 0) c 0) e,
+        queue-none sells c (getD (replicate 4 0) c 0) e,
       )
 
   at-account : (a : ℕ) → a < accountsIn file → inUse (contractsIn file) (openingHolder file a) ≡ openingAccount file a

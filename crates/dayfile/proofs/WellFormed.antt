@@ -9,17 +9,17 @@ use lib.Dec.{leb}
 use lib.ListN.{length, getD, replicate, getD-replicate}
 use borrow.Author.Tests.{le-leb}
 use Rattle.laws.specs.Choice.{all, all-true}
-use Rattle.rules.specs.Bounds.{maxResting, maxContracts, maxTrades}
+use Rattle.rules.specs.Bounds.{maxResting, maxContracts}
 use Rattle.rules.specs.DayFile.{contractsIn, accountsIn, opening, sound}
-use Rattle.rules.specs.Memory.{countsInRange, hasRoom, wellFormedMemory, queueStride, tradeStride}
+use Rattle.rules.specs.Memory.{countsInRange, hasRoom, wellFormedMemory, queueStride, tradesWords}
 use Rattle.rules.specs.WellFormed.{wellFormedContents}
-use Rattle.dayfile.specs.Opening.{openingState}
+use Rattle.dayfile.specs.Opening.{openingState, openingMemory}
 use Rattle.dayfile.proofs.Places.{sound-layout}
-use Rattle.dayfile.proofs.Start.{openingMemory, opening-exchange}
+use Rattle.dayfile.proofs.Start.{opening-exchange}
 
 -- queue areas with room for four contracts, a trade area with room for a day's trades
 module _ (file buys sells trades : List ℕ) (h : sound file ≡ true) (room-buys : queueStride * maxContracts ≤ length buys)
-    (room-sells : queueStride * maxContracts ≤ length sells) (room-trades : tradeStride * maxTrades ≤ length trades) where
+    (room-sells : queueStride * maxContracts ≤ length sells) (room-trades : tradesWords ≤ length trades) where
   no-orders : all (λ c. leb (getD (replicate 4 0) c 0) maxResting) (contractsIn file) ≡ true
   no-orders =
       all-true (λ c. leb (getD (replicate 4 0) c 0) maxResting) (contractsIn file)
@@ -46,7 +46,7 @@ module _ (file buys sells trades : List ℕ) (h : sound file ≡ true) (room-buy
       let s = sound-layout file h in
       let b = le-leb (queueStride * contractsIn file) (length buys) (omega arith) in
       let e = le-leb (queueStride * contractsIn file) (length sells) (omega arith) in
-      rw (b, e) (le-leb (tradeStride * maxTrades) (length trades) room-trades)
+      rw (b, e) (le-leb tradesWords (length trades) room-trades)
 
   pub opening-memory-well-formed : wellFormedContents (opening file) ≡ true
       → wellFormedMemory (openingMemory file buys sells trades) ≡ true

@@ -8,6 +8,7 @@ use Rattle.laws.specs.Tabulate.{tabulate}
 use Rattle.rules.specs.Bounds.{maxContracts, maxAccounts}
 use Rattle.rules.specs.DayFile.{contractsIn, accountsIn, contractPlace, contractFrom, balanceFrom, makerFrom}
 use Rattle.rules.specs.Exchange.{noContract, noHolding}
+use Rattle.rules.specs.Memory.{Memory, memory}
 use Rattle.rules.specs.declared.Account.{Account}
 use Rattle.rules.specs.declared.Contract.{Contract}
 use Rattle.rules.specs.declared.State.{State}
@@ -44,3 +45,7 @@ openingState file =
       nextstamp = 1;
       settlements = 0;
     }
+
+-- the memory that a run begins with: the opening state, and areas in which whatever stands plays no part
+abbrev pub openingMemory : List ℕ → List ℕ → List ℕ → List ℕ → Memory
+openingMemory file buys sells trades = memory (openingState file) buys sells trades

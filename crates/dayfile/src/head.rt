@@ -7,7 +7,7 @@ ghost use lib.ListN.{length};
 ghost use Rattle.laws.specs.Choice.{all};
 ghost use Rattle.rules.specs.Bounds.{maxContracts, maxAccounts};
 ghost use Rattle.rules.specs.DayFile.{contractsIn, accountsIn, commandsIn, contractPlace, accountPlace, commandPlace, contractSound, accountSound, countWidth, contractWidth, accountWidth};
-ghost use Rattle.dayfile.specs.FileHead.{headWhole, headSound};
+ghost use Rattle.dayfile.specs.FileHead.{countBefore, headWhole, headSound};
 use super::bytes::balance_at;
 use super::bytes::contract_at;
 use endian::reading::u32_at;
@@ -70,27 +70,32 @@ pub fn accounts_sound(file: &[u8], start: usize, accounts: usize) -> bool
     true
 }
 
+// The count that ends at a place, of any bytes: 0 where the file ends before, or the count is above the most. For the crates of this
+// repository: a saved state's counts are read by it too. Requires a place behind four bytes.
+pub fn count_before(file: &[u8], end: usize, most: usize) -> usize
+    requires { ⌜ countWidth ≤ end ⌝ }
+    ensures { λ r. ⌜ (r ≡ countBefore (now (file .entry)) end most) × (r ≤ most) ⌝ }
+{
+    if file.len() < end {
+        return 0;
+    }
+    let count = u32_at(file, end - rules::COUNT_WIDTH) as usize;
+    if most < count {
+        return 0;
+    }
+    count
+}
+
 fn head_whole(file: &[u8]) -> bool
     ensures { λ r. ⌜ r ≡ headWhole (now (file .entry)) ⌝ }
 {
-    if file.len() < rules::COUNT_WIDTH {
+    let contracts = count_before(file, rules::COUNT_WIDTH, rules::MAX_CONTRACTS);
+    if contracts == 0 {
         return false;
     }
-    let contracts = contract_count(file);
-    if contracts < 1 {
-        return false;
-    }
-    if rules::MAX_CONTRACTS < contracts {
-        return false;
-    }
-    if file.len() < TWO_COUNTS + rules::CONTRACT_WIDTH * contracts {
-        return false;
-    }
-    let accounts = account_count(file, contracts);
-    if accounts < 1 {
-        return false;
-    }
-    if rules::MAX_ACCOUNTS < accounts {
+    let end = TWO_COUNTS + rules::CONTRACT_WIDTH * contracts;
+    let accounts = count_before(file, end, rules::MAX_ACCOUNTS);
+    if accounts == 0 {
         return false;
     }
     THREE_COUNTS + rules::CONTRACT_WIDTH * contracts + rules::ACCOUNT_WIDTH * accounts <= file.len()

@@ -80,21 +80,21 @@ pub fn opening_state(file: &[u8]) -> State
     requires { ⌜ sound (now file) ≡ true ⌝ }
     ensures { λ r. ⌜ r ≡ openingState (now (file .entry)) ⌝ }
 {
-    let contracts = contract_count(file);
-    let accounts = account_count(file, contracts);
-    let terms = opening_contracts(file, contracts);
-    let holders = opening_accounts(
+    let contractcount = contract_count(file);
+    let accountcount = account_count(file, contractcount);
+    let contracts = opening_contracts(file, contractcount);
+    let accounts = opening_accounts(
         file,
-        TWO_COUNTS + rules::CONTRACT_WIDTH * contracts,
-        accounts,
+        TWO_COUNTS + rules::CONTRACT_WIDTH * contractcount,
+        accountcount,
     );
     State {
-        contracts: terms,
-        accounts: holders,
+        contracts,
+        accounts,
         buycounts: [0; rules::MAX_CONTRACTS],
         sellcounts: [0; rules::MAX_CONTRACTS],
-        contractcount: contracts,
-        accountcount: accounts,
+        contractcount,
+        accountcount,
         tradecount: 0,
         next: 1,
         nextstamp: 1,

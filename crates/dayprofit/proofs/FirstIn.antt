@@ -9,34 +9,34 @@ use native.Mathlib.Omega.{arith}
 use lib.IntN.{ℤ, pos, _+ℤ_, _-ℤ_, _*ℤ_}
 use Rattle.laws.specs.Ring.{d-eq, ring}
 use Rattle.laws.specs.Sums.{sumOf, sumOf-append}
+use Rattle.rules.specs.Article32.{lotsIn}
 use Rattle.rules.specs.Settlement.{Leg, leg, Batch, Day, dayStart, gain, firstLots, otherLots, opened, afterDayLeg, afterLegs, holdingGain}
-use Rattle.accounting.specs.Article32.{lotsOf, Covered, AllCovered}
+use Rattle.accounting.specs.DayLegs.{Covered, AllCovered}
 use Rattle.accounting.proofs.DayProfit.{lots-first, lots-other}
 use Rattle.dayprofit.specs.Sides.{lotsIf, valueIf, batchIf, batchesOf, closedLots, closedValue, openedToday, cost, everOpen, closingFrom, holdingFrom}
 use Rattle.dayprofit.specs.declared.profit.Side.{Side}
 
 -- ---- batches without their first lots, and those lots
 
-pub lots-append : (bs cs : List Batch) → lotsOf (bs ++ cs) ≡ lotsOf bs + lotsOf cs
-unfolding lotsOf
+pub lots-append : (bs cs : List Batch) → lotsIn (bs ++ cs) ≡ lotsIn bs + lotsIn cs
 lots-append bs cs = sumOf-append (λ b. b .lots) bs cs
 
 pub cost-append : (bs cs : List Batch) → cost (bs ++ cs) ≡ cost bs + cost cs
 unfolding cost
 cost-append bs cs = sumOf-append (λ b. b .price * b .lots) bs cs
 
-pub first-append : (n : ℕ) (bs cs : List Batch) → firstLots n (bs ++ cs) ≡ firstLots n bs ++ firstLots (n - lotsOf bs) cs
-unfolding firstLots lotsOf sumOf
+pub first-append : (n : ℕ) (bs cs : List Batch) → firstLots n (bs ++ cs) ≡ firstLots n bs ++ firstLots (n - lotsIn bs) cs
+unfolding firstLots sumOf
 first-append n [] cs = let e : n - 0 ≡ n = omega arith in rw e
 first-append n (b ∷ bs) cs =
-    let e : n - b .lots - lotsOf bs ≡ n - (b .lots + lotsOf bs) = omega arith in
+    let e : n - b .lots - lotsIn bs ≡ n - (b .lots + lotsIn bs) = omega arith in
     rw (first-append (n - b .lots) bs cs, e)
 
-pub other-append : (n : ℕ) (bs cs : List Batch) → otherLots n (bs ++ cs) ≡ otherLots n bs ++ otherLots (n - lotsOf bs) cs
-unfolding otherLots lotsOf sumOf
+pub other-append : (n : ℕ) (bs cs : List Batch) → otherLots n (bs ++ cs) ≡ otherLots n bs ++ otherLots (n - lotsIn bs) cs
+unfolding otherLots sumOf
 other-append n [] cs = let e : n - 0 ≡ n = omega arith in rw e
 other-append n (b ∷ bs) cs =
-    let e : n - b .lots - lotsOf bs ≡ n - (b .lots + lotsOf bs) = omega arith in
+    let e : n - b .lots - lotsIn bs ≡ n - (b .lots + lotsIn bs) = omega arith in
     rw (other-append (n - b .lots) bs cs, e)
 
 pub other-none : (bs : List Batch) → otherLots 0 bs ≡ bs
@@ -90,8 +90,8 @@ first-other n (b ∷ bs) = omega (arith, first-other (n - b .lots) bs, all-cost 
         sym (mul-add p (min m k) (k - m)) ∙ ap (λ (j : ℕ). p * j) e
 
 -- an open adds a batch behind those that closes take from
-module _ (n : ℕ) (bs cs : List Batch) (few : n ≤ lotsOf bs) where
-  none-left : n - lotsOf bs ≡ 0
+module _ (n : ℕ) (bs cs : List Batch) (few : n ≤ lotsIn bs) where
+  none-left : n - lotsIn bs ≡ 0
   none-left = omega arith
 
   pub other-behind : otherLots n (bs ++ cs) ≡ otherLots n bs ++ cs
@@ -106,19 +106,19 @@ module _ (n : ℕ) (bs cs : List Batch) (few : n ≤ lotsOf bs) where
 gain-one : (p q k L C : ℕ) (G : ℤ) → G ≡ pos (p * L) -ℤ pos C → (pos p -ℤ pos q) *ℤ pos k +ℤ G ≡ pos (p * (k + L)) -ℤ pos (q * k + C)
 gain-one p q k L C G e = rw e (simp ring (d-eq _ _ _ _ (omega arith)))
 
-pub gain-cost : (p : ℕ) (bs : List Batch) → gain p bs ≡ pos (p * lotsOf bs) -ℤ pos (cost bs)
-unfolding gain lotsOf cost sumOf
+pub gain-cost : (p : ℕ) (bs : List Batch) → gain p bs ≡ pos (p * lotsIn bs) -ℤ pos (cost bs)
+unfolding gain cost sumOf
 gain-cost p [] = let e : p * 0 ≡ 0 = omega arith in rw e
-gain-cost p (b ∷ bs) = gain-one p (b .price) (b .lots) (lotsOf bs) (cost bs) (gain p bs) (gain-cost p bs)
+gain-cost p (b ∷ bs) = gain-one p (b .price) (b .lots) (lotsIn bs) (cost bs) (gain p bs) (gain-cost p bs)
 
-pub gain-first : (p n : ℕ) (bs : List Batch) → n ≤ lotsOf bs → gain p (firstLots n bs) ≡ pos (p * n) -ℤ pos (cost (firstLots n bs))
+pub gain-first : (p n : ℕ) (bs : List Batch) → n ≤ lotsIn bs → gain p (firstLots n bs) ≡ pos (p * n) -ℤ pos (cost (firstLots n bs))
 gain-first p n bs few = rw (gain-cost p (firstLots n bs), lots-first n bs few)
 
 -- ---- one side: its open batches are those ever open without the first lots, as many as were closed
 
 pub record OneSide (bs : List Batch) (closed : ℕ) (ever : List Batch) : Type 0 where
   pub left : bs ≡ otherLots closed ever
-  pub few : closed ≤ lotsOf ever
+  pub few : closed ≤ lotsIn ever
 
 module _ {bs : List Batch} {n : ℕ} {ever : List Batch} (w : OneSide bs n ever) where
   side-opened : (b : Batch) → OneSide (bs ++ (b ∷ [])) (n + 0) (ever ++ (b ∷ []))
@@ -128,15 +128,15 @@ module _ {bs : List Batch} {n : ℕ} {ever : List Batch} (w : OneSide bs n ever)
         few = omega (arith, lots-append ever (b ∷ []), w .few);
       }
 
-  side-closed : (k : ℕ) → k ≤ lotsOf bs → OneSide (otherLots k bs) (n + k) (ever ++ [])
+  side-closed : (k : ℕ) → k ≤ lotsIn bs → OneSide (otherLots k bs) (n + k) (ever ++ [])
   side-closed k h =
       record {
         left = rw (append-nil ever, w .left) (other-other n k ever);
         few = rw (append-nil ever) (omega (arith, w .few, left-lots));
       }
     where
-      left-lots : lotsOf bs ≡ lotsOf ever - n
-      left-lots = ap lotsOf (w .left) ∙ lots-other n ever
+      left-lots : lotsIn bs ≡ lotsIn ever - n
+      left-lots = ap lotsIn (w .left) ∙ lots-other n ever
 
   side-kept : OneSide bs (n + 0) (ever ++ [])
   side-kept = record { left = rw (add-zero n, append-nil ever) (w .left); few = rw (add-zero n, append-nil ever) (w .few) }
@@ -228,7 +228,7 @@ regroup a b c e = simp ring (d-eq _ _ _ _ (omega arith))
 pub record SideIs (reference start : ℕ) (short : Bool) (ls : List Leg) (r : Side) : Type 0 where
   pub closes : r .closes ≡ closedValue short ls
   pub closed : r .closed ≡ cost (firstLots (closedLots short ls) (everOpen reference start short ls))
-  pub lots : r .lots ≡ lotsOf (otherLots (closedLots short ls) (everOpen reference start short ls))
+  pub lots : r .lots ≡ lotsIn (otherLots (closedLots short ls) (everOpen reference start short ls))
   pub opened : r .opened ≡ cost (otherLots (closedLots short ls) (everOpen reference start short ls))
 
 module _ (reference long short : ℕ) (ls : List Leg) (h : AllCovered (dayStart reference long short) ls) where

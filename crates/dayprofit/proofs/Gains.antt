@@ -12,11 +12,11 @@ use mir.Syntax.{w64}
 use mir.Val.{Fits, SFits, toZ, ofZ}
 use Rattle.laws.specs.Bound.{within-diff}
 use Rattle.laws.specs.Sums.{sumOf}
+use Rattle.rules.specs.Article32.{lotsIn}
 use Rattle.rules.specs.Memory.{recordedTrades}
 use Rattle.rules.specs.Settlement.{Leg, Batch, legs, firstLots, otherLots, holdingGain}
 use Rattle.rules.specs.declared.Holding.{Holding}
 use Rattle.rules.specs.declared.Trade.{Trade}
-use Rattle.accounting.specs.Article32.{lotsOf}
 use Rattle.accounting.proofs.DayProfit.{lots-other}
 use Rattle.dayprofit.specs.Sides.{closedLots, closedValue, openedToday, everOpen, cost, dayOver, Profitable, sideFrom, closingFrom, holdingFrom, SumsSmall, SideSmall, ProfitFrom}
 use Rattle.dayprofit.specs.Slots.{slotOf, SumsAre, UsedAre, Rooms, sumsAt, DaySmall}
@@ -32,7 +32,7 @@ use Rattle.dayprofit.proofs.Passes.{lots-reach, value-reach}
 pub record SideSummed (start : ℕ) (short : Bool) (ls : List Leg) (s : Sums) : Type 0 where
   pub closed : s .closed ≡ closedLots short ls
   pub closes : s .closes ≡ closedValue short ls
-  pub opened : s .opened ≡ lotsOf (openedToday short ls)
+  pub opened : s .opened ≡ lotsIn (openedToday short ls)
   pub opens : s .opens ≡ cost (openedToday short ls)
   pub used : s .used ≡ cost (firstLots (closedLots short ls - start) (openedToday short ls))
 
@@ -40,8 +40,8 @@ module _ (reference start closed : ℕ) (bs : List Batch) where
   abbrev startAnd : List Batch
   startAnd = record { price = reference; lots = start } ∷ bs
 
-  start-lots : lotsOf startAnd ≡ start + lotsOf bs
-  unfolding lotsOf sumOf
+  start-lots : lotsIn startAnd ≡ start + lotsIn bs
+  unfolding sumOf
   start-lots = refl
 
   start-cost : cost startAnd ≡ reference * start + cost bs
@@ -59,7 +59,7 @@ module _ (reference start : ℕ) (short : Bool) (ls : List Leg) (s : Sums) (q : 
   side-closed : reference * min (s .closed) start + s .used ≡ cost (firstLots (closedLots short ls) ever)
   side-closed = rw (q .closed, q .used) (sym (start-taken reference start (closedLots short ls) (openedToday short ls)))
 
-  side-lots : start + s .opened - s .closed ≡ lotsOf (otherLots (closedLots short ls) ever)
+  side-lots : start + s .opened - s .closed ≡ lotsIn (otherLots (closedLots short ls) ever)
   side-lots =
       rw (lots-other (closedLots short ls) ever, start-lots reference start (closedLots short ls) (openedToday short ls), q .opened, q .closed)
 
@@ -192,7 +192,7 @@ module _ (area : List ℕ) (count : ℕ) (closed closes opened opens left used :
       }
 
   module _ (ref : ℕ) (h : Holding) (p : ℕ) (g : Profitable ref h a c area count p) (dl : Due closed left a c false (h .startlong)) (ds : Due closed left a c true (h .startshort)) where
-    in-reach : (short : Bool) (start : ℕ) → start ≤ 100_000 → closedLots short ls ≤ lotsOf (everOpen ref start short ls) → Due closed left a c short start
+    in-reach : (short : Bool) (start : ℕ) → start ≤ 100_000 → closedLots short ls ≤ lotsIn (everOpen ref start short ls) → Due closed left a c short start
         → SumsSmall ref start (sumsAt closed closes opened opens used a c short)
     in-reach short start few covered d =
         let w = side-summed short start d in

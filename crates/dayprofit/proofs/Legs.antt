@@ -13,12 +13,14 @@ use mir.Syntax.{w32, w64}
 use mir.Val.{Fits}
 use Rattle.laws.specs.Choice.{pick, pick-same}
 use Rattle.laws.specs.Sums.{sumOf, sumOf-append}
+use Rattle.rules.specs.Article32.{lotsIn}
 use Rattle.rules.specs.Settlement.{Leg, leg, only, legs, buyLeg, sellLeg}
+use Rattle.rules.specs.Bounds.{maxLots, maxPrice}
 use Rattle.rules.specs.declared.Trade.{Trade}
-use Rattle.accounting.specs.Article32.{lotsOf}
 use Rattle.accounting.proofs.Trades.{legs-append}
 use Rattle.dayprofit.specs.Day.{Sized, AllSized}
 use Rattle.dayprofit.specs.Sides.{same, lotsIf, valueIf, batchIf, batchesOf, cost}
+use Rattle.dayprofit.specs.Slots.{slotLotsMost, slotValueMost}
 use Rattle.dayprofit.proofs.FirstIn.{lots-append, cost-append}
 
 -- ---- one leg: it counts where it is of the kind
@@ -103,10 +105,10 @@ module _ (a c : ℕ) (t : Trade) where
       (sym (mul-add (t .price) _ _))
       ∙ ap (λ (n : ℕ). t .price * n) (sym (legs-measure (lotsIf sell close)))
 
-pub value-small : (t : Trade) → Sized t → (n : ℕ) → n ≤ t .lots → t .price * n ≤ 1_000_000_000
+pub value-small : (t : Trade) → Sized t → (n : ℕ) → n ≤ t .lots → t .price * n ≤ maxPrice * maxLots
 value-small t s n h =
-    let few : n ≤ 1_000 = omega (arith, s .lots) in
-    le-trans (mul-le-mul-right n (s .price)) (mul-le-mul-left 1_000_000 few)
+    let few : n ≤ maxLots = omega (arith, s .lots) in
+    le-trans (mul-le-mul-right n (s .price)) (mul-le-mul-left maxPrice few)
 
 -- ---- all trades
 
@@ -127,8 +129,8 @@ module _ (a c : ℕ) (sell close : Bool) where
 
 -- ---- the same legs as batches
 
-no-lots : lotsOf [] ≡ 0
-unfolding lotsOf sumOf
+no-lots : lotsIn [] ≡ 0
+unfolding sumOf
 no-lots = refl
 
 no-cost : cost [] ≡ 0
@@ -141,11 +143,11 @@ module _ (sell close : Bool) where
   batches-append [] ms = refl
   batches-append (l ∷ ls) ms = rw (batches-append ls ms) (sym (append-assoc (batchIf sell close l) (batchesOf sell close ls) (batchesOf sell close ms)))
 
-  batch-lots : (l : Leg) → lotsOf (batchIf sell close l) ≡ lotsIf sell close l
-  unfolding batchIf lotsIf lotsOf sumOf
+  batch-lots : (l : Leg) → lotsIn (batchIf sell close l) ≡ lotsIf sell close l
+  unfolding batchIf lotsIf sumOf
   batch-lots (leg s k p n) = counted (isKind sell close s k)
     where
-      counted : (b : Bool) → lotsOf (pick b (record { price = p; lots = n } ∷ []) []) ≡ pick b n 0
+      counted : (b : Bool) → lotsIn (pick b (record { price = p; lots = n } ∷ []) []) ≡ pick b n 0
       counted true = omega arith
       counted false = refl
 
@@ -157,7 +159,7 @@ module _ (sell close : Bool) where
       counted true = omega arith
       counted false = refl
 
-  pub batches-lots : (ls : List Leg) → lotsOf (batchesOf sell close ls) ≡ sumOf (lotsIf sell close) ls
+  pub batches-lots : (ls : List Leg) → lotsIn (batchesOf sell close ls) ≡ sumOf (lotsIf sell close) ls
   unfolding batchesOf sumOf
   batches-lots [] = no-lots
   batches-lots (l ∷ ls) = lots-append (batchIf sell close l) (batchesOf sell close ls) ∙ rw (batch-lots l, batches-lots ls)
@@ -171,10 +173,10 @@ module _ (sell close : Bool) where
 
 module _ (t : Trade) (z : Sized t) (n : ℕ) (h : n ≤ t .lots) where
   pub leg-product-fits : Fits w64 (t .price * n)
-  leg-product-fits = fits-below {n = 1_000_000_000} tt (value-small t z n h)
+  leg-product-fits = fits-below {n = maxPrice * maxLots} tt (value-small t z n h)
 
-  pub leg-value-fits : (vs : List ℕ) (r at : ℕ) → r ≡ at → getD vs at 0 ≤ 2_000_000_000_000 → Fits w64 (getD vs r 0 + t .price * n)
-  leg-value-fits vs r at e small = rw e (fits-below {n = 2_001_000_000_000} tt (omega (arith, value-small t z n h)))
+  pub leg-value-fits : (vs : List ℕ) (r at : ℕ) → r ≡ at → getD vs at 0 ≤ slotValueMost → Fits w64 (getD vs r 0 + t .price * n)
+  leg-value-fits vs r at e small = rw e (fits-below {n = slotValueMost + maxPrice * maxLots} tt (omega (arith, value-small t z n h)))
 
-pub leg-lots-fit : (t : Trade) → Sized t → (us : List ℕ) (r at : ℕ) → r ≡ at → getD us at 0 ≤ 2_000_000 → Fits w32 (getD us r 0 + t .lots)
-leg-lots-fit t z us r at e few = rw e (fits-below {n = 2_001_000} tt (omega (arith, z .lots)))
+pub leg-lots-fit : (t : Trade) → Sized t → (us : List ℕ) (r at : ℕ) → r ≡ at → getD us at 0 ≤ slotLotsMost → Fits w32 (getD us r 0 + t .lots)
+leg-lots-fit t z us r at e few = rw e (fits-below {n = slotLotsMost + maxLots} tt (omega (arith, z .lots)))

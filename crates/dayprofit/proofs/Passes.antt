@@ -9,14 +9,15 @@ use lib.Dec.{eqb}
 use lib.ListN.{length, getD, drop, replicate, getD-replicate, length-replicate}
 use Rattle.laws.specs.Choice.{pick}
 use Rattle.laws.specs.Sums.{sumOf, sumOf-append}
+use Rattle.rules.specs.Article32.{lotsIn}
 use Rattle.rules.specs.Memory.{recordedTrades, tradeFrom, tradeStride}
+use Rattle.rules.specs.Bounds.{maxLots, maxPrice, maxAccounts, maxContracts}
 use Rattle.rules.specs.Settlement.{Leg, leg, Batch, only, firstLots}
 use Rattle.rules.specs.declared.Trade.{Trade}
 use Rattle.rules.proofs.Codecs.{length-trades, trade-at}
-use Rattle.accounting.specs.Article32.{lotsOf}
 use Rattle.dayprofit.specs.Day.{Sized, SizedTrades}
-use Rattle.dayprofit.specs.Sides.{same, lotsIf, valueIf, batchIf, batchesOf, openedToday, cost}
-use Rattle.dayprofit.specs.Slots.{slotOf, partyOf, closeOf, legSlot, changed, Placed, PlacedTrades, Addable, SumsAre, UsedAre}
+use Rattle.dayprofit.specs.Sides.{same, lotsIf, valueIf, batchIf, batchesOf, openedToday, cost, dayLotsMost, dayValueMost}
+use Rattle.dayprofit.specs.Slots.{slotOf, partyOf, closeOf, legSlot, changed, Placed, PlacedTrades, Addable, SumsAre, UsedAre, slots, slotLotsMost, slotValueMost}
 use Rattle.dayprofit.proofs.FirstIn.{lots-append, cost-append, first-append, first-other}
 use Rattle.dayprofit.proofs.Legs.{isKind, kind-itself, only-one, leg-lots, leg-value, value-small, legs-lots, legs-value, batches-append, batches-cost}
 use Rattle.dayprofit.proofs.Slots.{Pass, Kept, legOf, legsTo, slot-small, leg-addable, leg-more, trade-more, no-legs}
@@ -57,7 +58,7 @@ adding close =
 -- ---- the first lots opened on each side, as many as `left` says
 
 abbrev pub Taken : List ℕ → ℕ → Bool → List Leg → ℕ → ℕ → Type 0
-Taken left q s ls u v = (u ≡ getD left q 0 - lotsOf (openedToday s ls)) × (v ≡ cost (firstLots (getD left q 0) (openedToday s ls)))
+Taken left q s ls u v = (u ≡ getD left q 0 - lotsIn (openedToday s ls)) × (v ≡ cost (firstLots (getD left q 0) (openedToday s ls)))
 
 batch-if : (s k s₀ k₀ b : Bool) (p n : ℕ) → isKind s k s₀ k₀ ≡ b → batchesOf s k (leg s₀ k₀ p n ∷ []) ≡ pick b (record { price = p; lots = n } ∷ []) []
 unfolding batchesOf batchIf
@@ -68,8 +69,8 @@ last-batch : (s k s₀ k₀ b : Bool) (ls : List Leg) (p n : ℕ) → isKind s k
 last-batch s k s₀ k₀ b ls p n e =
     batches-append s k ls (leg s₀ k₀ p n ∷ []) ∙ ap (λ (bs : List Batch). batchesOf s k ls ++ bs) (batch-if s k s₀ k₀ b p n e)
 
-one-lots : (p n : ℕ) → lotsOf (record { price = p; lots = n } ∷ []) ≡ n
-unfolding lotsOf sumOf
+one-lots : (p n : ℕ) → lotsIn (record { price = p; lots = n } ∷ []) ≡ n
+unfolding sumOf
 one-lots p n = omega arith
 
 one-taken : (p n m : ℕ) → cost (firstLots m (record { price = p; lots = n } ∷ [])) ≡ p * min m n
@@ -77,8 +78,8 @@ unfolding cost firstLots sumOf
 one-taken p n m = omega arith
 
 -- one batch more, of which m lots are taken where m were still to be
-module _ (due : ℕ) (bs : List Batch) (u v p n : ℕ) (e : u ≡ due - lotsOf bs) (f : v ≡ cost (firstLots due bs)) where
-  batch-left : u - min u n ≡ due - lotsOf (bs ++ (record { price = p; lots = n } ∷ []))
+module _ (due : ℕ) (bs : List Batch) (u v p n : ℕ) (e : u ≡ due - lotsIn bs) (f : v ≡ cost (firstLots due bs)) where
+  batch-left : u - min u n ≡ due - lotsIn (bs ++ (record { price = p; lots = n } ∷ []))
   batch-left = rw (lots-append bs (record { price = p; lots = n } ∷ []), one-lots p n) (omega arith)
 
   batch-taken : v + p * min u n ≡ cost (firstLots due (bs ++ (record { price = p; lots = n } ∷ [])))
@@ -106,24 +107,24 @@ leg-reach f b ls here l h = rw (sumOf-append f ls (only here l), only-one f here
     chosen false = omega arith
 
 module _ (area : List ℕ) (count : ℕ) (g : SizedTrades area count) (i : ℕ) (h : i ≤ count) (a c : ℕ) (s k : Bool) where
-  pub lots-reach : sumOf (lotsIf s k) (legsTo area i a c) ≤ 1_024_000
+  pub lots-reach : sumOf (lotsIf s k) (legsTo area i a c) ≤ dayLotsMost
   lots-reach = omega (arith, legs-lots a c s k (recordedTrades area i) (sized-first area count g i h), length-trades area i, g .few)
 
-  pub value-reach : sumOf (valueIf s k) (legsTo area i a c) ≤ 1_024_000_000_000
+  pub value-reach : sumOf (valueIf s k) (legsTo area i a c) ≤ dayValueMost
   value-reach = omega (arith, legs-value a c s k (recordedTrades area i) (sized-first area count g i h), length-trades area i, g .few)
 
   module _ (sell : Bool) (t : Trade) (z : Sized t) where
-    pub lots-reach-leg : sumOf (lotsIf s k) (legsTo area i a c ++ legOf sell t a c) ≤ 2_000_000
+    pub lots-reach-leg : sumOf (lotsIf s k) (legsTo area i a c ++ legOf sell t a c) ≤ slotLotsMost
     lots-reach-leg =
         let l : Leg = leg sell (closeOf sell t) (t .price) (t .lots) in
-        let b : lotsIf s k l ≤ 1_000 = omega (arith, leg-lots s k sell (closeOf sell t) (t .price) (t .lots), z .lots) in
-        omega (arith, lots-reach, leg-reach (lotsIf s k) 1_000 (legsTo area i a c) (eqb (t .contract) c && eqb (partyOf sell t) a) l b)
+        let b : lotsIf s k l ≤ maxLots = omega (arith, leg-lots s k sell (closeOf sell t) (t .price) (t .lots), z .lots) in
+        omega (arith, lots-reach, leg-reach (lotsIf s k) maxLots (legsTo area i a c) (eqb (t .contract) c && eqb (partyOf sell t) a) l b)
 
-    pub value-reach-leg : sumOf (valueIf s k) (legsTo area i a c ++ legOf sell t a c) ≤ 2_000_000_000_000
+    pub value-reach-leg : sumOf (valueIf s k) (legsTo area i a c ++ legOf sell t a c) ≤ slotValueMost
     value-reach-leg =
         let l : Leg = leg sell (closeOf sell t) (t .price) (t .lots) in
-        let b : valueIf s k l ≤ 1_000_000_000 = rw (leg-value s k sell (closeOf sell t) (t .price) (t .lots)) (value-small t z _ (leg-lots s k sell (closeOf sell t) (t .price) (t .lots))) in
-        omega (arith, value-reach, leg-reach (valueIf s k) 1_000_000_000 (legsTo area i a c) (eqb (t .contract) c && eqb (partyOf sell t) a) l b)
+        let b : valueIf s k l ≤ maxPrice * maxLots = rw (leg-value s k sell (closeOf sell t) (t .price) (t .lots)) (value-small t z _ (leg-lots s k sell (closeOf sell t) (t .price) (t .lots))) in
+        omega (arith, value-reach, leg-reach (valueIf s k) (maxPrice * maxLots) (legsTo area i a c) (eqb (t .contract) c && eqb (partyOf sell t) a) l b)
 
 -- ---- the loop
 
@@ -167,28 +168,28 @@ module _ {area : List ℕ} {count i : ℕ} {t : Trade} (r : TradeRead area count
 
   -- lots are added too
   module _ (close : Bool) {us vs : List ℕ} (w : Passing (Added close) area count us vs i) where
-    pub buy-lots : getD us (legSlot false t) 0 ≤ 2_000_000
+    pub buy-lots : getD us (legSlot false t) 0 ≤ slotLotsMost
     buy-lots =
         omega (arith, w .kept .tells (t .buyer) (t .contract) false (its-places .buyer) (its-places .contract) .0, lots-reach area count (r .placed .trades) i (w .within) (t .buyer) (t .contract) false close)
 
-    pub sell-lots : {us′ vs′ : List ℕ} → Kept (Added close) (λ a c. legsTo area i a c ++ legOf false t a c) us′ vs′ → getD us′ (legSlot true t) 0 ≤ 2_000_000
+    pub sell-lots : {us′ vs′ : List ℕ} → Kept (Added close) (λ a c. legsTo area i a c ++ legOf false t a c) us′ vs′ → getD us′ (legSlot true t) 0 ≤ slotLotsMost
     sell-lots b =
         omega (arith, b .tells (t .seller) (t .contract) true (its-places .seller) (its-places .contract) .0, lots-reach-leg area count (r .placed .trades) i (w .within) (t .seller) (t .contract) true close false t its-size)
 
 -- before the first trade and after the last
 
-no-sum : (a c : ℕ) (s : Bool) → a < 32 → c < 4 → getD {A = ℕ} (replicate 256 0) (slotOf a c s) 0 ≡ 0
-no-sum a c s la lc = getD-replicate {A = ℕ} 256 (slotOf a c s) 0 0 (slot-small a c s la lc)
+no-sum : (a c : ℕ) (s : Bool) → a < maxAccounts → c < maxContracts → getD {A = ℕ} (replicate slots 0) (slotOf a c s) 0 ≡ 0
+no-sum a c s la lc = getD-replicate {A = ℕ} slots (slotOf a c s) 0 0 (slot-small a c s la lc)
 
-pub adding-none : (close : Bool) (area : List ℕ) (count : ℕ) (us vs : List ℕ) → us ≡ replicate 256 0 → vs ≡ replicate 256 0 → Passing (Added close) area count us vs 0
+pub adding-none : (close : Bool) (area : List ℕ) (count : ℕ) (us vs : List ℕ) → us ≡ replicate slots 0 → vs ≡ replicate slots 0 → Passing (Added close) area count us vs 0
 unfolding sumOf
 adding-none close area count us vs e f =
     rw (e, f)
     (record {
       within = omega arith;
       kept = record {
-        room = length-replicate {A = ℕ} 256 0;
-        room-too = length-replicate {A = ℕ} 256 0;
+        room = length-replicate {A = ℕ} slots 0;
+        room-too = length-replicate {A = ℕ} slots 0;
         tells = λ a c s la lc. rw (no-legs area a c) (no-sum a c s la lc, no-sum a c s la lc);
       };
     })
@@ -201,15 +202,15 @@ adding-done close area count us vs i h w =
       value-is = λ a c s la lc. rw (← e) (w .kept .tells a c s la lc .1);
     }
 
-pub taking-none : (area : List ℕ) (count : ℕ) (left vs : List ℕ) → length left ≡ 256 → vs ≡ replicate 256 0 → Passing (Taken left) area count left vs 0
-unfolding batchesOf firstLots cost lotsOf sumOf
+pub taking-none : (area : List ℕ) (count : ℕ) (left vs : List ℕ) → length left ≡ slots → vs ≡ replicate slots 0 → Passing (Taken left) area count left vs 0
+unfolding batchesOf firstLots cost sumOf
 taking-none area count left vs h f =
     rw f
     (record {
       within = omega arith;
       kept = record {
         room = h;
-        room-too = length-replicate {A = ℕ} 256 0;
+        room-too = length-replicate {A = ℕ} slots 0;
         tells = λ a c s la lc. rw (no-legs area a c) (omega arith, no-sum a c s la lc);
       };
     })

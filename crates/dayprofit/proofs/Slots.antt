@@ -11,6 +11,7 @@ use lib.ListN.{length, getD, set, drop, length-set}
 use lib.Seq.{getD-set-same, getD-set-other}
 use Rattle.laws.specs.Choice.{pick, both-false}
 use Rattle.laws.specs.Sums.{sumOf}
+use Rattle.rules.specs.Bounds.{maxAccounts, maxContracts}
 use Rattle.rules.specs.Memory.{recordedTrades, tradeFrom, tradeStride}
 use Rattle.rules.specs.Settlement.{Leg, leg, only, legs}
 use Rattle.rules.specs.declared.Trade.{Trade}
@@ -18,7 +19,7 @@ use Rattle.rules.proofs.Codecs.{trades-none}
 use Rattle.accounting.proofs.Trades.{legs-append}
 use Rattle.dayprofit.specs.Day.{Sized}
 use Rattle.dayprofit.specs.Sides.{same, valueIf}
-use Rattle.dayprofit.specs.Slots.{slotOf, partyOf, closeOf, legSlot, changed, Placed, Addable}
+use Rattle.dayprofit.specs.Slots.{slotOf, partyOf, closeOf, legSlot, changed, Placed, Addable, slots, slotValueMost}
 use Rattle.dayprofit.proofs.Legs.{isKind}
 use Rattle.dayprofit.proofs.Trading.{more-trades}
 
@@ -32,10 +33,10 @@ bit-back : (s : Bool) → leb 1 (pick s 1 0) ≡ s
 bit-back true = refl
 bit-back false = refl
 
-pub slot-small : (a c : ℕ) (s : Bool) → a < 32 → c < 4 → slotOf a c s < 256
+pub slot-small : (a c : ℕ) (s : Bool) → a < maxAccounts → c < maxContracts → slotOf a c s < slots
 slot-small a c s la lc = omega (arith, bit-small s)
 
-module _ (a c a₀ c₀ : ℕ) (s s₀ : Bool) (lc : c < 4) (lc₀ : c₀ < 4) (e : slotOf a c s ≡ slotOf a₀ c₀ s₀) where
+module _ (a c a₀ c₀ : ℕ) (s s₀ : Bool) (lc : c < maxContracts) (lc₀ : c₀ < maxContracts) (e : slotOf a c s ≡ slotOf a₀ c₀ s₀) where
   pub one-account : a₀ ≡ a
   one-account = omega (arith, bit-small s, bit-small s₀)
 
@@ -51,7 +52,7 @@ module _ (a c a₀ c₀ : ℕ) (s s₀ : Bool) (lc : c < 4) (lc₀ : c₀ < 4) (
 
 module _ (Told : ℕ → Bool → List Leg → ℕ → ℕ → Type 0) where
   abbrev pub Tells : (ℕ → ℕ → List Leg) → List ℕ → List ℕ → Type 0
-  Tells legs us vs = (a c : ℕ) (s : Bool) → a < 32 → c < 4 → Told (slotOf a c s) s (legs a c) (getD us (slotOf a c s) 0) (getD vs (slotOf a c s) 0)
+  Tells legs us vs = (a c : ℕ) (s : Bool) → a < maxAccounts → c < maxContracts → Told (slotOf a c s) s (legs a c) (getD us (slotOf a c s) 0) (getD vs (slotOf a c s) 0)
 
   -- one leg l more, of the account a₀ in the contract c₀: the slots us′ and vs′ afterwards
   module _ (legs : ℕ → ℕ → List Leg) (a₀ c₀ : ℕ) (l : Leg) (us′ vs′ : List ℕ) where
@@ -60,8 +61,8 @@ module _ (Told : ℕ → Bool → List Leg → ℕ → ℕ → Type 0) where
 
     -- known where the leg is, and elsewhere
     module _ (own : (s : Bool) → Slot a₀ c₀ s (legs a₀ c₀ ++ (l ∷ [])))
-        (others : (a c : ℕ) (s : Bool) → a < 32 → c < 4 → (a₀ ≡ a → c₀ ≡ c → ⊥) → Slot a c s (legs a c)) where
-      at-leg : (a c : ℕ) (s : Bool) → a < 32 → c < 4 → (x y : Bool) → eqb c₀ c ≡ x → eqb a₀ a ≡ y → Slot a c s (legs a c ++ only (x && y) l)
+        (others : (a c : ℕ) (s : Bool) → a < maxAccounts → c < maxContracts → (a₀ ≡ a → c₀ ≡ c → ⊥) → Slot a c s (legs a c)) where
+      at-leg : (a c : ℕ) (s : Bool) → a < maxAccounts → c < maxContracts → (x y : Bool) → eqb c₀ c ≡ x → eqb a₀ a ≡ y → Slot a c s (legs a c ++ only (x && y) l)
       unfolding only
       at-leg a c s la lc true true e f =
           subst (λ (i : ℕ). Slot i c s (legs i c ++ (l ∷ []))) (eqb-true a₀ a f) (subst (λ (i : ℕ). Slot a₀ i s (legs a₀ i ++ (l ∷ []))) (eqb-true c₀ c e) (own s))
@@ -79,15 +80,15 @@ pub record Pass (close : Bool) (Told : ℕ → Bool → List Leg → ℕ → ℕ
   pub below : (q : ℕ) (s : Bool) (ls : List Leg) (u v : ℕ) → Told q s ls u v → v ≤ sumOf (valueIf s close) ls
 
 pub record Kept (Told : ℕ → Bool → List Leg → ℕ → ℕ → Type 0) (L : ℕ → ℕ → List Leg) (us vs : List ℕ) : Type 0 where
-  pub room : length us ≡ 256
-  pub room-too : length vs ≡ 256
+  pub room : length us ≡ slots
+  pub room-too : length vs ≡ slots
   pub tells : Tells Told L us vs
 
 -- a trade's buy or sell leg, where it is the account's in the contract
 abbrev pub legOf : Bool → Trade → ℕ → ℕ → List Leg
 legOf sell t a c = only (eqb (t .contract) c && eqb (partyOf sell t) a) (leg sell (closeOf sell t) (t .price) (t .lots))
 
-party-known : (sell : Bool) (t : Trade) → Placed t → partyOf sell t < 32
+party-known : (sell : Bool) (t : Trade) → Placed t → partyOf sell t < maxAccounts
 party-known true t h = h .seller
 party-known false t h = h .buyer
 
@@ -110,7 +111,7 @@ module _ {close : Bool} {Told : ℕ → Bool → List Leg → ℕ → ℕ → Ty
     abbrev party : ℕ
     party = partyOf sell t
 
-    known : party < 32
+    known : party < maxAccounts
     known = party-known sell t h
 
     abbrev its : Leg
@@ -119,8 +120,8 @@ module _ {close : Bool} {Told : ℕ → Bool → List Leg → ℕ → ℕ → Ty
     slot-told : (s : Bool) → Told (slotOf party (t .contract) s) s (L party (t .contract)) (getD us (slotOf party (t .contract) s) 0) (getD vs (slotOf party (t .contract) s) 0)
     slot-told s = w .tells party (t .contract) s known (h .contract)
 
-    -- room for the leg's value, where no sum of a kind reaches two million millions
-    pub leg-addable : Sized t → ((a c : ℕ) (s : Bool) → sumOf (valueIf s close) (L a c) ≤ 2_000_000_000_000) → Addable us vs at t
+    -- room for the leg's value, where no sum of a kind passes what a slot may have
+    pub leg-addable : Sized t → ((a c : ℕ) (s : Bool) → sumOf (valueIf s close) (L a c) ≤ slotValueMost) → Addable us vs at t
     leg-addable z small =
         record {
           lots-room = w .room;
@@ -219,7 +220,7 @@ no-legs area a c = rw trades-none
 
 -- ---- as the code finds a leg's slot, and the lots that closes took beyond the start-of-day ones
 
-pub party-small : (sell : Bool) (t : Trade) → Placed t → (p a : ℕ) → p ≡ partyOf sell t → a ≡ p → a < 32
+pub party-small : (sell : Bool) (t : Trade) → Placed t → (p a : ℕ) → p ≡ partyOf sell t → a ≡ p → a < maxAccounts
 party-small sell t h p a e f = rw (f, e) (party-known sell t h)
 
 pub due-is : (left lots : List ℕ) (o o′ k k′ m start : ℕ) → o ≡ o′ → k ≡ k′ → m ≡ min (getD lots k 0) start

@@ -13,7 +13,7 @@ use Rattle.rules.specs.Memory.{recordedTrades}
 use Rattle.rules.specs.Settlement.{Leg, leg, Batch, Day, dayStart, afterLegs, legs}
 use Rattle.rules.specs.declared.Holding.{Holding}
 use Rattle.rules.specs.declared.Trade.{Trade}
-use Rattle.accounting.specs.Article32.{AllCovered}
+use Rattle.accounting.specs.DayLegs.{AllCovered}
 use Rattle.dayprofit.specs.Day.{SizedTrades}
 use Rattle.dayprofit.specs.declared.profit.Profit.{Profit}
 use Rattle.dayprofit.specs.declared.profit.Side.{Side}

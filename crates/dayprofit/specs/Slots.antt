@@ -7,14 +7,14 @@ use lib.Dec.{eqb}
 use lib.ListN.{length, getD, set}
 use Rattle.laws.specs.Choice.{pick}
 use Rattle.laws.specs.Sums.{sumOf}
-use Rattle.rules.specs.Bounds.{maxContracts, maxAccounts, maxPrice}
+use Rattle.rules.specs.Bounds.{maxContracts, maxAccounts, maxLots, maxPrice}
 use Rattle.rules.specs.Exchange.{noTrade}
 use Rattle.rules.specs.Memory.{recordedTrades}
 use Rattle.rules.specs.Settlement.{legs, firstLots}
 use Rattle.rules.specs.declared.Holding.{Holding}
 use Rattle.rules.specs.declared.Trade.{Trade}
 use Rattle.dayprofit.specs.Day.{Sized, SizedTrades}
-use Rattle.dayprofit.specs.Sides.{lotsIf, valueIf, openedToday, cost, sideFrom, SumsSmall, ProfitFrom}
+use Rattle.dayprofit.specs.Sides.{lotsIf, valueIf, openedToday, cost, sideFrom, SumsSmall, ProfitFrom, dayLotsMost}
 use Rattle.dayprofit.specs.declared.profit.Profit.{Profit}
 use Rattle.dayprofit.specs.declared.profit.Sums.{Sums}
 
@@ -52,9 +52,9 @@ pub record PlacedTrades (area : List ℕ) (count : ℕ) : Type 0 where
   pub trades : SizedTrades area count
   pub placed : (i : ℕ) → i < count → Placed (getD (recordedTrades area count) i noTrade)
 
--- what a slot may have before a trade is added: the lots and the value of a day's trades rounded up
+-- what a slot may have before a leg is added: the lots and the value of a day's trades and of one leg more
 abbrev pub slotLotsMost : ℕ
-slotLotsMost = 2_000_000
+slotLotsMost = dayLotsMost + maxLots
 
 abbrev pub slotValueMost : ℕ
 slotValueMost = maxPrice * slotLotsMost

@@ -2,7 +2,7 @@
 // room of what it reads and for trades and terms in the ranges of a well-formed state.
 ghost use mathlib.Core.Path.{_≡_};
 ghost use mathlib.Core.List.{[], _∷_};
-ghost use Prim.Native.Nat.{_+_, _*_, _/_, _<_, _≤_};
+ghost use Prim.Native.Nat.{_*_, _/_, _<_, _≤_};
 ghost use Rattle.rules.specs.Bounds.{maxPrice};
 ghost use Rattle.rules.specs.Memory.{queueIn, recordedTrades};
 ghost use Rattle.rules.specs.Settlement.{quotedPrice, priceFrom, tradesIn};

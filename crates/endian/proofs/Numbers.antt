@@ -8,7 +8,7 @@ use native.Mathlib.Omega.{arith}
 use lib.ListN.{length, getD, take, drop}
 use lib.Seq.{drop-cons, drop-at, drop-drop, take-add, getD-drop}
 use Rattle.rules.specs.DayFile.{u8At, u16At, u32At, u64At}
-use Rattle.endian.specs.Numbers.{two, four, eight}
+use Rattle.endian.specs.Numbers.{two, four, eight, eightMost}
 
 -- each is a byte, as a u8 is
 pub record Bytes (xs : List ℕ) : Type 0 where
@@ -107,6 +107,6 @@ module _ (xs : List ℕ) (b : Bytes xs) where
       let high : (u32At xs at + 4_294_967_296 * u32At xs (at + 4)) / 4_294_967_296 ≡ u32At xs (at + 4) = omega (arith, below-4 at) in
       rw (low, high, four-forth at (omega arith), four-forth (at + 4) (omega arith)) (parts at 4 4 xs)
 
-  pub below-8 : (at : ℕ) → u64At xs at < 18_446_744_073_709_551_616
+  pub below-8 : (at : ℕ) → u64At xs at ≤ eightMost
   unfolding u64At
   below-8 at = omega (arith, below-4 at, below-4 (at + 4))

@@ -12,8 +12,7 @@ use lib.ListN.{length, getD}
 use Rattle.laws.specs.Choice.{pick}
 use Rattle.rules.specs.Answers.{changeListed, firstOf, phaseRefusals}
 use Rattle.rules.specs.Auction.{matchOf, unmatched}
-use Rattle.rules.specs.Bounds.{inAuction, maxTrades}
-use Rattle.rules.specs.Command.{phaseKnown}
+use Rattle.rules.specs.Bounds.{inAuction, maxTrades, phaseKnown}
 use Rattle.rules.specs.Exchange.{Listing, listingAt, noContract, Exchange, isAbsent}
 use Rattle.rules.specs.Kinds.{codeOf, done, kindOf}
 use Rattle.rules.specs.Memory.{Memory, WellFormedState, exchangeOf, listingIn, memory, stepIn, written}

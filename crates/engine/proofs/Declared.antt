@@ -33,7 +33,7 @@ declared {s} {vs} good =
     record {
       contracts = search (needs, unmapped);
       accounts = search (needs, unmapped);
-      buys = search (needs, unmapped);
-      sells = search (needs, unmapped);
+      buycounts = search (needs, unmapped);
+      sellcounts = search (needs, unmapped);
       holdings = λ a h. each-at _ _ (λ v. length (v .holdings) ≡ 4) (λ v u s. unmapped _ (v .holdings) 4 (s .1 .1 .1 .0 .1 .0 .1)) (s .accounts) _ (good .1 .1 .1 .0 .1 .1) a noAccount (let e : length (s .accounts) ≡ 32 = search (needs, unmapped) in omega arith);
     }

@@ -10,10 +10,10 @@ use lib.Dec.{leb}
 use lib.ListN.{length, getD, set}
 use Rattle.laws.specs.Bound.{Within, within-abs, within-le}
 use Rattle.laws.specs.Choice.{all, all-at, both-true}
-use Rattle.laws.specs.Chains.{passed}
+use Rattle.laws.specs.Chains.{all-passed}
 use Rattle.rules.specs.Bounds.{within, maxContracts, maxAccounts, maxResting, maxTrades, balanceMost}
 use Rattle.rules.specs.Exchange.{absent, accountAt, holdingAt, listingAt, isAbsent}
-use Rattle.rules.specs.Memory.{Memory, Declared, exchangeOf, inUse, listingIn, putAccounts, countsInRange, hasRoom, wellFormedMemory, memory, WellFormedState, queueStride, tradeStride}
+use Rattle.rules.specs.Memory.{Memory, Declared, exchangeOf, inUse, listingIn, putAccounts, countsInRange, hasRoom, wellFormedMemory, memory, WellFormedState, queueStride, tradeStride, tradesWords}
 use Rattle.rules.specs.WellFormed.{wellFormedContents}
 use Rattle.rules.specs.declared.Account.{Account}
 use Rattle.rules.specs.declared.State.{State}
@@ -32,7 +32,7 @@ pub record Formed (m : Memory) : Type 0 where
   pub sells-high : (c : ℕ) → c < m .state .contractcount → getD (m .state .sellcounts) c 0 ≤ maxResting
   pub buys-room : queueStride * m .state .contractcount ≤ length (m .buys)
   pub sells-room : queueStride * m .state .contractcount ≤ length (m .sells)
-  pub trades-room : tradeStride * maxTrades ≤ length (m .trades)
+  pub trades-room : tradesWords ≤ length (m .trades)
   pub contents : WellFormed (exchangeOf m)
   pub declared : Declared (m .state)
 
@@ -46,13 +46,13 @@ module _ {s : State} {buys sells trades : List ℕ} (w : WellFormedState s buys 
   formed =
       let m : Memory = memory s buys sells trades in
       let n : ℕ = s .contractcount in
-      let parts = passed (countsInRange s) (hasRoom m ∷ wellFormedContents (exchangeOf m) ∷ []) (w .formed) in
-      let counts = passed (within 1 maxContracts n)
+      let parts = all-passed (countsInRange s) (hasRoom m ∷ wellFormedContents (exchangeOf m) ∷ []) (w .formed) in
+      let counts = all-passed (within 1 maxContracts n)
       (within 1 maxAccounts (s .accountcount) ∷ leb (s .tradecount) maxTrades ∷ all (λ c. leb (getD (s .buycounts) c 0) maxResting) n ∷ all (λ c. leb (getD (s .sellcounts) c 0) maxResting) n ∷ [])
       (parts .0) in
       let contracts = both-true (leb 1 n) (leb n maxContracts) (counts .0) in
       let accounts = both-true (leb 1 (s .accountcount)) (leb (s .accountcount) maxAccounts) (counts .1 .0) in
-      let rooms = passed (leb (queueStride * n) (length buys)) (leb (queueStride * n) (length sells) ∷ leb (tradeStride * maxTrades) (length trades) ∷ []) (parts .1 .0) in
+      let rooms = all-passed (leb (queueStride * n) (length buys)) (leb (queueStride * n) (length sells) ∷ leb (tradeStride * maxTrades) (length trades) ∷ []) (parts .1 .0) in
       record {
         contracts-low = leb-true _ _ (contracts .0);
         contracts-high = leb-true _ _ (contracts .1);

@@ -10,7 +10,7 @@ use Rattle.laws.specs.Lists.{map-set}
 use Rattle.laws.specs.Tabulate.{tabulate, length-tabulate, getD-tabulate, map-tabulate, tabulate-ext, tabulate-take}
 use Rattle.rules.specs.Bounds.{maxResting}
 use Rattle.rules.specs.Exchange.{Exchange, Listing, listingAt, noContract, noListing}
-use Rattle.rules.specs.Memory.{Memory, exchangeOf, listingIn, put, putAccounts, putFirst, putQueue, putQueues, putState, putTrades, queueIn, queueStride}
+use Rattle.rules.specs.Memory.{Memory, memory, exchangeOf, listingIn, put, putAccounts, putFirst, putQueue, putQueues, putState, putTrades, queueIn, queueStride}
 use Rattle.rules.specs.Step.{withContract, withListing}
 use Rattle.rules.proofs.Codecs.{length-queue, put-queue, length-trades, put-trades, putQueues-same, putQueues-one}
 use Rattle.rules.specs.declared.Account.{Account}
@@ -58,10 +58,10 @@ module _ (m : Memory) (f : Formed m) where
   fit-contracts = omega (arith, f .declared .contracts, f .contracts-high)
 
   fit-buys : m .state .contractcount ≤ length (m .state .buycounts)
-  fit-buys = omega (arith, f .declared .buys, f .contracts-high)
+  fit-buys = omega (arith, f .declared .buycounts, f .contracts-high)
 
   fit-sells : m .state .contractcount ≤ length (m .state .sellcounts)
-  fit-sells = omega (arith, f .declared .sells, f .contracts-high)
+  fit-sells = omega (arith, f .declared .sellcounts, f .contracts-high)
 
   -- ---- the rest of the state new: accounts, trades, counters
 
@@ -71,12 +71,12 @@ module _ (m : Memory) (f : Formed m) where
     sameListings = record { listings = exchangeOf m .listings; accounts = accounts; trades = trades; next = next; nextstamp = nextstamp; settlements = settlements }
 
     abbrev pub stateOf : List Contract → List ℕ → List ℕ → State
-    stateOf contracts buys sells =
+    stateOf contracts buycounts sellcounts =
         record {
           contracts = contracts;
           accounts = putAccounts accounts (m .state .accounts);
-          buycounts = buys;
-          sellcounts = sells;
+          buycounts = buycounts;
+          sellcounts = sellcounts;
           contractcount = m .state .contractcount;
           accountcount = m .state .accountcount;
           tradecount = length trades;
@@ -92,7 +92,7 @@ module _ (m : Memory) (f : Formed m) where
     queue-kept queue area counts few room read =
         putQueues-same area counts (λ c. queue (listingAt sameListings c)) (m .state .contractcount) (λ c h. ap queue (listing-at m f c h) ∙ read c) few room
 
-    pub put-same-listings : put m sameListings ≡ record { state = stateOf (m .state .contracts) (m .state .buycounts) (m .state .sellcounts); buys = m .buys; sells = m .sells; trades = putTrades (m .trades) (m .state .tradecount) trades }
+    pub put-same-listings : put m sameListings ≡ memory (stateOf (m .state .contracts) (m .state .buycounts) (m .state .sellcounts)) (m .buys) (m .sells) (putTrades (m .trades) (m .state .tradecount) trades)
     unfolding put putState listingIn
     put-same-listings =
         rw (
@@ -125,12 +125,11 @@ module _ (m : Memory) (f : Formed m) where
 
       pub put-one-listing :
           put m oneListing
-          ≡ record {
-            state = stateOf (set (m .state .contracts) c (l .contract)) (set (m .state .buycounts) c (length (l .buys))) (set (m .state .sellcounts) c (length (l .sells)));
-            buys = putQueue (m .buys) c (getD (m .state .buycounts) c 0) (l .buys);
-            sells = putQueue (m .sells) c (getD (m .state .sellcounts) c 0) (l .sells);
-            trades = putTrades (m .trades) (m .state .tradecount) trades;
-          }
+          ≡ memory
+          (stateOf (set (m .state .contracts) c (l .contract)) (set (m .state .buycounts) c (length (l .buys))) (set (m .state .sellcounts) c (length (l .sells))))
+          (putQueue (m .buys) c (getD (m .state .buycounts) c 0) (l .buys))
+          (putQueue (m .sells) c (getD (m .state .sellcounts) c 0) (l .sells))
+          (putTrades (m .trades) (m .state .tradecount) trades)
       unfolding put putState listingIn
       put-one-listing =
           rw (
@@ -155,19 +154,18 @@ module _ (m : Memory) (f : Formed m) where
 
   pub put-accounts : (accounts placed : List Account) → putAccounts accounts (m .state .accounts) ≡ placed
       → put m (record { listings = exchangeOf m .listings; accounts = accounts; trades = exchangeOf m .trades; next = exchangeOf m .next; nextstamp = exchangeOf m .nextstamp; settlements = exchangeOf m .settlements })
-      ≡ record { state = withAccountsIn (m .state) placed; buys = m .buys; sells = m .sells; trades = m .trades }
+      ≡ memory (withAccountsIn (m .state) placed) (m .buys) (m .sells) (m .trades)
   unfolding exchangeOf
   put-accounts accounts placed e =
       put-same-listings accounts (exchangeOf m .trades) (exchangeOf m .next) (exchangeOf m .nextstamp) (exchangeOf m .settlements) ∙ rw (e, trades-count, trades-same)
 
   put-listing : (c : ℕ) (l : Listing) → c < m .state .contractcount → length (l .buys) ≤ maxResting → length (l .sells) ≤ maxResting
       → put m (withListing (exchangeOf m) c l)
-      ≡ record {
-        state = withCountsIn (withContractsIn (m .state) (set (m .state .contracts) c (l .contract))) (set (m .state .buycounts) c (length (l .buys))) (set (m .state .sellcounts) c (length (l .sells)));
-        buys = putQueue (m .buys) c (getD (m .state .buycounts) c 0) (l .buys);
-        sells = putQueue (m .sells) c (getD (m .state .sellcounts) c 0) (l .sells);
-        trades = m .trades;
-      }
+      ≡ memory
+      (withCountsIn (withContractsIn (m .state) (set (m .state .contracts) c (l .contract))) (set (m .state .buycounts) c (length (l .buys))) (set (m .state .sellcounts) c (length (l .sells))))
+      (putQueue (m .buys) c (getD (m .state .buycounts) c 0) (l .buys))
+      (putQueue (m .sells) c (getD (m .state .sellcounts) c 0) (l .sells))
+      (m .trades)
   unfolding exchangeOf
   put-listing c l h short-buys short-sells =
       put-one-listing (exchangeOf m .accounts) (exchangeOf m .trades) (exchangeOf m .next) (exchangeOf m .nextstamp) (exchangeOf m .settlements) c l h short-buys short-sells
@@ -182,7 +180,7 @@ module _ (m : Memory) (f : Formed m) where
   module _ (c : ℕ) (h : c < m .state .contractcount) where
     pub put-contract : (contract : Contract)
         → put m (withListing (exchangeOf m) c (withContract (listingAt (exchangeOf m) c) contract))
-        ≡ record { state = withContractsIn (m .state) (set (m .state .contracts) c contract); buys = m .buys; sells = m .sells; trades = m .trades }
+        ≡ memory (withContractsIn (m .state) (set (m .state .contracts) c contract)) (m .buys) (m .sells) (m .trades)
     unfolding listingIn
     put-contract contract =
         let b : ℕ = getD (m .state .buycounts) c 0 in
@@ -195,12 +193,11 @@ module _ (m : Memory) (f : Formed m) where
 
     pub put-queues : (buys sells : List Order) → length buys ≤ maxResting → length sells ≤ maxResting
         → put m (withListing (exchangeOf m) c (record { contract = getD (m .state .contracts) c noContract; buys = buys; sells = sells }))
-        ≡ record {
-          state = withCountsIn (m .state) (set (m .state .buycounts) c (length buys)) (set (m .state .sellcounts) c (length sells));
-          buys = putQueue (m .buys) c (getD (m .state .buycounts) c 0) buys;
-          sells = putQueue (m .sells) c (getD (m .state .sellcounts) c 0) sells;
-          trades = m .trades;
-        }
+        ≡ memory
+        (withCountsIn (m .state) (set (m .state .buycounts) c (length buys)) (set (m .state .sellcounts) c (length sells)))
+        (putQueue (m .buys) c (getD (m .state .buycounts) c 0) buys)
+        (putQueue (m .sells) c (getD (m .state .sellcounts) c 0) sells)
+        (m .trades)
     put-queues buys sells short-buys short-sells =
         put-listing c (record { contract = getD (m .state .contracts) c noContract; buys = buys; sells = sells }) h short-buys short-sells
         ∙ rw (set-getD (m .state .contracts) c noContract)

@@ -16,8 +16,8 @@ use Rattle.areas.specs.Lists.{removeAt}
 use Rattle.areas.proofs.Lists.{length-removeAt}
 use Rattle.rules.specs.Kinds.{codeOf, done, kindOf}
 use Rattle.rules.specs.Answers.{Refusal, cancelRefusals, firstOf, noSuchOrder, numbered, ofAnother, ownerRefusals, pullRefusals, removalRefused, restingOrder}
-use Rattle.rules.specs.Bounds.{maxLots, inAuction, maxResting, maxContracts}
-use Rattle.rules.specs.Exchange.{Listing, listingAt, lotsWhere, noListing, noOrder, isAbsent}
+use Rattle.rules.specs.Bounds.{maxLots, inAuction, maxResting, maxContracts, continuous, noTrading}
+use Rattle.rules.specs.Exchange.{Listing, listingAt, lotsWhere, noListing, noOrder, isAbsent, placeOf}
 use Rattle.rules.specs.Memory.{Memory, exchangeOf, listingIn, orderFrom, put, putQueue, queueIn, stepIn, memory, WellFormedState, firstWord}
 use Rattle.book.specs.Places.{firstWhere, indexOf}
 use Rattle.rules.specs.Step.{Effect, answerOf, cancelled, hasNumber, isOf, listingWithout, pulled, removed, withListing, without}
@@ -31,11 +31,10 @@ use Rattle.rules.proofs.Codecs.{length-queue, order-at, put-queue}
 use Rattle.rules.proofs.Queue.{length-without, once-append}
 use Rattle.rules.proofs.Refusals.{failed, first-append}
 use Rattle.book.proofs.Places.{index-apart, index-notIn, first-within, lots-none, lots-number, numbered-found, numbered-none, numbered-append-found, numbered-append-none, without-none, without-number}
-use Rattle.book.specs.Removal.{PulledIs}
-use Rattle.book.specs.declared.removal.Pulled.{Pulled}
+use Rattle.book.specs.Removal.{RemovedIs}
 use Rattle.invariants.proofs.Clauses.{ListingOk, OrderOk, order-ok}
 use Rattle.engine.specs.Outcome.{OutcomeIs, refusedWith, acceptedWith, withCountsIn}
-use Rattle.engine.specs.Removal.{RemovedIs, CancelledIs}
+use Rattle.engine.specs.Removal.{CancelledIs}
 use Rattle.engine.specs.declared.answers.Outcome.{Outcome}
 use Rattle.engine.specs.declared.removal.Cancelled.{Cancelled}
 use Rattle.engine.proofs.Formed.{Formed, formed, contracts-count, listing-at, no-account, no-contract}
@@ -46,21 +45,21 @@ use Rattle.engine.proofs.Tests.{place-below}
 -- ---- 4, by the contract's state
 
 module _ (c : Contract) (operator : Bool) where
-  pub in-continuous : c .phase ≡ 1 → false ≡ removalRefused c operator
+  pub in-continuous : c .phase ≡ continuous → false ≡ removalRefused c operator
   unfolding removalRefused
   in-continuous e = sym (rw e)
 
   pub in-auction : inAuction c ≡ true → false ≡ removalRefused c operator
   unfolding removalRefused
-  in-auction e = sym (ap not (either-true (eqb (c .phase) 1 || eqb (c .phase) 2 && operator) (inAuction c) e))
+  in-auction e = sym (ap not (either-true (eqb (c .phase) continuous || eqb (c .phase) noTrading && operator) (inAuction c) e))
 
-  pub in-no-trading : c .phase ≡ 2 → not operator ≡ removalRefused c operator
+  pub in-no-trading : c .phase ≡ noTrading → not operator ≡ removalRefused c operator
   unfolding removalRefused
   in-no-trading e = sym (rw e (elim operator [ true ↦ refl | false ↦ refl ]))
 
   pub in-any-other : c .phase ≢ 1 → c .phase ≢ 2 → inAuction c ≡ false → true ≡ removalRefused c operator
   unfolding removalRefused
-  in-any-other p q r = sym (rw (ne-eqb (c .phase) 1 p, ne-eqb (c .phase) 2 q, r))
+  in-any-other p q r = sym (rw (ne-eqb (c .phase) continuous p, ne-eqb (c .phase) noTrading q, r))
 
 -- ---- a cancel in one queue
 
@@ -191,9 +190,9 @@ module _ {s : State} {buys sells trades : List ℕ} (w : WellFormedState s buys 
   shared = pullRefusals (exchangeOf m) account contract operator
 
   cancel-code : (number : ℕ) → codeOf (exchangeOf m) (Cancel account contract operator number)
-      ≡ pick (eqb (firstOf shared) 0) (firstOf (ownerRefusals (account - 1) (restingOrder (listingAt (exchangeOf m) (contract - 1)) number))) (firstOf shared)
+      ≡ pick (eqb (firstOf shared) 0) (firstOf (ownerRefusals (placeOf account) (restingOrder (listingAt (exchangeOf m) (placeOf contract)) number))) (firstOf shared)
   unfolding codeOf kindOf cancelRefusals pullRefusals
-  cancel-code number = first-append shared (ownerRefusals (account - 1) (restingOrder (listingAt (exchangeOf m) (contract - 1)) number)) (omega arith)
+  cancel-code number = first-append shared (ownerRefusals (placeOf account) (restingOrder (listingAt (exchangeOf m) (placeOf contract)) number)) (omega arith)
 
   pull-code : codeOf (exchangeOf m) (Pull account contract operator) ≡ firstOf shared
   unfolding codeOf kindOf
@@ -214,14 +213,14 @@ module _ {s : State} {buys sells trades : List ℕ} (w : WellFormedState s buys 
     pub contract-low : 1 ≤ contract
     contract-low = place-below contract (s .contractcount) (tests .1) .0
 
-    module _ {place : ℕ} (is : place ≡ contract - 1) where
+    module _ {place : ℕ} (is : place ≡ placeOf contract) where
       here : place < s .contractcount
       here = rw is (place-below contract (s .contractcount) (tests .1) .1)
 
       pub contract-fits : place < maxContracts
       contract-fits = omega (arith, here, f .contracts-high)
 
-      listing-is : listingAt (exchangeOf m) (contract - 1) ≡ listingIn m place
+      listing-is : listingAt (exchangeOf m) (placeOf contract) ≡ listingIn m place
       listing-is = rw (← is) (listing-at m f place here)
 
       -- the orders of the side, their count and their room
@@ -264,7 +263,7 @@ module _ {s : State} {buys sells trades : List ℕ} (w : WellFormedState s buys 
         short : (sell : Bool) → length (without test (orders sell)) ≤ maxResting
         short sell = omega (arith, length-without test (orders sell), length-queue (area sell) place (count sell), side-few sell)
 
-        pub lies : put m (withListing (exchangeOf m) (contract - 1) (listingWithout test (listingAt (exchangeOf m) (contract - 1))))
+        pub lies : put m (withListing (exchangeOf m) (placeOf contract) (listingWithout test (listingAt (exchangeOf m) (placeOf contract))))
             ≡ memory (withCountsIn s (set (s .buycounts) place bought) (set (s .sellcounts) place sold)) buys′ sells′ trades
         unfolding listingIn
         lies =
@@ -272,12 +271,12 @@ module _ {s : State} {buys sells trades : List ℕ} (w : WellFormedState s buys 
             (put-queues m f place here (without test (orders false)) (without test (orders true)) (short false) (short true)
             ∙ rw (b .queue, b .count, o .queue, o .count))
 
-        answer : {number lots : ℕ} → lots ≡ bid + offer → done (removed (exchangeOf m) (contract - 1) test number) .answer ≡ answerOf 0 number 0 lots
+        answer : {number lots : ℕ} → lots ≡ bid + offer → done (removed (exchangeOf m) (placeOf contract) test number) .answer ≡ answerOf 0 number 0 lots
         unfolding removed listingIn
         answer l = rw (listing-is, l, b .lots, o .lots)
 
         pub removal-accepted : (command : Command) {r : Outcome} {next : State} {number lots : ℕ} → codeOf (exchangeOf m) command ≡ 0
-            → kindOf (exchangeOf m) command .effect ≡ removed (exchangeOf m) (contract - 1) test number
+            → kindOf (exchangeOf m) command .effect ≡ removed (exchangeOf m) (placeOf contract) test number
             → next ≡ withCountsIn s (set (s .buycounts) place bought) (set (s .sellcounts) place sold) → lots ≡ bid + offer → r ≡ acceptedWith next number 0 lots
             → OutcomeIs (stepIn m command) r buys′ sells′ trades
         unfolding removed
@@ -290,16 +289,19 @@ module _ {s : State} {buys sells trades : List ℕ} (w : WellFormedState s buys 
         CancelIs r buys′ sells′ = OutcomeIs (stepIn m (Cancel account contract operator number)) r buys′ sells′ trades
 
         -- the first of the two queues that has the order decides
-        cancel-is : codeOf (exchangeOf m) (Cancel account contract operator number) ≡ firstOf (ownerRefusals (account - 1) (numbered number (orders false ++ orders true)))
+        cancel-is : codeOf (exchangeOf m) (Cancel account contract operator number) ≡ firstOf (ownerRefusals (placeOf account) (numbered number (orders false ++ orders true)))
         unfolding restingOrder listingIn
         cancel-is = cancel-code number ∙ rw (none, listing-is)
 
-        module _ {bid : Cancelled} {buys′ : List ℕ} (b : CancelledIs (account - 1) number buys place (count false) bid buys′) where
+        module _ {owner : ℕ} (mine : owner ≡ placeOf account) {bid : Cancelled} {buys′ : List ℕ} (among-buys : CancelledIs owner number buys place (count false) bid buys′) where
+          b : CancelledIs (placeOf account) number buys place (count false) bid buys′
+          b = rw mine at among-buys
+
           -- bid .code ≢ 14
           bid-code : bid .code ≢ 14 → codeOf (exchangeOf m) (Cancel account contract operator number) ≡ bid .code
           bid-code h =
               cancel-is
-              ∙ ap (λ (found : List Order). firstOf (ownerRefusals (account - 1) found)) (numbered-first number (orders false) (orders true) (found-code (account - 1) number (orders false) (λ e. h (b .code ∙ e))))
+              ∙ ap (λ (found : List Order). firstOf (ownerRefusals (placeOf account) found)) (numbered-first number (orders false) (orders true) (found-code (placeOf account) number (orders false) (λ e. h (b .code ∙ e))))
               ∙ sym (b .code)
 
           pub bid-done : {r : Outcome} {next : State} → bid .code ≡ 0
@@ -307,19 +309,22 @@ module _ {s : State} {buys sells trades : List ℕ} (w : WellFormedState s buys 
           unfolding kindOf cancelled
           bid-done e n a =
               removal-accepted (hasNumber number) (b .done e)
-              (removed-none (hasNumber number) sells place (count true) (side-room true) (apart number (found-code (account - 1) number (orders false) (λ z. omega (arith, b .code, e, z)))))
+              (removed-none (hasNumber number) sells place (count true) (side-room true) (apart number (found-code (placeOf account) number (orders false) (λ z. omega (arith, b .code, e, z)))))
               (Cancel account contract operator number) (bid-code (λ z. omega arith) ∙ e) refl n (omega arith) a
 
           pub bid-another : {r : Outcome} → bid .code ≡ 15 → r ≡ refusedWith s 15 → CancelIs r buys′ sells
           bid-another e a =
               rw (b .kept (λ z. omega arith)) (refusal s buys sells trades (Cancel account contract operator number) 15 (omega arith) (bid-code (λ z. omega arith) ∙ e) a)
 
-          module _ (p : bid .code ≢ 0) (q : bid .code ≢ 15) {offer : Cancelled} {sells′ : List ℕ} (o : CancelledIs (account - 1) number sells place (count true) offer sells′) where
+          module _ (p : bid .code ≢ 0) (q : bid .code ≢ 15) {offer : Cancelled} {sells′ : List ℕ} (among-sells : CancelledIs owner number sells place (count true) offer sells′) where
+            o : CancelledIs (placeOf account) number sells place (count true) offer sells′
+            o = rw mine at among-sells
+
             missing : indexOf number (orders false) ≡ length (orders false)
-            missing = missing-code (account - 1) number (orders false) (λ e. p (b .code ∙ e)) (λ e. q (b .code ∙ e))
+            missing = missing-code (placeOf account) number (orders false) (λ e. p (b .code ∙ e)) (λ e. q (b .code ∙ e))
 
             offer-code : codeOf (exchangeOf m) (Cancel account contract operator number) ≡ offer .code
-            offer-code = cancel-is ∙ ap (λ (found : List Order). firstOf (ownerRefusals (account - 1) found)) (numbered-append-none number (orders false) (orders true) missing) ∙ sym (o .code)
+            offer-code = cancel-is ∙ ap (λ (found : List Order). firstOf (ownerRefusals (placeOf account) found)) (numbered-append-none number (orders false) (orders true) missing) ∙ sym (o .code)
 
             pub offer-refused : {r : Outcome} → offer .code ≢ 0 → r ≡ refusedWith s (offer .code) → CancelIs r buys′ sells′
             offer-refused e a = rw (b .kept p, o .kept e) (refusal s buys sells trades (Cancel account contract operator number) (offer .code) (omega arith) offer-code a)
@@ -344,17 +349,21 @@ module _ {s : State} {buys sells trades : List ℕ} (w : WellFormedState s buys 
       side-lots false test = omega (arith, lots-high _ _ _ _ test (orders false) (in-range .orders false), length-queue buys place (count false), side-few false)
       side-lots true test = omega (arith, lots-high _ _ _ _ test (orders true) (in-range .orders true), length-queue sells place (count true), side-few true)
 
-      pub pulled-high : (sell : Bool) {p : Pulled} {area′ : List ℕ} → PulledIs (isOf (account - 1)) (area sell) place (count sell) p area′ → p .lots ≤ maxResting * maxLots
-      pulled-high sell b = rw (b .lots) (side-lots sell (isOf (account - 1)))
+      pub pulled-high : (sell : Bool) {owner : ℕ} → owner ≡ placeOf account → {stay gone : ℕ} {area′ : List ℕ} → RemovedIs (isOf owner) (area sell) place (count sell) stay gone area′ → gone ≤ maxResting * maxLots
+      pulled-high sell {owner} mine b = rw (b .lots) (side-lots sell (isOf owner))
 
-      pub pull-accepted : {r : Outcome} {next : State} {lots : ℕ} {bid offer : Pulled} {buys′ sells′ : List ℕ}
-          → PulledIs (isOf (account - 1)) buys place (count false) bid buys′ → PulledIs (isOf (account - 1)) sells place (count true) offer sells′
-          → next ≡ withCountsIn s (set (s .buycounts) place (bid .count)) (set (s .sellcounts) place (offer .count)) → lots ≡ bid .lots + offer .lots
-          → r ≡ acceptedWith next 0 0 lots → OutcomeIs (stepIn m (Pull account contract operator)) r buys′ sells′ trades
-      unfolding kindOf pulled
-      pull-accepted b o n l a =
-          removal-accepted (isOf (account - 1)) (record { queue = b .queue; count = b .count; lots = b .lots }) (record { queue = o .queue; count = o .count; lots = o .lots })
-          (Pull account contract operator) (pull-code ∙ none) refl n l a
+      module _ {owner : ℕ} (mine : owner ≡ placeOf account) {bought sold bid offer : ℕ} {buys′ sells′ : List ℕ}
+          (from-buys : RemovedIs (isOf owner) buys place (count false) bought bid buys′) (from-sells : RemovedIs (isOf owner) sells place (count true) sold offer sells′) where
+        own-buys : RemovedIs (isOf (placeOf account)) buys place (count false) bought bid buys′
+        own-buys = rw mine at from-buys
+
+        own-sells : RemovedIs (isOf (placeOf account)) sells place (count true) sold offer sells′
+        own-sells = rw mine at from-sells
+
+        pub pull-accepted : {r : Outcome} {next : State} {lots : ℕ} → next ≡ withCountsIn s (set (s .buycounts) place bought) (set (s .sellcounts) place sold) → lots ≡ bid + offer
+            → r ≡ acceptedWith next 0 0 lots → OutcomeIs (stepIn m (Pull account contract operator)) r buys′ sells′ trades
+        unfolding kindOf pulled
+        pull-accepted n l a = removal-accepted (isOf (placeOf account)) own-buys own-sells (Pull account contract operator) (pull-code ∙ none) refl n l a
 
   -- ---- refused by one of the tests that both kinds make first
 

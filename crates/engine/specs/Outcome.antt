@@ -1,5 +1,5 @@
--- What a kind gives and leaves, against the rules' response. Assumes nothing.
-use mathlib.Core.Bool.{Bool, not, _&&_}
+-- What a kind gives and leaves, against what the rules give and leave. Assumes nothing.
+use mathlib.Core.Bool.{Bool, false, not, _&&_}
 use mathlib.Core.List.{List}
 use mathlib.Core.Path.{_≡_}
 use Prim.Native.Nat.{ℕ}
@@ -7,7 +7,7 @@ use lib.Dec.{eqb}
 use lib.IntN.{ℤ}
 use lib.ListN.{getD, set}
 use Rattle.rules.specs.Bounds.{continuous, inAuction}
-use Rattle.rules.specs.Answers.{Refusal, firstOf}
+use Rattle.rules.specs.Answers.{Refusal, absentRefusals, firstOf}
 use Rattle.rules.specs.Exchange.{Exchange, isAbsent, noAccount, noContract, placeOf}
 use Rattle.rules.specs.Step.{answerOf, withBalance, withPhase}
 use Rattle.rules.specs.Memory.{AfterCommand, Declared, exchangeOf, memory}
@@ -17,13 +17,19 @@ use Rattle.rules.specs.declared.State.{State}
 use Rattle.engine.specs.declared.answers.Outcome.{Outcome}
 
 -- the answer, the state, and the full content of the three areas
-pub record OutcomeIs (response : AfterCommand) (r : Outcome) (buys sells trades : List ℕ) : Type 0 where
-  pub answer : r .answer ≡ response .answer
-  pub memory : memory (r .state) buys sells trades ≡ response .memory
+pub record OutcomeIs (after : AfterCommand) (r : Outcome) (buys sells trades : List ℕ) : Type 0 where
+  pub answer : r .answer ≡ after .answer
+  pub memory : memory (r .state) buys sells trades ≡ after .memory
 
 -- a code that is the first of some refusals on a state, whatever the areas lent with it hold: they are not read
 abbrev pub CodeIn : State → (Exchange → List Refusal) → ℕ → Type 0
 CodeIn s refusals code = Declared s → (buys sells trades : List ℕ) → code ≡ firstOf (refusals (exchangeOf (memory s buys sells trades)))
+
+-- 2 and 3 in any state with so many accounts and contracts in use; code 0 says that the account and the contract are
+pub record AbsentIs (accounts contracts account contract code : ℕ) : Type 0 where
+  pub first : (s : State) → s .accountcount ≡ accounts → s .contractcount ≡ contracts → CodeIn s (λ x. absentRefusals x account contract) code
+  pub account-in-use : code ≡ 0 → isAbsent account accounts ≡ false
+  pub contract-in-use : code ≡ 0 → isAbsent contract contracts ≡ false
 
 -- a change of a contract's state that makes a match: from auction to continuous
 unfoldable pub isMatch : State → ℕ → ℕ → Bool
@@ -72,12 +78,12 @@ withAccountsIn s accounts =
 
 -- other counts of resting orders
 abbrev pub withCountsIn : State → List ℕ → List ℕ → State
-withCountsIn s buys sells =
+withCountsIn s buycounts sellcounts =
     record {
       contracts = s .contracts;
       accounts = s .accounts;
-      buycounts = buys;
-      sellcounts = sells;
+      buycounts = buycounts;
+      sellcounts = sellcounts;
       contractcount = s .contractcount;
       accountcount = s .accountcount;
       tradecount = s .tradecount;

@@ -1,7 +1,9 @@
 // Answers, and the tests that several kinds share.
 ghost use mathlib.Core.Path.{_≡_};
+ghost use Prim.Native.Nat.{_≤_};
+ghost use Rattle.rules.specs.Bounds.{maxAccounts};
 ghost use Rattle.rules.specs.Exchange.{isAbsent};
-ghost use Rattle.engine.specs.Outcome.{refusedWith, acceptedWith};
+ghost use Rattle.engine.specs.Outcome.{AbsentIs, refusedWith, acceptedWith};
 use rules::Answer;
 use rules::State;
 
@@ -48,4 +50,19 @@ pub fn is_absent(number: u32, count: usize) -> bool
         return true;
     }
     count < laws::wide(number)
+}
+
+// 2 and 3: "account 0 or absent", "contract 0 or absent"; 0 where both are there. It takes the state's two counts and not the state,
+// which a call would copy. Requires at most 32 accounts.
+pub fn absent_code(accounts: usize, contracts: usize, account: u32, contract: u32) -> u32
+    requires { ⌜ accounts ≤ maxAccounts ⌝ }
+    ensures { λ r. ⌜ AbsentIs accounts contracts account contract r ⌝ }
+{
+    if is_absent(account, accounts) {
+        return 2;
+    }
+    if is_absent(contract, contracts) {
+        return 3;
+    }
+    0
 }

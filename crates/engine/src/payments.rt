@@ -90,16 +90,16 @@ pub fn withdraw<'a>(
     let left = who.balance - amount as i64;
     let holdings = who.holdings;
     let terms = state.contracts;
-    let bids = state.buycounts;
-    let offers = state.sellcounts;
+    let buycounts = state.buycounts;
+    let sellcounts = state.sellcounts;
     let charged = margin::charged(
         holdings,
         terms,
         state.contractcount,
         buys,
-        bids,
+        buycounts,
         sells,
-        offers,
+        sellcounts,
         place,
     );
     if margin::too_little(left, charged) {

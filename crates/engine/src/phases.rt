@@ -2,9 +2,8 @@
 ghost use mathlib.Core.Bool.{false};
 ghost use mathlib.Core.Path.{_≡_};
 ghost use Prim.Native.Nat.{_<_, _≤_};
-ghost use Rattle.rules.specs.Bounds.{maxContracts};
+ghost use Rattle.rules.specs.Bounds.{maxContracts, phaseKnown};
 ghost use Rattle.rules.specs.Answers.{changeListed};
-ghost use Rattle.rules.specs.Command.{phaseKnown};
 ghost use Rattle.rules.specs.Memory.{stepIn, memory, WellFormedState};
 ghost use Rattle.rules.specs.declared.Command.the-variants.{Phase};
 ghost use Rattle.engine.specs.Outcome.{OutcomeIs, isMatch, withPhaseAt};
@@ -13,6 +12,7 @@ use crate::answers::Outcome;
 use rules::AUCTION;
 use rules::CLOSED;
 use rules::CONTINUOUS;
+use rules::MAX_PHASE;
 use rules::NO_TRADING;
 use rules::PRE_OPEN;
 use rules::State;
@@ -43,7 +43,7 @@ fn is_listed(from: u32, to: u32) -> bool
 fn is_known(phase: u32) -> bool
     ensures { λ r. ⌜ r ≡ phaseKnown phase ⌝ }
 {
-    phase <= AUCTION
+    phase <= MAX_PHASE
 }
 
 // Whether a change is the one that makes a match: from auction to continuous. Requires at most 4 contracts.

@@ -37,11 +37,9 @@ fn refusal(state: State, account: u32, contract: u32, operator: bool) -> u32
     requires { ⌜ (state .contractcount ≤ maxContracts) × (state .accountcount ≤ maxAccounts) ⌝ }
     ensures { λ r. ⌜ CodeIn state (λ x. pullRefusals x account contract operator) r ⌝ }
 {
-    if answers::is_absent(account, state.accountcount) {
-        return 2;
-    }
-    if answers::is_absent(contract, state.contractcount) {
-        return 3;
+    let absent = answers::absent_code(state.accountcount, state.contractcount, account, contract);
+    if absent != 0 {
+        return absent;
     }
     let place = laws::place_of(contract);
     let contracts = state.contracts;
@@ -58,12 +56,12 @@ pub fn with_counts(state: State, c: usize, bought: usize, sold: usize) -> State
     ensures { λ r. ⌜ r ≡ withCountsIn state (set (state .buycounts) c bought) (set (state .sellcounts) c sold) ⌝ }
 {
     let mut next = state;
-    let mut bids = state.buycounts;
-    let mut offers = state.sellcounts;
-    bids[c] = bought;
-    offers[c] = sold;
-    next.buycounts = bids;
-    next.sellcounts = offers;
+    let mut buycounts = state.buycounts;
+    let mut sellcounts = state.sellcounts;
+    buycounts[c] = bought;
+    sellcounts[c] = sold;
+    next.buycounts = buycounts;
+    next.sellcounts = sellcounts;
     next
 }
 
@@ -121,18 +119,19 @@ pub fn cancel(
         return answers::refused(state, code);
     }
     let c = laws::place_of(contract);
-    let bids = state.buycounts;
-    let offers = state.sellcounts;
-    let bought = bids[c];
-    let sold = offers[c];
-    let bid = cancel_in(buys, c, bought, account - 1, number);
+    let a = laws::place_word(account);
+    let buycounts = state.buycounts;
+    let sellcounts = state.sellcounts;
+    let bought = buycounts[c];
+    let sold = sellcounts[c];
+    let bid = cancel_in(buys, c, bought, a, number);
     if bid.code == 0 {
         return answers::accepted(with_counts(state, c, bid.count, sold), number, 0, bid.lots);
     }
     if bid.code == 15 {
         return answers::refused(state, 15);
     }
-    let offer = cancel_in(sells, c, sold, account - 1, number);
+    let offer = cancel_in(sells, c, sold, a, number);
     if offer.code != 0 {
         return answers::refused(state, offer.code);
     }
@@ -161,12 +160,13 @@ pub fn pull(
         return answers::refused(state, code);
     }
     let c = laws::place_of(contract);
-    let bids = state.buycounts;
-    let offers = state.sellcounts;
-    let bought = bids[c];
-    let sold = offers[c];
-    let bid = book::removal::pull(buys, c, bought, account - 1, false);
-    let offer = book::removal::pull(sells, c, sold, account - 1, false);
+    let a = laws::place_word(account);
+    let buycounts = state.buycounts;
+    let sellcounts = state.sellcounts;
+    let bought = buycounts[c];
+    let sold = sellcounts[c];
+    let bid = book::removal::pull(buys, c, bought, a, false);
+    let offer = book::removal::pull(sells, c, sold, a, false);
     let lots = (bid.lots + offer.lots) as u32;
     answers::accepted(with_counts(state, c, bid.count, offer.count), 0, 0, lots)
 }

@@ -9,6 +9,7 @@ use native.Mathlib.Omega.{arith}
 use lib.Dec.{eqb, eqb·suc-zero}
 use lib.ListN.{getD}
 use Rattle.laws.specs.Choice.{all, all-ext, allOf, allOf-all}
+use Rattle.rules.specs.Bounds.{closed, maxSettlements}
 use Rattle.rules.specs.Kinds.{codeOf, decide, kindOf}
 use Rattle.rules.specs.Answers.{firstOf, settleRefusals}
 use Rattle.rules.specs.Command.{isSettle}
@@ -52,24 +53,24 @@ module _ {s : State} {buys sells trades : List ℕ} (k : WellFormedState s buys 
   f : Formed m
   f = formed k
 
-  closed-test : allOf (λ l. eqb (l .contract .phase) 3) (exchangeOf m .listings) ≡ all (λ c. eqb (getD (s .contracts) c noContract .phase) 3) (s .contractcount)
+  closed-test : allOf (λ l. eqb (l .contract .phase) closed) (exchangeOf m .listings) ≡ all (λ c. eqb (getD (s .contracts) c noContract .phase) closed) (s .contractcount)
   unfolding listingIn listingAt
   closed-test =
-      allOf-all (λ l. eqb (l .contract .phase) 3) (exchangeOf m .listings) noListing
-      ∙ ap (λ (n : ℕ). all (λ i. eqb (getD (exchangeOf m .listings) i noListing .contract .phase) 3) n) (contracts-count m f)
-      ∙ all-ext _ _ (s .contractcount) (λ c h. ap (λ (l : Listing). eqb (l .contract .phase) 3) (listing-at m f c h))
+      allOf-all (λ l. eqb (l .contract .phase) closed) (exchangeOf m .listings) noListing
+      ∙ ap (λ (n : ℕ). all (λ i. eqb (getD (exchangeOf m .listings) i noListing .contract .phase) closed) n) (contracts-count m f)
+      ∙ all-ext _ _ (s .contractcount) (λ c h. ap (λ (l : Listing). eqb (l .contract .phase) closed) (listing-at m f c h))
 
-  pub settle-open : all (λ c. eqb (getD (s .contracts) c noContract .phase) 3) (s .contractcount) ≡ false → codeOf (exchangeOf m) Settle ≡ 18
+  pub settle-open : all (λ c. eqb (getD (s .contracts) c noContract .phase) closed) (s .contractcount) ≡ false → codeOf (exchangeOf m) Settle ≡ 18
   unfolding codeOf kindOf settleRefusals firstOf
   settle-open e = rw (closed-test, e)
 
-  pub settle-many : all (λ c. eqb (getD (s .contracts) c noContract .phase) 3) (s .contractcount) ≡ true → 250 ≤ s .settlements → codeOf (exchangeOf m) Settle ≡ 19
+  pub settle-many : all (λ c. eqb (getD (s .contracts) c noContract .phase) closed) (s .contractcount) ≡ true → maxSettlements ≤ s .settlements → codeOf (exchangeOf m) Settle ≡ 19
   unfolding codeOf kindOf settleRefusals firstOf exchangeOf
-  settle-many e h = rw (closed-test, e, le-leb 250 (s .settlements) h)
+  settle-many e h = rw (closed-test, e, le-leb maxSettlements (s .settlements) h)
 
-  pub settle-none : all (λ c. eqb (getD (s .contracts) c noContract .phase) 3) (s .contractcount) ≡ true → s .settlements < 250 → codeOf (exchangeOf m) Settle ≡ 0
+  pub settle-none : all (λ c. eqb (getD (s .contracts) c noContract .phase) closed) (s .contractcount) ≡ true → s .settlements < maxSettlements → codeOf (exchangeOf m) Settle ≡ 0
   unfolding codeOf kindOf settleRefusals firstOf exchangeOf
-  settle-none e h = rw (closed-test, e, lt-leb 250 (s .settlements) h)
+  settle-none e h = rw (closed-test, e, lt-leb maxSettlements (s .settlements) h)
 
   -- a settlement refused, and one made
   refused-with : (code : ℕ) (o : Outcome) (r : Response) → codeOf (exchangeOf m) Settle ≡ suc code → o ≡ record { answer = answerOf (suc code) 0 0 0; state = s }

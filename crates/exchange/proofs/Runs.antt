@@ -7,7 +7,7 @@ use native.Mathlib.Numerals.{add-one}
 use lib.ListN.{length}
 use Rattle.laws.specs.Tabulate.{tabulate, tabulate-last}
 use Rattle.rules.specs.Condition3.{run}
-use Rattle.rules.specs.DayFile.{commandFrom}
+use Rattle.rules.specs.DayFile.{commandFrom, commandWidth}
 use Rattle.rules.specs.Memory.{Declared, Memory, respond, stepIn, wellFormedMemory, memory, WellFormedState}
 use Rattle.rules.specs.declared.Command.{Command}
 use Rattle.rules.specs.declared.State.{State}
@@ -37,20 +37,20 @@ module _ (m : Memory) (d : Declared (m .state)) (bytes : List ℕ) where
         }
 
     -- one more
-    pub one-more : (k : ℕ) (m′ : Memory) → stepIn (run m (firstCommands bytes k)) (commandFrom bytes (24 * k)) .memory ≡ m′
+    pub one-more : (k : ℕ) (m′ : Memory) → stepIn (run m (firstCommands bytes k)) (commandFrom bytes (commandWidth * k)) .memory ≡ m′
         → m′ ≡ run m (firstCommands bytes (k + 1))
     unfolding firstCommands respond
     one-more k m′ e =
         sym e
-        ∙ sym (rw (add-one k, tabulate-last k (λ i. commandFrom bytes (24 * i)), run-last m (tabulate k (λ i. commandFrom bytes (24 * i))) (commandFrom bytes (24 * k)), run-keeps m (tabulate k (λ i. commandFrom bytes (24 * i))) w))
+        ∙ sym (rw (add-one k, tabulate-last k (λ i. commandFrom bytes (commandWidth * i)), run-last m (tabulate k (λ i. commandFrom bytes (commandWidth * i))) (commandFrom bytes (commandWidth * k)), run-keeps m (tabulate k (λ i. commandFrom bytes (commandWidth * i))) w))
 
-    pub all-ran : (k : ℕ) (m′ : Memory) → k ≡ length bytes / 24 → m′ ≡ run m (firstCommands bytes k) → RanIs m (wholeCommands bytes) m′
+    pub all-ran : (k : ℕ) (m′ : Memory) → k ≡ length bytes / commandWidth → m′ ≡ run m (firstCommands bytes k) → RanIs m (wholeCommands bytes) m′
     all-ran k m′ e h = ran-is m d (wholeCommands bytes) (subst (λ (n : ℕ). m′ ≡ run m (firstCommands bytes n)) e h)
 
     -- a turn of the loop
     pub one-turn : (k : ℕ) {s : State} {buys sells trades : List ℕ} {m′ : Memory} → memory s buys sells trades ≡ run m (firstCommands bytes k)
-        → m′ ≡ stepIn (memory s buys sells trades) (commandFrom bytes (24 * k)) .memory → m′ ≡ run m (firstCommands bytes (k + 1))
-    one-turn k {m′ = m′} e h = one-more k m′ (sym (h ∙ ap (λ (v : Memory). stepIn v (commandFrom bytes (24 * k)) .memory) e))
+        → m′ ≡ stepIn (memory s buys sells trades) (commandFrom bytes (commandWidth * k)) .memory → m′ ≡ run m (firstCommands bytes (k + 1))
+    one-turn k {m′ = m′} e h = one-more k m′ (sym (h ∙ ap (λ (v : Memory). stepIn v (commandFrom bytes (commandWidth * k)) .memory) e))
 
 -- before the first command
 pub none-ran : (m : Memory) (bytes : List ℕ) → m ≡ run m (firstCommands bytes 0)

@@ -1,4 +1,4 @@
--- What a public call gives and leaves, against the rules' response, and what a settlement reports. Assumes nothing.
+-- What a public call gives and leaves, against what the rules give and leave, and what a settlement reports. Assumes nothing.
 use mathlib.Core.Bool.{_&&_}
 use mathlib.Core.List.{List}
 use mathlib.Core.Path.{_≡_}

@@ -22,20 +22,20 @@ module _ (state : State) (sell : Bool) (contract : ℕ) where
   unfolding sideCount
   no-number h = rw (lt-leb 1 contract h)
 
-  pub no-place : 4 < contract → 0 ≡ sideCount state sell contract
+  pub no-place : maxContracts < contract → 0 ≡ sideCount state sell contract
   unfolding sideCount
   no-place h =
       let some : 1 ≤ contract = omega arith in
-      rw (le-leb 1 contract some, lt-leb contract 4 h)
+      rw (le-leb 1 contract some, lt-leb contract maxContracts h)
 
-  module _ (some : 1 ≤ contract) (placed : contract ≤ 4) where
+  module _ (some : 1 ≤ contract) (placed : contract ≤ maxContracts) where
     pub count-of-sells : sell ≡ true → getD (state .sellcounts) (contract - 1) 0 ≡ sideCount state sell contract
     unfolding sideCount
-    count-of-sells e = rw (le-leb 1 contract some, le-leb contract 4 placed, e)
+    count-of-sells e = rw (le-leb 1 contract some, le-leb contract maxContracts placed, e)
 
     pub count-of-buys : sell ≡ false → getD (state .buycounts) (contract - 1) 0 ≡ sideCount state sell contract
     unfolding sideCount
-    count-of-buys e = rw (le-leb 1 contract some, le-leb contract 4 placed, e)
+    count-of-buys e = rw (le-leb 1 contract some, le-leb contract maxContracts placed, e)
 
 -- ---- where the queue asked for stands
 
@@ -53,7 +53,7 @@ module _ (buys sells : List ℕ) (sell : Bool) (contract contracts count : ℕ) 
       by-test false e = e
 
   -- a contract with a queue has a place in the state
-  in-place : noQueue (pick sell sells buys) contract contracts count ≡ false → (1 ≤ contract) × (contract ≤ 4)
+  in-place : noQueue (pick sell sells buys) contract contracts count ≡ false → (1 ≤ contract) × (contract ≤ maxContracts)
   unfolding noQueue
   in-place e =
       let short = ltb (length (pick sell sells buys)) (firstWord (contract - 1) count) in
@@ -87,10 +87,10 @@ module _ (state : State) (buys sells : List ℕ) (sell : Bool) (contract : ℕ) 
     a-queue : noQueue (pick sell sells buys) contract (state .contractcount) (sideCount state sell contract) ≡ false
     a-queue = has-queue buys sells sell contract (state .contractcount) (sideCount state sell contract) some-words
 
-    pub placed : (1 ≤ contract) × (contract ≤ 4)
+    pub placed : (1 ≤ contract) × (contract ≤ maxContracts)
     placed = in-place buys sells sell contract (state .contractcount) (sideCount state sell contract) a-queue
 
-    pub whole-part : SideIs state buys sells sell contract (record { first = 448 * (contract - 1); words = length queue })
+    pub whole-part : SideIs state buys sells sell contract (record { first = queueStride * (contract - 1); words = length queue })
     whole-part =
         record {
           first = rw (ne-eqb (length (askedWords state buys sells sell contract)) 0 some-words);

@@ -3,13 +3,13 @@
 use mathlib.Core.Bool.{Bool}
 use mathlib.Core.List.{List}
 use mathlib.Core.Path.{_≡_}
-use Prim.Native.Nat.{ℕ, _-_, _*_}
+use Prim.Native.Nat.{ℕ, _*_}
 use lib.Dec.{eqb}
 use lib.ListN.{length, getD, take, drop, replicate}
 use Rattle.laws.specs.Choice.{pick}
 use Rattle.rules.specs.Bounds.{maxAccounts, maxContracts, within}
 use Rattle.rules.specs.DayFile.{commandPlace, commandsIn, sound}
-use Rattle.rules.specs.Exchange.{noContract}
+use Rattle.rules.specs.Exchange.{noContract, placeOf}
 use Rattle.rules.specs.Memory.{queueStride}
 use Rattle.rules.specs.declared.State.{State}
 use Rattle.rules.specs.Side.{sideWords}
@@ -48,7 +48,7 @@ openedFrom file =
 -- the state's count of that side's orders; a contract that no state has a place for has none
 unfoldable pub sideCount : State → Bool → ℕ → ℕ
 sideCount state sell contract =
-    pick (within 1 maxContracts contract) (getD (pick sell (state .sellcounts) (state .buycounts)) (contract - 1) 0) 0
+    pick (within 1 maxContracts contract) (getD (pick sell (state .sellcounts) (state .buycounts)) (placeOf contract) 0) 0
 
 -- "the answer is the queue asked for"
 abbrev pub askedWords : State → List ℕ → List ℕ → Bool → ℕ → List ℕ
@@ -56,6 +56,6 @@ askedWords state buys sells sell contract = sideWords buys sells sell contract (
 
 -- ".. as a part of whichever lent area holds it": where the part begins and how many words it has; an empty one begins at 0
 pub record SideIs (state : State) (buys sells : List ℕ) (sell : Bool) (contract : ℕ) (r : Part) : Type 0 where
-  pub first : r .first ≡ pick (eqb (length (askedWords state buys sells sell contract)) 0) 0 (queueStride * (contract - 1))
+  pub first : r .first ≡ pick (eqb (length (askedWords state buys sells sell contract)) 0) 0 (queueStride * placeOf contract)
   pub words : r .words ≡ length (askedWords state buys sells sell contract)
   pub part : take (r .words) (drop (r .first) (pick sell sells buys)) ≡ askedWords state buys sells sell contract

@@ -1,6 +1,6 @@
 // The library for programs in other languages. Each export is a proved call under a C name: none requires anything, and each
-// promises what that call promises, by the same definition. `tools/make_header.py` makes `include/zelvorm.h` from this file, and
-// what stands above a call here stands above it there.
+// promises what that call promises, by the same definition, but for a day file opened and one side's orders, which have definitions of
+// their own. `tools/make_header.py` makes `include/zelvorm.h` from this file, and what stands above a call here stands above it there.
 ghost use mathlib.Core.Path.{_≡_};
 ghost use Prim.Native.Nat.{_/_};
 ghost use lib.ListN.{length};
@@ -33,11 +33,6 @@ pub mod side;
 
 use crate::day::Opened;
 use crate::side::Part;
-
-// How many words the areas of buys and of sells need for every contract, and the area of trades for a day.
-pub const QUEUES_WORDS: usize = rules::QUEUE_STRIDE * rules::MAX_CONTRACTS;
-
-pub const TRADES_WORDS: usize = rules::TRADE_STRIDE * rules::MAX_TRADES;
 
 // The flags of an insert: what is not set is a buy, an open, limit and good for day.
 pub const FLAG_SELL: u8 = 1;

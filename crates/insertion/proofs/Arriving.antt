@@ -21,7 +21,7 @@ use Rattle.book.proofs.Trading.{all-booked}
 use Rattle.matching.specs.Entry.{EntryIs, EntryReady}
 use Rattle.matching.specs.declared.entry.Entry.{Entry}
 use Rattle.refusals.specs.Insertion.{sideArea}
-use Rattle.insertion.specs.Arrival.{Arrived, Arriving, EnteredIs, Ready, countOf, enteredFor, takerIn}
+use Rattle.insertion.specs.Arrival.{Arrived, Arriving, ArrivedIs, Ready, countOf, enteredFor, takerIn}
 use Rattle.insertion.specs.declared.Arrival.{Arrival}
 
 -- ---- an order that arrives; t and the price are as the code makes them
@@ -105,5 +105,5 @@ module _ {accounts : List Account} {a : Arrival} (buys sells : List ℕ) {area :
 
   pub side-entered : {r : Entry} (buys′ sells′ : List ℕ) {area′ : List ℕ}
       → Arrived accounts a (sideArea side buys sells) (countOf side a) (sideArea (not side) buys sells) (countOf (not side) a) area r (sideArea side buys′ sells′) (sideArea (not side) buys′ sells′) area′
-      → EnteredIs accounts a buys sells area r buys′ sells′ area′
+      → ArrivedIs accounts a buys sells area r buys′ sells′ area′
   side-entered buys′ sells′ = rw es (λ arrived. arrived)

@@ -3,7 +3,7 @@
 use mathlib.Core.Bool.{Bool, true, false, not}
 use mathlib.Core.List.{List}
 use mathlib.Core.Path.{_≡_, refl, sym, ap, _∙_}
-use Prim.Native.Nat.{ℕ, _+_, _-_, _<_, _≤_}
+use Prim.Native.Nat.{ℕ, _+_, _<_, _≤_}
 use native.Mathlib.Omega.{arith}
 use borrow.Author.Tests.{le-ltb, ltb-false}
 use lib.ListN.{length, getD}
@@ -34,7 +34,7 @@ use Rattle.invariants.proofs.Marks.{Marks, no-mark}
 use Rattle.invariants.proofs.MemoryKeeps.{sound}
 use Rattle.invariants.proofs.Traded.{traded-counted}
 use Rattle.refusals.specs.Insertion.{Present, sideArea, sideCount}
-use Rattle.insertion.specs.Arrival.{Enterable, EnteredIs, Ready, arrivalOf, countOf, enteredFor, enteredIn, withEntry}
+use Rattle.insertion.specs.Arrival.{Enterable, ArrivedIs, Ready, arrivalOf, countOf, enteredFor, enteredIn, withEntry}
 use Rattle.insertion.specs.declared.Arrival.{Arrival}
 use Rattle.engine.specs.Outcome.{OutcomeIs, acceptedWith}
 use Rattle.engine.specs.declared.answers.Outcome.{Outcome}
@@ -217,7 +217,7 @@ module _ {s : State} {buys sells trades : List ℕ} (w : WellFormedState s buys 
   lent-sells buys′ sells′ false = refl
 
   module _ {a : Arrival} (is : a ≡ arrivalOf s o number quote) {r : Entry} (buys′ sells′ : List ℕ) {trades′ : List ℕ}
-      (arrived : EnteredIs (s .accounts) a buys sells trades r buys′ sells′ trades′) where
+      (arrived : ArrivedIs (s .accounts) a buys sells trades r buys′ sells′ trades′) where
     entry : EntryIs entered c (sideArea (o .sell) buys sells) (sideCount (o .sell) s c) (sideArea (not (o .sell)) buys sells) (sideCount (not (o .sell)) s c) trades (s .tradecount) (termsIn .last) (s .accounts) r
         (sideArea (o .sell) buys′ sells′) (sideArea (not (o .sell)) buys′ sells′) trades′
     entry = (rw (is, count-is (o .sell), count-is (not (o .sell))) at arrived) .entry

@@ -6,12 +6,13 @@ use mathlib.Core.Path.{_≡_}
 use Prim.Native.Nat.{ℕ, _+_, _<_, _≤_}
 use lib.ListN.{length, getD, set}
 use Rattle.laws.specs.Choice.{pick}
-use Rattle.rules.specs.Answers.{isGoodForDay, listingOf, tradesRefused, takerFor}
+use Rattle.rules.specs.Answers.{listingOf, tradesRefused, takerFor}
 use Rattle.rules.specs.Bounds.{inAuction, maxLots, maxResting, numbersEnd}
 use Rattle.rules.specs.Exchange.{noContract, own, placeOf}
-use Rattle.rules.specs.Matching.{Entered, enter, restWhole, tradedLots}
-use Rattle.rules.specs.Memory.{Memory, AfterCommand, exchangeOf, firstWord, memory, put, queueIn}
-use Rattle.rules.specs.Step.{answerOf, enteredOf, exchangeAfter, limitOf, listingAfter, withLast}
+use Rattle.rules.specs.Matching.{Entered}
+use Rattle.rules.specs.Kinds.{done}
+use Rattle.rules.specs.Memory.{Memory, AfterCommand, exchangeOf, firstWord, inMemory, memory, queueIn}
+use Rattle.rules.specs.Step.{enteredAmong, enteredAs, enteredOf, exchangeAfter, listingAfter, withLast}
 use Rattle.rules.specs.WellFormed.{wellFormedContents}
 use Rattle.rules.specs.declared.Account.{Account}
 use Rattle.rules.specs.declared.NewOrder.{NewOrder}
@@ -38,11 +39,7 @@ pub record Enterable (s : State) (buys sells trades : List ℕ) (o : NewOrder) (
 
 -- the answer to it, and what it leaves
 abbrev pub enteredIn : Memory → NewOrder → ℕ → ℕ → ℕ → AfterCommand
-enteredIn m o number quote next =
-    record {
-      answer = answerOf 0 number (tradedLots (enteredOf (exchangeOf m) number quote o .trades)) (enteredOf (exchangeOf m) number quote o .rested);
-      memory = put m (exchangeAfter (exchangeOf m) o (enteredOf (exchangeOf m) number quote o) next);
-    }
+enteredIn m o number quote next = inMemory m (done (enteredAs (exchangeOf m) o number quote next))
 
 -- ---- the order entered
 
@@ -71,10 +68,7 @@ takerIn a opposite = takerFor (a .number) (a .quote) (a .stamp) (a .terms) oppos
 
 -- what it trades and leaves: in auction it rests whole
 abbrev pub enteredFor : Arrival → List Order → List Order → Entered
-enteredFor a own opposite =
-    pick (inAuction (a .terms))
-    (restWhole (takerIn a opposite) (a .order .lots) (limitOf (a .order .condition)) own opposite)
-    (enter (takerIn a opposite) (a .order .lots) (limitOf (a .order .condition)) (isGoodForDay (a .order .time)) (a .terms .last) own opposite)
+enteredFor a own opposite = enteredAmong (a .terms) (takerIn a opposite) (a .order) own opposite
 
 -- ready to be entered on a side that lies in `owns`, against one that lies in `opposites`: room for what rests, and outside auction all
 -- that a sweep asks for
@@ -94,8 +88,8 @@ abbrev pub Ready : List Account → Arrival → List ℕ → List ℕ → List �
 Ready accounts a buys sells area =
     Arriving accounts a (sideArea (a .order .sell) buys sells) (countOf (a .order .sell) a) (sideArea (not (a .order .sell)) buys sells) (countOf (not (a .order .sell)) a) area
 
-abbrev pub EnteredIs : List Account → Arrival → List ℕ → List ℕ → List ℕ → Entry → List ℕ → List ℕ → List ℕ → Type 0
-EnteredIs accounts a buys sells area r buys′ sells′ area′ =
+abbrev pub ArrivedIs : List Account → Arrival → List ℕ → List ℕ → List ℕ → Entry → List ℕ → List ℕ → List ℕ → Type 0
+ArrivedIs accounts a buys sells area r buys′ sells′ area′ =
     Arrived accounts a (sideArea (a .order .sell) buys sells) (countOf (a .order .sell) a) (sideArea (not (a .order .sell)) buys sells) (countOf (not (a .order .sell)) a) area r
     (sideArea (a .order .sell) buys′ sells′) (sideArea (not (a .order .sell)) buys′ sells′) area′
 

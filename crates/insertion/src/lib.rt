@@ -10,7 +10,7 @@ ghost use Rattle.laws.specs.Choice.{pick};
 ghost use Rattle.rules.specs.Exchange.{placeOf};
 ghost use Rattle.rules.specs.Memory.{stepIn, memory, WellFormedState};
 ghost use Rattle.rules.specs.declared.Command.the-variants.{Insert};
-ghost use Rattle.insertion.specs.Arrival.{Arriving, Arrived, EnteredIs, Ready, arrivalOf, withEntry};
+ghost use Rattle.insertion.specs.Arrival.{Arriving, Arrived, ArrivedIs, Ready, arrivalOf, withEntry};
 ghost use Rattle.engine.specs.Outcome.{OutcomeIs};
 use engine::answers;
 use engine::answers::Outcome;
@@ -45,15 +45,15 @@ pub fn arrival_of(state: State, o: NewOrder, number: u32, quote: u32) -> Arrival
 {
     let place = laws::place_of(o.contract);
     let contracts = state.contracts;
-    let bids = state.buycounts;
-    let offers = state.sellcounts;
+    let buycounts = state.buycounts;
+    let sellcounts = state.sellcounts;
     let terms = contracts[place];
     Arrival {
         order: o,
         terms,
         place,
-        bought: bids[place],
-        sold: offers[place],
+        bought: buycounts[place],
+        sold: sellcounts[place],
         recorded: state.tradecount,
         number,
         stamp: state.nextstamp,
@@ -128,7 +128,7 @@ pub fn enter(
     trades: &mut [u32],
 ) -> Entry
     requires { ⌜ Ready accounts a (now buys) (now sells) (now trades) ⌝ }
-    ensures { λ r. ⌜ EnteredIs accounts a (now (buys .entry)) (now (sells .entry)) (now (trades .entry)) r (now (buys .exit)) (now (sells .exit)) (now (trades .exit)) ⌝ }
+    ensures { λ r. ⌜ ArrivedIs accounts a (now (buys .entry)) (now (sells .entry)) (now (trades .entry)) r (now (buys .exit)) (now (sells .exit)) (now (trades .exit)) ⌝ }
 {
     let o = a.order;
     if o.sell {
@@ -152,19 +152,19 @@ pub fn with_entry(state: State, a: Arrival, e: Entry, next: u32) -> State
     let o = a.order;
     let c = a.place;
     let mut contracts = state.contracts;
-    let mut bids = state.buycounts;
-    let mut offers = state.sellcounts;
+    let mut buycounts = state.buycounts;
+    let mut sellcounts = state.sellcounts;
     let accounts = e.accounts;
     let mut terms = a.terms;
     terms.last = e.last;
     contracts[c] = terms;
-    bids[c] = by_side(o.sell, e.opposite, e.own);
-    offers[c] = by_side(o.sell, e.own, e.opposite);
+    buycounts[c] = by_side(o.sell, e.opposite, e.own);
+    sellcounts[c] = by_side(o.sell, e.own, e.opposite);
     State {
         contracts,
         accounts,
-        buycounts: bids,
-        sellcounts: offers,
+        buycounts,
+        sellcounts,
         contractcount: state.contractcount,
         accountcount: state.accountcount,
         tradecount: e.made,
@@ -195,9 +195,9 @@ pub fn insert(
         return answers::refused(state, refusal);
     }
     let number = state.next;
-    let arriving = arrival_of(state, o, number, 0);
+    let arrival = arrival_of(state, o, number, 0);
     let accounts = state.accounts;
-    let e = enter(accounts, arriving, buys, sells, trades);
-    let after = with_entry(state, arriving, e, number + 1);
+    let e = enter(accounts, arrival, buys, sells, trades);
+    let after = with_entry(state, arrival, e, number + 1);
     answers::accepted(after, number, e.traded, e.rested)
 }

@@ -15,8 +15,8 @@ use Rattle.laws.specs.Choice.{pick, allOf, allOf-append, both-true, true-both, 
 use Rattle.laws.specs.Sums.{sumOf, sumOf-append, sumOf-at, sumOf-set}
 use Rattle.rules.specs.Answers.{Refusal, firstOf, listingOf, namedRefusals, noSuchOrder, notContinuous, numbered, ownerRefusals, restingOrder, tradesRefused}
 use Rattle.rules.specs.Bounds.{allowedToday, maxLots, maxResting, numbersEnd}
-use Rattle.rules.specs.Change.{Asked, arriving, changeRefusals, changed, gone, isSell, lessened, listingFor, listingLessened, losesPlace, newFieldsRefusals, oldOrder, placeKept, placeLost, reentered, reentryRefusals, unchanged, unmarked}
-use Rattle.rules.specs.Exchange.{Exchange, Listing, listingAt, noListing, noOrder, own, placeOf, lotsWhere, resting}
+use Rattle.rules.specs.Change.{Asked, arriving, changeRefusals, changed, gone, isSell, lessened, listingLessened, losesPlace, newFieldsRefusals, oldOrder, placeKept, placeLost, reentered, reentryRefusals, unchanged, unmarked}
+use Rattle.rules.specs.Exchange.{Exchange, Listing, listingAt, listingNamed, noListing, noOrder, own, placeOf, lotsWhere, resting}
 use Rattle.rules.specs.Kinds.{lastOf}
 use Rattle.rules.specs.Matching.{withLots}
 use Rattle.rules.specs.Step.{cancelled, exchangeAfter, hasNumber, limitOf, listingWithout, removed, withListing, without}
@@ -133,7 +133,7 @@ module _ (x : Exchange) (w : WellFormed x) (k : Asked) (e : firstOf (changeRefus
   number = k .number
 
   abbrev listing : Listing
-  listing = listingFor x k
+  listing = listingNamed x (k .contract)
 
   -- ---- what it has passed
 

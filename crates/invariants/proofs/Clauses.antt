@@ -10,7 +10,7 @@ use lib.Dec.{leb, ltb, eqb}
 use lib.IntN.{natAbs}
 use lib.ListN.{length}
 use Rattle.laws.specs.Choice.{pick, all, allOf, all-at, all-true, allOf-at, allOf-true, both-true, true-both}
-use Rattle.laws.specs.Chains.{Passed, passed, join}
+use Rattle.laws.specs.Chains.{Passed, all-passed, join}
 use Rattle.rules.specs.Bounds.{within, allowedToday, inAuction, numbersEnd, maxContracts, maxTrades, maxResting, maxLots, maxSettlements, maxBalance, maxDayProfit}
 use Rattle.rules.specs.Exchange.{Exchange, Listing, listingAt, accountAt, holdingAt, own, restingOpens, restingCloses, noListing, noAccount}
 use Rattle.rules.specs.Holdings.{bookTrades, neverBelowZero, startOfDay, sameHoldings}
@@ -52,7 +52,7 @@ module _ (accounts next nextstamp : ℕ) (c : Contract) (o : Order) where
   pub order-ok : orderInRange accounts next nextstamp c o ≡ true → OrderOk accounts next nextstamp c o
   unfolding orderInRange
   order-ok h =
-      let p = passed (leb 1 (o .lots)) orderTests h in
+      let p = all-passed (leb 1 (o .lots)) orderTests h in
       record {
         lots-low = omega (arith, leb-true);
         lots-high = omega (arith, leb-true);
@@ -101,7 +101,7 @@ module _ (accounts next nextstamp : ℕ) (m : Listing) where
   pub listing-ok : contractInRange (m .contract) ≡ true → queuesSorted m ≡ true → ordersInRange accounts next nextstamp m ≡ true → ListingOk accounts next nextstamp m
   unfolding queuesSorted ordersInRange
   listing-ok k h o =
-      let p = passed (sorted false (m .buys)) queueTests h in
+      let p = all-passed (sorted false (m .buys)) queueTests h in
       let q = both-true (orderTest (m .buys)) (orderTest (m .sells)) o in
       record {
         contract = k;
@@ -186,7 +186,7 @@ module _ (x : Exchange) (t : Trade) where
   pub trade-ok : tradeInRange x t ≡ true → TradeOk x t
   unfolding tradeInRange
   trade-ok h =
-      let p = passed (ltb (t .contract) (length (x .listings))) tradeTests h in
+      let p = all-passed (ltb (t .contract) (length (x .listings))) tradeTests h in
       let q = both-true (leb 1 (t .lots)) (leb (t .lots) maxLots) (p .1 .1 .1 .1 .1 .1 .1 .1 .1 .0) in
       record {
         contract = omega (arith, ltb-true);
@@ -263,7 +263,7 @@ module _ (m : Listing) (a : ℕ) (h : Holding) where
   pub holding-ok : holdingInRange m a h ≡ true → HoldingOk m a h
   unfolding holdingInRange
   holding-ok e =
-      let p = passed (leb (h .startlong) (m .contract .limit)) holdingTests e in
+      let p = all-passed (leb (h .startlong) (m .contract .limit)) holdingTests e in
       record {
         startlong = omega (arith, leb-true);
         startshort = omega (arith, leb-true);
@@ -330,17 +330,17 @@ module _ (x : Exchange) where
   -- the seven clauses, each passed
   clauses : wellFormedContents x ≡ true → Passed (rangesKept x) stateTests
   unfolding wellFormedContents
-  clauses h = passed (rangesKept x) stateTests h
+  clauses h = all-passed (rangesKept x) stateTests h
 
   pub well-formed : wellFormedContents x ≡ true → WellFormed x
   unfolding rangesKept countersInRange markInRange restingInRange replays holdingsInRange balanceInRange listingAt accountAt
   well-formed h =
       let p = clauses h in
-      let ranges = passed (countersInRange x) (contractTest ∷ allOf markInRange (x .accounts) ∷ []) (p .0) in
-      let counters = passed (leb 1 (x .next)) counterTests (ranges .0) in
+      let ranges = all-passed (countersInRange x) (contractTest ∷ allOf markInRange (x .accounts) ∷ []) (p .0) in
+      let counters = all-passed (leb 1 (x .next)) counterTests (ranges .0) in
       let stamp = both-true (leb 1 (x .nextstamp)) (leb (x .nextstamp) numbersEnd) (counters .1 .1 .0) in
-      let resting = passed (allOf orderTestOf (x .listings)) onceTests (p .1 .1 .0) in
-      let replay = passed (neverBelowZero (startOfDay (x .accounts)) (x .trades)) replayTests (p .1 .1 .1 .1 .0) in
+      let resting = all-passed (allOf orderTestOf (x .listings)) onceTests (p .1 .1 .0) in
+      let replay = all-passed (neverBelowZero (startOfDay (x .accounts)) (x .trades)) replayTests (p .1 .1 .1 .1 .0) in
       record {
         next-low = leb-true _ _ (counters .0);
         next-high = leb-true _ _ (counters .1 .0);

@@ -30,7 +30,7 @@ use Rattle.invariants.proofs.Phases.{phase-keeps, phase-counted}
 use Rattle.invariants.proofs.QuoteKeeps.{quote-keeps, quote-counted}
 use Rattle.invariants.proofs.Removal.{cancel-keeps, pull-keeps, cancel-counted, pull-counted}
 use Rattle.invariants.proofs.Settle.{settle-keeps, settle-counted}
-use Rattle.invariants.proofs.Stamps.{_stamped_, Alike, Arrival, Follow, Onward, StampsAsNumbers, change-onward, entered-stamped, insert-onward, match-follow, quote-onward, same-follow, settled-stamped, without-follow}
+use Rattle.invariants.proofs.Stamps.{_stamped_, Alike, Stamped, Follow, Onward, StampsAsNumbers, change-onward, entered-stamped, insert-onward, match-follow, quote-onward, same-follow, settled-stamped, without-follow}
 
 -- ---- well formed, and the counts in range
 
@@ -85,7 +85,7 @@ module _ (x : Exchange) (command : Command) (counts : Counted x) (w : wellFormed
 -- ---- order numbers and time stamps
 
 -- the numbers and time stamps of the orders that a command enters
-abbrev pub enters : Exchange → Command → List Arrival
+abbrev pub enters : Exchange → Command → List Stamped
 enters x Malformed = []
 enters x (Deposit account amount) = []
 enters x (Withdraw account amount) = []

@@ -5,12 +5,12 @@ use mathlib.Core.Path.{_≡_, refl, sym, _∙_}
 use Prim.Native.Nat.{ℕ, _+_, _-_, _<_, _≤_}
 use native.Mathlib.Omega.{arith}
 use borrow.Author.Tests.{lt-ltb}
-use lib.Dec.{leb, ltb}
+use lib.Dec.{ltb}
 use lib.ListN.{length}
 use Rattle.laws.specs.Choice.{allOf, allOf-imp}
-use Rattle.laws.specs.Chains.{passed, join}
+use Rattle.laws.specs.Chains.{all-passed, join}
 use Rattle.rules.specs.Answers.{isGoodForDay, isLimit, mark, listingOf, takerOf}
-use Rattle.rules.specs.Bounds.{inAuction, maxPhase, onTick, tickMultiple, termsInRange, allowedToday, dayLow, dayHigh}
+use Rattle.rules.specs.Bounds.{inAuction, phaseKnown, onTick, tickMultiple, termsInRange, allowedToday, dayLow, dayHigh}
 use Rattle.rules.specs.Exchange.{Exchange, placeOf, own, opposite}
 use Rattle.rules.specs.Matching.{Swept, tradedLots, lastPrice, remainder, restLots, restWhole, restedLots, enter}
 use Rattle.rules.specs.Step.{withLast, limitOf, enteredOf, listingAfter}
@@ -42,12 +42,12 @@ allows-last c last price h = h
 contract-last : (c : Contract) (last : ℕ) → contractInRange c ≡ true → tickMultiple (c .tick) last ≡ true → contractInRange (withLast c last) ≡ true
 unfolding contractInRange termsInRange
 contract-last c last h m =
-    let p = passed (termsInRange c) (leb (c .phase) maxPhase ∷ tickMultiple (c .tick) (c .last) ∷ []) h in
-    join (termsInRange c) (leb (c .phase) maxPhase ∷ tickMultiple (c .tick) last ∷ []) (p .0, (p .1 .0, m))
+    let p = all-passed (termsInRange c) (phaseKnown (c .phase) ∷ tickMultiple (c .tick) (c .last) ∷ []) h in
+    join (termsInRange c) (phaseKnown (c .phase) ∷ tickMultiple (c .tick) last ∷ []) (p .0, (p .1 .0, m))
 
 pub last-multiple : (c : Contract) → contractInRange c ≡ true → tickMultiple (c .tick) (c .last) ≡ true
 unfolding contractInRange
-last-multiple c h = passed (termsInRange c) (leb (c .phase) maxPhase ∷ tickMultiple (c .tick) (c .last) ∷ []) h .1 .1
+last-multiple c h = all-passed (termsInRange c) (phaseKnown (c .phase) ∷ tickMultiple (c .tick) (c .last) ∷ []) h .1 .1
 
 -- after trades at prices allowed today
 pub contract-traded : (c : Contract) (ts : List Trade) → contractInRange c ≡ true → allOf (λ t. allowedToday c (t .price)) ts ≡ true →

@@ -195,13 +195,13 @@ module _ (m : Memory) (counts : CountsOk (m .state)) (room : RoomOk m) (arrays :
   unfolding exchangeOf listingIn
   buys-put =
       first-same (λ l. length (l .buys)) (listingIn m) (m .state .buycounts) (m .state .contractcount)
-      (omega (arith, counts .contracts-high, arrays .buys)) (λ c l. length-queue (m .buys) c (getD (m .state .buycounts) c 0))
+      (omega (arith, counts .contracts-high, arrays .buycounts)) (λ c l. length-queue (m .buys) c (getD (m .state .buycounts) c 0))
 
   sells-put : putFirst (map (λ l. length (l .sells)) (exchangeOf m .listings)) (m .state .sellcounts) ≡ m .state .sellcounts
   unfolding exchangeOf listingIn
   sells-put =
       first-same (λ l. length (l .sells)) (listingIn m) (m .state .sellcounts) (m .state .contractcount)
-      (omega (arith, counts .contracts-high, arrays .sells)) (λ c l. length-queue (m .sells) c (getD (m .state .sellcounts) c 0))
+      (omega (arith, counts .contracts-high, arrays .sellcounts)) (λ c l. length-queue (m .sells) c (getD (m .state .sellcounts) c 0))
 
   state-put : putState (m .state) (exchangeOf m) ≡ m .state
   unfolding putState exchangeOf

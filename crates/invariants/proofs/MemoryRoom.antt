@@ -8,9 +8,9 @@ use borrow.Author.Tests.{leb-true, le-leb}
 use lib.Dec.{leb}
 use lib.ListN.{length, getD}
 use Rattle.laws.specs.Choice.{all, all-at, all-true, both-true, true-both}
-use Rattle.laws.specs.Chains.{passed, join}
+use Rattle.laws.specs.Chains.{all-passed, join}
 use Rattle.rules.specs.Bounds.{within, maxContracts, maxAccounts, maxResting, maxTrades}
-use Rattle.rules.specs.Memory.{Memory, queueStride, tradeStride, exchangeOf, countsInRange, hasRoom, wellFormedMemory}
+use Rattle.rules.specs.Memory.{Memory, queueStride, exchangeOf, countsInRange, hasRoom, wellFormedMemory, tradesWords}
 use Rattle.rules.specs.WellFormed.{wellFormedContents}
 use Rattle.rules.specs.declared.State.{State}
 
@@ -36,7 +36,7 @@ module _ (s : State) where
   pub counts-ok : countsInRange s ≡ true → CountsOk s
   unfolding countsInRange
   counts-ok h =
-      let p = passed (within 1 maxContracts (s .contractcount)) countTests h in
+      let p = all-passed (within 1 maxContracts (s .contractcount)) countTests h in
       let c = both-true (leb 1 (s .contractcount)) (leb (s .contractcount) maxContracts) (p .0) in
       let a = both-true (leb 1 (s .accountcount)) (leb (s .accountcount) maxAccounts) (p .1 .0) in
       record {
@@ -71,16 +71,16 @@ module _ (s : State) where
 pub record RoomOk (m : Memory) : Type 0 where
   pub buys : queueStride * m .state .contractcount ≤ length (m .buys)
   pub sells : queueStride * m .state .contractcount ≤ length (m .sells)
-  pub trades : tradeStride * maxTrades ≤ length (m .trades)
+  pub trades : tradesWords ≤ length (m .trades)
 
 module _ (m : Memory) where
   abbrev roomTests : List Bool
-  roomTests = leb (queueStride * m .state .contractcount) (length (m .sells)) ∷ leb (tradeStride * maxTrades) (length (m .trades)) ∷ []
+  roomTests = leb (queueStride * m .state .contractcount) (length (m .sells)) ∷ leb tradesWords (length (m .trades)) ∷ []
 
   pub room-ok : hasRoom m ≡ true → RoomOk m
   unfolding hasRoom
   room-ok h =
-      let p = passed (leb (queueStride * m .state .contractcount) (length (m .buys))) roomTests h in
+      let p = all-passed (leb (queueStride * m .state .contractcount) (length (m .buys))) roomTests h in
       record { buys = leb-true _ _ (p .0); sells = leb-true _ _ (p .1 .0); trades = leb-true _ _ (p .1 .1) }
 
   pub room-test : RoomOk m → hasRoom m ≡ true
@@ -98,7 +98,7 @@ module _ (m : Memory) where
   pub memory-ok : wellFormedMemory m ≡ true → MemoryOk
   unfolding wellFormedMemory
   memory-ok h =
-      let p = passed (countsInRange (m .state)) (hasRoom m ∷ wellFormedContents (exchangeOf m) ∷ []) h in
+      let p = all-passed (countsInRange (m .state)) (hasRoom m ∷ wellFormedContents (exchangeOf m) ∷ []) h in
       record { counts = counts-ok (m .state) (p .0); room = room-ok (p .1 .0); contents = p .1 .1 }
 
   pub memory-test : MemoryOk → wellFormedMemory m ≡ true

@@ -9,8 +9,9 @@ use lib.Dec.{leb, eqb}
 use lib.IntN.{pos}
 use lib.ListN.{length, getD, replicate}
 use Rattle.laws.specs.Choice.{pick, all, all-at, both-true}
-use Rattle.laws.specs.Chains.{passed, join}
-use Rattle.rules.specs.Bounds.{within, preOpen, maxPhase, termsInRange, tickMultiple, maxContracts, maxAccounts, maxBalance}
+use Rattle.laws.specs.Chains.{all-passed, join}
+use Rattle.laws.specs.Lists.{getD-same}
+use Rattle.rules.specs.Bounds.{within, preOpen, maxPhase, phaseKnown, termsInRange, tickMultiple, maxContracts, maxAccounts, maxBalance}
 use Rattle.rules.specs.DayFile.{maxCommands, contractsIn, contractPlace, accountsIn, accountPlace, commandsIn, commandPlace, contractFrom, contractSound, balanceFrom, makerBit, makerFrom, accountSound, sound, openingListing, openingAccount, opening, u64At}
 use Rattle.rules.specs.Exchange.{noHolding}
 use Rattle.rules.specs.Holdings.{startHolding, startAccount}
@@ -19,11 +20,6 @@ use Rattle.rules.specs.declared.Holding.{Holding}
 use Rattle.rules.proofs.Terms.{terms, multiple-test}
 use Rattle.invariants.proofs.Clauses.{Sound, well-formed-test}
 use Rattle.invariants.proofs.FreshDay.{fresh-day, fresh-counted}
-
-no-lots : (n c : ℕ) → getD (replicate n noHolding) c noHolding ≡ noHolding
-no-lots zero c = refl
-no-lots (suc n) zero = refl
-no-lots (suc n) (suc c) = no-lots n c
 
 none-start : (n : ℕ) → map startHolding (replicate n noHolding) ≡ replicate n noHolding
 none-start zero = refl
@@ -43,15 +39,15 @@ module _ (file : List ℕ) (h : sound file ≡ true) where
   unfolding sound
   few-contracts =
       leb-true _ _ (both-true (leb 1 (contractsIn file)) (leb (contractsIn file) maxContracts)
-      (passed (within 1 maxContracts (contractsIn file)) fileTests h .0) .1)
+      (all-passed (within 1 maxContracts (contractsIn file)) fileTests h .0) .1)
 
   -- the last price starts as the reference
   in-range : (c : ℕ) → c < contractsIn file → contractInRange (contractFrom file (contractPlace c)) ≡ true
   unfolding sound contractSound contractInRange contractFrom
   in-range c l =
-      let t = all-at (contractSound file) c (contractsIn file) (passed (within 1 maxContracts (contractsIn file)) fileTests h .1 .1 .1 .1 .0) l in
+      let t = all-at (contractSound file) c (contractsIn file) (all-passed (within 1 maxContracts (contractsIn file)) fileTests h .1 .1 .1 .1 .0) l in
       join (termsInRange (contractFrom file (contractPlace c)))
-      (leb preOpen maxPhase ∷ tickMultiple (contractFrom file (contractPlace c) .tick) (contractFrom file (contractPlace c) .reference) ∷ [])
+      (phaseKnown preOpen ∷ tickMultiple (contractFrom file (contractPlace c) .tick) (contractFrom file (contractPlace c) .reference) ∷ [])
       (t, (le-leb preOpen maxPhase (omega arith), multiple-test _ _ (terms (contractFrom file (contractPlace c)) t .reference)))
 
   start : (a : ℕ) → startAccount (openingAccount file a) ≡ openingAccount file a
@@ -60,12 +56,12 @@ module _ (file : List ℕ) (h : sound file ≡ true) where
 
   nothing-held : (a c : ℕ) → getD (openingAccount file a .holdings) c noHolding ≡ noHolding
   unfolding openingAccount
-  nothing-held a c = no-lots (contractsIn file) c
+  nothing-held a c = getD-same (contractsIn file) c noHolding
 
   balance-low : (a : ℕ) → a < accountsIn file → balanceFrom file a ≤ maxBalance
   unfolding sound accountSound
   balance-low a l =
-      leb-true _ _ (all-at (accountSound file) a (accountsIn file) (passed (within 1 maxContracts (contractsIn file)) fileTests h .1 .1 .1 .1 .1) l)
+      leb-true _ _ (all-at (accountSound file) a (accountsIn file) (all-passed (within 1 maxContracts (contractsIn file)) fileTests h .1 .1 .1 .1 .1) l)
 
   mark-low : (a : ℕ) → openingAccount file a .maker ≤ 1
   unfolding openingAccount makerFrom

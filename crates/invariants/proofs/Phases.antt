@@ -7,16 +7,15 @@ use Prim.Native.Nat.{ℕ, _+_, _<_, _≤_}
 use native.Mathlib.Nat.{le-refl}
 use native.Mathlib.Omega.{arith}
 use borrow.Author.Tests.{eqb-true, leb-true, le-leb, lt-ltb, ltb-false, not-false}
-use lib.Dec.{leb, eqb}
+use lib.Dec.{eqb}
 use lib.ListN.{length}
 use lib.Seq.{getD-set-same}
 use Rattle.laws.specs.Choice.{pick, allOf, allOf-imp}
-use Rattle.laws.specs.Chains.{passed, join}
+use Rattle.laws.specs.Chains.{all-passed, join}
 use Rattle.laws.specs.Sums.{sumOf-at}
 use Rattle.rules.specs.Answers.{_when_, firstOf, phaseRefusals}
 use Rattle.rules.specs.Auction.{Matched, auctionMatch, chosenPrice, matchAt, matchOf, volume}
-use Rattle.rules.specs.Bounds.{inAuction, maxPhase, maxResting, maxTrades, termsInRange, tickMultiple, allowedToday, dayLow, dayHigh}
-use Rattle.rules.specs.Command.{phaseKnown}
+use Rattle.rules.specs.Bounds.{inAuction, maxPhase, maxResting, maxTrades, phaseKnown, termsInRange, tickMultiple, allowedToday, dayLow, dayHigh}
 use Rattle.rules.specs.Exchange.{Exchange, Listing, listingAt, holdingAt, noListing, placeOf, own}
 use Rattle.rules.specs.Holdings.{bookTrades}
 use Rattle.rules.specs.Kinds.{lastOf}
@@ -54,8 +53,8 @@ allows-changed c last phase price h = h
 contract-phase : (c : Contract) (phase : ℕ) → phase ≤ maxPhase → contractInRange c ≡ true → contractInRange (withPhase c phase) ≡ true
 unfolding contractInRange termsInRange
 contract-phase c phase l h =
-    let p = passed (termsInRange c) (leb (c .phase) maxPhase ∷ tickMultiple (c .tick) (c .last) ∷ []) h in
-    join (termsInRange c) (leb phase maxPhase ∷ tickMultiple (c .tick) (c .last) ∷ []) (p .0, (le-leb phase maxPhase l, p .1 .1))
+    let p = all-passed (termsInRange c) (phaseKnown (c .phase) ∷ tickMultiple (c .tick) (c .last) ∷ []) h in
+    join (termsInRange c) (phaseKnown phase ∷ tickMultiple (c .tick) (c .last) ∷ []) (p .0, (le-leb phase maxPhase l, p .1 .1))
 
 -- ---- the match
 

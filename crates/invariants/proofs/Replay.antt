@@ -11,7 +11,7 @@ use lib.IntN.{pos}
 use lib.ListN.{length, getD, set, drop, List·getD-map}
 use Rattle.laws.specs.Choice.{pick, both-true, true-both}
 use Rattle.laws.specs.Lists.{map-set}
-use Rattle.laws.specs.Chains.{passed, join}
+use Rattle.laws.specs.Chains.{all-passed, join}
 use Rattle.rules.specs.Exchange.{accountAt, holdingAt, noAccount, noHolding}
 use Rattle.rules.specs.Holdings.{withLong, withShort, afterLeg, bookLeg, bookBuyer, bookSeller, bookTrade, bookTrades, legCovered, neverBelowZero, sameLots, sameHoldings}
 use Rattle.rules.specs.declared.Account.{Account}
@@ -38,7 +38,7 @@ same-lots [] [] e = refl
 same-lots [] (k ∷ ks) e = absurd (false≢true e)
 same-lots (h ∷ hs) [] e = absurd (false≢true e)
 same-lots (h ∷ hs) (k ∷ ks) e =
-    let p = passed (eqb (h .long) (k .long)) (eqb (h .short) (k .short) ∷ sameLots hs ks ∷ []) e in
+    let p = all-passed (eqb (h .long) (k .long)) (eqb (h .short) (k .short) ∷ sameLots hs ks ∷ []) e in
     ap₂ (λ (j : Holding) (js : List Holding). j ∷ js)
     (same-now h k (eqb-true (h .long) (k .long) (p .0)) (eqb-true (h .short) (k .short) (p .1 .0))) (same-lots hs ks (p .1 .1))
 

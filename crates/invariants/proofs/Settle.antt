@@ -10,9 +10,9 @@ use lib.Dec.{leb, eqb}
 use lib.ListN.{length, getD, List·getD-map}
 use Rattle.laws.specs.Choice.{pick, allOf, allOf-imp, both-true, true-both}
 use Rattle.laws.specs.Sums.{sumOf}
-use Rattle.laws.specs.Chains.{passed, join}
+use Rattle.laws.specs.Chains.{all-passed, join}
 use Rattle.rules.specs.Answers.{firstOf, settleRefusals}
-use Rattle.rules.specs.Bounds.{within, tickMultiple, termsInRange, maxPrice, maxSettlements, preOpen, maxPhase}
+use Rattle.rules.specs.Bounds.{within, tickMultiple, termsInRange, maxPrice, maxSettlements, preOpen, maxPhase, phaseKnown}
 use Rattle.rules.specs.Exchange.{Exchange, listingAt, accountAt, holdingAt, own, noHolding}
 use Rattle.rules.specs.Holdings.{startHolding, startAccount}
 use Rattle.rules.specs.Matching.{tradedLots}
@@ -56,8 +56,8 @@ module _ (x : Exchange) (c : ℕ) (k : ListingOk (length (x .accounts)) (x .next
   unfolding contractInRange
   its-terms =
       terms (listingAt x c .contract)
-      (passed (termsInRange (listingAt x c .contract))
-      (leb (listingAt x c .contract .phase) maxPhase ∷ tickMultiple tick (listingAt x c .contract .last) ∷ []) (k .contract) .0)
+      (all-passed (termsInRange (listingAt x c .contract))
+      (phaseKnown (listingAt x c .contract .phase) ∷ tickMultiple tick (listingAt x c .contract .last) ∷ []) (k .contract) .0)
 
   -- its own trades
   abbrev ownTrade : Trade → Bool
@@ -106,9 +106,9 @@ module _ (x : Exchange) (c : ℕ) (k : ListingOk (length (x .accounts)) (x .next
 contract-settled : (c : Contract) (price : ℕ) → contractInRange c ≡ true → Multiple (c .tick) price → contractInRange (settledContract c price) ≡ true
 unfolding contractInRange settledContract
 contract-settled c price h m =
-    let p = passed (termsInRange c) (leb (c .phase) maxPhase ∷ tickMultiple (c .tick) (c .last) ∷ []) h in
+    let p = all-passed (termsInRange c) (phaseKnown (c .phase) ∷ tickMultiple (c .tick) (c .last) ∷ []) h in
     let t = terms c (p .0) in
-    join (termsInRange (settledContract c price)) (leb preOpen maxPhase ∷ tickMultiple (c .tick) (c .last) ∷ []) (
+    join (termsInRange (settledContract c price)) (phaseKnown preOpen ∷ tickMultiple (c .tick) (c .last) ∷ []) (
       terms-test (settledContract c price)
           (record {
             multiplier-low = t .multiplier-low;

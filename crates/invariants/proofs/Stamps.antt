@@ -14,8 +14,8 @@ use Rattle.laws.specs.Choice.{pick, allOf, allOf-imp, both-true, true-both, tru
 use Rattle.laws.specs.Tabulate.{tabulate}
 use Rattle.rules.specs.Answers.{listingOf, numbersUsedUp, stampsUsedUp, takerOf}
 use Rattle.rules.specs.Auction.{Matched, matchAt, matchOf}
-use Rattle.rules.specs.Change.{Asked, arriving, changed, gone, listingFor, listingLessened, placeKept, placeLost, reentered, unchanged}
-use Rattle.rules.specs.Exchange.{Exchange, Listing, listingAt, noListing, opposite, own, placeOf, worse}
+use Rattle.rules.specs.Change.{Asked, arriving, changed, gone, listingLessened, placeKept, placeLost, reentered, unchanged}
+use Rattle.rules.specs.Exchange.{Exchange, Listing, listingAt, listingNamed, noListing, opposite, own, placeOf, worse}
 use Rattle.rules.specs.Kinds.{lastOf}
 use Rattle.rules.specs.Matching.{enter, remainder, restLots, restWhole}
 use Rattle.rules.specs.Quote.{Offered, buyOf, quoted, sellOf, withBuy, withSell, withoutQuote}
@@ -43,29 +43,29 @@ restsIn (o ∷ os) number stamp = eqb (o .number) number && eqb (o .stamp) stamp
 
 -- the order number and the time stamp that an order arrives with, and a test for one of those given
 infix 20 _stamped_
-pub data Arrival : Type 0 where
-  _stamped_ : ℕ → ℕ → Arrival
+pub data Stamped : Type 0 where
+  _stamped_ : ℕ → ℕ → Stamped
 
-unfoldable pub among : List Arrival → ℕ → ℕ → Bool
+unfoldable pub among : List Stamped → ℕ → ℕ → Bool
 among [] number stamp = false
 among ((n stamped s) ∷ gs) number stamp = eqb number n && eqb stamp s || among gs number stamp
 
 -- it rested before in its queue, or has a number and a time stamp that the command gives
-abbrev pub follows : Exchange → List Arrival → ℕ → Bool → Order → Bool
+abbrev pub follows : Exchange → List Stamped → ℕ → Bool → Order → Bool
 follows x new c sell o = restsIn (own sell (listingAt x c)) (o .number) (o .stamp) || among new (o .number) (o .stamp)
 
-abbrev pub Follow : Exchange → List Arrival → Exchange → Type 0
+abbrev pub Follow : Exchange → List Stamped → Exchange → Type 0
 Follow x new y = (c : ℕ) (sell : Bool) → allOf (follows x new c sell) (own sell (listingAt y c)) ≡ true
 
 -- .. and the next time stamp does not fall
-abbrev pub Onward : Exchange → List Arrival → Exchange → Type 0
+abbrev pub Onward : Exchange → List Stamped → Exchange → Type 0
 Onward x new y = Follow x new y × (x .nextstamp ≤ y .nextstamp)
 
-among-first : (n s : ℕ) (gs : List Arrival) → among ((n stamped s) ∷ gs) n s ≡ true
+among-first : (n s : ℕ) (gs : List Stamped) → among ((n stamped s) ∷ gs) n s ≡ true
 unfolding among
 among-first n s gs = rw (eq-eqb n n refl, eq-eqb s s refl) refl
 
-among-later : (g : Arrival) (n s : ℕ) (gs : List Arrival) → among gs n s ≡ true → among (g ∷ gs) n s ≡ true
+among-later : (g : Stamped) (n s : ℕ) (gs : List Stamped) → among gs n s ≡ true → among (g ∷ gs) n s ≡ true
 unfolding among
 among-later (m stamped t) n s gs h = either-true (eqb n m && eqb s t) (among gs n s) h
 
@@ -81,7 +81,7 @@ all-rest (o ∷ os) =
     (allOf-imp (λ p. restsIn os (p .number) (p .stamp)) (λ p. restsIn (o ∷ os) (p .number) (p .stamp)) os
     (λ p h. either-true (eqb (o .number) (p .number) && eqb (o .stamp) (p .stamp)) (restsIn os (p .number) (p .stamp)) h) (all-rest os))
 
-module _ (x : Exchange) (new : List Arrival) where
+module _ (x : Exchange) (new : List Stamped) where
   pub same-follow : Follow x new x
   same-follow c sell =
       allOf-imp (λ o. restsIn (own sell (listingAt x c)) (o .number) (o .stamp)) (follows x new c sell) (own sell (listingAt x c))
@@ -198,9 +198,9 @@ module _ (x : Exchange) (new : List Arrival) where
     kept-follow =
         relisted-follow x (lastOf x (placeKept x k .stages)) (placeOf (k .contract)) _ refl same-follow by-side
       where
-        by-side : (sell : Bool) → allOf (follows x new (placeOf (k .contract)) sell) (own sell (listingLessened k (listingFor x k))) ≡ true
-        by-side true = rw (same-all (k .number) (k .lots) (follows x new (placeOf (k .contract)) true) (λ o. refl) (listingFor x k .sells)) (same-follow (placeOf (k .contract)) true)
-        by-side false = rw (same-all (k .number) (k .lots) (follows x new (placeOf (k .contract)) false) (λ o. refl) (listingFor x k .buys)) (same-follow (placeOf (k .contract)) false)
+        by-side : (sell : Bool) → allOf (follows x new (placeOf (k .contract)) sell) (own sell (listingLessened k (listingNamed x (k .contract)))) ≡ true
+        by-side true = rw (same-all (k .number) (k .lots) (follows x new (placeOf (k .contract)) true) (λ o. refl) (listingNamed x (k .contract) .sells)) (same-follow (placeOf (k .contract)) true)
+        by-side false = rw (same-all (k .number) (k .lots) (follows x new (placeOf (k .contract)) false) (λ o. refl) (listingNamed x (k .contract) .buys)) (same-follow (placeOf (k .contract)) false)
 
 -- ---- what an insert, a change and a quote enter
 
@@ -208,7 +208,7 @@ pub insert-onward : (x : Exchange) (o : NewOrder) → Onward x ((x .next stamped
 unfolding exchangeAfter
 insert-onward x o = (entered-follow x new x (same-follow x new) (x .next) 0 (among-first (x .next) (x .nextstamp) []) o (x .next + 1), omega arith)
   where
-    new : List Arrival
+    new : List Stamped
     new = (x .next stamped x .nextstamp) ∷ []
 
 pub change-onward : (x : Exchange) (k : Asked) → Onward x ((k .number stamped x .nextstamp) ∷ []) (lastOf x (changed x k .stages))
@@ -220,7 +220,7 @@ change-onward x k =
     (λ e f. (same-follow x new, le-refl (x .nextstamp)))
     (λ e f g. (kept-follow x new k, le-refl (x .nextstamp)))
   where
-    new : List Arrival
+    new : List Stamped
     new = (k .number stamped x .nextstamp) ∷ []
 
 -- a quote: the old one gone, the buy entered, the sell entered
@@ -228,7 +228,7 @@ pub quote-onward : (x : Exchange) (q : Offered) → Onward x ((x .next stamped x
 unfolding quoted withSell withBuy withoutQuote exchangeAfter
 quote-onward x q = (sell-follow, omega arith)
   where
-    new : List Arrival
+    new : List Stamped
     new = (x .next stamped x .nextstamp) ∷ (x .next + 1 stamped x .nextstamp + 1) ∷ []
 
     buy-follow : Follow x new (withBuy x q)
@@ -266,11 +266,11 @@ rests-stamped (o ∷ os) number stamp h e = by-number-and-stamp (eqb (o .number)
     by-number-and-stamp false f ih e = ih e
 
 -- each number given is its time stamp
-abbrev pub Alike : List Arrival → Type 0
+abbrev pub Alike : List Stamped → Type 0
 Alike [] = Unit {0}
 Alike ((n stamped s) ∷ gs) = (s ≡ n) × Alike gs
 
-among-alike : (gs : List Arrival) → Alike gs → (number stamp : ℕ) → among gs number stamp ≡ true → eqb stamp number ≡ true
+among-alike : (gs : List Stamped) → Alike gs → (number stamp : ℕ) → among gs number stamp ≡ true → eqb stamp number ≡ true
 unfolding among
 among-alike [] a number stamp e = absurd (false≢true e)
 among-alike ((n stamped s) ∷ gs) a number stamp e = by-number-and-stamp (eqb number n && eqb stamp s) refl (among-alike gs (a .1) number stamp) e
@@ -281,7 +281,7 @@ among-alike ((n stamped s) ∷ gs) a number stamp e = by-number-and-stamp (eqb n
         eq-eqb stamp number (eqb-true stamp s (p .1) ∙ a .0 ∙ sym (eqb-true number n (p .0)))
     by-number-and-stamp false f ih e = ih e
 
-follow-stamped : (x y : Exchange) → StampsAsNumbers x → (new : List Arrival) → Alike new → Follow x new y → (c : ℕ) (sell : Bool) → allOf stampIsNumber (own sell (listingAt y c)) ≡ true
+follow-stamped : (x y : Exchange) → StampsAsNumbers x → (new : List Stamped) → Alike new → Follow x new y → (c : ℕ) (sell : Bool) → allOf stampIsNumber (own sell (listingAt y c)) ≡ true
 follow-stamped x y h new alike f c sell =
     allOf-imp (follows x new c sell) stampIsNumber (own sell (listingAt y c)) (λ o e. by-resting o (restsIn (own sell (listingAt x c)) (o .number) (o .stamp)) refl e) (f c sell)
   where
@@ -307,7 +307,7 @@ settled-stamped x =
     none false = refl
 
 -- where each order enters with one number for both, it stays so
-pub entered-stamped : (x y : Exchange) → StampsAsNumbers x → (new : List Arrival) → (y .nextstamp ≡ y .next) × Alike new → Follow x new y → StampsAsNumbers y
+pub entered-stamped : (x y : Exchange) → StampsAsNumbers x → (new : List Stamped) → (y .nextstamp ≡ y .next) × Alike new → Follow x new y → StampsAsNumbers y
 entered-stamped x y h new alike f = record { next = alike .0; orders = follow-stamped x y h new (alike .1) f }
 
 -- there price and time stamp are price and number, and 10 falls where it did

@@ -59,8 +59,8 @@ module _ (m : Memory) (held : List Exchange) (x : Exchange) (n p : Memory) (s : 
   same-counts sell = ext-getD 0 (countsOf sell n) (countsOf sell p) (wide sell) (λ c h. s .counts sell c ∙ sym (t .counts sell c))
     where
       wide : (sell : Bool) → length (countsOf sell n) ≡ length (countsOf sell p)
-      wide true = s .declared .sells ∙ sym (t .declared .sells)
-      wide false = s .declared .buys ∙ sym (t .declared .buys)
+      wide true = s .declared .sellcounts ∙ sym (t .declared .sellcounts)
+      wide false = s .declared .buycounts ∙ sym (t .declared .buycounts)
 
   same-holdings : (a : ℕ) → a < maxAccounts → accountAt (n .state .accounts) a .holdings ≡ accountAt (p .state .accounts) a .holdings
   unfolding holdingAt

@@ -12,9 +12,9 @@ abbrev pub Passed : Bool → List Bool → Type 0
 Passed a [] = a ≡ true
 Passed a (b ∷ bs) = (a ≡ true) × Passed b bs
 
-pub passed : (a : Bool) (bs : List Bool) → joined a bs ≡ true → Passed a bs
-passed a [] h = h
-passed a (b ∷ bs) h = front a b bs (passed (a && b) bs h)
+pub all-passed : (a : Bool) (bs : List Bool) → joined a bs ≡ true → Passed a bs
+all-passed a [] h = h
+all-passed a (b ∷ bs) h = front a b bs (all-passed (a && b) bs h)
   where
     front : (a b : Bool) (bs : List Bool) → Passed (a && b) bs → Passed a (b ∷ bs)
     front a b [] p = both-true a b p

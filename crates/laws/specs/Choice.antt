@@ -3,7 +3,7 @@
 -- `le-leb`, `lt-leb`, `lt-ltb`, `le-ltb`, `eq-eqb`, `ne-eqb` from the fact to the test. Assumes nothing.
 use Prim.Native.Nat.{ℕ, zero, suc, _+_, _<_}
 use mathlib.Core.Bool.{Bool, true, false, true≢false, false≢true}
-use mathlib.Core.List.{List, [], _∷_, _++_}
+use mathlib.Core.List.{List, [], _∷_, _++_, map}
 use mathlib.Core.Logic.{⊎-elim}
 use mathlib.Core.Path.{_≡_, refl, sym, subst}
 use native.Mathlib.Nat.{le-of-suc-le-suc, not-suc-le-zero, eq-or-lt-of-le}
@@ -166,3 +166,13 @@ allOf-imp p q [] f h = refl
 allOf-imp p q (x ∷ xs) f h =
     let b = both-true (p x) (allOf p xs) h in
     true-both (q x) (allOf q xs) (f x (b .0)) (allOf-imp p q xs f (b .1))
+
+pub allOf-ext : {A : Type 0} (p q : A → Bool) (l : List A) → ((x : A) → p x ≡ q x) → allOf p l ≡ allOf q l
+unfolding allOf
+allOf-ext p q [] e = refl
+allOf-ext p q (x ∷ xs) e = rw (e x, allOf-ext p q xs e)
+
+pub allOf-map : {A B : Type 0} (p : B → Bool) (f : A → B) (l : List A) → allOf p (map f l) ≡ allOf (λ a. p (f a)) l
+unfolding allOf
+allOf-map p f [] = refl
+allOf-map p f (x ∷ xs) = rw (allOf-map p f xs)

@@ -1,11 +1,11 @@
--- A function of each element of a list, at a place and with one element changed. Assumes nothing.
+-- A function of each element of a list, at a place and with one element changed; a list of one value. Assumes nothing.
 use mathlib.Core.List.{List, [], _∷_, map}
 use mathlib.Core.Logic.{_≢_}
 use mathlib.Core.Path.{_≡_, refl, sym, ap, _∙_, subst}
 use Prim.Native.Nat.{ℕ, zero, suc, _<_}
 use native.Mathlib.Decide.{ℕ-discrete}
 use native.Mathlib.Nat.{le-of-suc-le-suc, not-suc-le-zero}
-use lib.ListN.{length, getD, set, take, length-map}
+use lib.ListN.{length, getD, set, take, replicate, length-map}
 use lib.Seq.{getD-set-same, getD-set-other}
 
 module _ {A B : Type 0} (f : A → B) where
@@ -46,3 +46,9 @@ at-set {A} P l i v d h p j q = by-index (ℕ-discrete j i)
     by-index : Dec (j ≡ i) → P j (getD (set l i v) j d)
     by-index (yes e) = subst (λ (k : ℕ). P k (getD (set l i v) k d)) (sym e) (subst (P i) (sym (getD-set-same l i v d h)) p)
     by-index (no n) = subst (P j) (sym (getD-set-other l i j v d n)) (q n)
+
+-- a list of one value has it at every place, past its end too
+pub getD-same : {A : Type 0} (n i : ℕ) (z : A) → getD (replicate n z) i z ≡ z
+getD-same zero i z = refl
+getD-same (suc n) zero z = refl
+getD-same (suc n) (suc i) z = getD-same n i z

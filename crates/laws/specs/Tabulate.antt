@@ -1,11 +1,13 @@
 -- The list of a function's values at 0, 1, .. : for rules that say what stands at each place. Assumes nothing.
-use mathlib.Core.Path.{_≡_, refl, sym, ap}
+use mathlib.Core.Bool.{Bool}
+use mathlib.Core.Path.{_≡_, refl, sym, ap, _∙_}
 use mathlib.Core.List.{List, [], _∷_, _++_, map}
 use Prim.Native.Nat.{ℕ, zero, suc, _<_, _≤_}
 use native.Mathlib.Nat.{le-of-suc-le-suc, not-suc-le-zero}
 use native.Mathlib.Omega.{arith}
 use lib.ListN.{length, getD, take}
 use lib.Seq.{ext-getD, getD-take, length-take-le}
+use Rattle.laws.specs.Choice.{all, all-ext, allOf, allOf-all}
 
 -- f 0, f 1, .., up to n values
 unfoldable pub tabulate : {A : Type 0} → ℕ → (ℕ → A) → List A
@@ -51,3 +53,10 @@ pub map-tabulate : {A B : Type 0} (f : A → B) (n : ℕ) (g : ℕ → A) → ma
 unfolding tabulate
 map-tabulate f zero g = refl
 map-tabulate {B = B} f (suc n) g = ap (λ (r : List B). f (g 0) ∷ r) (map-tabulate f n (λ i. g (suc i)))
+
+-- a test of every value is one of every index
+pub allOf-table : {A : Type 0} (p : A → Bool) (n : ℕ) (f : ℕ → A) → allOf p (tabulate n f) ≡ all (λ i. p (f i)) n
+allOf-table p n f =
+    allOf-all p (tabulate n f) (f 0)
+    ∙ ap (all (λ i. p (getD (tabulate n f) i (f 0)))) (length-tabulate n f)
+    ∙ all-ext (λ i. p (getD (tabulate n f) i (f 0))) (λ i. p (f i)) n (λ i l. ap p (getD-tabulate n i f (f 0) l))

@@ -3,8 +3,10 @@
 use mathlib.Core.Bool.{Bool, true, false, not, _&&_, true≢false}
 use mathlib.Core.List.{List, [], _∷_, _++_}
 use mathlib.Core.Path.{_≡_, refl, sym, ap, _∙_}
-use Prim.Native.Nat.{ℕ, zero, suc}
-use borrow.Author.Tests.{not-true, not-false}
+use Prim.Native.Nat.{ℕ, zero, suc, _<_, _≤_}
+use native.Mathlib.Omega.{arith}
+use borrow.Author.Tests.{not-true, not-false, lt-ltb, le-ltb}
+use lib.Dec.{ltb}
 use lib.ListN.{getD}
 use Rattle.laws.specs.Choice.{both-false}
 use Rattle.laws.specs.Chains.{joined}
@@ -17,6 +19,18 @@ refused {r} e h = sym e ∙ not-true r h
 
 pub passed : {r t : Bool} → r ≡ t → not r ≡ false → t ≡ true
 passed {r} e h = sym e ∙ not-false r h
+
+-- a place read as a wider number, tested against a count
+pub place-in : {w a n : ℕ} → w ≡ a → w < n → ltb a n ≡ true
+place-in {w} {a} {n} e h = lt-ltb a n (omega arith)
+
+pub place-past : {w a n : ℕ} → w ≡ a → n ≤ w → ltb a n ≡ false
+place-past {w} {a} {n} e h = le-ltb a n (omega arith)
+
+-- tests that passed, one after the other
+infixr 5 _and_
+pub _and_ : {A B : Type 0} → A → B → A × B
+a and b = (a, b)
 
 -- ---- a chain
 

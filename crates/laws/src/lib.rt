@@ -34,3 +34,11 @@ pub fn place_of(number: u32) -> usize
 {
     number as usize - 1
 }
+
+// The same, as an order and a trade hold it.
+pub fn place_word(number: u32) -> u32
+    requires { ⌜ 1 ≤ number ⌝ }
+    ensures { λ r. ⌜ r ≡ number - 1 ⌝ }
+{
+    number - 1
+}

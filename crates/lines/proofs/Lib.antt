@@ -1,5 +1,4 @@
 -- The laws that the proofs of this crate apply. Assumes nothing.
-pub mod Signs
 pub mod Text
 pub mod Turns
 pub mod Value

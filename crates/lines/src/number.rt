@@ -1,11 +1,10 @@
 // Numbers as decimal digits, in ASCII.
-ghost use mathlib.Core.Path.{_≡_};
 ghost use Prim.Native.Nat.{_+_, _≤_};
-ghost use lib.IntN.{natAbs};
 ghost use lib.ListN.{length};
 ghost use Rattle.rules.specs.Lines.{digits, decimal, signed, digitsMost};
 ghost use Rattle.endian.specs.Written.{Written};
 ghost use Rattle.lines.specs.Tables.{signedMost};
+use endian::writing::magnitude;
 use endian::writing::put_byte;
 
 // The last `places` digits of n, or fewer where n has fewer.
@@ -32,19 +31,6 @@ pub fn put_decimal(out: &mut [u8], at: usize, n: u64) -> usize
     ensures { λ r. ⌜ Written digitsMost (now (out .entry)) at (decimal n) (now (out .exit)) r ⌝ }
 {
     put_digits(out, at, DIGITS_MOST, n)
-}
-
-// How far x is from 0. The smallest i64 has no opposite, so one is added before the sign is turned, and after.
-pub fn magnitude(x: i64) -> u64
-    ensures { λ r. ⌜ r ≡ natAbs x ⌝ }
-{
-    if x < 0 {
-        let y = x + 1;
-        let z = 0 - y;
-        z as u64 + 1
-    } else {
-        x as u64
-    }
 }
 
 pub fn put_signed(out: &mut [u8], at: usize, x: i64) -> usize

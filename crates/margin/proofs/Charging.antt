@@ -16,7 +16,7 @@ use Rattle.rules.specs.declared.Contract.{Contract}
 use Rattle.rules.specs.declared.Holding.{Holding}
 use Rattle.rules.specs.declared.State.{State}
 use Rattle.rules.proofs.InUse.{contracts-in-use, listing-in-use, holding-in-use}
-use Rattle.margin.specs.Charge.{listingOf, ChargeTerms, ChargeableIn, Chargeable, Has, ChargedIs, ChargedAt}
+use Rattle.margin.specs.Charge.{listingFrom, ChargeTerms, ChargeableIn, Chargeable, Has, ChargedIs, ChargedAt}
 
 -- ---- one contract
 
@@ -35,19 +35,19 @@ charge-small c t = omega (arith, rated-small c t)
 
 module _ (k : Contract) (buys : List ℕ) (buycount : ℕ) (sells : List ℕ) (sellcount c a : ℕ) (h : Holding)
     (g : ChargeableIn k buys buycount sells sellcount c a h) where
-  lots-small : chargedLots (listingOf k buys buycount sells sellcount c) a h ≤ 200_000
+  lots-small : chargedLots (listingFrom k buys buycount sells sellcount c) a h ≤ 200_000
   unfolding chargedLots
   lots-small = omega (arith, g .long, g .short)
 
-  charged-small : charge k * chargedLots (listingOf k buys buycount sells sellcount c) a h ≤ 200_000_000_000_000
+  charged-small : charge k * chargedLots (listingFrom k buys buycount sells sellcount c) a h ≤ 200_000_000_000_000
   charged-small =
-      le-trans (mul-le-mul-right (chargedLots (listingOf k buys buycount sells sellcount c) a h) (charge-small k (g .terms)))
+      le-trans (mul-le-mul-right (chargedLots (listingFrom k buys buycount sells sellcount c) a h) (charge-small k (g .terms)))
       (mul-le-mul-left 1_000_000_000 lots-small)
 
   -- as the code adds it up
   module _ (r bids offers lots : ℕ) (er : r ≡ charge k) (eb : bids ≡ restingOpens a (queueIn buys c buycount))
       (eo : offers ≡ restingOpens a (queueIn sells c sellcount)) (el : lots ≡ max (h .long + bids) (h .short + offers)) where
-    pub charged-here : r * lots ≡ charge k * chargedLots (listingOf k buys buycount sells sellcount c) a h
+    pub charged-here : r * lots ≡ charge k * chargedLots (listingFrom k buys buycount sells sellcount c) a h
     unfolding chargedLots
     charged-here = rw (el, er, eb, eo)
 
@@ -61,7 +61,7 @@ module _ (m : Memory) (a : ℕ) (la : a < m .state .accountcount) where
   abbrev chargedAt : ℕ → ℕ
   chargedAt c =
       charge (getD (m .state .contracts) c noContract)
-      * chargedLots (listingOf (getD (m .state .contracts) c noContract) (m .buys) (getD (m .state .buycounts) c 0) (m .sells) (getD (m .state .sellcounts) c 0) c) a
+      * chargedLots (listingFrom (getD (m .state .contracts) c noContract) (m .buys) (getD (m .state .buycounts) c 0) (m .sells) (getD (m .state .sellcounts) c 0) c) a
       (getD (getD (m .state .accounts) a noAccount .holdings) c noHolding)
 
   charged-none : 0 ≡ chargedTo (exchangeOf m) a 0
@@ -75,11 +75,11 @@ module _ (m : Memory) (a : ℕ) (la : a < m .state .accountcount) where
 
 -- ---- the loop over the contracts: `total` is the margin of the first c
 
-module _ (holdings : List Holding) (terms : List Contract) (buys bids sells offers : List ℕ) (a : ℕ) where
+module _ (holdings : List Holding) (terms : List Contract) (buys buycounts sells sellcounts : List ℕ) (a : ℕ) where
   abbrev pub chargedHere : ℕ → ℕ
   chargedHere c =
       charge (getD terms c noContract)
-      * chargedLots (listingOf (getD terms c noContract) buys (getD bids c 0) sells (getD offers c 0) c) a (getD holdings c noHolding)
+      * chargedLots (listingFrom (getD terms c noContract) buys (getD buycounts c 0) sells (getD sellcounts c 0) c) a (getD holdings c noHolding)
 
   unfoldable pub chargedFirst : ℕ → ℕ
   chargedFirst zero = 0
@@ -108,14 +108,14 @@ all-charged s buys sells trades a la =
     charged-first s buys sells trades a (s .contractcount) la (omega arith)
     ∙ ap (chargedTo (exchangeOf (memory s buys sells trades)) a) (sym (contracts-in-use (memory s buys sells trades)))
 
-module _ (holdings : List Holding) (terms : List Contract) (contracts : ℕ) (buys bids sells offers : List ℕ) (a : ℕ)
-    (g : Chargeable holdings terms contracts buys bids sells offers a) where
-  pub charging-none : Charging holdings terms buys bids sells offers a contracts 0 0
+module _ (holdings : List Holding) (terms : List Contract) (contracts : ℕ) (buys buycounts sells sellcounts : List ℕ) (a : ℕ)
+    (g : Chargeable holdings terms contracts buys buycounts sells sellcounts a) where
+  pub charging-none : Charging holdings terms buys buycounts sells sellcounts a contracts 0 0
   unfolding chargedFirst
   charging-none = record { within = omega arith; margin = refl; small = omega arith }
 
-  module _ (c total v : ℕ) (lc : c < contracts) (w : Charging holdings terms buys bids sells offers a contracts total c)
-      (e : v ≡ chargedHere holdings terms buys bids sells offers a c) where
+  module _ (c total v : ℕ) (lc : c < contracts) (w : Charging holdings terms buys buycounts sells sellcounts a contracts total c)
+      (e : v ≡ chargedHere holdings terms buys buycounts sells sellcounts a c) where
     pub turn-small : v ≤ 200_000_000_000_000
     turn-small = le-trans (le-of-eq e) (charged-small _ _ _ _ _ _ _ _ (g .each c lc))
 
@@ -123,11 +123,11 @@ module _ (holdings : List Holding) (terms : List Contract) (contracts : ℕ) (bu
     total-fits =
         fits-below {n = 1_000_000_000_000_000} tt (omega (arith, turn-small, w .small, g .few))
 
-    margin-more : total + v ≡ chargedFirst holdings terms buys bids sells offers a (c + 1)
+    margin-more : total + v ≡ chargedFirst holdings terms buys buycounts sells sellcounts a (c + 1)
     unfolding chargedFirst
     margin-more = rw (add-one c, w .margin, e)
 
-    pub charging-more : Charging holdings terms buys bids sells offers a contracts (total + v) (c + 1)
+    pub charging-more : Charging holdings terms buys buycounts sells sellcounts a contracts (total + v) (c + 1)
     charging-more =
         record {
           within = omega arith;
@@ -135,16 +135,16 @@ module _ (holdings : List Holding) (terms : List Contract) (contracts : ℕ) (bu
           small = omega (arith, turn-small, w .small);
         }
 
-  pub charging-done : (total c : ℕ) → contracts ≤ c → Charging holdings terms buys bids sells offers a contracts total c
-      → ChargedIs holdings terms contracts buys bids sells offers a total
+  pub charging-done : (total c : ℕ) → contracts ≤ c → Charging holdings terms buys buycounts sells sellcounts a contracts total c
+      → ChargedIs holdings terms contracts buys buycounts sells sellcounts a total
   charging-done total c stop w =
       record { charged = λ s trades h. at-end ∙ of-state s trades h; small = omega (arith, w .small, w .within, g .few) }
     where
-      at-end : total ≡ chargedFirst holdings terms buys bids sells offers a contracts
-      at-end = w .margin ∙ ap (chargedFirst holdings terms buys bids sells offers a) (omega (arith, w .within, stop))
+      at-end : total ≡ chargedFirst holdings terms buys buycounts sells sellcounts a contracts
+      at-end = w .margin ∙ ap (chargedFirst holdings terms buys buycounts sells sellcounts a) (omega (arith, w .within, stop))
 
-      of-state : (s : State) (trades : List ℕ) → Has s holdings terms contracts bids offers a
-          → chargedFirst holdings terms buys bids sells offers a contracts ≡ charged (exchangeOf (memory s buys sells trades)) a
+      of-state : (s : State) (trades : List ℕ) → Has s holdings terms contracts buycounts sellcounts a
+          → chargedFirst holdings terms buys buycounts sells sellcounts a contracts ≡ charged (exchangeOf (memory s buys sells trades)) a
       of-state s trades h = rw (← h .held, ← h .listed, ← h .count, ← h .bought, ← h .sold) (all-charged s buys sells trades a (h .account))
 
 -- what is charged by what a state has is the state's charged margin

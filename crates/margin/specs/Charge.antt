@@ -12,8 +12,8 @@ use Rattle.rules.specs.declared.Holding.{Holding}
 use Rattle.rules.specs.declared.State.{State}
 
 -- a contract with the first orders of its two queues
-abbrev pub listingOf : Contract → List ℕ → ℕ → List ℕ → ℕ → ℕ → Listing
-listingOf contract buys buycount sells sellcount c =
+abbrev pub listingFrom : Contract → List ℕ → ℕ → List ℕ → ℕ → ℕ → Listing
+listingFrom contract buys buycount sells sellcount c =
     record { contract = contract; buys = queueIn buys c buycount; sells = queueIn sells c sellcount }
 
 pub record ChargeTerms (c : Contract) : Type 0 where
@@ -37,28 +37,28 @@ pub record ChargeableIn (contract : Contract) (buys : List ℕ) (buycount : ℕ)
   pub short : h .short + restingOpens a (queueIn sells c sellcount) ≤ chargedMost
 
 -- every contract in use, for one account: its holdings, the contracts and how many they are, and how many orders each queue has
-pub record Chargeable (holdings : List Holding) (terms : List Contract) (contracts : ℕ) (buys bids sells offers : List ℕ) (a : ℕ) : Type 0 where
+pub record Chargeable (holdings : List Holding) (terms : List Contract) (contracts : ℕ) (buys buycounts sells sellcounts : List ℕ) (a : ℕ) : Type 0 where
   pub account : a < maxAccounts
   pub few : contracts ≤ maxContracts
   pub each : (c : ℕ) → c < contracts →
-      ChargeableIn (getD terms c noContract) buys (getD bids c 0) sells (getD offers c 0) c a (getD holdings c noHolding)
+      ChargeableIn (getD terms c noContract) buys (getD buycounts c 0) sells (getD sellcounts c 0) c a (getD holdings c noHolding)
 
 -- that a state has these for an account in use
-pub record Has (s : State) (holdings : List Holding) (terms : List Contract) (contracts : ℕ) (bids offers : List ℕ) (a : ℕ) : Type 0 where
+pub record Has (s : State) (holdings : List Holding) (terms : List Contract) (contracts : ℕ) (buycounts sellcounts : List ℕ) (a : ℕ) : Type 0 where
   pub account : a < s .accountcount
   pub held : getD (s .accounts) a noAccount .holdings ≡ holdings
   pub listed : s .contracts ≡ terms
   pub count : s .contractcount ≡ contracts
-  pub bought : s .buycounts ≡ bids
-  pub sold : s .sellcounts ≡ offers
+  pub bought : s .buycounts ≡ buycounts
+  pub sold : s .sellcounts ≡ sellcounts
 
 -- an account's margin: price, multiplier and rate at their largest, for `chargedMost` lots in each contract, come to 8 x 10^14
 abbrev pub marginMost : ℕ
 marginMost = 10 ^ 15
 
 -- the charged margin of the account in any state that has these, whatever trades the day has; it is small
-pub record ChargedIs (holdings : List Holding) (terms : List Contract) (contracts : ℕ) (buys bids sells offers : List ℕ) (a r : ℕ) : Type 0 where
-  pub charged : (s : State) (trades : List ℕ) → Has s holdings terms contracts bids offers a → r ≡ margin.charged (exchangeOf (memory s buys sells trades)) a
+pub record ChargedIs (holdings : List Holding) (terms : List Contract) (contracts : ℕ) (buys buycounts sells sellcounts : List ℕ) (a r : ℕ) : Type 0 where
+  pub charged : (s : State) (trades : List ℕ) → Has s holdings terms contracts buycounts sellcounts a → r ≡ margin.charged (exchangeOf (memory s buys sells trades)) a
   pub small : r ≤ marginMost
 
 -- the same of what a state has

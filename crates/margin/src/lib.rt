@@ -5,10 +5,11 @@ ghost use Prim.Native.Nat.{_*_, _≤_, max};
 ghost use lib.IntN.{pos};
 ghost use lib.Signed.{ltZ};
 ghost use Rattle.rules.specs.Margin as margin;
-ghost use Rattle.margin.specs.Charge.{ChargeTerms, ChargeableIn, Chargeable, ChargedIs, listingOf, marginMost};
+ghost use Rattle.margin.specs.Charge.{ChargeTerms, ChargeableIn, Chargeable, ChargedIs, listingFrom, marginMost};
 use book::scan;
 use rules::Contract;
 use rules::Holding;
+use rules::sizes::RATE_PARTS;
 
 // "The charge for one lot is multiplier x reference x rate / 10,000, rounded up."
 pub fn charge(c: Contract) -> u64
@@ -18,7 +19,7 @@ pub fn charge(c: Contract) -> u64
     let multiplier = c.multiplier as u64;
     let reference = c.reference as u64;
     let rate = c.rate as u64;
-    (multiplier * reference * rate + 9999) / 10000
+    (multiplier * reference * rate + (RATE_PARTS - 1)) / RATE_PARTS
 }
 
 fn larger_side(bought: u64, sold: u64) -> u64
@@ -39,7 +40,7 @@ fn charged_in<'a>(
     h: Holding,
 ) -> u64
     requires { ⌜ ChargeableIn contract (now buys) buycount (now sells) sellcount c account h ⌝ }
-    ensures { λ r. ⌜ r ≡ margin.charge contract * margin.chargedLots (listingOf contract (now (buys .entry)) buycount (now (sells .entry)) sellcount c) account h ⌝ }
+    ensures { λ r. ⌜ r ≡ margin.charge contract * margin.chargedLots (listingFrom contract (now (buys .entry)) buycount (now (sells .entry)) sellcount c) account h ⌝ }
 {
     let long = h.long as u64;
     let short = h.short as u64;
@@ -57,13 +58,13 @@ pub fn charged<'a>(
     terms: [Contract; rules::MAX_CONTRACTS],
     contracts: usize,
     buys: &'a [u32],
-    bids: [usize; rules::MAX_CONTRACTS],
+    buycounts: [usize; rules::MAX_CONTRACTS],
     sells: &'a [u32],
-    offers: [usize; rules::MAX_CONTRACTS],
+    sellcounts: [usize; rules::MAX_CONTRACTS],
     a: usize,
 ) -> u64
-    requires { ⌜ Chargeable holdings terms contracts (now buys) bids (now sells) offers a ⌝ }
-    ensures { λ r. ⌜ ChargedIs holdings terms contracts (now (buys .entry)) bids (now (sells .entry)) offers a r ⌝ }
+    requires { ⌜ Chargeable holdings terms contracts (now buys) buycounts (now sells) sellcounts a ⌝ }
+    ensures { λ r. ⌜ ChargedIs holdings terms contracts (now (buys .entry)) buycounts (now (sells .entry)) sellcounts a r ⌝ }
 {
     let account = a as u32;
     let mut total: u64 = 0;
@@ -71,8 +72,8 @@ pub fn charged<'a>(
     while c < contracts {
         let contract = terms[c];
         let h = holdings[c];
-        let buycount = bids[c];
-        let sellcount = offers[c];
+        let buycount = buycounts[c];
+        let sellcount = sellcounts[c];
         total += charged_in(contract, buys, buycount, sells, sellcount, c, account, h);
         c += 1;
     }

@@ -24,7 +24,7 @@ use Rattle.rules.proofs.Codecs.{trade-codec, length-queue, order-at, put-queue}
 use Rattle.book.proofs.EarlyStop.{trades-counted, count-met}
 use Rattle.rules.proofs.Sweep.{trade-lots, trade-price, sweep-end, sweep-used, sweep-unmet, sweep-part, sweep-full}
 use Rattle.holdings.specs.Bounds.{HeldWithin}
-use Rattle.matching.specs.Sweep.{Parties, FilledIs}
+use Rattle.matching.specs.Sweep.{SweepParties, FilledIs}
 use Rattle.holdings.proofs.Bookings.{held-more, held-trade}
 use Rattle.book.proofs.Queues.{next-order, no-more}
 use Rattle.book.proofs.Trading.{Booked, booked, booked-trade, all-booked, still-made}
@@ -77,7 +77,7 @@ pub record Going
   pub within : at ≤ count
   pub some : done ≤ lots
   pub long : length area ≡ length area₀
-  pub parties : Parties (1_000_000 + done + done) t held queues count
+  pub parties : SweepParties (1_000_000 + done + done) t held queues count
   pub answer : finish done made price held area (sweep t (lots - done) price (drop at (queueIn queues (t .contract) count)))
       ≡ finish 0 before last held₀ area₀ (sweep t lots last (queueIn queues (t .contract) count))
 
@@ -99,8 +99,8 @@ either-party used true a b ha hb = ha
 either-party used false a b ha hb = hb
 
 -- the same accounts, with another bound on what they hold
-pub parties-with : {b b′ : ℕ} {t : Taker} {held held′ : List Account} {queues : List ℕ} {count : ℕ} (p : Parties b t held queues count)
-    → HeldWithin b′ (p .used) (t .contract) held′ → Parties b′ t held′ queues count
+pub parties-with : {b b′ : ℕ} {t : Taker} {held held′ : List Account} {queues : List ℕ} {count : ℕ} (p : SweepParties b t held queues count)
+    → HeldWithin b′ (p .used) (t .contract) held′ → SweepParties b′ t held′ queues count
 parties-with p w = record { used = p .used; few = p .few; taker = p .taker; resting = p .resting; holdings = w }
 
 module _ {t : Taker} {queues : List ℕ} {count at left price : ℕ} {o : Order} {tr : Trade} (m : Meeting t queues count at left price o tr) where
@@ -115,7 +115,7 @@ module _ {t : Taker} {queues : List ℕ} {count at left price : ℕ} {o : Order}
   standing = order-at queues (t .contract) count at (m .here) ∙ sym (m .order)
 
   -- the two accounts are the taker's and the order's
-  pub trade-parties : {b : ℕ} {held : List Account} (p : Parties b t held queues count) → (tr .buyer < p .used) × (tr .seller < p .used)
+  pub trade-parties : {b : ℕ} {held : List Account} (p : SweepParties b t held queues count) → (tr .buyer < p .used) × (tr .seller < p .used)
   unfolding tradeWith
   trade-parties p =
       let resting : o .account < p .used = rw standing at (p .resting at (m .here)) in

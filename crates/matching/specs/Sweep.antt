@@ -17,7 +17,7 @@ use Rattle.matching.specs.declared.sweep.Filled.{Filled}
 
 -- the arriving order's account and those of the queue's orders are in use, and no account in use holds more than b lots of the
 -- contract on either side
-pub record Parties (b : ℕ) (t : Taker) (held : List Account) (queues : List ℕ) (count : ℕ) : Type 0 where
+pub record SweepParties (b : ℕ) (t : Taker) (held : List Account) (queues : List ℕ) (count : ℕ) : Type 0 where
   pub used : ℕ
   pub few : used ≤ maxAccounts
   pub taker : t .account < used
@@ -33,7 +33,7 @@ pub record SweepReady
   pub size : lots ≤ maxLots
   pub queue : firstWord (t .contract) count ≤ length queues
   pub room : tradeStride * (before + length (sweep t lots last (queueIn queues (t .contract) count) .trades)) ≤ length area
-  pub parties : Parties heldMost t held queues count
+  pub parties : SweepParties heldMost t held queues count
 
 -- the answer, and both areas: the trades at the next free places, the rest of the queue behind its filled orders
 pub record FilledIs

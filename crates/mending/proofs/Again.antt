@@ -16,7 +16,7 @@ use Rattle.mending.proofs.Records.{length-kept}
 use Rattle.mending.proofs.Whole.{kept-limit, length-mended, place-least, place-within, whole-within}
 use Rattle.endian.proofs.Writes.{length-four}
 use Rattle.rules.specs.Command.{commandOf, isMalformed}
-use Rattle.rules.specs.DayFile.{u8At, u16At, u32At, u64At, recordFrom, contractsIn, accountsIn, commandsIn, contractPlace, accountPlace, commandPlace, contractFrom, contractSound, balanceFrom, accountSound}
+use Rattle.rules.specs.DayFile.{u8At, u16At, u32At, u64At, recordFrom, contractsIn, accountsIn, commandsIn, contractPlace, accountPlace, commandPlace, contractFrom, contractSound, balanceFrom, accountSound, countWidth, contractWidth, accountWidth, commandWidth, maxCommands}
 use Rattle.endian.specs.Numbers.{two, four, eight}
 use Rattle.dayfile.specs.FileHead.{headWhole, headSound}
 use Rattle.mending.specs.Mend.{reason, kept, keptBytes, keptCount, dropped, droppedList, listFrom, mendedFile, wholeRecords}
@@ -26,10 +26,10 @@ use Rattle.mending.specs.Mend.{reason, kept, keptBytes, keptCount, dropp
 abbrev wellFormedAt : List ℕ → ℕ → Type 0
 wellFormedAt file at = isMalformed (commandOf (recordFrom file at)) ≡ false
 
-module _ (file : List ℕ) (first c : ℕ) (most : c ≤ 2_000) (good : (j : ℕ) → j < c → wellFormedAt file (first + 24 * j)) where
+module _ (file : List ℕ) (first c : ℕ) (most : c ≤ maxCommands) (good : (j : ℕ) → j < c → wellFormedAt file (first + commandWidth * j)) where
   no-reason-at : (k : ℕ) → k < c → reason file first k k ≡ 0
   unfolding reason
-  no-reason-at k h = rw (good k h, lt-leb 2_000 k (omega arith))
+  no-reason-at k h = rw (good k h, lt-leb maxCommands k (omega arith))
 
   pub all-kept : (k : ℕ) → k ≤ c → kept file first k ≡ k
   unfolding kept
@@ -41,13 +41,13 @@ module _ (file : List ℕ) (first c : ℕ) (most : c ≤ 2_000) (good : (j : ℕ
   none-listed zero h = refl
   none-listed (suc k) h = rw (none-listed k (omega arith), all-kept k (omega arith), no-reason-at k (omega arith))
 
-  pub bytes-stay : (k : ℕ) → k ≤ c → keptBytes file first k ≡ take (24 * k) (drop first file)
+  pub bytes-stay : (k : ℕ) → k ≤ c → keptBytes file first k ≡ take (commandWidth * k) (drop first file)
   unfolding keptBytes
   bytes-stay zero h = refl
   bytes-stay (suc k) h =
-      let e : 24 * suc k ≡ 24 * k + 24 = omega arith in
+      let e : commandWidth * suc k ≡ commandWidth * k + commandWidth = omega arith in
       rw (bytes-stay k (omega arith), all-kept k (omega arith), no-reason-at k (omega arith), e)
-      (sym (take-add (24 * k) 24 (drop first file) ∙ ap (λ (l : List ℕ). take (24 * k) (drop first file) ++ take 24 l) (drop-drop (24 * k) first file)))
+      (sym (take-add (commandWidth * k) commandWidth (drop first file) ∙ ap (λ (l : List ℕ). take (commandWidth * k) (drop first file) ++ take commandWidth l) (drop-drop (commandWidth * k) first file)))
 
 -- ---- equal bytes, equal numbers and records
 
@@ -71,7 +71,7 @@ module _ (a b : List ℕ) (i j w : ℕ) (same : (t : ℕ) → t < w → getD a (
   same-64 o x y h e f =
       rw (same-32 o x y (omega arith) e f, same-32 (o + 4) (x + 4) (y + 4) (omega arith) (omega arith) (omega arith))
 
-  pub same-record : 24 ≤ w → recordFrom a i ≡ recordFrom b j
+  pub same-record : commandWidth ≤ w → recordFrom a i ≡ recordFrom b j
   unfolding recordFrom
   same-record h =
       rw (
@@ -87,50 +87,50 @@ module _ (a b : List ℕ) (i j w : ℕ) (same : (t : ℕ) → t < w → getD a (
 
 -- ---- what is kept is well formed
 
-malformed-is : (file : List ℕ) (first k n : ℕ) → eqb (reason file first k n) 0 ≡ true → wellFormedAt file (first + 24 * k)
+malformed-is : (file : List ℕ) (first k n : ℕ) → eqb (reason file first k n) 0 ≡ true → wellFormedAt file (first + commandWidth * k)
 unfolding reason
-malformed-is file first k n e = by-malformed (isMalformed (commandOf (recordFrom file (first + 24 * k)))) refl e
+malformed-is file first k n e = by-malformed (isMalformed (commandOf (recordFrom file (first + commandWidth * k)))) refl e
   where
-    by-malformed : (t : Bool) → isMalformed (commandOf (recordFrom file (first + 24 * k))) ≡ t
-        → eqb (pick {A = ℕ} t 1 (pick {A = ℕ} (leb 2_000 n) 3 0)) 0 ≡ true → wellFormedAt file (first + 24 * k)
+    by-malformed : (t : Bool) → isMalformed (commandOf (recordFrom file (first + commandWidth * k))) ≡ t
+        → eqb (pick {A = ℕ} t 1 (pick {A = ℕ} (leb maxCommands n) 3 0)) 0 ≡ true → wellFormedAt file (first + commandWidth * k)
     by-malformed true f e = absurd (true≢false (sym e))
     by-malformed false f e = f
 
-before-seam : (l ys : List ℕ) (at : ℕ) → at + 24 ≤ length l → wellFormedAt l at → wellFormedAt (l ++ ys) at
+before-seam : (l ys : List ℕ) (at : ℕ) → at + commandWidth ≤ length l → wellFormedAt l at → wellFormedAt (l ++ ys) at
 before-seam l ys at h g =
-    ap (λ r. isMalformed (commandOf r)) (same-record (l ++ ys) l at at 24 (λ (t : ℕ) (i : t < 24). List·getD-append l ys 0 (at + t) (omega arith)) (omega arith)) ∙ g
+    ap (λ r. isMalformed (commandOf r)) (same-record (l ++ ys) l at at commandWidth (λ (t : ℕ) (i : t < commandWidth). List·getD-append l ys 0 (at + t) (omega arith)) (omega arith)) ∙ g
 
 at-seam : (l file : List ℕ) (at from : ℕ) → at ≡ length l → wellFormedAt file from
-    → wellFormedAt (l ++ take 24 (drop from file)) at
+    → wellFormedAt (l ++ take commandWidth (drop from file)) at
 at-seam l file at from e g =
     ap (λ r. isMalformed (commandOf r))
-    (same-record (l ++ take 24 (drop from file)) file at from 24
-    (λ (t : ℕ) (i : t < 24). rw e (getD-append-add l (take 24 (drop from file)) t 0 ∙ getD-take 24 (drop from file) t 0 i ∙ getD-drop from file t 0))
+    (same-record (l ++ take commandWidth (drop from file)) file at from commandWidth
+    (λ (t : ℕ) (i : t < commandWidth). rw e (getD-append-add l (take commandWidth (drop from file)) t 0 ∙ getD-take commandWidth (drop from file) t 0 i ∙ getD-drop from file t 0))
     (omega arith))
     ∙ g
 
-pub kept-good : (file : List ℕ) (first k : ℕ) → first + 24 * k ≤ length file → (j : ℕ) → j < kept file first k
-    → wellFormedAt (keptBytes file first k) (24 * j)
+pub kept-good : (file : List ℕ) (first k : ℕ) → first + commandWidth * k ≤ length file → (j : ℕ) → j < kept file first k
+    → wellFormedAt (keptBytes file first k) (commandWidth * j)
 unfolding kept keptBytes
 kept-good file first zero h j i = absurd (omega arith)
 kept-good file first (suc k) h j i =
     by-reason (eqb (reason file first k (kept file first k)) 0) refl i (kept-good file first k (omega arith)) (length-kept file first k (omega arith))
   where
     by-reason : (t : Bool) → eqb (reason file first k (kept file first k)) 0 ≡ t → j < kept file first k + pick {A = ℕ} t 1 0
-        → ((j : ℕ) → j < kept file first k → wellFormedAt (keptBytes file first k) (24 * j))
-        → length (keptBytes file first k) ≡ 24 * kept file first k
-        → wellFormedAt (keptBytes file first k ++ pick t (take 24 (drop (first + 24 * k) file)) []) (24 * j)
+        → ((j : ℕ) → j < kept file first k → wellFormedAt (keptBytes file first k) (commandWidth * j))
+        → length (keptBytes file first k) ≡ commandWidth * kept file first k
+        → wellFormedAt (keptBytes file first k ++ pick t (take commandWidth (drop (first + commandWidth * k) file)) []) (commandWidth * j)
     by-reason false e i g l = rw (append-nil (keptBytes file first k)) (g j (omega arith))
     by-reason true e i g l = last (ltb j (kept file first k)) refl
       where
         last : (u : Bool) → ltb j (kept file first k) ≡ u
-            → wellFormedAt (keptBytes file first k ++ take 24 (drop (first + 24 * k) file)) (24 * j)
+            → wellFormedAt (keptBytes file first k ++ take commandWidth (drop (first + commandWidth * k) file)) (commandWidth * j)
         last true f =
             let b = ltb-true j (kept file first k) f in
-            before-seam (keptBytes file first k) (take 24 (drop (first + 24 * k) file)) (24 * j) (omega arith) (g j b)
+            before-seam (keptBytes file first k) (take commandWidth (drop (first + commandWidth * k) file)) (commandWidth * j) (omega arith) (g j b)
         last false f =
             let b = ltb-false j (kept file first k) f in
-            at-seam (keptBytes file first k) file (24 * j) (first + 24 * k) (omega arith) (malformed-is file first k (kept file first k) e)
+            at-seam (keptBytes file first k) file (commandWidth * j) (first + commandWidth * k) (omega arith) (malformed-is file first k (kept file first k) e)
 
 read-four : (n : ℕ) → u32At (four n) 0 ≡ n
 unfolding u32At u16At u8At four two
@@ -148,30 +148,30 @@ module _ (file : List ℕ) (sound : headSound file ≡ true) where
   abbrev again : List ℕ
   again = mendedFile file
 
-  parts : again ≡ take (first - 4) file ++ (four (keptCount file) ++ bytes)
+  parts : again ≡ take (first - countWidth) file ++ (four (keptCount file) ++ bytes)
   unfolding mendedFile
   parts = refl
 
-  length-front : length (take (first - 4) file) ≡ first - 4
-  length-front = length-take-le (first - 4) file (omega (arith, place-within file sound))
+  length-front : length (take (first - countWidth) file) ≡ first - countWidth
+  length-front = length-take-le (first - countWidth) file (omega (arith, place-within file sound))
 
-  same-head : (t : ℕ) → t < first - 4 → getD again (0 + t) 0 ≡ getD file (0 + t) 0
+  same-head : (t : ℕ) → t < first - countWidth → getD again (0 + t) 0 ≡ getD file (0 + t) 0
   same-head t h =
       rw (zero-add t, parts)
-      (List·getD-append (take (first - 4) file) (four (keptCount file) ++ bytes) 0 t (omega (arith, length-front))
-      ∙ getD-take (first - 4) file t 0 h)
+      (List·getD-append (take (first - countWidth) file) (four (keptCount file) ++ bytes) 0 t (omega (arith, length-front))
+      ∙ getD-take (first - countWidth) file t 0 h)
 
-  place : first ≡ 12 + 20 * contractsIn file + 8 * accountsIn file
+  place : first ≡ 3 * countWidth + contractWidth * contractsIn file + accountWidth * accountsIn file
   place = omega (arith, command-place file 0)
 
   same-contracts : contractsIn again ≡ contractsIn file
   unfolding contractsIn
-  same-contracts = same-32 again file 0 0 (first - 4) same-head 0 0 0 (omega (arith, place-least file sound)) (omega arith) (omega arith)
+  same-contracts = same-32 again file 0 0 (first - countWidth) same-head 0 0 0 (omega (arith, place-least file sound)) (omega arith) (omega arith)
 
   same-accounts : accountsIn again ≡ accountsIn file
   same-accounts =
       accounts-read again
-      ∙ same-32 again file 0 0 (first - 4) same-head (4 + 20 * contractsIn file) (4 + 20 * contractsIn again) (4 + 20 * contractsIn file)
+      ∙ same-32 again file 0 0 (first - countWidth) same-head (countWidth + contractWidth * contractsIn file) (countWidth + contractWidth * contractsIn again) (countWidth + contractWidth * contractsIn file)
       (omega (arith, place)) (omega (arith, same-contracts)) (omega arith)
       ∙ sym (accounts-read file)
 
@@ -180,41 +180,41 @@ module _ (file : List ℕ) (sound : headSound file ≡ true) where
 
   drop-front : drop first again ≡ bytes
   drop-front =
-      let e : first ≡ length (take (first - 4) file) + length (four (keptCount file)) =
+      let e : first ≡ length (take (first - countWidth) file) + length (four (keptCount file)) =
       omega (arith, length-front, length-four (keptCount file), place-least file sound) in
       ap (λ (l : List ℕ). drop first l) parts
-      ∙ ap (λ (k : ℕ). drop k (take (first - 4) file ++ (four (keptCount file) ++ bytes))) e
-      ∙ drop-append-add (take (first - 4) file) (four (keptCount file) ++ bytes) (length (four (keptCount file)))
+      ∙ ap (λ (k : ℕ). drop k (take (first - countWidth) file ++ (four (keptCount file) ++ bytes))) e
+      ∙ drop-append-add (take (first - countWidth) file) (four (keptCount file) ++ bytes) (length (four (keptCount file)))
       ∙ drop-append-seam (four (keptCount file)) bytes
 
-  take-front : take (first - 4) again ≡ take (first - 4) file
+  take-front : take (first - countWidth) again ≡ take (first - countWidth) file
   take-front =
-      ap (λ (l : List ℕ). take (first - 4) l) parts
-      ∙ take-at (take (first - 4) file) (four (keptCount file) ++ bytes) (first - 4) length-front
+      ap (λ (l : List ℕ). take (first - countWidth) l) parts
+      ∙ take-at (take (first - countWidth) file) (four (keptCount file) ++ bytes) (first - countWidth) length-front
 
-  length-bytes : length bytes ≡ 24 * keptCount file
+  length-bytes : length bytes ≡ commandWidth * keptCount file
   length-bytes = length-kept file first (wholeRecords file first) (whole-within file first (place-within file sound))
 
-  all-good : (j : ℕ) → j < keptCount file → wellFormedAt again (first + 24 * j)
+  all-good : (j : ℕ) → j < keptCount file → wellFormedAt again (first + commandWidth * j)
   all-good j h =
       ap (λ r. isMalformed (commandOf r))
-      (same-record again bytes (first + 24 * j) (24 * j) 24
-      (λ (t : ℕ) (i : t < 24).
-      let e : first + 24 * j + t ≡ first + (24 * j + t) = omega arith in
-      rw e (sym (getD-drop first again (24 * j + t) 0) ∙ ap (λ (l : List ℕ). getD l (24 * j + t) 0) drop-front))
+      (same-record again bytes (first + commandWidth * j) (commandWidth * j) commandWidth
+      (λ (t : ℕ) (i : t < commandWidth).
+      let e : first + commandWidth * j + t ≡ first + (commandWidth * j + t) = omega arith in
+      rw e (sym (getD-drop first again (commandWidth * j + t) 0) ∙ ap (λ (l : List ℕ). getD l (commandWidth * j + t) 0) drop-front))
       (omega arith))
       ∙ kept-good file first (wholeRecords file first) (whole-within file first (place-within file sound)) j h
 
-  rest : length again - first ≡ 24 * keptCount file
+  rest : length again - first ≡ commandWidth * keptCount file
   rest = omega (arith, length-mended file sound)
 
   whole : wholeRecords again first ≡ keptCount file
   whole = rw rest (omega arith)
 
-  no-partial : (length again - first) % 24 ≡ 0
+  no-partial : (length again - first) % commandWidth ≡ 0
   no-partial = rw rest (omega arith)
 
-  most : keptCount file ≤ 2_000
+  most : keptCount file ≤ maxCommands
   most = kept-limit file first (wholeRecords file first)
 
   kept-again : kept again first (wholeRecords again first) ≡ keptCount file
@@ -224,11 +224,11 @@ module _ (file : List ℕ) (sound : headSound file ≡ true) where
   bytes-again =
       ap (keptBytes again first) whole
       ∙ bytes-stay again first (keptCount file) most all-good (keptCount file) (omega arith)
-      ∙ ap (λ (l : List ℕ). take (24 * keptCount file) l) drop-front
-      ∙ take-all (24 * keptCount file) bytes (omega (arith, length-bytes))
+      ∙ ap (λ (l : List ℕ). take (commandWidth * keptCount file) l) drop-front
+      ∙ take-all (commandWidth * keptCount file) bytes (omega (arith, length-bytes))
 
   mended-from : (l : List ℕ) (p : ℕ) → commandPlace l 0 ≡ p
-      → mendedFile l ≡ take (p - 4) l ++ (four (kept l p (wholeRecords l p)) ++ keptBytes l p (wholeRecords l p))
+      → mendedFile l ≡ take (p - countWidth) l ++ (four (kept l p (wholeRecords l p)) ++ keptBytes l p (wholeRecords l p))
   unfolding mendedFile
   mended-from l p e = rw e
 
@@ -237,11 +237,11 @@ module _ (file : List ℕ) (sound : headSound file ≡ true) where
   mends-to-itself =
       mended-from again first same-place
       ∙ ap (λ (l : List ℕ). l ++ (four (kept again first (wholeRecords again first)) ++ keptBytes again first (wholeRecords again first))) take-front
-      ∙ ap (λ (k : ℕ). take (first - 4) file ++ (four k ++ keptBytes again first (wholeRecords again first))) kept-again
-      ∙ ap (λ (l : List ℕ). take (first - 4) file ++ (four (keptCount file) ++ l)) bytes-again
+      ∙ ap (λ (k : ℕ). take (first - countWidth) file ++ (four k ++ keptBytes again first (wholeRecords again first))) kept-again
+      ∙ ap (λ (l : List ℕ). take (first - countWidth) file ++ (four (keptCount file) ++ l)) bytes-again
       ∙ sym parts
 
-  list-from : (l : List ℕ) (p c : ℕ) → (length l - p) % 24 ≡ 0 → wholeRecords l p ≡ c → kept l p c ≡ c → dropped l p c ≡ []
+  list-from : (l : List ℕ) (p c : ℕ) → (length l - p) % commandWidth ≡ 0 → wholeRecords l p ≡ c → kept l p c ≡ c → dropped l p c ≡ []
       → listFrom l p ≡ eight 0
   unfolding listFrom
   list-from l p c z w k d = let e : c - c + 0 ≡ 0 = omega arith in rw (z, w, k, d, e) (append-nil (eight 0))
@@ -259,11 +259,11 @@ module _ (file : List ℕ) (sound : headSound file ≡ true) where
   same-contract : (c : ℕ) → c < contractsIn file → contractSound again c ≡ contractSound file c
   unfolding contractSound contractFrom
   same-contract c h =
-      let q = first - 4 in
+      let q = first - countWidth in
       let o = contractPlace c in
       let z : o ≡ 0 + o = omega arith in
       let at : (k : ℕ) → o + k ≡ 0 + (o + k) = λ k. omega arith in
-      let r : o + 20 ≤ q = omega (arith, place, contract-place c) in
+      let r : o + contractWidth ≤ q = omega (arith, place, contract-place c) in
       rw (
         same-16 again file 0 0 q same-head o o o (omega arith) z z,
         same-16 again file 0 0 q same-head (o + 2) (o + 2) (o + 2) (omega arith) (at 2) (at 2),
@@ -279,13 +279,13 @@ module _ (file : List ℕ) (sound : headSound file ≡ true) where
   same-account a h =
       let o = accountPlace file a in
       let e : accountPlace again a ≡ 0 + o = omega (arith, account-place again a, account-place file a, same-contracts) in
-      rw (same-64 again file 0 0 (first - 4) same-head o (accountPlace again a) o (omega (arith, place, account-place file a)) e (omega arith))
+      rw (same-64 again file 0 0 (first - countWidth) same-head o (accountPlace again a) o (omega (arith, place, account-place file a)) e (omega arith))
 
   again-whole : headWhole again ≡ true
   again-whole =
       let h = sound-head file sound in
       length-decides again (omega (arith, same-contracts)) (omega (arith, same-contracts)) (omega (arith, same-accounts)) (omega (arith, same-accounts))
-      ∙ le-leb (12 + 20 * contractsIn again + 8 * accountsIn again) (length again)
+      ∙ le-leb (3 * countWidth + contractWidth * contractsIn again + accountWidth * accountsIn again) (length again)
       (omega (arith, same-contracts, same-accounts, place, length-mended file sound))
 
   -- THE MENDED FILE CAN BE MENDED
@@ -308,17 +308,17 @@ module _ (file : List ℕ) (sound : headSound file ≡ true) where
 
   -- ---- and it is a sound day file
 
-  same-count : (t : ℕ) → t < 4 → getD again (first - 4 + t) 0 ≡ getD (four (keptCount file)) (0 + t) 0
+  same-count : (t : ℕ) → t < countWidth → getD again (first - countWidth + t) 0 ≡ getD (four (keptCount file)) (0 + t) 0
   same-count t h =
-      let e : first - 4 + t ≡ length (take (first - 4) file) + t = omega (arith, length-front) in
+      let e : first - countWidth + t ≡ length (take (first - countWidth) file) + t = omega (arith, length-front) in
       rw (e, parts, zero-add t)
-      (getD-append-add (take (first - 4) file) (four (keptCount file) ++ bytes) t 0
+      (getD-append-add (take (first - countWidth) file) (four (keptCount file) ++ bytes) t 0
       ∙ List·getD-append (four (keptCount file)) bytes 0 t (omega (arith, length-four (keptCount file))))
 
   count-again : commandsIn again ≡ keptCount file
   count-again =
       commands-read again
-      ∙ same-32 again (four (keptCount file)) (first - 4) 0 4 same-count 0 (8 + 20 * contractsIn again + 8 * accountsIn again) 0
+      ∙ same-32 again (four (keptCount file)) (first - countWidth) 0 countWidth same-count 0 (2 * countWidth + contractWidth * contractsIn again + accountWidth * accountsIn again) 0
       (omega arith) (omega (arith, place, same-contracts, same-accounts)) (omega arith)
       ∙ read-four (keptCount file)
 
@@ -326,5 +326,5 @@ module _ (file : List ℕ) (sound : headSound file ≡ true) where
   pub mended-sound : DayFile·sound (mendedFile file) ≡ true
   mended-sound =
       length-ends again again-sound (omega (arith, count-again, most)) (commandPlace again 0) refl
-      ∙ eq-eqb (length again) (commandPlace again 0 + 24 * commandsIn again)
+      ∙ eq-eqb (length again) (commandPlace again 0 + commandWidth * commandsIn again)
       (omega (arith, length-mended file sound, command-place again 0, same-contracts, same-accounts, count-again, place))

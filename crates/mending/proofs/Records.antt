@@ -14,33 +14,33 @@ use Rattle.endian.specs.Written.{Written}
 use Rattle.endian.specs.Numbers.{two, four, eight}
 use Rattle.endian.proofs.Writes.{then, looser, no-byte, length-part}
 use Rattle.rules.specs.Command.{commandOf, isMalformed}
-use Rattle.rules.specs.DayFile.{recordFrom}
+use Rattle.rules.specs.DayFile.{recordFrom, commandWidth, maxCommands}
 use Rattle.rules.specs.declared.Command.{Command}
 use Rattle.rules.specs.declared.Record.{Record}
-use Rattle.mending.specs.Mend.{reason, kept, keptBytes, dropped, entry}
+use Rattle.mending.specs.Mend.{reason, kept, keptBytes, dropped, entry, entryWidth}
 
-pub length-entry : (k why : ℕ) → length (entry k why) ≡ 9
+pub length-entry : (k why : ℕ) → length (entry k why) ≡ entryWidth
 unfolding eight four two
 length-entry k why = refl
 
 -- ---- a record's verdict, from what the code reads
 
-module _ (file : List ℕ) (first k n : ℕ) {r : Record} {command : Command} {t : Bool} (er : r ≡ recordFrom file (first + 24 * k))
+module _ (file : List ℕ) (first k n : ℕ) {r : Record} {command : Command} {t : Bool} (er : r ≡ recordFrom file (first + commandWidth * k))
     (ec : command ≡ commandOf r) (et : t ≡ isMalformed command) where
-  test-is : isMalformed (commandOf (recordFrom file (first + 24 * k))) ≡ t
+  test-is : isMalformed (commandOf (recordFrom file (first + commandWidth * k))) ≡ t
   test-is = sym (et ∙ ap isMalformed (ec ∙ ap commandOf er))
 
   pub malformed : t ≡ true → 1 ≡ reason file first k n
   unfolding reason
   malformed e = rw (test-is, e)
 
-  pub surplus : t ≡ false → 2_000 ≤ n → 3 ≡ reason file first k n
+  pub surplus : t ≡ false → maxCommands ≤ n → 3 ≡ reason file first k n
   unfolding reason
-  surplus e h = rw (test-is, e, le-leb 2_000 n h)
+  surplus e h = rw (test-is, e, le-leb maxCommands n h)
 
-  pub no-reason : t ≡ false → n < 2_000 → 0 ≡ reason file first k n
+  pub no-reason : t ≡ false → n < maxCommands → 0 ≡ reason file first k n
   unfolding reason
-  no-reason e h = rw (test-is, e, lt-leb 2_000 n h)
+  no-reason e h = rw (test-is, e, lt-leb maxCommands n h)
 
 -- ---- how many are kept
 
@@ -53,7 +53,7 @@ module _ (file : List ℕ) (first : ℕ) where
   kept-next k = ap (kept file first) (add-one k)
 
   bytes-next : (k : ℕ) → keptBytes file first (k + 1)
-      ≡ keptBytes file first k ++ pick (eqb (why k) 0) (take 24 (drop (first + 24 * k) file)) []
+      ≡ keptBytes file first k ++ pick (eqb (why k) 0) (take commandWidth (drop (first + commandWidth * k) file)) []
   unfolding keptBytes
   bytes-next k = ap (keptBytes file first) (add-one k)
 
@@ -93,7 +93,7 @@ module _ (file : List ℕ) (first k : ℕ) where
     keeps : kept file first (k + 1) ≡ kept file first k + 1
     keeps = kept-next file first k ∙ rw e
 
-    keeps-bytes : keptBytes file first (k + 1) ≡ keptBytes file first k ++ take 24 (drop (first + 24 * k) file)
+    keeps-bytes : keptBytes file first (k + 1) ≡ keptBytes file first k ++ take commandWidth (drop (first + commandWidth * k) file)
     keeps-bytes = bytes-next file first k ∙ rw e
 
     keeps-list : dropped file first (k + 1) ≡ dropped file first k
@@ -112,25 +112,25 @@ module _ (file : List ℕ) (first k : ℕ) where
 -- ---- lengths
 
 module _ (file : List ℕ) (first : ℕ) where
-  pub length-kept : (k : ℕ) → first + 24 * k ≤ length file → length (keptBytes file first k) ≡ 24 * kept file first k
+  pub length-kept : (k : ℕ) → first + commandWidth * k ≤ length file → length (keptBytes file first k) ≡ commandWidth * kept file first k
   unfolding keptBytes kept
   length-kept zero h = refl
   length-kept (suc k) h = by-reason (eqb (why file first k) 0) (length-kept k (omega arith))
     where
-      by-reason : (t : Bool) → length (keptBytes file first k) ≡ 24 * kept file first k
-          → length (keptBytes file first k ++ pick t (take 24 (drop (first + 24 * k) file)) []) ≡ 24 * (kept file first k + pick t 1 0)
+      by-reason : (t : Bool) → length (keptBytes file first k) ≡ commandWidth * kept file first k
+          → length (keptBytes file first k ++ pick t (take commandWidth (drop (first + commandWidth * k) file)) []) ≡ commandWidth * (kept file first k + pick t 1 0)
       by-reason true i =
-          length-append (keptBytes file first k) (take 24 (drop (first + 24 * k) file))
-          ∙ omega (arith, i, length-part file (first + 24 * k) 24 (omega arith))
+          length-append (keptBytes file first k) (take commandWidth (drop (first + commandWidth * k) file))
+          ∙ omega (arith, i, length-part file (first + commandWidth * k) commandWidth (omega arith))
       by-reason false i = rw (append-nil (keptBytes file first k)) (omega (arith, i))
 
-  pub length-dropped : (k : ℕ) → length (dropped file first k) ≡ 9 * (k - kept file first k)
+  pub length-dropped : (k : ℕ) → length (dropped file first k) ≡ entryWidth * (k - kept file first k)
   unfolding dropped kept
   length-dropped zero = refl
   length-dropped (suc k) = by-reason (eqb (why file first k) 0) (length-dropped k) (kept-most file first k)
     where
-      by-reason : (t : Bool) → length (dropped file first k) ≡ 9 * (k - kept file first k) → kept file first k ≤ k
-          → length (dropped file first k ++ pick t [] (entry k (why file first k))) ≡ 9 * (suc k - (kept file first k + pick t 1 0))
+      by-reason : (t : Bool) → length (dropped file first k) ≡ entryWidth * (k - kept file first k) → kept file first k ≤ k
+          → length (dropped file first k ++ pick t [] (entry k (why file first k))) ≡ entryWidth * (suc k - (kept file first k + pick t 1 0))
       by-reason true i h = rw (append-nil (dropped file first k)) (omega (arith, i))
       by-reason false i h =
           length-append (dropped file first k) (entry k (why file first k))
@@ -156,19 +156,19 @@ module _ (file : List ℕ) (first k n w : ℕ) (en : n ≡ kept file first k) (e
     pub count-keeps : n + 1 ≡ kept file first (k + 1)
     count-keeps = omega (arith, en, keeps file first k (sym found ∙ e))
 
-    pub list-keeps : {before after : List ℕ} {at next : ℕ} → Written (9 * k) before at (dropped file first k) after next
-        → Written (9 * (k + 1)) before at (dropped file first (k + 1)) after next
-    list-keeps v = rw (keeps-list file first k (sym found ∙ e)) (looser v (9 * (k + 1)) (omega arith))
+    pub list-keeps : {before after : List ℕ} {at next : ℕ} → Written (entryWidth * k) before at (dropped file first k) after next
+        → Written (entryWidth * (k + 1)) before at (dropped file first (k + 1)) after next
+    list-keeps v = rw (keeps-list file first k (sym found ∙ e)) (looser v (entryWidth * (k + 1)) (omega arith))
 
-    pub file-keeps : {before middle after : List ℕ} {at j next : ℕ} → Written (24 * k) before at (keptBytes file first k) middle j
-        → Written 24 middle j (take 24 (drop (first + 24 * k) file)) after next
-        → Written (24 * (k + 1)) before at (keptBytes file first (k + 1)) after next
-    file-keeps v u = rw (keeps-bytes file first k (sym found ∙ e)) (looser (then v u) (24 * (k + 1)) (omega arith))
+    pub file-keeps : {before middle after : List ℕ} {at j next : ℕ} → Written (commandWidth * k) before at (keptBytes file first k) middle j
+        → Written commandWidth middle j (take commandWidth (drop (first + commandWidth * k) file)) after next
+        → Written (commandWidth * (k + 1)) before at (keptBytes file first (k + 1)) after next
+    file-keeps v u = rw (keeps-bytes file first k (sym found ∙ e)) (looser (then v u) (commandWidth * (k + 1)) (omega arith))
 
     -- room for one more record
-    pub file-room : {before after : List ℕ} {at next : ℕ} (m : ℕ) → k < m → first + 24 * m ≤ length file
-        → at + 24 * kept file first m ≤ length before → Written (24 * k) before at (keptBytes file first k) after next
-        → next + 24 ≤ length after
+    pub file-room : {before after : List ℕ} {at next : ℕ} (m : ℕ) → k < m → first + commandWidth * m ≤ length file
+        → at + commandWidth * kept file first m ≤ length before → Written (commandWidth * k) before at (keptBytes file first k) after next
+        → next + commandWidth ≤ length after
     file-room m h i room v =
         omega (
           arith,
@@ -186,18 +186,18 @@ module _ (file : List ℕ) (first k n w : ℕ) (en : n ≡ kept file first k) (e
     pub count-drops : n ≡ kept file first (k + 1)
     count-drops = en ∙ sym (drops file first k not-found)
 
-    pub file-drops : {before after : List ℕ} {at next : ℕ} → Written (24 * k) before at (keptBytes file first k) after next
-        → Written (24 * (k + 1)) before at (keptBytes file first (k + 1)) after next
-    file-drops v = rw (drops-bytes file first k not-found) (looser v (24 * (k + 1)) (omega arith))
+    pub file-drops : {before after : List ℕ} {at next : ℕ} → Written (commandWidth * k) before at (keptBytes file first k) after next
+        → Written (commandWidth * (k + 1)) before at (keptBytes file first (k + 1)) after next
+    file-drops v = rw (drops-bytes file first k not-found) (looser v (commandWidth * (k + 1)) (omega arith))
 
-    pub list-drops : {before middle after : List ℕ} {at j next : ℕ} → Written (9 * k) before at (dropped file first k) middle j
-        → Written 9 middle j (entry k w) after next → Written (9 * (k + 1)) before at (dropped file first (k + 1)) after next
-    list-drops v u = rw (drops-list file first k not-found, ← found) (looser (then v u) (9 * (k + 1)) (omega arith))
+    pub list-drops : {before middle after : List ℕ} {at j next : ℕ} → Written (entryWidth * k) before at (dropped file first k) middle j
+        → Written entryWidth middle j (entry k w) after next → Written (entryWidth * (k + 1)) before at (dropped file first (k + 1)) after next
+    list-drops v u = rw (drops-list file first k not-found, ← found) (looser (then v u) (entryWidth * (k + 1)) (omega arith))
 
     -- room for one more entry
     pub list-room : {before after : List ℕ} {at next : ℕ} (m : ℕ) → k < m
-        → at + 9 * (m - kept file first m) ≤ length before → Written (9 * k) before at (dropped file first k) after next
-        → next + 9 ≤ length after
+        → at + entryWidth * (m - kept file first m) ≤ length before → Written (entryWidth * k) before at (dropped file first k) after next
+        → next + entryWidth ≤ length after
     list-room m h room v =
         omega (
           arith,

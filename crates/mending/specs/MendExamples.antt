@@ -20,9 +20,9 @@ front =
     ++ ((10 ∷ 0 ∷ 1 ∷ 0 ∷ 100 ∷ 0 ∷ 0 ∷ 0 ∷ 10 ∷ 0 ∷ 0 ∷ 0 ∷ 232 ∷ 3 ∷ 0 ∷ 0 ∷ 232 ∷ 3 ∷ 0 ∷ 0 ∷ [])
     ++ ((1 ∷ 0 ∷ 0 ∷ 0 ∷ []) ++ (16 ∷ 39 ∷ replicate 6 0)))
 
--- the stored count is 99; the records are one of kind 10, a settlement, and two bytes
+-- the stored count is 99; the records are one of kind 255, a settlement, and two bytes
 unfoldable pub broken : List ℕ
-broken = front ++ ((99 ∷ 0 ∷ 0 ∷ 0 ∷ 10 ∷ replicate 23 0) ++ ((7 ∷ replicate 23 0) ++ (3 ∷ 1 ∷ [])))
+broken = front ++ ((99 ∷ 0 ∷ 0 ∷ 0 ∷ 255 ∷ replicate 23 0) ++ ((7 ∷ replicate 23 0) ++ (3 ∷ 1 ∷ [])))
 
 pub mended-example : mendedFile broken ≡ front ++ ((1 ∷ 0 ∷ 0 ∷ 0 ∷ []) ++ (7 ∷ replicate 23 0))
 unfolding front broken allOf zeros bits commandOf settleOf u8At u16At u32At u64At contractsIn contractPlace accountsIn accountPlace commandPlace recordFrom two four eight reason kept keptBytes dropped listFrom mendedFile

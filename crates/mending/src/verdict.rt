@@ -1,7 +1,7 @@
 // The records behind a file's head: which are kept, and why the others are dropped. The first begins at `first`. For this
 // crate: each requires its records within the file, and room for what it writes.
 ghost use mathlib.Core.Path.{_≡_};
-ghost use Prim.Native.Nat.{_+_, _-_, _*_, _≤_};
+ghost use Prim.Native.Nat.{_+_, _-_, _*_, _^_, _<_, _≤_};
 ghost use lib.ListN.{length};
 ghost use Rattle.rules.specs.DayFile.{commandWidth};
 ghost use Rattle.endian.specs.Written.{Written};
@@ -77,7 +77,7 @@ pub fn put_kept(file: &[u8], first: usize, n: usize, out: &mut [u8], at: usize) 
 
 // The list's entry for record k, counted from 0; in the list it is counted from 1.
 pub fn put_entry(list: &mut [u8], at: usize, k: usize, why: u8) -> usize
-    requires { ⌜ (at + entryWidth ≤ length (now list)) × (k + 1 ≤ 18446744073709551615) ⌝ }
+    requires { ⌜ (at + entryWidth ≤ length (now list)) × (k + 1 < 2 ^ 64) ⌝ }
     ensures { λ r. ⌜ Written entryWidth (now (list .entry)) at (entry k why) (now (list .exit)) r ⌝ }
 {
     let next = put_u64(list, at, k as u64 + 1);

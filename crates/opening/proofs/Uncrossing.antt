@@ -11,7 +11,7 @@ use lib.ListN.{length, getD}
 use Rattle.laws.specs.Choice.{allOf, allOf-imp, both-true, pick, pick-true, true-both}
 use Rattle.rules.specs.Answers.{changeListed}
 use Rattle.rules.specs.Auction.{Matched, auctionMatch, matchOf, unmatched}
-use Rattle.rules.specs.Bounds.{inAuction, maxLots, maxTrades}
+use Rattle.rules.specs.Bounds.{inAuction, maxLots, maxTrades, auction, continuous}
 use Rattle.rules.specs.Exchange.{Exchange, Listing, accountAt, holdingAt, listingAt, noContract, own, placeOf, isAbsent}
 use Rattle.rules.specs.Kinds.{codeOf, done, kindOf}
 use Rattle.rules.specs.Memory.{Memory, WellFormedState, exchangeOf, listingIn, memory, queueIn, stepIn, written}
@@ -43,19 +43,19 @@ use Rattle.opening.specs.Opening.{withMatch}
 
 -- it is the change to continuous
 module _ (s : State) (contract phase : ℕ) (yes : isMatch s contract phase ≡ true) where
-  to-continuous : phase ≡ 1
+  to-continuous : phase ≡ continuous
   unfolding isMatch
   to-continuous =
       let b = both-true (eqb phase 1 && not (isAbsent contract (s .contractcount))) (inAuction (getD (s .contracts) (placeOf contract) noContract)) yes in
       eqb-true phase 1 (both-true (eqb phase 1) (not (isAbsent contract (s .contractcount))) (b .0) .0)
 
-  pub is-the-match : isMatch s contract 1 ≡ true
+  pub is-the-match : isMatch s contract continuous ≡ true
   is-the-match = rw to-continuous at yes
 
-  pub changed : (m : Memory) {r : Outcome} {buys sells trades : List ℕ} → OutcomeIs (stepIn m (Phase contract 1)) r buys sells trades → OutcomeIs (stepIn m (Phase contract phase)) r buys sells trades
+  pub changed : (m : Memory) {r : Outcome} {buys sells trades : List ℕ} → OutcomeIs (stepIn m (Phase contract continuous)) r buys sells trades → OutcomeIs (stepIn m (Phase contract phase)) r buys sells trades
   changed m o = rw to-continuous o
 
-module _ {s : State} {buys sells trades : List ℕ} (w : WellFormedState s buys sells trades) (contract : ℕ) (yes : isMatch s contract 1 ≡ true) where
+module _ {s : State} {buys sells trades : List ℕ} (w : WellFormedState s buys sells trades) (contract : ℕ) (yes : isMatch s contract continuous ≡ true) where
   abbrev m : Memory
   m = memory s buys sells trades
 
@@ -131,12 +131,12 @@ module _ {s : State} {buys sells trades : List ℕ} (w : WellFormedState s buys 
 
   -- ---- the code
 
-  listed : changeListed (listingAt x c .contract .phase) 1 ≡ true
+  listed : changeListed (listingAt x c .contract .phase) continuous ≡ true
   unfolding listingIn
-  listed = rw (listing-is, eqb-true (terms .phase) 4 (parts .1)) (from-auction 1)
+  listed = rw (listing-is, eqb-true (terms .phase) auction (parts .1)) (from-auction continuous)
 
-  code-is : codeOf x (Phase contract 1) ≡ pick (ltb maxTrades (s .tradecount + length (matched .trades))) 12 0
-  code-is = phase-code w contract 1 ∙ rw (parts .0, listed, match-is)
+  code-is : codeOf x (Phase contract continuous) ≡ pick (ltb maxTrades (s .tradecount + length (matched .trades))) 12 0
+  code-is = phase-code w contract continuous ∙ rw (parts .0, listed, match-is)
 
   -- ---- the match at the level that the code has found
 
@@ -155,11 +155,11 @@ module _ {s : State} {buys sells trades : List ℕ} (w : WellFormedState s buys 
           omega (arith, needed-is, auction-count c (terms .last) bids asks, length-queue buys c (getD (s .buycounts) c 0), length-queue sells c (getD (s .sellcounts) c 0), room .few-buys, room .few-sells, f .trades-high)
 
       -- 12
-      pub left-full : {r : Outcome} → maxTrades < s .tradecount + needed → r ≡ refusedWith s 12 → OutcomeIs (stepIn m (Phase contract 1)) r buys sells trades
-      left-full h = refusal s buys sells trades (Phase contract 1) 12 (omega arith) (code-is ∙ rw (← needed-is, lt-ltb _ _ h))
+      pub left-full : {r : Outcome} → maxTrades < s .tradecount + needed → r ≡ refusedWith s 12 → OutcomeIs (stepIn m (Phase contract continuous)) r buys sells trades
+      left-full h = refusal s buys sells trades (Phase contract continuous) 12 (omega arith) (code-is ∙ rw (← needed-is, lt-ltb _ _ h))
 
       module _ (h : s .tradecount + needed ≤ maxTrades) where
-        accepted : codeOf x (Phase contract 1) ≡ 0
+        accepted : codeOf x (Phase contract continuous) ≡ 0
         accepted = code-is ∙ rw (← needed-is, le-ltb _ _ h)
 
         ready : MatchReady (levelMatch c level bids asks) c (s .accounts) buys (getD (s .buycounts) c 0) sells (getD (s .sellcounts) c 0) trades (s .tradecount)
@@ -182,8 +182,9 @@ module _ {s : State} {buys sells trades : List ℕ} (w : WellFormedState s buys 
                   };
             }
 
-        pub left-ready : MatchReady (levelMatch c level (queueIn buys c (getD (s .buycounts) place 0)) (queueIn sells c (getD (s .sellcounts) place 0))) c (s .accounts) buys (getD (s .buycounts) place 0) sells (getD (s .sellcounts) place 0) trades (s .tradecount)
-        left-ready = rw is ready
+        pub left-ready : {word : ℕ} → word ≡ c
+            → MatchReady (levelMatch word level (queueIn buys word (getD (s .buycounts) place 0)) (queueIn sells word (getD (s .sellcounts) place 0))) word (s .accounts) buys (getD (s .buycounts) place 0) sells (getD (s .sellcounts) place 0) trades (s .tradecount)
+        left-ready same = rw (is, same) ready
 
         -- ---- what it leaves
 
@@ -198,21 +199,21 @@ module _ {s : State} {buys sells trades : List ℕ} (w : WellFormedState s buys 
         unfolding codeOf kindOf phaseChanged exchangeMatched
         counted = phase-counted x contract 1 accepted (f .contents) (sound m (w .formed) .counts)
 
-        module _ {r : Match} {buys′ sells′ area′ : List ℕ}
-            (outcome : MatchedIs (levelMatch c level (queueIn buys c (getD (s .buycounts) place 0)) (queueIn sells c (getD (s .sellcounts) place 0))) c (getD (s .contracts) place noContract .last) (s .accounts) buys (getD (s .buycounts) place 0) sells (getD (s .sellcounts) place 0) trades (s .tradecount) r buys′ sells′ area′) where
+        module _ {word : ℕ} (same : word ≡ c) {r : Match} {buys′ sells′ area′ : List ℕ}
+            (outcome : MatchedIs (levelMatch word level (queueIn buys word (getD (s .buycounts) place 0)) (queueIn sells word (getD (s .sellcounts) place 0))) word (getD (s .contracts) place noContract .last) (s .accounts) buys (getD (s .buycounts) place 0) sells (getD (s .sellcounts) place 0) trades (s .tradecount) r buys′ sells′ area′) where
           made : MatchedIs matched c (terms .last) (s .accounts) buys (getD (s .buycounts) c 0) sells (getD (s .sellcounts) c 0) trades (s .tradecount) r buys′ sells′ area′
-          made = rw (is, level-is) at outcome
+          made = rw (is, same, level-is) at outcome
 
-          lies : written m (kindOf x (Phase contract 1) .effect .stages) ≡ memory (withMatch s place r) buys′ sells′ area′
+          lies : written m (kindOf x (Phase contract continuous) .effect .stages) ≡ memory (withMatch s place r) buys′ sells′ area′
           unfolding kindOf phaseChanged exchangeMatched listingMatched exchangeOf listingIn
           lies =
               put-traded m f c listing (matchOf x c .trades) (x .next) (x .nextstamp) here kept counted
               ∙ rw (match-is, listing-is, is, made .booked .made, made .booked .last, made .booked .accounts, made .booked .trades, made .bought, made .sold, made .buy-queue, made .sell-queue)
 
-          answer-is : done (kindOf x (Phase contract 1) .effect) .answer ≡ answerOf 0 0 (r .traded) 0
+          answer-is : done (kindOf x (Phase contract continuous) .effect) .answer ≡ answerOf 0 0 (r .traded) 0
           unfolding kindOf phaseChanged
           answer-is = rw (match-is, made .booked .traded)
 
           pub left-accepted : {next : State} {result : Outcome} → next ≡ withMatch s place r → result ≡ acceptedWith next 0 (r .traded) 0
-              → OutcomeIs (stepIn m (Phase contract 1)) result buys′ sells′ area′
-          left-accepted en e = acceptance s buys sells trades (Phase contract 1) accepted answer-is (lies ∙ rw en) e
+              → OutcomeIs (stepIn m (Phase contract continuous)) result buys′ sells′ area′
+          left-accepted en e = acceptance s buys sells trades (Phase contract continuous) accepted answer-is (lies ∙ rw en) e

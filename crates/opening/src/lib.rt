@@ -3,7 +3,7 @@
 ghost use mathlib.Core.Bool.{true};
 ghost use mathlib.Core.Path.{_≡_};
 ghost use Prim.Native.Nat.{_<_};
-ghost use Rattle.rules.specs.Bounds.{maxContracts};
+ghost use Rattle.rules.specs.Bounds.{continuous, maxContracts};
 ghost use Rattle.rules.specs.Memory.{WellFormedState, memory, stepIn};
 ghost use Rattle.rules.specs.declared.Command.the-variants.{Phase};
 ghost use Rattle.engine.specs.Outcome.{OutcomeIs, isMatch};
@@ -23,20 +23,20 @@ fn with_match(state: State, c: usize, m: Match) -> State
     ensures { λ r. ⌜ r ≡ withMatch state c m ⌝ }
 {
     let mut contracts = state.contracts;
-    let mut bids = state.buycounts;
-    let mut offers = state.sellcounts;
+    let mut buycounts = state.buycounts;
+    let mut sellcounts = state.sellcounts;
     let accounts = m.accounts;
     let mut terms = contracts[c];
     terms.last = m.last;
     terms.phase = CONTINUOUS;
     contracts[c] = terms;
-    bids[c] = m.bought;
-    offers[c] = m.sold;
+    buycounts[c] = m.bought;
+    sellcounts[c] = m.sold;
     State {
         contracts,
         accounts,
-        buycounts: bids,
-        sellcounts: offers,
+        buycounts,
+        sellcounts,
         contractcount: state.contractcount,
         accountcount: state.accountcount,
         tradecount: m.made,
@@ -54,14 +54,14 @@ fn leave_auction(
     trades: &mut [u32],
     contract: u32,
 ) -> Outcome
-    requires { ⌜ WellFormedState state (now buys) (now sells) (now trades) × (isMatch state contract 1 ≡ true) ⌝ }
-    ensures { λ r. ⌜ OutcomeIs (stepIn (memory state (now (buys .entry)) (now (sells .entry)) (now (trades .entry))) (Phase contract 1)) r (now (buys .exit)) (now (sells .exit)) (now (trades .exit)) ⌝ }
+    requires { ⌜ WellFormedState state (now buys) (now sells) (now trades) × (isMatch state contract continuous ≡ true) ⌝ }
+    ensures { λ r. ⌜ OutcomeIs (stepIn (memory state (now (buys .entry)) (now (sells .entry)) (now (trades .entry))) (Phase contract continuous)) r (now (buys .exit)) (now (sells .exit)) (now (trades .exit)) ⌝ }
 {
     let c = laws::place_of(contract);
-    let bids = state.buycounts;
-    let offers = state.sellcounts;
-    let bought = bids[c];
-    let sold = offers[c];
+    let buycounts = state.buycounts;
+    let sellcounts = state.sellcounts;
+    let bought = buycounts[c];
+    let sold = sellcounts[c];
     let contracts = state.contracts;
     let terms = contracts[c];
     let chosen = price::chosen(&buys[..], bought, &sells[..], sold, c, terms.last);
@@ -77,7 +77,7 @@ fn leave_auction(
         sold,
         trades,
         state.tradecount,
-        contract - 1,
+        laws::place_word(contract),
         chosen,
         terms.last,
         accounts,

@@ -19,8 +19,11 @@ use Rattle.rules.specs.declared.State.{State}
 use Rattle.rules.specs.declared.Taker.{Taker}
 use Rattle.rules.proofs.EachKind.{inserts-its-order}
 use Rattle.rules.proofs.Fillable.{swept-fillable}
+use Rattle.engine.specs.Outcome.{AbsentIs}
 use Rattle.engine.proofs.Formed.{Formed, formed, no-account, no-contract}
+use Rattle.engine.proofs.Named.{one-absent}
 use Rattle.refusals.specs.Insertion.{Facing, Present, QueueRoom, sideArea, sideCount}
+use Rattle.refusals.proofs.Inserting.{present}
 use Rattle.refusals.proofs.Sides.{contract-is, opposite-facing, opposite-is}
 use Rattle.query.specs.Gettable.{GatheredIs, askRefusals, gettableNow, lotsNow, orderReading, questionRefusals, readNow, readingWith, refusedReading}
 use Rattle.query.specs.declared.Reading.{Reading}
@@ -45,38 +48,44 @@ module _ {s : State} {buys sells trades : List ℕ} (w : WellFormedState s buys 
   unfolding firstOf questionRefusals
   in-parts = rw (no-account m f (o .account), no-contract m f (o .contract))
 
-  pub no-such-account : isAbsent (o .account) (s .accountcount) ≡ true → refusedReading 2 ≡ orderReading x o
-  unfolding orderReading readingWith
-  no-such-account e = sym (rw (in-parts, e))
+  module _ {absent : ℕ} (ea : AbsentIs (s .accountcount) (s .contractcount) (o .account) (o .contract) absent) where
+    code-absent : (absent ≡ 0 → ⊥) → absent ≡ firstOf (questionRefusals x o)
+    unfolding questionRefusals
+    code-absent some = one-absent (w .declared) (f .accounts-high) buys sells trades (o .account) (o .contract) _ ea some
 
-  module _ (e : isAbsent (o .account) (s .accountcount) ≡ false) where
-    pub no-such-contract : isAbsent (o .contract) (s .contractcount) ≡ true → refusedReading 3 ≡ orderReading x o
+    pub refused-absent : (absent ≡ 0 → ⊥) → refusedReading absent ≡ orderReading x o
     unfolding orderReading readingWith
-    no-such-contract g = sym (rw (in-parts, e, g))
+    refused-absent some = sym (rw (sym (code-absent some), ne-eqb absent 0 some))
 
-    module _ (g : isAbsent (o .contract) (s .contractcount) ≡ false) (p : Present s o) {place : ℕ} (is : place ≡ o .contract - 1) {fields : ℕ}
+    pub here : absent ≡ 0 → Present s o
+    here none = present w o (ea .account-in-use none) (ea .contract-in-use none)
+
+    module _ (none : absent ≡ 0) {place : ℕ} (is : place ≡ o .contract - 1) {fields : ℕ}
         (ef : fields ≡ firstOf (fieldsRefusals (dayWithoutLimit (o .condition) (o .time)) (getD (s .contracts) place noContract) o)) where
+      p : Present s o
+      p = here none
+
       code-is : firstOf (questionRefusals x o) ≡ fields
       unfolding listingOf
-      code-is = in-parts ∙ rw (e, g, ef, is, contract-is m f c (p .contract))
+      code-is = in-parts ∙ rw (ea .account-in-use none, ea .contract-in-use none, ef, is, contract-is m f c (p .contract))
 
       pub refused-fields : (fields ≡ 0 → ⊥) → refusedReading fields ≡ orderReading x o
       unfolding orderReading readingWith
       refused-fields some = sym (rw (code-is, ne-eqb fields 0 some))
 
-      module _ {area : List ℕ} {count : ℕ} (ea : area ≡ sideArea (not (o .sell)) buys sells) (ec : count ≡ sideCount (not (o .sell)) s place) where
+      module _ {area : List ℕ} {count : ℕ} (en : area ≡ sideArea (not (o .sell)) buys sells) (ec : count ≡ sideCount (not (o .sell)) s place) where
         pub room : QueueRoom area (o .contract - 1) count
-        room = rw (ec, ea, is) (opposite-facing m f c (p .contract) (s .next) 0 (s .nextstamp) (listingAt x c .contract) o .queue)
+        room = rw (ec, en, is) (opposite-facing m f c (p .contract) (s .next) 0 (s .nextstamp) (listingAt x c .contract) o .queue)
 
         module _ {t : Taker} (et : t ≡ takerFor (s .next) 0 (s .nextstamp) (getD (s .contracts) place noContract) (queueIn area (o .contract - 1) count) o) where
           pub facing : Facing t area place count
-          facing = rw (et, ec, ea, is) (opposite-facing m f c (p .contract) (s .next) 0 (s .nextstamp) _ o)
+          facing = rw (et, ec, en, is) (opposite-facing m f c (p .contract) (s .next) 0 (s .nextstamp) _ o)
 
           pub answered : fields ≡ 0 → {r : Gathered} → GatheredIs t (o .lots) (queueIn area place count) r
               → record { code = 0; lots = r .lots; read = r .read } ≡ orderReading x o
           unfolding orderReading readingWith lotsNow readNow fillableLots takerOf listingOf exchangeOf
           answered passed {r} gathered =
-              rw (gathered .lots, gathered .read, et, ec, ea, is) (sym (rw (code-is, passed, opposite-is m f c (p .contract) (o .sell), contract-is m f c (p .contract))))
+              rw (gathered .lots, gathered .read, et, ec, en, is) (sym (rw (code-is, passed, opposite-is m f c (p .contract) (o .sell), contract-is m f c (p .contract))))
 
   -- the lots to be had are those that the sweep would trade, whatever the last price
   pub would-trade : Present s o → (last : ℕ) → tradedLots (sweep (takerOf x (x .next) 0 o) (o .lots) last (opposite (o .sell) (listingOf x o)) .trades) ≡ lotsNow x o

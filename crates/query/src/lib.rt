@@ -60,11 +60,14 @@ fn reading_of<'a>(
     requires { ⌜ WellFormedState state (now buys) (now sells) (now trades) ⌝ }
     ensures { λ r. ⌜ r ≡ orderReading (exchangeOf (memory state (now (buys .entry)) (now (sells .entry)) (now (trades .entry)))) o ⌝ }
 {
-    if answers::is_absent(o.account, state.accountcount) {
-        return refused(2);
-    }
-    if answers::is_absent(o.contract, state.contractcount) {
-        return refused(3);
+    let absent = answers::absent_code(
+        state.accountcount,
+        state.contractcount,
+        o.account,
+        o.contract,
+    );
+    if absent != 0 {
+        return refused(absent);
     }
     let c = laws::place_of(o.contract);
     let contracts = state.contracts;

@@ -33,8 +33,7 @@ use Rattle.book.proofs.EarlyStop.{trades-counted}
 use Rattle.rules.proofs.Queue.{length-without}
 use Rattle.rules.proofs.Stages.{Each}
 use Rattle.rules.proofs.Refusals.{Failed, both-zero, failed, first-append, first-here, first-there}
-use Rattle.book.specs.Removal.{PulledIs}
-use Rattle.book.specs.declared.removal.Pulled.{Pulled}
+use Rattle.book.specs.Removal.{RemovedIs}
 use Rattle.accounting.proofs.Declared.{stage-declared}
 use Rattle.accounting.proofs.QuoteMoves.{quoted-shape}
 use Rattle.accounting.proofs.StepShape.{SameShape, shape-sym, shape-trans}
@@ -78,13 +77,18 @@ entered-lots y number mark o =
     (λ h. (swept-at-most (takerOf y number mark o) (o .lots) (listingOf y o .contract .last) (opposite (o .sell) (listingOf y o)), rested-lots (isGoodForDay (o .time)) (o .lots) _))
 
 -- what the code takes out of the two queues is the account's old quote
-pub gone-written : {s : State} {buys sells trades : List ℕ} (w : WellFormedState s buys sells trades) (account contract : ℕ) → firstOf (pullRefusals (exchangeOf (memory s buys sells trades)) account contract false) ≡ 0 → {place : ℕ} → place ≡ placeOf contract
-    → {r : State} {bid offer : Pulled} {buys′ sells′ : List ℕ}
-    → PulledIs (isQuoteOf (placeOf account)) buys place (getD (s .buycounts) place 0) bid buys′ → PulledIs (isQuoteOf (placeOf account)) sells place (getD (s .sellcounts) place 0) offer sells′
-    → r ≡ withCountsIn s (set (s .buycounts) place (bid .count)) (set (s .sellcounts) place (offer .count)) → memory r buys′ sells′ trades ≡ goneIn (memory s buys sells trades) account contract
-gone-written w account contract none is b o e =
-    rw e
-    (sym (lies w account contract false none is (isQuoteOf (placeOf account)) (record { queue = b .queue; count = b .count; lots = b .lots }) (record { queue = o .queue; count = o .count; lots = o .lots })))
+module _ {s : State} {buys sells trades : List ℕ} (w : WellFormedState s buys sells trades) (account contract : ℕ) (none : firstOf (pullRefusals (exchangeOf (memory s buys sells trades)) account contract false) ≡ 0) {place : ℕ} (is : place ≡ placeOf contract)
+    {owner : ℕ} (mine : owner ≡ placeOf account) {bought sold bid offer : ℕ} {buys′ sells′ : List ℕ}
+    (from-buys : RemovedIs (isQuoteOf owner) buys place (getD (s .buycounts) place 0) bought bid buys′) (from-sells : RemovedIs (isQuoteOf owner) sells place (getD (s .sellcounts) place 0) sold offer sells′) where
+  own-buys : RemovedIs (isQuoteOf (placeOf account)) buys place (getD (s .buycounts) place 0) bought bid buys′
+  own-buys = rw mine at from-buys
+
+  own-sells : RemovedIs (isQuoteOf (placeOf account)) sells place (getD (s .sellcounts) place 0) sold offer sells′
+  own-sells = rw mine at from-sells
+
+  pub gone-written : {r : State} → r ≡ withCountsIn s (set (s .buycounts) place bought) (set (s .sellcounts) place sold)
+      → memory r buys′ sells′ trades ≡ goneIn (memory s buys sells trades) account contract
+  gone-written e = rw e (sym (lies w account contract false none is (isQuoteOf (placeOf account)) own-buys own-sells))
 
 -- ---- 2, 3 and 4, then 23 and 24, as the code tries them
 

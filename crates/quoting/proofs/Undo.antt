@@ -14,9 +14,9 @@ use Rattle.areas.specs.Lists.{over, padded}
 use Rattle.areas.specs.Records.{store, encode}
 use Rattle.areas.proofs.Lists.{length-over, over-append, over-inside, over-nil, over-over, over-part, over-tail, set-over}
 use Rattle.areas.proofs.Records.{length-encode, store-over}
-use Rattle.rules.specs.Bounds.{maxResting, maxTrades}
+use Rattle.rules.specs.Bounds.{maxResting, maxTrades, tradesWithRoom}
 use Rattle.rules.specs.Exchange.{noOrder}
-use Rattle.rules.specs.Memory.{WellFormedState, orderWords, putQueue, queueStride, tradeStride, tradeWords}
+use Rattle.rules.specs.Memory.{WellFormedState, orderWords, putQueue, queueStride, tradeStride, tradeWords, tradesWords}
 use Rattle.rules.specs.declared.Order.{Order}
 use Rattle.rules.specs.declared.State.{State}
 use Rattle.rules.specs.declared.Trade.{Trade}
@@ -63,26 +63,26 @@ undo-queue area c k q few short room =
 
 -- ---- trades recorded behind the others
 
-pub undo-trades : (area : List ℕ) (recorded : ℕ) (ts : List Trade) → length ts ≤ maxResting → recorded + length ts ≤ maxTrades → tradeStride * maxTrades ≤ length area
+pub undo-trades : (area : List ℕ) (recorded : ℕ) (ts : List Trade) → length ts ≤ maxResting → recorded + length ts ≤ maxTrades → tradesWords ≤ length area
     → Undoable (madeFrom recorded) (tradeStride * maxResting) area (store tradeWords area (tradeStride * recorded) ts)
 undo-trades area recorded ts few fit room =
-    rw (store-over trade-codec area (tradeStride * recorded) ts) (by-recorded (leb recorded 960) refl)
+    rw (store-over trade-codec area (tradeStride * recorded) ts) (by-recorded (leb recorded tradesWithRoom) refl)
   where
-    by-recorded : (b : Bool) → leb recorded 960 ≡ b → Undoable (tradeStride * pick b recorded 960) (tradeStride * maxResting) area (over area (tradeStride * recorded) (encode tradeWords ts))
+    by-recorded : (b : Bool) → leb recorded tradesWithRoom ≡ b → Undoable (tradeStride * pick b recorded tradesWithRoom) (tradeStride * maxResting) area (over area (tradeStride * recorded) (encode tradeWords ts))
     by-recorded true e =
-        let h : recorded ≤ 960 = leb-true recorded 960 e in
+        let h : recorded ≤ tradesWithRoom = leb-true recorded tradesWithRoom e in
         undo-write area (tradeStride * recorded) (tradeStride * maxResting) 0 (tradeStride * recorded) (encode tradeWords ts) (omega arith) (rw (length-encode trade-codec ts) (omega arith)) (omega arith)
     by-recorded false e =
-        let h = leb-false recorded 960 e in
-        undo-write area (tradeStride * 960) (tradeStride * maxResting) (tradeStride * (recorded - 960)) (tradeStride * recorded) (encode tradeWords ts) (omega arith) (rw (length-encode trade-codec ts) (omega arith)) (omega arith)
+        let h = leb-false recorded tradesWithRoom e in
+        undo-write area (tradeStride * tradesWithRoom) (tradeStride * maxResting) (tradeStride * (recorded - tradesWithRoom)) (tradeStride * recorded) (encode tradeWords ts) (omega arith) (rw (length-encode trade-codec ts) (omega arith)) (omega arith)
 
 -- the part that is kept of the trades lies within the day's room
-pub made-room : (recorded : ℕ) → madeFrom recorded + tradeStride * maxResting ≤ tradeStride * maxTrades
-made-room recorded = by-recorded (leb recorded 960) refl
+pub made-room : (recorded : ℕ) → madeFrom recorded + tradeStride * maxResting ≤ tradesWords
+made-room recorded = by-recorded (leb recorded tradesWithRoom) refl
   where
-    by-recorded : (b : Bool) → leb recorded 960 ≡ b → tradeStride * pick b recorded 960 + tradeStride * maxResting ≤ tradeStride * maxTrades
+    by-recorded : (b : Bool) → leb recorded tradesWithRoom ≡ b → tradeStride * pick b recorded tradesWithRoom + tradeStride * maxResting ≤ tradesWords
     by-recorded true e =
-        let h : recorded ≤ 960 = leb-true recorded 960 e in
+        let h : recorded ≤ tradesWithRoom = leb-true recorded tradesWithRoom e in
         omega arith
     by-recorded false e = omega arith
 

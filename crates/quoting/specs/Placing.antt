@@ -3,19 +3,18 @@
 use mathlib.Core.Bool.{false}
 use mathlib.Core.List.{List, _++_}
 use mathlib.Core.Path.{_≡_}
-use Prim.Native.Nat.{ℕ, _+_, _-_, _*_}
+use Prim.Native.Nat.{ℕ, _+_, _*_}
 use lib.Dec.{eqb, leb}
 use lib.ListN.{length, take, drop}
 use Rattle.areas.specs.Lists.{over}
 use Rattle.laws.specs.Choice.{pick}
 use Rattle.rules.specs.Answers.{Refusal, firstOf, listingOf, namedRefusals, notContinuous, orderRefusals}
-use Rattle.rules.specs.Bounds.{maxResting, maxTrades}
-use Rattle.rules.specs.Exchange.{Exchange, accountAt, holderOf, listingAt, own, placeOf}
+use Rattle.rules.specs.Bounds.{maxResting, tradesWithRoom}
+use Rattle.rules.specs.Exchange.{Exchange, accountAt, holderOf, own, placeOf}
 use Rattle.rules.specs.Kinds.{refused}
 use Rattle.rules.specs.Memory.{Memory, AfterCommand, exchangeOf, inMemory, memory, put, queueStride, stepIn, tradeStride}
-use Rattle.rules.specs.Quote.{offerRefusals}
-use Rattle.rules.specs.Step.{listingWithout, withListing}
-use Rattle.rules.specs.WellFormed.{isQuoteOf, quotes}
+use Rattle.rules.specs.Quote.{offerRefusals, withoutQuoteOf}
+use Rattle.rules.specs.WellFormed.{quotes}
 use Rattle.rules.specs.declared.Command.the-variants.{Quote}
 use Rattle.rules.specs.declared.NewOrder.{NewOrder}
 use Rattle.rules.specs.declared.State.{State}
@@ -31,8 +30,7 @@ earlyRefusals x account contract buy sell =
 
 -- the account's old quote taken out of the contract's queues
 abbrev pub goneIn : Memory → ℕ → ℕ → Memory
-goneIn m account contract =
-    put m (withListing (exchangeOf m) (placeOf contract) (listingWithout (isQuoteOf (placeOf account)) (listingAt (exchangeOf m) (placeOf contract))))
+goneIn m account contract = put m (withoutQuoteOf (exchangeOf m) account contract)
 
 -- ---- an order of a quote, on the state that the step before it leaves
 
@@ -59,7 +57,7 @@ pub record Undoable (at n : ℕ) (before after : List ℕ) : Type 0 where
 
 -- where the trades begin that the buy can make, and those before the end of the day's room
 abbrev pub madeFrom : ℕ → ℕ
-madeFrom recorded = tradeStride * pick (leb recorded (maxTrades - maxResting)) recorded (maxTrades - maxResting)
+madeFrom recorded = tradeStride * pick (leb recorded tradesWithRoom) recorded tradesWithRoom
 
 -- accepted as the rules say; or refused with the rules' code, and each area can be put back
 pub record PlacedIs (s : State) (buys sells trades : List ℕ) (account contract lots buy sell : ℕ) (r : Outcome) (buys′ sells′ trades′ : List ℕ) : Type 0 where

@@ -18,6 +18,7 @@ use refusals::codes;
 use refusals::orders;
 use rules::NewOrder;
 use rules::State;
+use rules::sizes::TRADES_WITH_ROOM;
 
 // The words of the trades that one order can make: at most one with each order that it meets.
 const MADE: usize = rules::TRADE_STRIDE * rules::MAX_RESTING;
@@ -55,12 +56,13 @@ fn remove_quote(
     ensures { λ r. ⌜ memory r (now (buys .exit)) (now (sells .exit)) (now (trades .entry)) ≡ goneIn (memory state (now (buys .entry)) (now (sells .entry)) (now (trades .entry))) account contract ⌝ }
 {
     let c = laws::place_of(contract);
-    let bids = state.buycounts;
-    let offers = state.sellcounts;
-    let bought = bids[c];
-    let sold = offers[c];
-    let bid = book::removal::pull(buys, c, bought, account - 1, true);
-    let offer = book::removal::pull(sells, c, sold, account - 1, true);
+    let buycounts = state.buycounts;
+    let sellcounts = state.sellcounts;
+    let bought = buycounts[c];
+    let sold = sellcounts[c];
+    let a = laws::place_word(account);
+    let bid = book::removal::pull(buys, c, bought, a, true);
+    let offer = book::removal::pull(sells, c, sold, a, true);
     engine::removal::with_counts(state, c, bid.count, offer.count)
 }
 
@@ -82,10 +84,10 @@ fn enter_marked(
         return answers::refused(state, code);
     }
     let number = state.next;
-    let arriving = insertion::arrival_of(state, o, number, 1);
+    let arrival = insertion::arrival_of(state, o, number, 1);
     let accounts = state.accounts;
-    let e = insertion::enter(accounts, arriving, buys, sells, trades);
-    let after = insertion::with_entry(state, arriving, e, number + 1);
+    let e = insertion::enter(accounts, arrival, buys, sells, trades);
+    let after = insertion::with_entry(state, arrival, e, number + 1);
     answers::accepted(after, number, e.traded, e.rested)
 }
 
@@ -135,8 +137,8 @@ fn first_made(recorded: usize) -> usize
     requires { ⌜ recorded ≤ maxTrades ⌝ }
     ensures { λ r. ⌜ r ≡ madeFrom recorded ⌝ }
 {
-    if rules::MAX_TRADES - rules::MAX_RESTING < recorded {
-        return rules::TRADE_STRIDE * (rules::MAX_TRADES - rules::MAX_RESTING);
+    if TRADES_WITH_ROOM < recorded {
+        return rules::TRADE_STRIDE * TRADES_WITH_ROOM;
     }
     rules::TRADE_STRIDE * recorded
 }

@@ -21,7 +21,7 @@ use Rattle.rules.specs.declared.Holding.{Holding}
 use Rattle.rules.specs.declared.NewOrder.{NewOrder}
 use Rattle.rules.specs.declared.State.{State}
 use Rattle.rules.proofs.InUse.{used-leg}
-use Rattle.holdings.specs.Bounds.{HoldingWithin}
+use Rattle.holdings.specs.Bounds.{HoldingWithin, bookedMost}
 use Rattle.margin.specs.Charge.{Chargeable, ChargeableIn, ChargedIs}
 use Rattle.refusals.specs.Insertion.{Present}
 use Rattle.engine.proofs.Formed.{Formed, account-at, balance-within, few-accounts, formed}
@@ -103,7 +103,7 @@ module _ {s : State} {buys sells trades : List ℕ} (w : WellFormedState s buys 
 
   -- the places of the contract and of the account
   module _ (few : o .lots ≤ maxLots) {place holder : ℕ} (is : place ≡ o .contract - 1) (whose : holder ≡ o .account - 1) {who : Account} (ew : getD (s .accounts) (o .account - 1) noAccount ≡ who) where
-    pub can-hold : HoldingWithin 2_000_000 (getD (who .holdings) place noHolding)
+    pub can-hold : HoldingWithin bookedMost (getD (who .holdings) place noHolding)
     can-hold =
         let g = chargeable m f a (p .account) .each c (p .contract) in
         rw (is, ← ew) (record { long = omega (arith, g .long); short = omega (arith, g .short) })

@@ -10,7 +10,7 @@ use lib.Dec.{ltb}
 use lib.ListN.{length, getD, drop}
 use Rattle.laws.specs.Choice.{pick}
 use Rattle.rules.specs.Answers.{noRoomFor, tradesAgainst}
-use Rattle.rules.specs.Bounds.{inAuction, maxResting, maxTrades}
+use Rattle.rules.specs.Bounds.{inAuction, maxResting, maxTrades, tradesWithRoom}
 use Rattle.book.specs.EarlyStop.{countTrades, fillableFront}
 use Rattle.rules.specs.Exchange.{bestPrice, noOrder}
 use Rattle.rules.specs.Matching.{counterpart, fillable}
@@ -52,7 +52,7 @@ count-within t left (o ∷ os) = by-trade (ltb 0 left && counterpart t o) (count
     by-trade true h = omega arith
     by-trade false h = omega arith
 
--- 12: in auction there are none; up to 960 recorded trades there is room for one with each order
+-- 12: in auction there are none; up to `tradesWithRoom` recorded trades there is room for one with each order
 module _ (terms : Contract) (t : Taker) (lots : ℕ) {area : List ℕ} {c count : ℕ} (room : QueueRoom area c count) where
   abbrev queue : List Order
   queue = queueIn area c count
@@ -69,7 +69,7 @@ module _ (terms : Contract) (t : Taker) (lots : ℕ) {area : List ℕ} {c count 
     unfolding tradesAgainst
     trades-are = rw elsewhere (trades-counted t lots (terms .last) queue)
 
-    pub trades-fit : (recorded : ℕ) → recorded ≤ maxTrades - maxResting → false ≡ noRoomFor recorded (tradesAgainst terms t lots queue)
+    pub trades-fit : (recorded : ℕ) → recorded ≤ tradesWithRoom → false ≡ noRoomFor recorded (tradesAgainst terms t lots queue)
     trades-fit recorded h = sym (rw trades-are (le-ltb maxTrades (recorded + countTrades t lots queue) (omega (arith, few-trades))))
 
     pub trades-told : (recorded : ℕ) {n : ℕ} → n ≡ countTrades t lots queue → ltb maxTrades (recorded + n) ≡ noRoomFor recorded (tradesAgainst terms t lots queue)

@@ -3,18 +3,18 @@ use mathlib.Core.Bool.{Bool, true, false, not, _&&_, _||_}
 use mathlib.Core.Path.{_≡_, refl, sym, _∙_}
 use borrow.Author.Tests.{ne-eqb}
 use Rattle.rules.specs.Answers.{conditionsRefused, dayWithoutLimit, isGoodForDay, isLimit, takesOrders}
-use Rattle.rules.specs.Bounds.{inAuction}
+use Rattle.rules.specs.Bounds.{inAuction, auction, continuous}
 use Rattle.rules.specs.declared.Contract.{Contract}
 use Rattle.rules.specs.declared.NewOrder.{NewOrder}
 
 module _ (c : Contract) where
-  pub in-continuous : c .phase ≡ 1 → true ≡ takesOrders c
+  pub in-continuous : c .phase ≡ continuous → true ≡ takesOrders c
   unfolding takesOrders
   in-continuous e = sym (rw e)
 
-  pub by-auction : (c .phase ≡ 1 → ⊥) → inAuction c ≡ takesOrders c
+  pub by-auction : (c .phase ≡ continuous → ⊥) → inAuction c ≡ takesOrders c
   unfolding takesOrders
-  by-auction h = sym (rw (ne-eqb (c .phase) 1 h))
+  by-auction h = sym (rw (ne-eqb (c .phase) continuous h))
 
 module _ (c : Contract) (o : NewOrder) where
   -- in auction all but limit good for day, as the two tests give it
@@ -24,7 +24,7 @@ module _ (c : Contract) (o : NewOrder) where
   either-way false true = refl
   either-way false false = refl
 
-  pub auction-conditions : c .phase ≡ 4 → {r : Bool} → r ≡ (isLimit (o .condition) && isGoodForDay (o .time)) → not r ≡ conditionsRefused c o
+  pub auction-conditions : c .phase ≡ auction → {r : Bool} → r ≡ (isLimit (o .condition) && isGoodForDay (o .time)) → not r ≡ conditionsRefused c o
   unfolding conditionsRefused
   auction-conditions e er = rw (er, e) (sym (either-way (isLimit (o .condition)) (isGoodForDay (o .time))))
 
@@ -33,6 +33,6 @@ module _ (c : Contract) (o : NewOrder) where
   or-none true = refl
   or-none false = refl
 
-  pub other-conditions : (c .phase ≡ 4 → ⊥) → {r : Bool} → r ≡ dayWithoutLimit (o .condition) (o .time) → r ≡ conditionsRefused c o
+  pub other-conditions : (c .phase ≡ auction → ⊥) → {r : Bool} → r ≡ dayWithoutLimit (o .condition) (o .time) → r ≡ conditionsRefused c o
   unfolding conditionsRefused
-  other-conditions h er = er ∙ rw (ne-eqb (c .phase) 4 h) (or-none (dayWithoutLimit (o .condition) (o .time)))
+  other-conditions h er = er ∙ rw (ne-eqb (c .phase) auction h) (or-none (dayWithoutLimit (o .condition) (o .time)))

@@ -61,6 +61,6 @@ module _ {s : State} {buys sells trades : List ℕ} (w : WellFormedState s buys 
   unfolding pullRefusals firstOf
   pulls = rw (passed .0, passed .1 .0, ← in-continuous (listingAt x c .contract) false phase-is) refl
 
-  pub rooms : {place : ℕ} → place ≡ c → {bids offers : ℕ} → bids ≡ getD (s .buycounts) place 0 → offers ≡ getD (s .sellcounts) place 0
-      → (firstWord place bids ≤ length buys) × (firstWord place offers ≤ length sells)
+  pub rooms : {place : ℕ} → place ≡ c → {buycount sellcount : ℕ} → buycount ≡ getD (s .buycounts) place 0 → sellcount ≡ getD (s .sellcounts) place 0
+      → (firstWord place buycount ≤ length buys) × (firstWord place sellcount ≤ length sells)
   rooms e eb es = rw (eb, es) (side-room w account contract false pulls e false, side-room w account contract false pulls e true)

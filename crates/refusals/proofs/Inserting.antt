@@ -3,7 +3,7 @@
 use mathlib.Core.Bool.{Bool, true, false, not, _||_}
 use mathlib.Core.List.{List, _++_}
 use mathlib.Core.Path.{_≡_, refl, sym, ap, _∙_}
-use Prim.Native.Nat.{ℕ, _-_, _<_, _≤_}
+use Prim.Native.Nat.{ℕ, _<_, _≤_}
 use native.Mathlib.Omega.{arith}
 use borrow.Author.Tests.{leb-true, not-false}
 use lib.Dec.{leb}
@@ -92,20 +92,20 @@ module _ {s : State} {buys sells trades : List ℕ} (w : WellFormedState s buys 
 
   pub code-account : isAbsent (o .account) (s .accountcount) ≡ true → 2 ≡ codeOf x (Insert o)
   unfolding codeOf kindOf insertRefusals
-  code-account e = no-such-account (w .declared) (f .accounts-high) buys sells trades forbids (o .account) (o .contract) (orderRefusals x o) e
+  code-account e = no-such-account (w .declared) (f .accounts-high) buys sells trades (o .account) (o .contract) _ e
 
   module _ (a : isAbsent (o .account) (s .accountcount) ≡ false) where
     pub holder-low : 1 ≤ o .account
     holder-low = place-below (o .account) (s .accountcount) a .0
 
-    pub holder-fits : {place : ℕ} → place ≡ o .account - 1 → place < maxAccounts
+    pub holder-fits : {place : ℕ} → place ≡ placeOf (o .account) → place < maxAccounts
     holder-fits is = omega (arith, place-below (o .account) (s .accountcount) a .1, f .accounts-high)
 
     pub code-contract : isAbsent (o .contract) (s .contractcount) ≡ true → 3 ≡ codeOf x (Insert o)
     unfolding codeOf kindOf insertRefusals
-    code-contract e = no-such-contract (w .declared) (f .accounts-high) buys sells trades forbids (o .account) (o .contract) (orderRefusals x o) a e
+    code-contract e = no-such-contract (w .declared) (f .accounts-high) buys sells trades (o .account) (o .contract) _ a e
 
-    module _ (b : isAbsent (o .contract) (s .contractcount) ≡ false) {place : ℕ} (is : place ≡ o .contract - 1) {takes : Bool} (et : takes ≡ takesOrders (getD (s .contracts) place noContract)) where
+    module _ (b : isAbsent (o .contract) (s .contractcount) ≡ false) {place : ℕ} (is : place ≡ placeOf (o .contract)) {takes : Bool} (et : takes ≡ takesOrders (getD (s .contracts) place noContract)) where
       takes-is : takes ≡ takesOrders (getD (s .contracts) c noContract)
       takes-is = et ∙ rw is refl
 
@@ -128,7 +128,7 @@ module _ {s : State} {buys sells trades : List ℕ} (w : WellFormedState s buys 
   pub recorded-high : s .tradecount ≤ maxTrades
   recorded-high = f .trades-high
 
-  module _ (p : Present s o) {place : ℕ} (is : place ≡ o .contract - 1) where
+  module _ (p : Present s o) {place : ℕ} (is : place ≡ placeOf (o .contract)) where
     pub place-fits : place < maxContracts
     place-fits = omega (arith, p .contract, f .contracts-high)
 
@@ -153,24 +153,24 @@ module _ {s : State} {buys sells trades : List ℕ} (w : WellFormedState s buys 
           let r = side-room m f c (p .contract) (o .sell) in
           rw (ec, ea, is) (r .few, r .room)
 
-      module _ {mark₁ rested : ℕ} (em : mark₁ ≡ mark (o .close)) (er : rested ≡ resting mark₁ (o .account - 1) (queueIn own₁ place count)) where
-        rested-is : rested ≡ resting (mark (o .close)) (o .account - 1) (queueIn (sideArea (o .sell) buys sells) c (sideCount (o .sell) s c))
-        rested-is = er ∙ rw (em, ec, ea, is)
+      module _ {owner mark₁ rested : ℕ} (mine : owner ≡ placeOf (o .account)) (em : mark₁ ≡ mark (o .close)) (er : rested ≡ resting mark₁ owner (queueIn own₁ place count)) where
+        rested-is : rested ≡ resting (mark (o .close)) (placeOf (o .account)) (queueIn (sideArea (o .sell) buys sells) c (sideCount (o .sell) s c))
+        rested-is = er ∙ rw (mine, em, ec, ea, is)
 
         pub rested-low : rested ≤ maxLimit
-        rested-low = rw rested-is (resting-low m f c (p .contract) (o .account - 1) (p .account) (o .sell) (o .close))
+        rested-low = rw rested-is (resting-low m f c (p .contract) (placeOf (o .account)) (p .account) (o .sell) (o .close))
 
-        pub lots-are : {who : Account} → getD (s .accounts) (o .account - 1) noAccount ≡ who → {r : Bool} → r ≡ lotsRefused terms (getD (who .holdings) place noHolding) rested o → r ≡ holdingRefused x o
+        pub lots-are : {who : Account} → getD (s .accounts) (placeOf (o .account)) noAccount ≡ who → {r : Bool} → r ≡ lotsRefused terms (getD (who .holdings) place noHolding) rested o → r ≡ holdingRefused x o
         unfolding holdingRefused listingOf holdingAt accountAt
         lots-are ew el =
-            el ∙ rw (rested-is, ← ew, is, contract-is m f c (p .contract), side-is m f c (p .contract) (o .sell), holding-at m f (o .account - 1) c (p .account) (p .contract)) refl
+            el ∙ rw (rested-is, ← ew, is, contract-is m f c (p .contract), side-is m f c (p .contract) (o .sell), holding-at m f (placeOf (o .account)) c (p .account) (p .contract)) refl
 
     -- 10 to 13, against the opposite queue
     module _ {area : List ℕ} {count : ℕ} (ea : area ≡ sideArea (not (o .sell)) buys sells) (ec : count ≡ sideCount (not (o .sell)) s place) where
-      pub opposite-room : QueueRoom area (o .contract - 1) count
+      pub opposite-room : QueueRoom area (placeOf (o .contract)) count
       opposite-room = rw (ec, ea, is) (side-room m f c (p .contract) (not (o .sell)))
 
-      module _ (number : ℕ) {t : Taker} (et : t ≡ takerFor number 0 (s .nextstamp) terms (queueIn area (o .contract - 1) count) o) where
+      module _ (number : ℕ) {t : Taker} (et : t ≡ takerFor number 0 (s .nextstamp) terms (queueIn area (placeOf (o .contract)) count) o) where
         pub facing : Facing t area place count
         facing = rw (et, ec, ea, is) (opposite-facing m f c (p .contract) number 0 (s .nextstamp) _ o)
 
@@ -187,7 +187,7 @@ module _ {s : State} {buys sells trades : List ℕ} (w : WellFormedState s buys 
         unfolding tradesRefused tradesNeeded
         trades-are er = er ∙ rw (trades-count m f, opposite-queue, taker-is, terms-is) refl
 
-      pub meets : {t : Taker} → t ≡ takerFor (s .next) 0 (s .nextstamp) terms (queueIn area (o .contract - 1) count) o → {own₁ : ℕ} → own₁ ≡ sideCount (o .sell) s place
+      pub meets : {t : Taker} → t ≡ takerFor (s .next) 0 (s .nextstamp) terms (queueIn area (placeOf (o .contract)) count) o → {own₁ : ℕ} → own₁ ≡ sideCount (o .sell) s place
           → MeetsQueue x o s terms own₁ t (queueIn area place count)
       unfolding exchangeOf
       meets et eo =

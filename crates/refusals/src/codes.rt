@@ -3,12 +3,12 @@
 // order whose account is in use, the others for what they read of it; `continuous_code` gives 2, 3 and 4 of a quote and of a change.
 ghost use mathlib.Core.Bool.{true, _&&_, _||_};
 ghost use mathlib.Core.Path.{_≡_};
-ghost use Prim.Native.Nat.{_-_, _≤_};
+ghost use Prim.Native.Nat.{_≤_};
 ghost use lib.Dec.{leb, ltb};
 ghost use lib.ListN.{getD};
 ghost use Rattle.rules.specs.Answers as answer;
 ghost use Rattle.rules.specs.Bounds.{termsInRange, maxContracts, maxLots, maxTrades, numbersEnd, maxAccounts, maxLimit};
-ghost use Rattle.rules.specs.Exchange.{Exchange, noAccount};
+ghost use Rattle.rules.specs.Exchange.{Exchange, noAccount, placeOf};
 ghost use Rattle.rules.specs.Matching as matching;
 ghost use Rattle.rules.specs.Kinds.{codeOf};
 ghost use Rattle.rules.specs.Memory.{exchangeOf, queueIn, memory, WellFormedState};
@@ -27,6 +27,7 @@ use rules::PriceCondition;
 use rules::State;
 use rules::Taker;
 use rules::TimeCondition;
+use rules::sizes::TRADES_WITH_ROOM;
 
 // 4: "Insert needs continuous.", and auction.
 fn takes_orders(terms: Contract) -> bool
@@ -127,7 +128,7 @@ fn money_refused<'a>(
     trades: &'a [u32],
     o: NewOrder,
 ) -> bool
-    requires { ⌜ WellFormedState state (now buys) (now sells) (now trades) × Present state o × (o .lots ≤ maxLots) × (getD (state .accounts) (o .account - 1) noAccount ≡ who) ⌝ }
+    requires { ⌜ WellFormedState state (now buys) (now sells) (now trades) × Present state o × (o .lots ≤ maxLots) × (getD (state .accounts) (placeOf (o .account)) noAccount ≡ who) ⌝ }
     ensures { λ r. ⌜ r ≡ answer.moneyRefused (exchangeOf (memory state (now (buys .entry)) (now (sells .entry)) (now (trades .entry)))) o ⌝ }
 {
     if o.close {
@@ -139,16 +140,16 @@ fn money_refused<'a>(
     let balance = who.balance;
     let holdings = held.holdings;
     let contracts = state.contracts;
-    let bids = state.buycounts;
-    let offers = state.sellcounts;
+    let buycounts = state.buycounts;
+    let sellcounts = state.sellcounts;
     let charged = margin::charged(
         holdings,
         contracts,
         state.contractcount,
         buys,
-        bids,
+        buycounts,
         sells,
-        offers,
+        sellcounts,
         a,
     );
     margin::too_little(balance, charged)
@@ -163,7 +164,7 @@ fn account_code<'a>(
     trades: &'a [u32],
     o: NewOrder,
 ) -> u32
-    requires { ⌜ WellFormedState state (now buys) (now sells) (now trades) × Present state o × (o .lots ≤ maxLots) × (getD (state .accounts) (o .account - 1) noAccount ≡ who) ⌝ }
+    requires { ⌜ WellFormedState state (now buys) (now sells) (now trades) × Present state o × (o .lots ≤ maxLots) × (getD (state .accounts) (placeOf (o .account)) noAccount ≡ who) ⌝ }
     ensures { λ r. ⌜ r ≡ answer.firstOf (answer.accountRefusals (exchangeOf (memory state (now (buys .entry)) (now (sells .entry)) (now (trades .entry)))) o) ⌝ }
 {
     let c = laws::place_of(o.contract);
@@ -172,7 +173,13 @@ fn account_code<'a>(
     let h = who.holdings[c];
     let own = orders::side_area(o.sell, buys, sells);
     let count = orders::side_count(o.sell, state, c);
-    let rested = book::scan::resting(own, c, count, o.account - 1, orders::mark(o.close));
+    let rested = book::scan::resting(
+        own,
+        c,
+        count,
+        laws::place_word(o.account),
+        orders::mark(o.close),
+    );
     if lots_refused(terms, h, rested, o) {
         return 8;
     }
@@ -208,8 +215,8 @@ fn kill_refused(
     is_short(area, c, count, t, lots)
 }
 
-// 12: more trades than the day has room for. An order trades at most once with each order of the opposite queue, so up to 960
-// recorded trades nothing needs to be counted. In auction it makes no trades.
+// 12: more trades than the day has room for. An order trades at most once with each order of the opposite queue, so up to
+// `TRADES_WITH_ROOM` recorded trades nothing needs to be counted. In auction it makes no trades.
 fn trades_refused(
     terms: Contract,
     recorded: usize,
@@ -225,7 +232,7 @@ fn trades_refused(
     if terms.phase == AUCTION {
         return false;
     }
-    if recorded <= rules::MAX_TRADES - rules::MAX_RESTING {
+    if recorded <= TRADES_WITH_ROOM {
         return false;
     }
     rules::MAX_TRADES < recorded + book::scan::count_trades(area, c, count, t, lots)
@@ -311,7 +318,7 @@ pub fn order_code<'a>(
     trades: &'a [u32],
     o: NewOrder,
 ) -> u32
-    requires { ⌜ WellFormedState state (now buys) (now sells) (now trades) × Present state o × (getD (state .accounts) (o .account - 1) noAccount ≡ who) ⌝ }
+    requires { ⌜ WellFormedState state (now buys) (now sells) (now trades) × Present state o × (getD (state .accounts) (placeOf (o .account)) noAccount ≡ who) ⌝ }
     ensures { λ r. ⌜ r ≡ answer.firstOf (answer.orderRefusals (exchangeOf (memory state (now (buys .entry)) (now (sells .entry)) (now (trades .entry)))) o) ⌝ }
 {
     let c = laws::place_of(o.contract);
@@ -369,7 +376,7 @@ pub fn reentry_code<'a>(
     o: NewOrder,
     number: u32,
 ) -> u32
-    requires { ⌜ WellFormedState state (now buys) (now sells) (now trades) × Present state o × (o .lots ≤ maxLots) × (getD (state .accounts) (o .account - 1) noAccount ≡ who) ⌝ }
+    requires { ⌜ WellFormedState state (now buys) (now sells) (now trades) × Present state o × (o .lots ≤ maxLots) × (getD (state .accounts) (placeOf (o .account)) noAccount ≡ who) ⌝ }
     ensures { λ r. ⌜ r ≡ answer.firstOf (reentryRefusals (exchangeOf (memory state (now (buys .entry)) (now (sells .entry)) (now (trades .entry)))) number o) ⌝ }
 {
     let account = account_code(state, who, buys, sells, trades, o);
@@ -396,11 +403,9 @@ pub fn continuous_code(state: State, account: u32, contract: u32) -> u32
     requires { ⌜ (state .contractcount ≤ maxContracts) × (state .accountcount ≤ maxAccounts) ⌝ }
     ensures { λ r. ⌜ ContinuousIs state account contract r ⌝ }
 {
-    if answers::is_absent(account, state.accountcount) {
-        return 2;
-    }
-    if answers::is_absent(contract, state.contractcount) {
-        return 3;
+    let absent = answers::absent_code(state.accountcount, state.contractcount, account, contract);
+    if absent != 0 {
+        return absent;
     }
     let place = laws::place_of(contract);
     let contracts = state.contracts;

@@ -1,7 +1,7 @@
 // An arriving order: its conditions, the side it rests on and the side it meets. For our own crates: what reads a queue asks for its
 // room.
 ghost use mathlib.Core.Path.{_≡_};
-ghost use Prim.Native.Nat.{_-_, _<_, _≤_};
+ghost use Prim.Native.Nat.{_<_, _≤_};
 ghost use Rattle.rules.specs.Bounds.{maxContracts};
 ghost use Rattle.laws.specs.Choice.{pick};
 ghost use Rattle.rules.specs.Answers as answer;
@@ -111,12 +111,12 @@ pub fn side_count(sell: bool, state: State, c: usize) -> usize
     requires { ⌜ c < maxContracts ⌝ }
     ensures { λ r. ⌜ r ≡ sideCount sell state c ⌝ }
 {
-    let bids = state.buycounts;
-    let offers = state.sellcounts;
+    let buycounts = state.buycounts;
+    let sellcounts = state.sellcounts;
     if sell {
-        return offers[c];
+        return sellcounts[c];
     }
-    bids[c]
+    buycounts[c]
 }
 
 // The best price of a queue, 0 where it is empty.
@@ -155,16 +155,16 @@ pub fn taker_of(
     count: usize,
     o: NewOrder,
 ) -> Taker
-    requires { ⌜ (1 ≤ o .account) × (1 ≤ o .contract) × QueueRoom (now area) (o .contract - 1) count ⌝ }
-    ensures { λ r. ⌜ r ≡ answer.takerFor number quote stamp terms (queueIn (now (area .entry)) (o .contract - 1) count) o ⌝ }
+    requires { ⌜ (1 ≤ o .account) × (1 ≤ o .contract) × QueueRoom (now area) (exchange.placeOf (o .contract)) count ⌝ }
+    ensures { λ r. ⌜ r ≡ answer.takerFor number quote stamp terms (queueIn (now (area .entry)) (exchange.placeOf (o .contract)) count) o ⌝ }
 {
     let c = laws::place_of(o.contract);
     let best = best_price(area, c, count);
     let condition = o.condition;
     let method = method_of(terms);
     Taker {
-        account: o.account - 1,
-        contract: o.contract - 1,
+        account: laws::place_word(o.account),
+        contract: laws::place_word(o.contract),
         sell: o.sell,
         close: mark(o.close),
         number,

@@ -15,7 +15,7 @@ use Rattle.rules.specs.declared.Account.{Account}
 use Rattle.rules.specs.declared.Holding.{Holding}
 use Rattle.rules.specs.declared.Trade.{Trade}
 use Rattle.rules.proofs.Codecs.{trade-at}
-use Rattle.holdings.specs.Bounds.{HoldingWithin}
+use Rattle.holdings.specs.Bounds.{HoldingWithin, bookedMost}
 use Rattle.replaying.specs.Parts.{Booked, ReplayIs}
 use Rattle.replaying.proofs.Trades.{next-trade, no-trades}
 use Rattle.replaying.proofs.UsedLegs.{leg-booked, leg-read, one-leg}
@@ -84,8 +84,8 @@ module _ {k n long short : ℕ} (l : List Account) (w : HeldTo k n long short l)
       place-held long (short + 1_000) a c _ (omega arith) (omega arith) (λ ha hc. short-lifted (holdingAt l a c) close lots long short few (w .each a c ha hc))
 
   -- one of them, as code reads it
-  holding-fits : {who place a c : ℕ} → who ≡ a → place ≡ c → a < n → c < k → long ≤ 2_000_000 → short ≤ 2_000_000
-      → HoldingWithin 2_000_000 (getD (getD l who noAccount .holdings) place noHolding)
+  holding-fits : {who place a c : ℕ} → who ≡ a → place ≡ c → a < n → c < k → long ≤ bookedMost → short ≤ bookedMost
+      → HoldingWithin bookedMost (getD (getD l who noAccount .holdings) place noHolding)
   unfolding holdingAt accountAt
   holding-fits {who} {place} {a} {c} ea ec ha hc ml ms =
       let q = w .each a c ha hc in
@@ -168,7 +168,7 @@ module _ {list : List Account} {k n : ℕ} {area : List ℕ} {count : ℕ} where
         let off : legCovered (used k n held) (t .buyer) (t .contract) false (t .buyclose) (t .lots) ≡ false = sym buyer-read ∙ s in
         below-zero list k n area count (g .covered ∙ ap (neverBelowZero (used k n held)) next ∙ rw off)
 
-    pub buyer-fits : HoldingWithin 2_000_000 (getD (getD held who noAccount .holdings) place noHolding)
+    pub buyer-fits : HoldingWithin bookedMost (getD (getD held who noAccount .holdings) place noHolding)
     buyer-fits = holding-fits held (g .bound) ea ec (b .buyer) (b .contract) (omega (arith, g .few)) (omega (arith, g .few))
 
     -- it is covered, and booked
@@ -207,7 +207,7 @@ module _ {list : List Account} {k n : ℕ} {area : List ℕ} {count : ℕ} where
         let off : legCovered (used k n held) (t .seller) (t .contract) true (t .sellclose) (t .lots) ≡ false = sym seller-read ∙ s in
         below-zero list k n area count (g .covered ∙ rw off)
 
-    pub seller-fits : HoldingWithin 2_000_000 (getD (getD held who noAccount .holdings) place noHolding)
+    pub seller-fits : HoldingWithin bookedMost (getD (getD held who noAccount .holdings) place noHolding)
     seller-fits = holding-fits held (g .bound) ea ec (g .trade .seller) (g .trade .contract) (omega (arith, g .few, g .here)) (omega (arith, g .few, g .here))
 
     pub seller-booked : {y : Account} → sellerTest ≡ true

@@ -20,18 +20,18 @@ pub record Booked (contracts accounts : ℕ) (t : Trade) : Type 0 where
   pub seller : t .seller < accounts
   pub lots : t .lots ≤ maxLots
 
--- accounts as they stand before the first of the trades, the first `holders` of them in use
-pub record Replayable (accounts : List Account) (contracts holders : ℕ) (area : List ℕ) (count : ℕ) : Type 0 where
+-- accounts as they stand before the first of the trades, the first `accountcount` of them in use
+pub record Replayable (accounts : List Account) (contracts accountcount : ℕ) (area : List ℕ) (count : ℕ) : Type 0 where
   pub few : contracts ≤ maxContracts
-  pub fit : holders ≤ maxAccounts
+  pub fit : accountcount ≤ maxAccounts
   pub trades : count ≤ maxTrades
   pub room : tradeStride * count ≤ length area
-  pub each : (i : ℕ) → i < count → Booked contracts holders (getD (recordedTrades area count) i noTrade)
-  pub held : (a c : ℕ) → a < holders → c < contracts → (holdingAt accounts a c .long ≤ maxLimit) × (holdingAt accounts a c .short ≤ maxLimit)
+  pub each : (i : ℕ) → i < count → Booked contracts accountcount (getD (recordedTrades area count) i noTrade)
+  pub held : (a c : ℕ) → a < accountcount → c < contracts → (holdingAt accounts a c .long ≤ maxLimit) × (holdingAt accounts a c .short ≤ maxLimit)
 
 -- Whether no close is of more than is held; all accounts after the trades, or those given where one is. Of the accounts and the
 -- contracts in use that is the rules' replay.
-pub record ReplayIs (accounts : List Account) (contracts holders : ℕ) (area : List ℕ) (count : ℕ) (r : Held) : Type 0 where
-  pub covered : r .covered ≡ neverBelowZero (used contracts holders accounts) (recordedTrades area count)
+pub record ReplayIs (accounts : List Account) (contracts accountcount : ℕ) (area : List ℕ) (count : ℕ) (r : Held) : Type 0 where
+  pub covered : r .covered ≡ neverBelowZero (used contracts accountcount accounts) (recordedTrades area count)
   pub accounts-are : r .accounts ≡ pick (r .covered) (bookTrades accounts (recordedTrades area count)) accounts
-  pub held : r .covered ≡ true → used contracts holders (r .accounts) ≡ bookTrades (used contracts holders accounts) (recordedTrades area count)
+  pub held : r .covered ≡ true → used contracts accountcount (r .accounts) ≡ bookTrades (used contracts accountcount accounts) (recordedTrades area count)

@@ -33,12 +33,12 @@ fn is_covered(a: Account, c: usize, sell: bool, close: u32, lots: u32) -> bool
 pub fn replay(
     accounts: [Account; rules::MAX_ACCOUNTS],
     contracts: usize,
-    holders: usize,
+    accountcount: usize,
     area: &[u32],
     count: usize,
 ) -> Held
-    requires { ⌜ Replayable accounts contracts holders (now area) count ⌝ }
-    ensures { λ r. ⌜ ReplayIs accounts contracts holders (now (area .entry)) count r ⌝ }
+    requires { ⌜ Replayable accounts contracts accountcount (now area) count ⌝ }
+    ensures { λ r. ⌜ ReplayIs accounts contracts accountcount (now (area .entry)) count r ⌝ }
 {
     let mut held = accounts;
     let mut i: usize = 0;

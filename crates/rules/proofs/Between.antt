@@ -34,7 +34,6 @@ module _ (sell : Bool) (limit : ℕ) where
 module _ (tick : ℕ) (some : 1 ≤ tick) (t : Taker) (rounds : RoundsTo tick (t .method)) (limit : ℕ) (limited : t .condition ≡ Limit limit) (on : onTick tick limit ≡ true) where
   trade-between : (o : Order) (left last : ℕ) → counterpart t o ≡ true → onTick tick (o .price) ≡ true
       → BetweenSellAndBuy (t .sell) limit (o .price) (tradeWith t o left last .price)
-  unfolding counterpart
   trade-between o left last met ep =
       let met′ : meets (Limit limit) (t .sell) (t .best) (o .price) ≡ true = rw limited at met in
       let b = price-between tick (t .method) limit (t .sell) (t .best) (o .price) last some rounds on ep met′ in

@@ -10,8 +10,8 @@ use lib.Dec.{eqb}
 use lib.Seq.{set-set}
 use Rattle.laws.specs.Choice.{pick}
 use Rattle.rules.specs.Answers.{listingOf}
-use Rattle.rules.specs.Change.{Asked, arriving, asked, changeTrades, changed, gone, isSell, listingFor, listingLessened, losesPlace, oldOrder, placeKept, placeLost, reentered, unchanged}
-use Rattle.rules.specs.Exchange.{Exchange, Listing, placeOf}
+use Rattle.rules.specs.Change.{Asked, arriving, asked, changeTrades, changed, gone, isSell, listingLessened, losesPlace, oldOrder, placeKept, placeLost, reentered, unchanged}
+use Rattle.rules.specs.Exchange.{Exchange, Listing, listingNamed, placeOf}
 use Rattle.rules.specs.Kinds.{codeOf, kindOf, lastOf, step}
 use Rattle.rules.specs.Matching.{Entered}
 use Rattle.rules.specs.Step.{Effect, cancelled, exchangeAfter, hasNumber, listingAfter, listingWithout, withListing, withTrades}
@@ -65,11 +65,11 @@ replaced-twice x c l m ts next nextstamp =
 -- the order gone, then entered: one listing replaced, with its trades
 pub lost-once : (x : Exchange) (k : Asked) (e : Entered) (next : ℕ)
     → exchangeAfter (gone x k) (arriving x k) e next
-    ≡ withTrades x (placeOf (k .contract)) (listingAfter (listingFor (gone x k) k) (isSell x k) e) (e .trades) next (x .nextstamp + 1)
+    ≡ withTrades x (placeOf (k .contract)) (listingAfter (listingNamed (gone x k) (k .contract)) (isSell x k) e) (e .trades) next (x .nextstamp + 1)
 unfolding exchangeAfter listingOf gone arriving
 lost-once x k e next =
-    replaced-twice x (placeOf (k .contract)) (listingWithout (hasNumber (k .number)) (listingFor x k))
-    (listingAfter (listingFor (withListing x (placeOf (k .contract)) (listingWithout (hasNumber (k .number)) (listingFor x k))) k) (isSell x k) e)
+    replaced-twice x (placeOf (k .contract)) (listingWithout (hasNumber (k .number)) (listingNamed x (k .contract)))
+    (listingAfter (listingNamed (withListing x (placeOf (k .contract)) (listingWithout (hasNumber (k .number)) (listingNamed x (k .contract)))) (k .contract)) (isSell x k) e)
     (e .trades) next (x .nextstamp + 1)
 
 -- ---- equal and fewer lots at the same price
@@ -107,8 +107,8 @@ module _ (x : Exchange) (account contract number lots price : ℕ) where
 
     -- FEWER LOTS AT THE SAME PRICE ALTER THAT ORDER'S LOTS, DROP ITS MARK, AND DO NOTHING ELSE (`less-at` has the places of its queue)
     pub fewer-step : lots < oldOrder x its .lots → codeOf x (Change account contract number lots price) ≡ 0 →
-        step x (Change account contract number lots price) ≡ withListing x (placeOf contract) (listingLessened its (listingFor x its))
+        step x (Change account contract number lots price) ≡ withListing x (placeOf contract) (listingLessened its (listingNamed x (its .contract)))
     unfolding step kindOf placeKept
     fewer-step h a =
-        decided (λ d. lastOf x (d .stages) ≡ withListing x (placeOf contract) (listingLessened its (listingFor x its))) x (Change account contract number lots price)
+        decided (λ d. lastOf x (d .stages) ≡ withListing x (placeOf contract) (listingLessened its (listingNamed x (its .contract)))) x (Change account contract number lots price)
         (λ q. ap (λ (f : Effect). lastOf x (f .stages)) (fewer-kept x its some same h)) (λ r. absurd (r a))

@@ -18,7 +18,7 @@ use Rattle.areas.proofs.Lists.{take-over, drop-over, drop-padded, padded-full}
 use Rattle.areas.proofs.Records.{length-encode, length-records, getD-records, length-store, store-front, store-append, store-records, records-store-front, records-store-before, records-store-after}
 use Rattle.rules.specs.Bounds.{maxResting, maxTrades}
 use Rattle.rules.specs.Exchange.{noOrder, noTrade}
-use Rattle.rules.specs.Memory.{orderWords, orderFrom, tradeWords, tradeFrom, queueIn, recordedTrades, putQueue, putQueues, putTrades, orderStride, queueStride, tradeStride, firstWord, wordOf}
+use Rattle.rules.specs.Memory.{orderWords, orderFrom, tradeWords, tradeFrom, queueIn, recordedTrades, putQueue, putQueues, putTrades, orderStride, queueStride, tradeStride, firstWord, wordOf, tradesWords}
 use Rattle.rules.specs.declared.Order.{Order}
 use Rattle.rules.specs.declared.Trade.{Trade}
 
@@ -252,11 +252,17 @@ module _ (area counts : List ℕ) (queues : ℕ → List Order) where
             let l : c < b = ⊎-elim (λ p. absurd (apart (sym p))) (λ p. p) (eq-or-lt-of-le (le-of-suc-le-suc h)) in
             queue-put-other (putQueues area counts queues b) b (getD counts b 0) (queues b) (few b k) (short b k) c apart (length (queues c)) (short c (omega arith)) fits ∙ ih l
 
--- ---- the day's trades
+-- ---- nothing in use
+
+pub queue-none : (area : List ℕ) (c n : ℕ) → n ≡ 0 → queueIn area c n ≡ []
+unfolding queueIn records decode
+queue-none area c n e = rw e
 
 pub trades-none : (area : List ℕ) → recordedTrades area 0 ≡ []
 unfolding recordedTrades records decode
 trades-none area = refl
+
+-- ---- the day's trades
 
 module _ (area : List ℕ) (n : ℕ) where
   pub length-trades : length (recordedTrades area n) ≡ n
@@ -281,6 +287,6 @@ module _ (area : List ℕ) (n : ℕ) where
     unfolding putTrades recordedTrades
     trades-put = records-put trade-codec noTrade area 0 n ts (omega arith)
 
-    pub length-putTrades : n ≤ maxTrades → length ts ≤ maxTrades → tradeStride * maxTrades ≤ length area → length (putTrades area n ts) ≡ length area
+    pub length-putTrades : n ≤ maxTrades → length ts ≤ maxTrades → tradesWords ≤ length area → length (putTrades area n ts) ≡ length area
     unfolding putTrades
     length-putTrades few short room = length-put trade-codec noTrade area 0 n ts (omega arith)

@@ -2,12 +2,12 @@
 use mathlib.Core.Bool.{Bool, true, false, _&&_}
 use mathlib.Core.List.{List, [], _∷_}
 use mathlib.Core.Path.{_≡_, refl}
-use Prim.Native.Nat.{ℕ, _≤_}
-use borrow.Author.Tests.{leb-true, le-leb}
+use Prim.Native.Nat.{ℕ, _<_, _≤_}
+use borrow.Author.Tests.{leb-true, le-leb, lt-leb}
 use lib.Dec.{leb}
-use Rattle.laws.specs.Chains.{join, passed}
-use Rattle.laws.specs.Choice.{both-true, true-both}
-use Rattle.rules.specs.Bounds.{within, onTick, tickMultiple, termsInRange, maxPrice, maxMethod, maxPhase}
+use Rattle.laws.specs.Chains.{all-passed, join}
+use Rattle.laws.specs.Choice.{both-true, true-both, both-false, false-both}
+use Rattle.rules.specs.Bounds.{within, onTick, tickMultiple, termsInRange, maxPrice, maxMethod, maxMultiplier, maxTick, maxLimit, maxRate, phaseKnown}
 use Rattle.rules.specs.WellFormed.{contractInRange}
 use Rattle.rules.specs.declared.Contract.{Contract}
 
@@ -20,6 +20,12 @@ module _ (low high n : ℕ) where
 
   pub within-test : low ≤ n → n ≤ high → within low high n ≡ true
   within-test h k = true-both (leb low n) (leb n high) (le-leb low n h) (le-leb n high k)
+
+  pub within-below : n < low → within low high n ≡ false
+  within-below h = false-both (leb low n) (leb n high) (lt-leb low n h)
+
+  pub within-above : high < n → within low high n ≡ false
+  within-above h = both-false (leb low n) (leb n high) (lt-leb n high h)
 
 -- ---- a tick multiple from one tick on
 
@@ -47,66 +53,66 @@ and-true false = refl
 
 -- "every file sound until now": with a method of 0 the terms are in range where document 01 has them so
 pub zero-in-range : (c : Contract) → c .method ≡ 0 → termsInRange c
-    ≡ (within 1 1_000 (c .multiplier) && within 1 1_000 (c .tick) && tickMultiple (c .tick) (c .reference) && tickMultiple (c .tick) (c .band) && within 1 100_000 (c .limit) && within 1 10_000 (c .rate))
+    ≡ (within 1 maxMultiplier (c .multiplier) && within 1 maxTick (c .tick) && tickMultiple (c .tick) (c .reference) && tickMultiple (c .tick) (c .band) && within 1 maxLimit (c .limit) && within 1 maxRate (c .rate))
 unfolding termsInRange
 zero-in-range c e = rw e (and-true _)
 
 pub record Terms (c : Contract) : Type 0 where
   pub multiplier-low : 1 ≤ c .multiplier
-  pub multiplier-high : c .multiplier ≤ 1_000
+  pub multiplier-high : c .multiplier ≤ maxMultiplier
   pub tick-low : 1 ≤ c .tick
-  pub tick-high : c .tick ≤ 1_000
+  pub tick-high : c .tick ≤ maxTick
   pub reference : Multiple (c .tick) (c .reference)
   pub band : Multiple (c .tick) (c .band)
   pub limit-low : 1 ≤ c .limit
-  pub limit-high : c .limit ≤ 100_000
+  pub limit-high : c .limit ≤ maxLimit
   pub rate-low : 1 ≤ c .rate
-  pub rate-high : c .rate ≤ 10_000
+  pub rate-high : c .rate ≤ maxRate
   pub method-high : c .method ≤ maxMethod
 
 module _ (c : Contract) where
   abbrev termTests : List Bool
   termTests =
-      within 1 1_000 (c .tick)
+      within 1 maxTick (c .tick)
       ∷ tickMultiple (c .tick) (c .reference)
       ∷ tickMultiple (c .tick) (c .band)
-      ∷ within 1 100_000 (c .limit)
-      ∷ within 1 10_000 (c .rate)
+      ∷ within 1 maxLimit (c .limit)
+      ∷ within 1 maxRate (c .rate)
       ∷ leb (c .method) maxMethod
       ∷ []
 
   pub terms : termsInRange c ≡ true → Terms c
   unfolding termsInRange
   terms h =
-      let p = passed (within 1 1_000 (c .multiplier)) termTests h in
+      let p = all-passed (within 1 1_000 (c .multiplier)) termTests h in
       record {
-        multiplier-low = within-low 1 1_000 (c .multiplier) (p .0);
-        multiplier-high = within-high 1 1_000 (c .multiplier) (p .0);
-        tick-low = within-low 1 1_000 (c .tick) (p .1 .0);
-        tick-high = within-high 1 1_000 (c .tick) (p .1 .0);
+        multiplier-low = within-low 1 maxMultiplier (c .multiplier) (p .0);
+        multiplier-high = within-high 1 maxMultiplier (c .multiplier) (p .0);
+        tick-low = within-low 1 maxTick (c .tick) (p .1 .0);
+        tick-high = within-high 1 maxTick (c .tick) (p .1 .0);
         reference = multiple (c .tick) (c .reference) (p .1 .1 .0);
         band = multiple (c .tick) (c .band) (p .1 .1 .1 .0);
-        limit-low = within-low 1 100_000 (c .limit) (p .1 .1 .1 .1 .0);
-        limit-high = within-high 1 100_000 (c .limit) (p .1 .1 .1 .1 .0);
-        rate-low = within-low 1 10_000 (c .rate) (p .1 .1 .1 .1 .1 .0);
-        rate-high = within-high 1 10_000 (c .rate) (p .1 .1 .1 .1 .1 .0);
+        limit-low = within-low 1 maxLimit (c .limit) (p .1 .1 .1 .1 .0);
+        limit-high = within-high 1 maxLimit (c .limit) (p .1 .1 .1 .1 .0);
+        rate-low = within-low 1 maxRate (c .rate) (p .1 .1 .1 .1 .1 .0);
+        rate-high = within-high 1 maxRate (c .rate) (p .1 .1 .1 .1 .1 .0);
         method-high = leb-true (c .method) maxMethod (p .1 .1 .1 .1 .1 .1);
       }
 
   pub terms-test : Terms c → termsInRange c ≡ true
   unfolding termsInRange
   terms-test t =
-      join (within 1 1_000 (c .multiplier)) termTests (
-        within-test 1 1_000 (c .multiplier) (t .multiplier-low) (t .multiplier-high),
+      join (within 1 maxMultiplier (c .multiplier)) termTests (
+        within-test 1 maxMultiplier (c .multiplier) (t .multiplier-low) (t .multiplier-high),
         (
-          within-test 1 1_000 (c .tick) (t .tick-low) (t .tick-high),
+          within-test 1 maxTick (c .tick) (t .tick-low) (t .tick-high),
           (
             multiple-test (c .tick) (c .reference) (t .reference),
             (
               multiple-test (c .tick) (c .band) (t .band),
               (
-                within-test 1 100_000 (c .limit) (t .limit-low) (t .limit-high),
-                (within-test 1 10_000 (c .rate) (t .rate-low) (t .rate-high), le-leb (c .method) maxMethod (t .method-high)),
+                within-test 1 maxLimit (c .limit) (t .limit-low) (t .limit-high),
+                (within-test 1 maxRate (c .rate) (t .rate-low) (t .rate-high), le-leb (c .method) maxMethod (t .method-high)),
               ),
             ),
           ),
@@ -116,7 +122,7 @@ module _ (c : Contract) where
   -- a contract of a well-formed state has its terms in range
   pub terms-passed : contractInRange c ≡ true → termsInRange c ≡ true
   unfolding contractInRange
-  terms-passed h = passed (termsInRange c) (leb (c .phase) maxPhase ∷ tickMultiple (c .tick) (c .last) ∷ []) h .0
+  terms-passed h = all-passed (termsInRange c) (phaseKnown (c .phase) ∷ tickMultiple (c .tick) (c .last) ∷ []) h .0
 
   pub contract-terms : contractInRange c ≡ true → Terms c
   contract-terms h = terms (terms-passed h)

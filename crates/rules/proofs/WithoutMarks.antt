@@ -3,7 +3,7 @@
 use mathlib.Core.Bool.{Bool, true, false, _&&_}
 use mathlib.Core.List.{List, [], _∷_, _++_, map}
 use mathlib.Core.Path.{_≡_, refl, sym, ap, _∙_}
-use Prim.Native.Nat.{ℕ, zero, suc, _+_, _-_, min}
+use Prim.Native.Nat.{ℕ, zero, suc, _-_, min}
 use lib.Dec.{ltb, eqb}
 use lib.ListN.{length, length-map, List·getD-map}
 use Rattle.laws.specs.Choice.{pick}
@@ -15,7 +15,7 @@ use Rattle.rules.specs.Change.{unmarked}
 use Rattle.rules.specs.Exchange.{Exchange, Listing, bestPrice, listingAt, lotsWhere, noListing, opposite, own, placeOf, resting, worse}
 use Rattle.rules.specs.Margin.{chargedLots, chargedTo, withOpen}
 use Rattle.rules.specs.Matching.{Entered, Swept, afterTrade, counterpart, enter, fillable, remainder, restIn, restLots, restWhole, stays, sweep, tradePrice, tradeWith, untouched}
-use Rattle.rules.specs.Step.{enteredOf, exchangeAfter, limitOf, listingAfter}
+use Rattle.rules.specs.Step.{enteredAmong, enteredOf, exchangeAfter, limitOf, listingAfter}
 use Rattle.rules.specs.declared.NewOrder.{NewOrder}
 use Rattle.rules.specs.declared.Order.{Order}
 use Rattle.rules.specs.declared.Taker.{Taker}
@@ -140,9 +140,7 @@ plain-rest t price (suc n) queue = plain-restIn (t .sell) (remainder t price (su
 
 -- the order entered on a listing
 abbrev enteredBy : Taker → NewOrder → Listing → Entered
-enteredBy t o l =
-    pick (inAuction (l .contract)) (restWhole t (o .lots) (limitOf (o .condition)) (own (o .sell) l) (opposite (o .sell) l))
-    (enter t (o .lots) (limitOf (o .condition)) (isGoodForDay (o .time)) (l .contract .last) (own (o .sell) l) (opposite (o .sell) l))
+enteredBy t o l = enteredAmong (l .contract) t o (own (o .sell) l) (opposite (o .sell) l)
 
 plain-whole : (t : Taker) (lots price : ℕ) (mine others : List Order) → restWhole (plainTaker t) lots price (plain mine) (plain others) ≡ plainEntered (restWhole t lots price mine others)
 unfolding restWhole

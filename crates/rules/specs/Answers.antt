@@ -1,4 +1,4 @@
--- "Numbers given back": the table of answers, and for each kind the order in which its refusals are tried. A refusal stands
+-- "Numbers given back": the table of answers, and for kinds 1 to 7 the order in which their refusals are tried. A refusal stands
 -- in a kind's list as `code when test`; the code given is the first whose test holds. Code 1 stands in Kinds.antt. Assumes
 -- nothing.
 use mathlib.Core.Bool.{Bool, true, false, not, _&&_, _||_}

@@ -21,6 +21,10 @@ maxTrades = 1_024
 abbrev pub maxSettlements : ℕ
 maxSettlements = 250
 
+-- no rule: up to so many recorded trades there is room for one with each order of a queue
+abbrev pub tradesWithRoom : ℕ
+tradesWithRoom = maxTrades - maxResting
+
 -- "Order numbers: 1 to 999,999 each day": the next number is 1,000,000 when they are used up. Of time stamps too: "Stamps end at
 -- 999,999 a day." (document 02, ticket 8)
 abbrev pub numbersEnd : ℕ
@@ -62,6 +66,9 @@ maxLimit = 100_000
 abbrev pub maxRate : ℕ
 maxRate = 10_000
 
+abbrev pub rateParts : ℕ
+rateParts = 10_000
+
 -- "a pairing method: 0 middle price, 1 average, 2 first-in price"
 abbrev pub maxMethod : ℕ
 maxMethod = 2
@@ -85,6 +92,9 @@ auction = 4
 
 abbrev pub maxPhase : ℕ
 maxPhase = auction
+
+abbrev pub phaseKnown : ℕ → Bool
+phaseKnown phase = leb phase maxPhase
 
 abbrev pub inAuction : Contract → Bool
 inAuction c = eqb (c .phase) auction

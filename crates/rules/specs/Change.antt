@@ -27,15 +27,12 @@ abbrev pub asked : ℕ → ℕ → ℕ → ℕ → ℕ → Asked
 asked account contract number lots price =
     record { account = account; contract = contract; number = number; lots = lots; price = price }
 
--- the contract's listing, the order as it rests, and its side: a sell where it is not among the buys
-abbrev pub listingFor : Exchange → Asked → Listing
-listingFor x k = listingNamed x (k .contract)
-
+-- the order as it rests, and its side: a sell where it is not among the buys
 unfoldable pub oldOrder : Exchange → Asked → Order
-oldOrder x k = getD (restingOrder (listingFor x k) (k .number)) 0 noOrder
+oldOrder x k = getD (restingOrder (listingNamed x (k .contract)) (k .number)) 0 noOrder
 
 unfoldable pub isSell : Exchange → Asked → Bool
-isSell x k = noSuchOrder (numbered (k .number) (listingFor x k .buys))
+isSell x k = noSuchOrder (numbered (k .number) (listingNamed x (k .contract) .buys))
 
 -- "fewer lots keep the place in the queue; more lots or another price lose it"
 abbrev pub loses : Order → ℕ → ℕ → Bool
@@ -47,7 +44,7 @@ losesPlace x k = not (eqb (k .lots) 0) && loses (oldOrder x k) (k .lots) (k .pri
 
 -- "as though the old order were gone"
 unfoldable pub gone : Exchange → Asked → Exchange
-gone x k = withListing x (placeOf (k .contract)) (listingWithout (hasNumber (k .number)) (listingFor x k))
+gone x k = withListing x (placeOf (k .contract)) (listingWithout (hasNumber (k .number)) (listingNamed x (k .contract)))
 
 -- "then matched at once": it arrives as a good-for-day limit order of its account, on its side, to open or close as before
 unfoldable pub arriving : Exchange → Asked → NewOrder
@@ -79,8 +76,8 @@ reentryRefusals x number o =
 unfoldable pub changeRefusals : Exchange → Asked → List Refusal
 changeRefusals x k =
     namedRefusals x notContinuous (k .account) (k .contract)
-    ++ ownerRefusals (placeOf (k .account)) (restingOrder (listingFor x k) (k .number))
-    ++ newFieldsRefusals (listingFor x k .contract) (k .lots) (k .price)
+    ++ ownerRefusals (placeOf (k .account)) (restingOrder (listingNamed x (k .contract)) (k .number))
+    ++ newFieldsRefusals (listingNamed x (k .contract) .contract) (k .lots) (k .price)
     -- "where the place is lost", "tested as though the old order were gone"
     ++ pick (losesPlace x k) (reentryRefusals (gone x k) (k .number) (arriving x k)) []
 
@@ -114,7 +111,7 @@ listingLessened k l =
     record { contract = l .contract; buys = lessened (k .number) (k .lots) (l .buys); sells = lessened (k .number) (k .lots) (l .sells) }
 
 unfoldable pub placeKept : Exchange → Asked → Effect
-placeKept x k = accepted (k .number) 0 (k .lots) (withListing x (placeOf (k .contract)) (listingLessened k (listingFor x k)))
+placeKept x k = accepted (k .number) 0 (k .lots) (withListing x (placeOf (k .contract)) (listingLessened k (listingNamed x (k .contract))))
 
 -- "Zero lots removes the order, its price not looked at."
 unfoldable pub changed : Exchange → Asked → Effect

@@ -4,7 +4,7 @@ use mathlib.Core.List.{List, [], _∷_}
 use Prim.Native.Nat.{ℕ, _/_, _%_, _^_}
 use lib.Dec.{leb, ltb, eqb}
 use Rattle.laws.specs.Choice.{pick, allOf}
-use Rattle.rules.specs.Bounds.{maxPhase}
+use Rattle.rules.specs.Bounds.{phaseKnown}
 use Rattle.rules.specs.declared.Record.{Record}
 use Rattle.rules.specs.declared.NewOrder.{NewOrder}
 use Rattle.rules.specs.declared.PriceCondition.{PriceCondition}
@@ -76,9 +76,6 @@ pullOf r =
     Malformed
 
 -- "State flags: 0 pre-open, 1 continuous, 2 no trading, 3 closed", and 4, auction: "flags above 4 are unknown" (02, ticket 4)
-abbrev pub phaseKnown : ℕ → Bool
-phaseKnown phase = leb phase maxPhase
-
 unfoldable pub phaseOf : Record → Command
 phaseOf r =
     pick (zeros (r .account ∷ r .lots ∷ r .price ∷ r .number ∷ r .amount ∷ []) && phaseKnown (r .flags))

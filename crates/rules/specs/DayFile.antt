@@ -49,6 +49,10 @@ commandWidth = 24
 abbrev pub maxCommands : ℕ
 maxCommands = 2_000
 
+-- no rule: how many bytes the largest sound file has
+abbrev pub fileMost : ℕ
+fileMost = 3 * countWidth + contractWidth * maxContracts + accountWidth * maxAccounts + commandWidth * maxCommands
+
 unfoldable pub contractsIn : List ℕ → ℕ
 contractsIn file = u32At file 0
 

@@ -9,7 +9,7 @@ use Rattle.laws.specs.Choice.{pick}
 use Rattle.rules.specs.Answers.{Refusal, _when_, firstOf, depositRefusals, withdrawRefusals, insertRefusals, cancelRefusals, pullRefusals, phaseRefusals, settleRefusals}
 use Rattle.rules.specs.Auction.{matchOf}
 use Rattle.rules.specs.Change.{asked, changeRefusals, changed, changeTrades}
-use Rattle.rules.specs.Command.{phaseKnown}
+use Rattle.rules.specs.Bounds.{phaseKnown}
 use Rattle.rules.specs.Exchange.{Exchange, placeOf}
 use Rattle.rules.specs.Quote.{offered, quoteRefusals, quoted, quoteTrades}
 use Rattle.rules.specs.Settlement.{settlementPrice}

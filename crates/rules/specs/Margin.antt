@@ -1,9 +1,10 @@
 -- Margin (document 01, "Margin and settlement", as ticket 2 of document 02 changes it; 002, Article 26). Assumes nothing.
 use mathlib.Core.Bool.{Bool}
-use Prim.Native.Nat.{ℕ, zero, suc, _+_, _*_, _/_, max}
+use Prim.Native.Nat.{ℕ, zero, suc, _+_, _-_, _*_, _/_, max}
 use lib.Dec.{eqb}
 use lib.ListN.{length}
 use Rattle.laws.specs.Choice.{pick}
+use Rattle.rules.specs.Bounds.{rateParts}
 use Rattle.rules.specs.Exchange.{Exchange, Listing, listingAt, holdingAt, restingOpens}
 use Rattle.rules.specs.Holdings.{bookLeg}
 use Rattle.rules.specs.declared.Contract.{Contract}
@@ -11,7 +12,7 @@ use Rattle.rules.specs.declared.Holding.{Holding}
 
 -- "The charge for one lot is multiplier x reference x rate / 10,000, rounded up."
 unfoldable pub chargeOf : ℕ → ℕ → ℕ → ℕ
-chargeOf multiplier reference rate = (multiplier * reference * rate + 9_999) / 10_000
+chargeOf multiplier reference rate = (multiplier * reference * rate + (rateParts - 1)) / rateParts
 
 abbrev pub charge : Contract → ℕ
 charge c = chargeOf (c .multiplier) (c .reference) (c .rate)

@@ -30,6 +30,9 @@ orderStride = 7
 abbrev pub queueStride : ℕ
 queueStride = maxResting * orderStride
 
+abbrev pub queuesWords : ℕ
+queuesWords = queueStride * maxContracts
+
 -- the first word of the order at place i of contract c's queue
 abbrev pub firstWord : ℕ → ℕ → ℕ
 firstWord c i = queueStride * c + orderStride * i
@@ -53,9 +56,18 @@ orderFrom ws =
 abbrev pub wordOf : ℕ → Order → ℕ
 wordOf word o = getD (orderWords o) word 0
 
+abbrev pub lotsWord : ℕ
+lotsWord = 3
+
+abbrev pub quoteWord : ℕ
+quoteWord = 6
+
 -- the trade area holds nine words for each trade of the day
 abbrev pub tradeStride : ℕ
 tradeStride = 9
+
+abbrev pub tradesWords : ℕ
+tradesWords = tradeStride * maxTrades
 
 abbrev pub tradeWords : Trade → List ℕ
 tradeWords t =
@@ -98,8 +110,8 @@ memory state buys sells trades = record { state = state; buys = buys; sells = se
 pub record Declared (s : State) : Type 0 where
   pub contracts : length (s .contracts) ≡ maxContracts
   pub accounts : length (s .accounts) ≡ maxAccounts
-  pub buys : length (s .buycounts) ≡ maxContracts
-  pub sells : length (s .sellcounts) ≡ maxContracts
+  pub buycounts : length (s .buycounts) ≡ maxContracts
+  pub sellcounts : length (s .sellcounts) ≡ maxContracts
   pub holdings : (a : ℕ) → a < maxAccounts → length (accountAt (s .accounts) a .holdings) ≡ maxContracts
 
 -- a contract in use with its queues
@@ -131,7 +143,7 @@ exchangeOf m =
     }
 
 -- ---- "Room beyond a count .. is unaltered, except that places newly in use are written, and places no longer in use are
--- set to zero." What that leaves at each place is one law: `put-told` (invariants, specs/ByPlace).
+-- set to zero." What that leaves at each place is one law: `put-told` (invariants, proofs/PutTold, in the words of specs/ByPlace).
 
 -- contract c's queue written over one of n orders
 unfoldable pub putQueue : List ℕ → ℕ → ℕ → List Order → List ℕ
@@ -199,7 +211,7 @@ unfoldable pub hasRoom : Memory → Bool
 hasRoom m =
     leb (queueStride * m .state .contractcount) (length (m .buys))
     && leb (queueStride * m .state .contractcount) (length (m .sells))
-    && leb (tradeStride * maxTrades) (length (m .trades))
+    && leb tradesWords (length (m .trades))
 
 unfoldable pub wellFormedMemory : Memory → Bool
 wellFormedMemory m = countsInRange (m .state) && hasRoom m && wellFormedContents (exchangeOf m)

@@ -37,9 +37,12 @@ sellOf q = half q true
 -- ---- the steps
 
 -- "The account's earlier quote in that contract .. is removed first": whatever is still marked
+abbrev pub withoutQuoteOf : Exchange → ℕ → ℕ → Exchange
+withoutQuoteOf x account contract =
+    withListing x (placeOf contract) (listingWithout (isQuoteOf (placeOf account)) (listingNamed x contract))
+
 unfoldable pub withoutQuote : Exchange → Offered → Exchange
-withoutQuote x q =
-    withListing x (placeOf (q .contract)) (listingWithout (isQuoteOf (placeOf (q .account))) (listingNamed x (q .contract)))
+withoutQuote x q = withoutQuoteOf x (q .account) (q .contract)
 
 -- an order of a quote entered, marked, with the next number
 abbrev pub enteredMarked : Exchange → NewOrder → Entered

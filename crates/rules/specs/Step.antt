@@ -1,7 +1,8 @@
--- What an accepted command of each kind answers and does (document 01). Assumes nothing.
+-- What an accepted command of kinds 1 to 7 answers and does (document 01); 8 and 9 have theirs in Quote.antt and Change.antt. Assumes
+-- nothing.
 use mathlib.Core.Bool.{Bool}
 use mathlib.Core.List.{List, [], _∷_, _++_}
-use Prim.Native.Nat.{ℕ, _+_, _-_}
+use Prim.Native.Nat.{ℕ, _+_}
 use lib.Dec.{eqb}
 use lib.IntN.{ℤ, pos, _+ℤ_, _-ℤ_}
 use lib.ListN.{set}
@@ -20,6 +21,7 @@ use Rattle.rules.specs.declared.NewOrder.{NewOrder}
 use Rattle.rules.specs.declared.Order.{Order}
 use Rattle.rules.specs.declared.PriceCondition.{PriceCondition}
 use Rattle.rules.specs.declared.PriceCondition.the-variants.{Limit, Market, Best}
+use Rattle.rules.specs.declared.Taker.{Taker}
 use Rattle.rules.specs.declared.Trade.{Trade}
 
 -- "Each answer holds a code, an order number, lots traded and lots rested .. or removed. .. Numbers not named are 0"
@@ -95,12 +97,16 @@ limitOf (Limit limit) = limit
 limitOf Market = 0
 limitOf Best = 0
 
+-- what an order trades and leaves in a contract with these terms, by its own queue and the opposite one.
 -- "In auction, limit good-for-day orders rest without matching" (02, ticket 4)
+abbrev pub enteredAmong : Contract → Taker → NewOrder → List Order → List Order → Entered
+enteredAmong terms t o own opposite =
+    pick (inAuction terms)
+    (restWhole t (o .lots) (limitOf (o .condition)) own opposite)
+    (enter t (o .lots) (limitOf (o .condition)) (isGoodForDay (o .time)) (terms .last) own opposite)
+
 unfoldable pub enteredOf : Exchange → ℕ → ℕ → NewOrder → Entered
-enteredOf x number quote o =
-    pick (inAuction (listingOf x o .contract))
-    (restWhole (takerOf x number quote o) (o .lots) (limitOf (o .condition)) (ownQueue x o) (oppositeQueue x o))
-    (enter (takerOf x number quote o) (o .lots) (limitOf (o .condition)) (isGoodForDay (o .time)) (listingOf x o .contract .last) (ownQueue x o) (oppositeQueue x o))
+enteredOf x number quote o = enteredAmong (listingOf x o .contract) (takerOf x number quote o) o (ownQueue x o) (oppositeQueue x o)
 
 -- the listing with an order entered, and the state
 unfoldable pub listingAfter : Listing → Bool → Entered → Listing
@@ -111,11 +117,15 @@ unfoldable pub exchangeAfter : Exchange → NewOrder → Entered → ℕ → Exc
 exchangeAfter x o e next =
     withTrades x (placeOf (o .contract)) (listingAfter (listingOf x o) (o .sell) e) (e .trades) next (x .nextstamp + 1)
 
+-- an order entered with a number and a quote mark, after which the next order number is `next`: its answer's numbers, and the state
+abbrev pub enteredAs : Exchange → NewOrder → ℕ → ℕ → ℕ → Effect
+enteredAs x o number quote next =
+    accepted number (tradedLots (enteredOf x number quote o .trades)) (enteredOf x number quote o .rested)
+    (exchangeAfter x o (enteredOf x number quote o) next)
+
 -- "given to accepted orders in turn over all contracts": the next number is one more
 unfoldable pub inserted : Exchange → NewOrder → Effect
-inserted x o =
-    accepted (x .next) (tradedLots (enteredOf x (x .next) 0 o .trades)) (enteredOf x (x .next) 0 o .rested)
-    (exchangeAfter x o (enteredOf x (x .next) 0 o) (x .next + 1))
+inserted x o = enteredAs x o (x .next) 0 (x .next + 1)
 
 -- ---- cancel and pull
 

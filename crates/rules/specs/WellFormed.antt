@@ -9,7 +9,7 @@ use lib.IntN.{natAbs}
 use lib.ListN.{length}
 use Rattle.laws.specs.Choice.{pick, all, allOf}
 use Rattle.laws.specs.Sums.{sumOf}
-use Rattle.rules.specs.Bounds.{within, inAuction, termsInRange, tickMultiple, allowedToday, maxPhase, numbersEnd, maxLots, maxSettlements, maxBalance, maxDayProfit}
+use Rattle.rules.specs.Bounds.{within, inAuction, termsInRange, tickMultiple, allowedToday, phaseKnown, numbersEnd, maxLots, maxSettlements, maxBalance, maxDayProfit}
 use Rattle.rules.specs.Exchange.{Exchange, Listing, listingAt, accountAt, contractAt, heldAt, worse, restingOpens, restingCloses}
 use Rattle.rules.specs.Holdings.{bookTrades, neverBelowZero, startOfDay, sameHoldings}
 use Rattle.rules.specs.declared.Account.{Account}
@@ -25,7 +25,7 @@ unfoldable pub countersInRange : Exchange → Bool
 countersInRange x = within 1 numbersEnd (x .next) && within 1 numbersEnd (x .nextstamp) && leb (x .settlements) maxSettlements
 
 unfoldable pub contractInRange : Contract → Bool
-contractInRange c = termsInRange c && leb (c .phase) maxPhase && tickMultiple (c .tick) (c .last)
+contractInRange c = termsInRange c && phaseKnown (c .phase) && tickMultiple (c .tick) (c .last)
 
 -- "maker mark 1, its value 0 or 1" (02, ticket 10)
 unfoldable pub markInRange : Account → Bool

@@ -1,5 +1,5 @@
--- A state that is well formed, and near misses that are not, a clause each. One table, one statement, as in Examples.antt.
--- Assumes nothing.
+-- A state that is well formed, and near misses that are not, a clause each: three tables, a statement each, as in
+-- Examples.antt. Assumes nothing.
 use mathlib.Core.Bool.{true}
 use mathlib.Core.List.{List, [], _∷_}
 use mathlib.Core.Path.{_≡_, refl}
@@ -13,7 +13,7 @@ use Rattle.rules.specs.Examples.{Row, _gives_, allRight}
 use Rattle.rules.specs.Exchange.{Exchange, accountAt, holdingAt, listingAt, lotsWhere, resting}
 use Rattle.rules.specs.Holdings.{afterLeg, bookLeg, bookTrade, bookTrades, legCovered, neverBelowZero, sameHoldings, sameLots, startOfDay}
 use Rattle.rules.specs.Answers.{mark}
-use Rattle.rules.specs.Memory.{Memory, countsInRange, hasRoom}
+use Rattle.rules.specs.Memory.{Memory, memory, countsInRange, hasRoom}
 use Rattle.rules.specs.WellFormed.{ahead, aheadOfFirst, allListed, balanceInRange, contractInRange, countersInRange, holdingInRange, holdingsInRange, listed, listingQuoted, markAllowed, markInRange, orderInRange, ordersInRange, queueQuoted, queuesSorted, quotes, rangesKept, replays, restingInRange, sorted, tradeInRange, uncrossed, usedOnce, wellFormedContents}
 use Rattle.rules.specs.declared.Account.{Account}
 use Rattle.rules.specs.declared.Contract.{Contract}
@@ -135,8 +135,7 @@ counted orders =
 
 -- areas of so many words
 lying : ℕ → ℕ → Memory
-lying queue day =
-    record { state = counted 0; buys = replicate queue 0; sells = replicate queue 0; trades = replicate day 0 }
+lying queue day = memory (counted 0) (replicate queue 0) (replicate queue 0) (replicate day 0)
 
 -- account 1 starts with 2 long and 3 short and sells so many to close, account 2 buys them to open
 replayed : ℕ → Exchange

@@ -5,6 +5,8 @@
 //
 // A record with `#[repr(C)]` lies in memory as a C compiler lays it out: programs in other languages hand it in as it is.
 
+pub mod sizes;
+
 // "Numbers that bound everything", by the names that they have in specs/ (Bounds, Memory, DayFile).
 pub const MAX_CONTRACTS: usize = 4;
 
@@ -49,12 +51,19 @@ pub const ACCOUNT_WIDTH: usize = 8;
 
 pub const COMMAND_WIDTH: usize = 24;
 
-// How many words an order and a trade take in the lent areas, and all the places of one queue.
+// How many words an order, all the places of one queue, a trade and an answer take in the lent areas.
 pub const ORDER_STRIDE: usize = 7;
 
 pub const QUEUE_STRIDE: usize = MAX_RESTING * ORDER_STRIDE;
 
 pub const TRADE_STRIDE: usize = 9;
+
+pub const ANSWER_STRIDE: usize = 4;
+
+// How many words the areas of buys and of sells need for every contract, and the area of trades for a day.
+pub const QUEUES_WORDS: usize = QUEUE_STRIDE * MAX_CONTRACTS;
+
+pub const TRADES_WORDS: usize = TRADE_STRIDE * MAX_TRADES;
 
 // The words of an order that hold its number and its time stamp.
 pub const NUMBER_WORD: usize = 1;
@@ -77,7 +86,7 @@ pub struct Contract {
     pub last: u32,
 }
 
-// A contract's phases.
+// A contract's phases, and the largest of them.
 pub const PRE_OPEN: u32 = 0;
 
 pub const CONTINUOUS: u32 = 1;
@@ -87,6 +96,8 @@ pub const NO_TRADING: u32 = 2;
 pub const CLOSED: u32 = 3;
 
 pub const AUCTION: u32 = 4;
+
+pub const MAX_PHASE: u32 = AUCTION;
 
 // What one account holds in one contract: lots now, and lots at the start of the day.
 #[repr(C)]

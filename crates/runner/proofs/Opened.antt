@@ -6,9 +6,11 @@ use mathlib.Core.Path.{_≡_, refl, ap, _∙_}
 use Prim.Native.Nat.{ℕ, zero, suc, _+_, _-_, _<_}
 use native.Mathlib.Omega.{arith}
 use lib.ListN.{length, getD, replicate}
+use Rattle.laws.specs.Lists.{getD-same}
 use Rattle.laws.specs.Tabulate.{tabulate, length-tabulate}
 use Rattle.areas.specs.Lists.{padded}
 use Rattle.areas.proofs.Lists.{length-padded}
+use Rattle.rules.specs.Bounds.{maxAccounts, maxContracts}
 use Rattle.rules.specs.Condition3.{Opening}
 use Rattle.rules.specs.DayFile.{accountsIn, contractsIn, opening, openingAccount, sound}
 use Rattle.rules.specs.Exchange.{Exchange, accountAt, holdingAt, noAccount, noContract, noHolding}
@@ -16,11 +18,11 @@ use Rattle.rules.specs.Memory.{Declared, Memory, exchangeOf, WellFormedState}
 use Rattle.rules.specs.declared.Account.{Account}
 use Rattle.rules.specs.declared.Holding.{Holding}
 use Rattle.invariants.proofs.Opening.{opening-well-formed}
-use Rattle.dayfile.specs.Opening.{accountWith, openingAccounts, openingContract, openingContracts, openingHolder, openingState}
+use Rattle.dayfile.specs.Opening.{accountWith, openingAccounts, openingContract, openingContracts, openingHolder, openingMemory, openingState}
 use Rattle.dayfile.proofs.Places.{sound-layout}
 use Rattle.dayfile.proofs.Start.{opening-exchange}
 use Rattle.dayfile.proofs.WellFormed.{opening-memory-well-formed}
-use Rattle.runner.specs.Day.{Ready, openingOf}
+use Rattle.runner.specs.Day.{Ready}
 
 -- what holds of a table's values, and of what stands past its end, holds at each place
 every-place : {A : Type 0} (P : A → Type 0) (n : ℕ) (f : ℕ → A) (d : A) → P d → ((i : ℕ) → P (f i)) → (i : ℕ) → P (getD (tabulate n f) i d)
@@ -38,16 +40,11 @@ every-filled P zero f (suc k) z d h g (suc i) l = every-filled P zero f k z d h 
 every-filled P (suc n) f k z d h g zero l = h 0
 every-filled P (suc n) f k z d h g (suc i) l = every-filled P n (λ j. f (suc j)) k z d (λ j. h (suc j)) g i (omega arith)
 
-none-held : (n c : ℕ) → getD (replicate n noHolding) c noHolding ≡ noHolding
-none-held zero c = refl
-none-held (suc n) zero = refl
-none-held (suc n) (suc c) = none-held n c
-
 module _ (file : List ℕ) where
   nothing-held : (a c : ℕ) → holdingAt (opening file .accounts) a c ≡ noHolding
   unfolding opening holdingAt accountAt openingAccount
   nothing-held a c =
-      every-place (λ (v : Account). getD (v .holdings) c noHolding ≡ noHolding) (accountsIn file) (openingAccount file) noAccount refl (λ i. none-held (contractsIn file) c) a
+      every-place (λ (v : Account). getD (v .holdings) c noHolding ≡ noHolding) (accountsIn file) (openingAccount file) noAccount refl (λ i. getD-same (contractsIn file) c noHolding) a
 
   module _ (h : sound file ≡ true) where
     opening-declared : Declared (openingState file)
@@ -55,18 +52,18 @@ module _ (file : List ℕ) where
     opening-declared =
         let s = sound-layout file h in
         record {
-          contracts = length-padded 4 noContract (tabulate (contractsIn file) (openingContract file)) (rw length-tabulate (s .contracts));
-          accounts = length-padded 32 (accountWith 0 0) (tabulate (accountsIn file) (openingHolder file)) (rw length-tabulate (s .accounts));
-          buys = refl;
-          sells = refl;
+          contracts = length-padded maxContracts noContract (tabulate (contractsIn file) (openingContract file)) (rw length-tabulate (s .contracts));
+          accounts = length-padded maxAccounts (accountWith 0 0) (tabulate (accountsIn file) (openingHolder file)) (rw length-tabulate (s .accounts));
+          buycounts = refl;
+          sellcounts = refl;
           holdings = λ a l.
-              every-filled (λ (v : Account). length (v .holdings) ≡ 4) (accountsIn file) (openingHolder file) (32 - length (tabulate (accountsIn file) (openingHolder file))) (accountWith 0 0) noAccount
+              every-filled (λ (v : Account). length (v .holdings) ≡ maxContracts) (accountsIn file) (openingHolder file) (maxAccounts - length (tabulate (accountsIn file) (openingHolder file))) (accountWith 0 0) noAccount
               (λ i. refl) refl a (rw length-tabulate (omega arith));
         }
 
   module _ {buys sells trades : List ℕ} (ready : Ready file buys sells trades) where
     abbrev m : Memory
-    m = openingOf file buys sells trades
+    m = openingMemory file buys sells trades
 
     pub opens-formed : WellFormedState (openingState file) buys sells trades
     opens-formed =

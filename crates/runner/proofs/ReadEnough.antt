@@ -8,12 +8,12 @@ use borrow.Author.Tests.{leb-true, leb-false}
 use lib.Dec.{leb}
 use lib.ListN.{length, take}
 use lib.Seq.{take-all, length-take-le}
-use Rattle.rules.specs.DayFile.{sound}
+use Rattle.rules.specs.DayFile.{fileMost, sound}
 use Rattle.rules.specs.Lines.{brokenLine, output}
 use Rattle.dayfile.proofs.Places.{sound-layout}
 use Rattle.runner.specs.Reading.{Enough, ReadIs}
 
-too-long : (file : List ℕ) → 48_348 < length file → sound file ≡ false
+too-long : (file : List ℕ) → fileMost < length file → sound file ≡ false
 too-long file h = by-sound (sound file) refl
   where
     by-sound : (t : Bool) → sound file ≡ t → sound file ≡ false
@@ -24,7 +24,7 @@ broken-prints : (file : List ℕ) → sound file ≡ false → output file ≡ b
 unfolding output
 broken-prints file e = rw e
 
-pub enough : (room : ℕ) → 48_348 < room → Enough room
+pub enough : (room : ℕ) → fileMost < room → Enough room
 enough room h input = by-length (leb (length input) room) refl
   where
     by-length : (t : Bool) → leb (length input) room ≡ t → output (take room input) ≡ output input
@@ -34,5 +34,5 @@ enough room h input = by-length (leb (length input) room) refl
         broken-prints (take room input) (too-long (take room input) (omega (arith, length-take-le room input (omega arith))))
         ∙ sym (broken-prints input (too-long input (omega arith)))
 
-pub read-is : {bytes : List ℕ} {read : ℕ} → read ≤ length bytes → 48_348 < length bytes → ReadIs bytes read
+pub read-is : {bytes : List ℕ} {read : ℕ} → read ≤ length bytes → fileMost < length bytes → ReadIs bytes read
 read-is {bytes} {read} h k = record { within = h; front = sym (length-take-le read bytes h); enough = enough (length bytes) k }

@@ -16,6 +16,7 @@ use Rattle.rules.specs.declared.Trade.{Trade}
 use Rattle.rules.proofs.Codecs.{trade-codec, length-trades}
 use Rattle.endian.specs.Written.{Written}
 use Rattle.endian.proofs.Writes.{no-byte, looser, then}
+use Rattle.lines.specs.Tables.{tradeLineMost}
 use Rattle.lines.proofs.Turns.{trade-turn}
 
 module _ (area : List ℕ) where
@@ -41,8 +42,8 @@ module _ (area : List ℕ) where
       unfolding tradeLines
       trades-none room = rw (none-past first (omega arith)) (no-byte before at room)
 
-      pub trades-more : (i most more : ℕ) (t : Trade) {middle after : List ℕ} {next end : ℕ} → first ≤ i → most + 128 ≤ more → t ≡ tradeFrom (drop (tradeStride * i) area)
-          → Written most before at (tradeLines (first + 1) (drop first (recordedTrades area i))) middle next → Written 128 middle next (tradeLine (i + 1) t) after end
+      pub trades-more : (i most more : ℕ) (t : Trade) {middle after : List ℕ} {next end : ℕ} → first ≤ i → most + tradeLineMost ≤ more → t ≡ tradeFrom (drop (tradeStride * i) area)
+          → Written most before at (tradeLines (first + 1) (drop first (recordedTrades area i))) middle next → Written tradeLineMost middle next (tradeLine (i + 1) t) after end
           → Written more before at (tradeLines (first + 1) (drop first (recordedTrades area (i + 1)))) after end
       trades-more i most more t h m e w v = rw (recorded-turn i h, ← e) (looser (then w v) more m)
 

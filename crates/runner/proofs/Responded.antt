@@ -11,6 +11,7 @@ use Rattle.laws.specs.Choice.{pick}
 use Rattle.laws.specs.Tabulate.{tabulate, length-tabulate, getD-tabulate}
 use Rattle.areas.specs.Lists.{padded}
 use Rattle.areas.proofs.Lists.{getD-padded}
+use Rattle.rules.specs.Bounds.{maxAccounts, maxContracts}
 use Rattle.rules.specs.Kinds.{codeOf, decide, kindOf, step}
 use Rattle.rules.specs.Command.{isSettle}
 use Rattle.rules.specs.Exchange.{Exchange, accountAt, noAccount}
@@ -162,20 +163,20 @@ module _ {s : State} {buys sells trades : List ℕ} (w : WellFormedState s buys 
 
     price-at : (c : ℕ) → c < s .contractcount → getD (r .report .prices) c 0 ≡ settlementPrice x c
     unfolding settlementReport
-    price-at c h = ap (λ (v : Report). getD (v .prices) c 0) report-is ∙ reported 4 (s .contractcount) (settlementPrice x) 0 c h
+    price-at c h = ap (λ (v : Report). getD (v .prices) c 0) report-is ∙ reported maxContracts (s .contractcount) (settlementPrice x) 0 c h
 
     closing-at : (a : ℕ) → a < s .accountcount → getD (r .report .closing) a (pos 0) ≡ closingProfit x a
     unfolding settlementReport
-    closing-at a h = ap (λ (v : Report). getD (v .closing) a (pos 0)) report-is ∙ reported 32 (s .accountcount) (closingProfit x) (pos 0) a h
+    closing-at a h = ap (λ (v : Report). getD (v .closing) a (pos 0)) report-is ∙ reported maxAccounts (s .accountcount) (closingProfit x) (pos 0) a h
 
     holding-at : (a : ℕ) → a < s .accountcount → getD (r .report .holding) a (pos 0) ≡ holdingProfit x a
     unfolding settlementReport
-    holding-at a h = ap (λ (v : Report). getD (v .holding) a (pos 0)) report-is ∙ reported 32 (s .accountcount) (holdingProfit x) (pos 0) a h
+    holding-at a h = ap (λ (v : Report). getD (v .holding) a (pos 0)) report-is ∙ reported maxAccounts (s .accountcount) (holdingProfit x) (pos 0) a h
 
     charged-at : (a : ℕ) → a < s .accountcount → getD (r .report .charged) a 0 ≡ charged (step x Settle) a
     unfolding settlementReport
     charged-at a h =
-        ap (λ (v : Report). getD (v .charged) a 0) report-is ∙ reported 32 (s .accountcount) (charged (settled x)) 0 a h
+        ap (λ (v : Report). getD (v .charged) a 0) report-is ∙ reported maxAccounts (s .accountcount) (charged (settled x)) 0 a h
         ∙ sym (ap (λ (e : Exchange). charged e a) (settle-after x q))
 
     contracts-same : r .state .contractcount ≡ s .contractcount

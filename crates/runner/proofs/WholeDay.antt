@@ -15,13 +15,13 @@ use Rattle.rules.specs.DayFile.{sound, commandsIn, opening, commandsOf}
 use Rattle.rules.specs.Lines.{brokenLine, output, runLines}
 use Rattle.rules.specs.Memory.{Declared, Memory, exchangeOf, wellFormedMemory, memory}
 use Rattle.rules.specs.declared.State.{State}
-use Rattle.dayfile.specs.Opening.{openingState}
+use Rattle.dayfile.specs.Opening.{openingMemory, openingState}
 use Rattle.dayfile.proofs.Places.{sound-layout}
 use Rattle.accounting.proofs.Runs.{run-append}
 use Rattle.invariants.proofs.Condition3.{money-left}
 use Rattle.invariants.proofs.MemoryKeeps.{run-keeps}
 use Rattle.exchange.proofs.Runs.{run-declared}
-use Rattle.runner.specs.Day.{Ready, DayIs, PrintedIs, openingOf, linesTo}
+use Rattle.runner.specs.Day.{Ready, DayIs, PrintedIs, linesTo}
 use Rattle.runner.specs.Parts.{part, Playable, PlayedIs}
 use Rattle.runner.specs.declared.play.Played.{Played}
 use Rattle.runner.proofs.Opened.{opens-formed, opens-as-told, opens-empty}
@@ -77,7 +77,7 @@ pub record PrintedTo (file : List ℕ) (m : Memory) (k : ℕ) (m′ : Memory) (o
 
 module _ (file : List ℕ) {buys sells trades : List ℕ} (ready : Ready file buys sells trades) where
   abbrev m₀ : Memory
-  m₀ = openingOf file buys sells trades
+  m₀ = openingMemory file buys sells trades
 
   formed₀ : wellFormedMemory m₀ ≡ true
   formed₀ = opens-formed file ready .formed

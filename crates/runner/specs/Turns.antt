@@ -5,7 +5,7 @@ use Prim.Native.Nat.{ℕ, _+_, _*_, _≤_}
 use lib.ListN.{length}
 use Rattle.rules.specs.Bounds.{maxAccounts, maxContracts, maxTrades}
 use Rattle.rules.specs.Lines.{stepLines}
-use Rattle.rules.specs.Memory.{Memory, exchangeOf, respond, tradeStride}
+use Rattle.rules.specs.Memory.{Memory, exchangeOf, respond, tradesWords}
 use Rattle.rules.specs.declared.Command.{Command}
 use Rattle.lines.specs.Tables.{answerLineMost, tradeLineMost, priceLineMost, accountLineMost}
 use Rattle.exchange.specs.declared.settling.Response.{Response}
@@ -25,9 +25,9 @@ pub record InRange (r : Response) (trades : List ℕ) : Type 0 where
   pub contracts : r .state .contractcount ≤ maxContracts
   pub accounts : r .state .accountcount ≤ maxAccounts
   pub count : r .state .tradecount ≤ maxTrades
-  pub room : tradeStride * maxTrades ≤ length trades
+  pub room : tradesWords ≤ length trades
 
--- the rules' response in memory, and the rules' lines of command k in the buffer from `at` on
+-- the memory that the rules leave, and the rules' lines of command k in the buffer from `at` on
 pub record TurnIs (m : Memory) (command : Command) (k : ℕ) (before : List ℕ) (at : ℕ) (turn : Turn) (m′ : Memory) (after : List ℕ) : Type 0 where
   pub memory : m′ ≡ respond m command .memory
   pub lines : Written commandMost before at (stepLines k (exchangeOf m) command) after (turn .end)

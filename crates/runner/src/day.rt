@@ -116,9 +116,9 @@ pub fn print_file(fd: i32, file: &[u8]) -> Printed
     if !file::sound(file) {
         return print_broken(fd, file);
     }
-    let mut buys = [0u32; rules::QUEUE_STRIDE * rules::MAX_CONTRACTS];
-    let mut sells = [0u32; rules::QUEUE_STRIDE * rules::MAX_CONTRACTS];
-    let mut trades = [0u32; rules::TRADE_STRIDE * rules::MAX_TRADES];
+    let mut buys = [0u32; rules::QUEUES_WORDS];
+    let mut sells = [0u32; rules::QUEUES_WORDS];
+    let mut trades = [0u32; rules::TRADES_WORDS];
     let day = print_day(fd, file, &mut buys, &mut sells, &mut trades);
     Printed {
         bytes: day.bytes,

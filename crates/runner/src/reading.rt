@@ -3,7 +3,7 @@
 ghost use Rattle.runner.specs.Reading.{ReadIs};
 
 // One byte more than the largest sound file, so that a longer one is seen to be too long without being read to its end.
-pub const READ_MOST: usize = 48349;
+pub const READ_MOST: usize = rules::sizes::FILE_MOST + 1;
 
 // How many bytes were read: all there are, or the first that fit. A call for users: it answers on anything.
 pub fn read_file(fd: i32, file: &mut [u8; READ_MOST]) -> usize

@@ -1,16 +1,16 @@
 -- The file's records: a contract, an account's balance and mark, a holding. Assumes nothing.
-use mathlib.Core.Bool.{Bool, true, false, _&&_}
+use mathlib.Core.Bool.{Bool, true, _&&_}
 use mathlib.Core.List.{List, [], _∷_, _++_}
 use mathlib.Core.Path.{_≡_, refl}
-use Prim.Native.Nat.{ℕ, _+_, _-_, _≤_, _<_}
+use Prim.Native.Nat.{ℕ, _+_, _≤_}
 use native.Mathlib.Nat.{add-zero}
 use native.Mathlib.Omega.{arith}
 use lib.Dec.{ltb, eqb}
-use lib.IntN.{ℤ, pos, negsuc, natAbs}
+use lib.IntN.{ℤ, natAbs}
 use lib.ListN.{length, take, drop}
-use borrow.Author.Tests.{eqb-true, ltb-true, ltb-false, lt-ltb, le-ltb}
-use Rattle.laws.specs.Choice.{pick, both-true}
-use Rattle.laws.specs.Chains.{passed}
+use borrow.Author.Tests.{eqb-true, ltb-true}
+use Rattle.laws.specs.Choice.{both-true}
+use Rattle.laws.specs.Chains.{all-passed}
 use Rattle.rules.specs.Bounds.{preOpen}
 use Rattle.rules.specs.DayFile.{u8At, u16At, u32At, u64At, contractFrom}
 use Rattle.rules.specs.Exchange.{Listing}
@@ -18,28 +18,12 @@ use Rattle.rules.specs.declared.Account.{Account}
 use Rattle.rules.specs.declared.Contract.{Contract}
 use Rattle.rules.specs.declared.Holding.{Holding}
 use Rattle.rules.specs.declared.Order.{Order}
-use Rattle.endian.specs.Numbers.{two, four, eight}
-use Rattle.statements.specs.Statement.{holdingBytes, unsigned}
-use Rattle.saved.specs.Saved.{asleep, contractBytes, savedContract, savedHolding, signEnd, signedOf}
+use Rattle.endian.specs.Numbers.{two, four, eight, unsigned, signEnd, signedOf}
+use Rattle.statements.specs.Statement.{holdingBytes, holdingWidth}
+use Rattle.saved.specs.Saved.{asleep, contractBytes, savedContract, savedHolding, balanceWidth, savedAccountWidth, savedContractWidth}
 use Rattle.endian.proofs.Numbers.{Bytes, parts, two-back, four-back, eight-back, one-forth, two-forth, four-forth, eight-forth, below-8, u8-drop, u16-drop, u32-drop, u64-drop}
+use Rattle.endian.proofs.Signs.{signed-back, signed-forth}
 use Rattle.saved.proofs.Rows.{Field}
-
--- ---- signed numbers
-
-pub signed-back : (z : ℤ) → natAbs z < signEnd → signedOf (unsigned z) ≡ z
-unfolding signedOf unsigned
-signed-back (pos n) h = rw (lt-ltb n signEnd h)
-signed-back (negsuc n) h =
-    let e : 18_446_744_073_709_551_615 - (18_446_744_073_709_551_615 - n) ≡ n = omega arith in
-    rw (le-ltb (18_446_744_073_709_551_615 - n) signEnd (omega arith), e)
-
-pub signed-forth : (n : ℕ) → n < 18_446_744_073_709_551_616 → unsigned (signedOf n) ≡ n
-unfolding signedOf unsigned
-signed-forth n h = either-sign (ltb n signEnd) refl
-  where
-    either-sign : (t : Bool) → ltb n signEnd ≡ t → unsigned (pick t (pos n) (negsuc (18_446_744_073_709_551_615 - n))) ≡ n
-    either-sign true e = refl
-    either-sign false e = omega (arith, ltb-false n signEnd e)
 
 -- ---- a contract in pre-open, without orders
 
@@ -71,7 +55,7 @@ contract-back c ys h =
 listing-back : (l : Listing) (ys : List ℕ) → asleep l ≡ true → listingFrom (listingBytes l ++ ys) ≡ l
 unfolding asleep
 listing-back l ys h =
-    let p = passed (eqb (l .contract .phase) preOpen) (eqb (length (l .buys)) 0 ∷ eqb (length (l .sells)) 0 ∷ []) h in
+    let p = all-passed (eqb (l .contract .phase) preOpen) (eqb (length (l .buys)) 0 ∷ eqb (length (l .sells)) 0 ∷ []) h in
     let c = contract-back (l .contract) ys (eqb-true (l .contract .phase) preOpen (p .0)) in
     let b = nothing-in (l .buys) (p .1 .0) in
     let s = nothing-in (l .sells) (p .1 .1) in
@@ -84,7 +68,7 @@ listing-back l ys h =
             → _≡_ {A = Listing} (record { contract = c; buys = []; sells = [] }) (record { contract = c; buys = buys; sells = sells })
         same c buys sells b s = rw (b, s)
 
-listing-forth : (xs : List ℕ) → Bytes xs → 24 ≤ length xs → listingBytes (listingFrom xs) ≡ take 24 xs
+listing-forth : (xs : List ℕ) → Bytes xs → savedContractWidth ≤ length xs → listingBytes (listingFrom xs) ≡ take savedContractWidth xs
 unfolding savedContract contractBytes contractFrom
 listing-forth xs b h =
     rw (
@@ -105,7 +89,7 @@ listing-forth xs b h =
     )
     (parts 0 2 22 xs)
 
-pub listing : Field Listing 24 asleep listingBytes listingFrom
+pub listing : Field Listing savedContractWidth asleep listingBytes listingFrom
 unfolding contractBytes four two
 listing = record { wide = λ l h. refl; back = listing-back; forth = listing-forth }
 
@@ -122,7 +106,7 @@ abbrev pub entryBytes : Entry → List ℕ
 entryBytes e = eight (unsigned (e .balance)) ++ (e .mark ∷ [])
 
 abbrev pub savedEntry : List ℕ → Entry
-savedEntry xs = record { balance = signedOf (u64At xs 0); mark = u8At xs 8 }
+savedEntry xs = record { balance = signedOf (u64At xs 0); mark = u8At xs balanceWidth }
 
 abbrev pub fitsSigned : Entry → Bool
 fitsSigned e = ltb (natAbs (e .balance)) signEnd
@@ -132,11 +116,11 @@ unfolding u64At u32At u16At u8At eight four two
 entry-back e ys h =
     rw (eight-back (unsigned (e .balance)) [], signed-back (e .balance) (ltb-true (natAbs (e .balance)) signEnd h))
 
-entry-forth : (xs : List ℕ) → Bytes xs → 9 ≤ length xs → entryBytes (savedEntry xs) ≡ take 9 xs
+entry-forth : (xs : List ℕ) → Bytes xs → savedAccountWidth ≤ length xs → entryBytes (savedEntry xs) ≡ take savedAccountWidth xs
 entry-forth xs b h =
     rw (signed-forth (u64At xs 0) (below-8 xs b 0), eight-forth xs b 0 (omega arith), one-forth xs 8 (omega arith)) (parts 0 8 1 xs)
 
-pub entry : Field Entry 9 fitsSigned entryBytes savedEntry
+pub entry : Field Entry savedAccountWidth fitsSigned entryBytes savedEntry
 unfolding eight four two
 entry = record { wide = λ e h. refl; back = entry-back; forth = entry-forth }
 
@@ -159,11 +143,11 @@ holding-back o ys h =
       ← eqb-true (o .startshort) (o .short) (p .1),
     )
 
-holding-forth : (xs : List ℕ) → Bytes xs → 8 ≤ length xs → holdingBytes (holdingFrom xs) ≡ take 8 xs
+holding-forth : (xs : List ℕ) → Bytes xs → holdingWidth ≤ length xs → holdingBytes (holdingFrom xs) ≡ take holdingWidth xs
 unfolding savedHolding holdingBytes
 holding-forth xs b h = rw (four-forth xs b 0 (omega arith), four-forth xs b 4 (omega arith)) (parts 0 4 4 xs)
 
-pub holding : Field Holding 8 unmoved holdingBytes holdingFrom
+pub holding : Field Holding holdingWidth unmoved holdingBytes holdingFrom
 unfolding holdingBytes four two
 holding = record { wide = λ o h. refl; back = holding-back; forth = holding-forth }
 
@@ -185,7 +169,7 @@ module _ (bs : List ℕ) (at : ℕ) where
         add-zero at,
       )
 
-  pub entry-at : savedEntry (drop at bs) ≡ record { balance = signedOf (u64At bs at); mark = u8At bs (at + 8) }
+  pub entry-at : savedEntry (drop at bs) ≡ record { balance = signedOf (u64At bs at); mark = u8At bs (at + balanceWidth) }
   entry-at = rw (u64-drop bs at 0, u8-drop bs at 8, add-zero at)
 
   pub holding-at : savedHolding (drop at bs) 0 ≡ savedHolding bs at

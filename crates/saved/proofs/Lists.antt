@@ -6,18 +6,20 @@ use Prim.Native.Nat.{ℕ, zero, suc, _+_, _*_}
 use native.Mathlib.Nat.{zero-add}
 use native.Mathlib.Omega.{arith}
 use lib.Dec.{leb}
-use lib.ListN.{length, getD, drop}
+use lib.ListN.{length, drop}
 use lib.Seq.{drop-drop}
-use Rattle.laws.specs.Choice.{all, all-ext, allOf, allOf-all}
-use Rattle.laws.specs.Tabulate.{tabulate, tabulate-ext, getD-tabulate, length-tabulate}
+use Rattle.laws.specs.Choice.{all, all-ext, allOf}
+use Rattle.laws.specs.Tabulate.{tabulate, tabulate-ext, allOf-table}
 use Rattle.areas.specs.Records.{records}
-use Rattle.rules.specs.DayFile.{u8At, u64At, contractsIn}
+use Rattle.rules.specs.DayFile.{u8At, u64At, contractsIn, countWidth}
 use Rattle.rules.specs.Exchange.{Listing}
 use Rattle.rules.specs.declared.Account.{Account}
 use Rattle.rules.specs.declared.Holding.{Holding}
-use Rattle.saved.specs.Saved.{accountPlace, accountsIn, contractPlace, loadedAccount, loadedFrom, loadedListing, markSound, rowPlace, savedAccount, savedHolding, signedOf}
+use Rattle.endian.specs.Numbers.{signedOf}
+use Rattle.saved.specs.Saved.{accountPlace, accountsIn, contractPlace, loadedAccount, loadedFrom, loadedListing, markSound, rowPlace, savedAccount, savedHolding, balanceWidth, savedAccountWidth, savedContractWidth}
 use Rattle.saved.proofs.Fields.{Entry, contract-at, entry-at, entryOf, holding-at, holdingFrom, listingFrom, savedEntry}
 use Rattle.saved.proofs.Rows.{records-table}
+use Rattle.statements.specs.Statement.{holdingWidth}
 
 -- ---- an account of its entry and its row
 
@@ -59,14 +61,8 @@ marked e = leb (e .mark) 1
 
 -- ---- the file's lists
 
-pub allOf-table : {A : Type 0} (p : A → Bool) (n : ℕ) (f : ℕ → A) → allOf p (tabulate n f) ≡ all (λ i. p (f i)) n
-allOf-table p n f =
-    allOf-all p (tabulate n f) (f 0)
-    ∙ ap (all (λ i. p (getD (tabulate n f) i (f 0)))) (length-tabulate n f)
-    ∙ all-ext (λ i. p (getD (tabulate n f) i (f 0))) (λ i. p (f i)) n (λ i l. ap p (getD-tabulate n i f (f 0) l))
-
 abbrev pub savedRow : ℕ → List ℕ → List Holding
-savedRow contracts xs = records 8 holdingFrom xs 0 contracts
+savedRow contracts xs = records holdingWidth holdingFrom xs 0 contracts
 
 module _ (bs : List ℕ) where
   abbrev c : ℕ
@@ -76,44 +72,44 @@ module _ (bs : List ℕ) where
   a = accountsIn bs
 
   abbrev pub listingsOf : List Listing
-  listingsOf = records 24 listingFrom bs 4 c
+  listingsOf = records savedContractWidth listingFrom bs countWidth c
 
   abbrev pub entriesOf : List Entry
-  entriesOf = records 9 savedEntry bs (contractPlace c + 4) a
+  entriesOf = records savedAccountWidth savedEntry bs (contractPlace c + countWidth) a
 
   abbrev pub rowsOf : List (List Holding)
-  rowsOf = records (8 * c) (savedRow c) bs (accountPlace c a + 4) a
+  rowsOf = records (holdingWidth * c) (savedRow c) bs (accountPlace c a + countWidth) a
 
   pub listings-are : loadedFrom bs .listings ≡ listingsOf
   unfolding loadedFrom loadedListing
   listings-are =
-      sym (records-table 24 listingFrom bs 4 c
-      ∙ tabulate-ext c (λ i. listingFrom (drop (4 + 24 * i) bs)) (loadedListing bs)
-      (λ i. ap (λ k. record { contract = k; buys = []; sells = [] }) (contract-at bs (4 + 24 * i))))
+      sym (records-table savedContractWidth listingFrom bs countWidth c
+      ∙ tabulate-ext c (λ i. listingFrom (drop (countWidth + savedContractWidth * i) bs)) (loadedListing bs)
+      (λ i. ap (λ k. record { contract = k; buys = []; sells = [] }) (contract-at bs (countWidth + savedContractWidth * i))))
 
-  entry-is : (i : ℕ) → savedEntry (drop (contractPlace c + 4 + 9 * i) bs)
-      ≡ record { balance = signedOf (u64At bs (accountPlace c i)); mark = u8At bs (accountPlace c i + 8) }
+  entry-is : (i : ℕ) → savedEntry (drop (contractPlace c + countWidth + savedAccountWidth * i) bs)
+      ≡ record { balance = signedOf (u64At bs (accountPlace c i)); mark = u8At bs (accountPlace c i + balanceWidth) }
   entry-is i = entry-at bs (accountPlace c i)
 
-  row-is : (i : ℕ) → savedRow c (drop (rowPlace c a i) bs) ≡ tabulate c (λ k. savedHolding bs (rowPlace c a i + 8 * k))
+  row-is : (i : ℕ) → savedRow c (drop (rowPlace c a i) bs) ≡ tabulate c (λ k. savedHolding bs (rowPlace c a i + holdingWidth * k))
   row-is i =
-      records-table 8 holdingFrom (drop (rowPlace c a i) bs) 0 c
-      ∙ tabulate-ext c _ (λ k. savedHolding bs (rowPlace c a i + 8 * k)) (λ k. at k)
+      records-table holdingWidth holdingFrom (drop (rowPlace c a i) bs) 0 c
+      ∙ tabulate-ext c _ (λ k. savedHolding bs (rowPlace c a i + holdingWidth * k)) (λ k. at k)
     where
-      at : (k : ℕ) → holdingFrom (drop (0 + 8 * k) (drop (rowPlace c a i) bs)) ≡ savedHolding bs (rowPlace c a i + 8 * k)
+      at : (k : ℕ) → holdingFrom (drop (0 + holdingWidth * k) (drop (rowPlace c a i) bs)) ≡ savedHolding bs (rowPlace c a i + holdingWidth * k)
       at k =
-          ap holdingFrom (ap (λ (n : ℕ). drop n (drop (rowPlace c a i) bs)) (zero-add (8 * k)) ∙ drop-drop (8 * k) (rowPlace c a i) bs)
-          ∙ holding-at bs (rowPlace c a i + 8 * k)
+          ap holdingFrom (ap (λ (n : ℕ). drop n (drop (rowPlace c a i) bs)) (zero-add (holdingWidth * k)) ∙ drop-drop (holdingWidth * k) (rowPlace c a i) bs)
+          ∙ holding-at bs (rowPlace c a i + holdingWidth * k)
 
   pub accounts-are : loadedFrom bs .accounts ≡ accountsOf entriesOf rowsOf
   unfolding loadedFrom loadedAccount savedAccount
   accounts-are =
       tabulate-ext a (loadedAccount bs) (λ i. accountOf (entryHere i) (rowHere i)) (λ i. sym (ap₂ accountOf (entry-is i) (row-is i)))
       ∙ accounts-table a entryHere rowHere
-      ∙ ap₂ accountsOf (sym (records-table 9 savedEntry bs (contractPlace c + 4) a)) (sym (records-table (8 * c) (savedRow c) bs (accountPlace c a + 4) a))
+      ∙ ap₂ accountsOf (sym (records-table savedAccountWidth savedEntry bs (contractPlace c + countWidth) a)) (sym (records-table (holdingWidth * c) (savedRow c) bs (accountPlace c a + countWidth) a))
     where
       entryHere : ℕ → Entry
-      entryHere i = savedEntry (drop (contractPlace c + 4 + 9 * i) bs)
+      entryHere i = savedEntry (drop (contractPlace c + countWidth + savedAccountWidth * i) bs)
 
       rowHere : ℕ → List Holding
       rowHere i = savedRow c (drop (rowPlace c a i) bs)
@@ -122,6 +118,6 @@ module _ (bs : List ℕ) where
   pub marks-are : allOf marked entriesOf ≡ all (markSound bs) a
   unfolding markSound
   marks-are =
-      ap (λ (l : List Entry). allOf marked l) (records-table 9 savedEntry bs (contractPlace c + 4) a)
-      ∙ allOf-table marked a (λ i. savedEntry (drop (contractPlace c + 4 + 9 * i) bs))
-      ∙ all-ext (λ i. marked (savedEntry (drop (contractPlace c + 4 + 9 * i) bs))) (markSound bs) a (λ i l. ap marked (entry-is i))
+      ap (λ (l : List Entry). allOf marked l) (records-table savedAccountWidth savedEntry bs (contractPlace c + countWidth) a)
+      ∙ allOf-table marked a (λ i. savedEntry (drop (contractPlace c + countWidth + savedAccountWidth * i) bs))
+      ∙ all-ext (λ i. marked (savedEntry (drop (contractPlace c + countWidth + savedAccountWidth * i) bs))) (markSound bs) a (λ i l. ap marked (entry-is i))

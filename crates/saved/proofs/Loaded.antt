@@ -10,9 +10,8 @@ use lib.ListN.{length, getD, drop}
 use lib.Seq.{take-at}
 use borrow.Author.Tests.{eqb-true}
 use Rattle.laws.specs.Choice.{allOf, allOf-at, both-true}
-use Rattle.laws.specs.Chains.{passed}
+use Rattle.laws.specs.Chains.{all-passed}
 use Rattle.laws.specs.Tabulate.{tabulate, tabulate-eq}
-use Rattle.areas.specs.Records.{decode, records}
 use Rattle.rules.specs.Bounds.{maxAccounts, maxContracts, preOpen, within}
 use Rattle.rules.specs.Exchange.{Exchange, accountAt, listingAt, noAccount, noContract, noListing}
 use Rattle.rules.specs.Memory.{put as Memory·put}
@@ -20,7 +19,7 @@ use Rattle.rules.specs.Memory.{Declared, Memory, countsInRange, exchangeOf, has
 use Rattle.rules.specs.WellFormed.{wellFormedContents}
 use Rattle.rules.specs.declared.Account.{Account}
 use Rattle.rules.specs.declared.Trade.{Trade}
-use Rattle.rules.proofs.Codecs.{trades-none}
+use Rattle.rules.proofs.Codecs.{queue-none, trades-none}
 use Rattle.rules.proofs.Terms.{within-high, within-low}
 use Rattle.accounting.proofs.Declared.{put-declared}
 use Rattle.invariants.proofs.MemoryLaws.{put-first-at}
@@ -35,10 +34,6 @@ pub record Loadable (x : Exchange) : Type 0 where
   pub places : allOf (λ a. eqb (length (a .holdings)) (length (x .listings))) (x .accounts) ≡ true
   pub asleep-all : allOf asleep (x .listings) ≡ true
   pub no-trades : x .trades ≡ []
-
-no-queue : (area : List ℕ) (c n : ℕ) → n ≡ 0 → queueIn area c n ≡ []
-unfolding queueIn records decode
-no-queue area c n e = rw e
 
 -- accounts put into places are the accounts in use there
 put-used : (k : ℕ) (accounts rooms : List Account) → allOf (λ a. eqb (length (a .holdings)) k) accounts ≡ true
@@ -62,7 +57,7 @@ module _ (m : Memory) (d : Declared (m .state)) (x : Exchange) (s : Loadable x) 
   unfolding asleep listingAt
   still c l =
       let n = getD (x .listings) c noListing in
-      let p = passed (eqb (n .contract .phase) preOpen) (eqb (length (n .buys)) 0 ∷ eqb (length (n .sells)) 0 ∷ []) (allOf-at asleep (x .listings) c noListing (s .asleep-all) l) in
+      let p = all-passed (eqb (n .contract .phase) preOpen) (eqb (length (n .buys)) 0 ∷ eqb (length (n .sells)) 0 ∷ []) (allOf-at asleep (x .listings) c noListing (s .asleep-all) l) in
       record { buys = nothing-in (n .buys) (p .1 .0); sells = nothing-in (n .sells) (p .1 .1) }
 
   buy-count : (c : ℕ) → c < length (x .listings) → getD (put .state .buycounts) c 0 ≡ 0
@@ -80,8 +75,8 @@ module _ (m : Memory) (d : Declared (m .state)) (x : Exchange) (s : Loadable x) 
   listing-here : (c : ℕ) → c < length (x .listings) → listingIn put c ≡ listingAt x c
   unfolding listingIn
   listing-here c l =
-      let b : queueIn (m .buys) c (getD (put .state .buycounts) c 0) ≡ listingAt x c .buys = no-queue (m .buys) c _ (buy-count c l) ∙ sym (still c l .buys) in
-      let a : queueIn (m .sells) c (getD (put .state .sellcounts) c 0) ≡ listingAt x c .sells = no-queue (m .sells) c _ (sell-count c l) ∙ sym (still c l .sells) in
+      let b : queueIn (m .buys) c (getD (put .state .buycounts) c 0) ≡ listingAt x c .buys = queue-none (m .buys) c _ (buy-count c l) ∙ sym (still c l .buys) in
+      let a : queueIn (m .sells) c (getD (put .state .sellcounts) c 0) ≡ listingAt x c .sells = queue-none (m .sells) c _ (sell-count c l) ∙ sym (still c l .sells) in
       let k = contract-here c l in
       λ i. record { contract = k i; buys = b i; sells = a i }
 
@@ -138,4 +133,4 @@ module _ (m : Memory) (d : Declared (m .state)) (x : Exchange) (s : Loadable x) 
         accounts = within-high 1 maxAccounts (length (x .accounts)) (s .accounts);
         holdings = λ (a : ℕ) (l : a < length (x .accounts)). omega (arith, wide a l, within-high 1 maxContracts (length (x .listings)) (s .contracts));
       }) in
-      record { contracts = k .contracts; accounts = k .accounts; buys = k .buys; sells = k .sells; holdings = k .holdings }
+      record { contracts = k .contracts; accounts = k .accounts; buycounts = k .buycounts; sellcounts = k .sellcounts; holdings = k .holdings }

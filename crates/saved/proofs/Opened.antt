@@ -3,21 +3,15 @@ use mathlib.Core.Bool.{true}
 use mathlib.Core.List.{List}
 use mathlib.Core.Path.{_≡_, refl, ap₂, _∙_}
 use Prim.Native.Nat.{ℕ, zero, suc, _+_}
-use lib.ListN.{length, getD, replicate}
+use lib.ListN.{length, getD}
 use borrow.Author.Tests.{eq-eqb}
 use Rattle.laws.specs.Choice.{all-true, allOf}
 use Rattle.laws.specs.Sums.{sumOf}
-use Rattle.laws.specs.Tabulate.{tabulate}
+use Rattle.laws.specs.Lists.{getD-same}
+use Rattle.laws.specs.Tabulate.{tabulate, allOf-table}
 use Rattle.rules.specs.DayFile.{accountsIn, contractFrom, contractsIn, opening, openingAccount, openingListing}
 use Rattle.rules.specs.Exchange.{noHolding}
 use Rattle.saved.specs.Saved.{allEqual, asleep, totalsEqual, writable}
-use Rattle.saved.proofs.Lists.{allOf-table}
-
--- nothing among nothings
-none-held : (n c : ℕ) → getD (replicate n noHolding) c noHolding ≡ noHolding
-none-held zero c = refl
-none-held (suc n) zero = refl
-none-held (suc n) (suc c) = none-held n c
 
 sum-table : {A : Type 0} (f g : A → ℕ) (n : ℕ) (h : ℕ → A) → ((i : ℕ) → f (h i) ≡ g (h i)) → sumOf f (tabulate n h) ≡ sumOf g (tabulate n h)
 unfolding sumOf tabulate
@@ -27,7 +21,7 @@ sum-table f g (suc n) h e = ap₂ (λ (x y : ℕ). x + y) (e 0) (sum-table f g n
 module _ (file : List ℕ) where
   as-many : (c i : ℕ) → getD (openingAccount file i .holdings) c noHolding .long ≡ getD (openingAccount file i .holdings) c noHolding .short
   unfolding openingAccount
-  as-many c i = rw (none-held (contractsIn file) c)
+  as-many c i = rw (getD-same (contractsIn file) c noHolding)
 
   equal-at : (c : ℕ) → totalsEqual (opening file .accounts) c ≡ true
   unfolding totalsEqual opening

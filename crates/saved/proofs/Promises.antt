@@ -8,21 +8,23 @@ use native.Mathlib.Omega.{arith}
 use lib.ListN.{length}
 use Rattle.rules.specs.Answers.{_when_}
 use Rattle.rules.specs.Condition3.{Loaded}
+use Rattle.rules.specs.DayFile.{countWidth}
 use Rattle.rules.specs.Exchange.{Exchange}
 use Rattle.rules.specs.Memory.{Declared, Memory, exchangeOf, hasRoom, wellFormedMemory}
 use Rattle.rules.proofs.Refusals.{failed}
-use Rattle.saved.specs.Saved.{allEqual, loadedFrom, loadedInto, readCode, savedBytes, savedSound, writable, writeCode}
+use Rattle.saved.specs.Saved.{allEqual, loadedFrom, loadedInto, readCode, savedBytes, savedSound, writable, writeCode, savedAccountWidth, savedContractWidth, settlementsWidth}
 use Rattle.saved.proofs.Again.{loaded-savable, loaded-writable, sound-parts, write-again}
 use Rattle.saved.proofs.Continued.{loadable, writable-loaded, writes}
 use Rattle.saved.proofs.Loaded.{Loadable, loaded-declared, loaded-formed, loaded-in-use}
 use Rattle.endian.proofs.Numbers.{Bytes}
 use Rattle.saved.proofs.Reading.{length-saved, read-back, sound-back}
 use Rattle.saved.proofs.Savable.{Savable}
+use Rattle.statements.specs.Statement.{holdingWidth}
 
 -- a state that can be saved: its file is sound, so long, and gives the state again
 module _ (x : Exchange) (s : Savable x) where
   pub saved-length : length (savedBytes x)
-      ≡ 20 + 24 * length (x .listings) + 9 * length (x .accounts) + 8 * length (x .listings) * length (x .accounts)
+      ≡ 4 * countWidth + settlementsWidth + savedContractWidth * length (x .listings) + savedAccountWidth * length (x .accounts) + holdingWidth * length (x .listings) * length (x .accounts)
   saved-length = omega (arith, length-saved x s)
 
   -- "Reading back what was written gives the same state in every place in use"

@@ -7,9 +7,9 @@ use native.Mathlib.Omega.{arith}
 use lib.ListN.{length, length-append, length-map}
 use lib.Seq.{drop-at, drop-drop}
 use borrow.Author.Tests.{eq-eqb, le-leb}
-use Rattle.laws.specs.Choice.{all, allOf, allOf-true}
+use Rattle.laws.specs.Choice.{all, allOf, allOf-map, allOf-true}
 use Rattle.areas.specs.Records.{encode, records}
-use Rattle.rules.specs.DayFile.{u32At, contractsIn}
+use Rattle.rules.specs.DayFile.{u32At, contractsIn, countWidth}
 use Rattle.rules.specs.Exchange.{Exchange, Listing, accountAt, noAccount}
 use Rattle.rules.specs.declared.Account.{Account}
 use Rattle.rules.specs.declared.Holding.{Holding}
@@ -17,13 +17,13 @@ use Rattle.rules.specs.declared.Trade.{Trade}
 use Rattle.invariants.proofs.Clauses.{well-formed}
 use Rattle.endian.specs.Numbers.{two, four}
 use Rattle.endian.proofs.Writes.{length-four}
-use Rattle.statements.specs.Statement.{holdingBytes, section}
-use Rattle.saved.specs.Saved.{accountBytes, accountPlace, accountsIn, contractPlace, countsRight, loadedFrom, markSound, rowBytes, rowPlace, savedBytes, savedSound, settlementsPlace, shaped}
+use Rattle.statements.specs.Statement.{holdingBytes, section, holdingWidth}
+use Rattle.saved.specs.Saved.{accountBytes, accountPlace, accountsIn, contractPlace, countsRight, loadedFrom, markSound, rowBytes, rowPlace, savedBytes, savedSound, settlementsPlace, shaped, savedAccountWidth, settlementsWidth}
 use Rattle.saved.proofs.Fields.{entry, entryBytes, entryOf, holding, listing, listingBytes}
 use Rattle.saved.proofs.Lists.{accounts-again, accounts-are, accountsOf, entriesOf, listings-are, listingsOf, marked, marks-are, rowsOf}
 use Rattle.endian.proofs.Numbers.{four-behind}
 use Rattle.saved.proofs.Rows.{Field, row, row-back, row-wide}
-use Rattle.saved.proofs.Savable.{Savable, allOf-map, entries-fit, holdings-fit, writable-parts}
+use Rattle.saved.proofs.Savable.{Savable, entries-fit, holdings-fit, writable-parts}
 
 -- ---- a section behind what begins a file: its count and its records
 
@@ -34,13 +34,13 @@ count-back file p n bytes ys at f e =
 
 module _ {A : Type 0} {W : ℕ} {fit : A → Bool} {words : A → List ℕ} {first : List ℕ → A} (F : Field A W fit words first) where
   section-back : (file p : List ℕ) (n : ℕ) (os : List A) (ys : List ℕ) (at m : ℕ) → file ≡ p ++ (section n (encode words os) ++ ys)
-      → length p ≡ at → m ≡ length os → allOf fit os ≡ true → records W first file (at + 4) m ≡ os
+      → length p ≡ at → m ≡ length os → allOf fit os ≡ true → records W first file (at + countWidth) m ≡ os
   unfolding records four two
   section-back file p n os ys at m f e g h =
-      rw (f, g, ← drop-drop 4 at (p ++ (section n (encode words os) ++ ys)), drop-at p (section n (encode words os) ++ ys) at e)
+      rw (f, g, ← drop-drop countWidth at (p ++ (section n (encode words os) ++ ys)), drop-at p (section n (encode words os) ++ ys) at e)
       (row-back F os ys h)
 
-  length-section : (n : ℕ) (os : List A) → allOf fit os ≡ true → length (section n (encode words os)) ≡ 4 + W * length os
+  length-section : (n : ℕ) (os : List A) → allOf fit os ≡ true → length (section n (encode words os)) ≡ countWidth + W * length os
   length-section n os h = length-append (four n) (encode words os) ∙ omega (arith, length-four n, row-wide F os h)
 
 encode-map : {A B : Type 0} (words : B → List ℕ) (f : A → B) (os : List A) → encode words (map f os) ≡ encode (λ o. words (f o)) os
@@ -89,15 +89,15 @@ module _ (x : Exchange) (s : Savable x) where
   length-contracts : length contractPart ≡ contractPlace c
   length-contracts = length-section listing c (x .listings) (writable-parts x (s .ready) .asleep-all)
 
-  length-accounts : length accountPart ≡ 4 + 9 * a
+  length-accounts : length accountPart ≡ countWidth + savedAccountWidth * a
   length-accounts =
       length-section entry a (map entryOf (x .accounts)) (entries-fit x s)
-      ∙ ap (λ (k : ℕ). 4 + 9 * k) (length-map (x .accounts) entryOf)
+      ∙ ap (λ (k : ℕ). countWidth + savedAccountWidth * k) (length-map (x .accounts) entryOf)
 
-  length-holdings : length holdingPart ≡ 4 + 8 * c * a
+  length-holdings : length holdingPart ≡ countWidth + holdingWidth * c * a
   length-holdings =
       length-section (row holding c) (a * c) rows (holdings-fit x s)
-      ∙ ap (λ (k : ℕ). 4 + 8 * c * k) (length-map (x .accounts) (λ o. o .holdings))
+      ∙ ap (λ (k : ℕ). countWidth + holdingWidth * c * k) (length-map (x .accounts) (λ o. o .holdings))
 
   length-front : length (contractPart ++ accountPart) ≡ accountPlace c a
   length-front = length-append contractPart accountPart ∙ omega (arith, length-contracts, length-accounts)
@@ -121,7 +121,7 @@ module _ (x : Exchange) (s : Savable x) where
   from-last : file ≡ ((contractPart ++ accountPart) ++ holdingPart) ++ lastPart
   from-last = from-holdings ∙ sym (append-assoc (contractPart ++ accountPart) holdingPart lastPart)
 
-  pub length-saved : length file ≡ settlementsPlace c a + 4
+  pub length-saved : length file ≡ settlementsPlace c a + settlementsWidth
   length-saved =
       ap (λ (l : List ℕ). length l) from-last
       ∙ length-append ((contractPart ++ accountPart) ++ holdingPart) lastPart
@@ -190,7 +190,7 @@ module _ (x : Exchange) (s : Savable x) where
         accounts-back,
         s .contracts,
         s .accounts,
-        eq-eqb (length file) (settlementsPlace c a + 4) length-saved,
+        eq-eqb (length file) (settlementsPlace c a + settlementsWidth) length-saved,
         eq-eqb (u32At file (accountPlace c a)) (a * c) holdings-back,
         eq-eqb (u32At file (rowPlace c a a)) 1 one-back,
       )

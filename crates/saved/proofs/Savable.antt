@@ -1,5 +1,5 @@
 -- What a state that can be saved is known to have: its records fit the file's. Assumes nothing.
-use mathlib.Core.Bool.{Bool, true}
+use mathlib.Core.Bool.{true}
 use mathlib.Core.List.{List, [], _∷_, map}
 use mathlib.Core.Path.{_≡_, refl, _∙_}
 use Prim.Native.Nat.{ℕ, _<_}
@@ -8,8 +8,8 @@ use lib.Dec.{eqb}
 use lib.IntN.{natAbs}
 use lib.ListN.{length, getD}
 use borrow.Author.Tests.{eqb-true, lt-ltb}
-use Rattle.laws.specs.Choice.{allOf, allOf-true, both-true, true-both}
-use Rattle.laws.specs.Chains.{passed}
+use Rattle.laws.specs.Choice.{allOf, allOf-map, allOf-true, both-true, true-both}
+use Rattle.laws.specs.Chains.{all-passed}
 use Rattle.rules.specs.Bounds.{within, maxAccounts, maxContracts}
 use Rattle.rules.specs.Exchange.{Exchange, accountAt, noAccount}
 use Rattle.rules.specs.Holdings.{bookTrades, startHolding, startOfDay, sameLots, sameHoldings}
@@ -17,8 +17,9 @@ use Rattle.rules.specs.WellFormed.{wellFormedContents}
 use Rattle.rules.specs.declared.Account.{Account}
 use Rattle.rules.specs.declared.Holding.{Holding}
 use Rattle.rules.specs.declared.Trade.{Trade}
+use Rattle.endian.specs.Numbers.{signEnd}
 use Rattle.invariants.proofs.Clauses.{well-formed}
-use Rattle.saved.specs.Saved.{allEqual, asleep, signEnd, writable}
+use Rattle.saved.specs.Saved.{allEqual, asleep, writable}
 use Rattle.saved.proofs.Fields.{entryOf, fitsSigned, holding, nothing-in, unmoved}
 use Rattle.saved.proofs.Rows.{fitRow}
 
@@ -29,11 +30,6 @@ pub record Savable (x : Exchange) : Type 0 where
   pub places : allOf (λ a. eqb (length (a .holdings)) (length (x .listings))) (x .accounts) ≡ true
   pub formed : wellFormedContents x ≡ true
   pub ready : writable x ≡ true
-
-pub allOf-map : {A B : Type 0} (p : B → Bool) (f : A → B) (l : List A) → allOf p (map f l) ≡ allOf (λ a. p (f a)) l
-unfolding allOf
-allOf-map p f [] = refl
-allOf-map p f (a ∷ l) = rw (allOf-map p f l)
 
 -- ---- what a writable state has
 
@@ -47,7 +43,7 @@ pub record Writable (x : Exchange) : Type 0 where
 pub writable-parts : (x : Exchange) → writable x ≡ true → Writable x
 unfolding writable
 writable-parts x h =
-    let w = passed (allOf asleep (x .listings)) (allEqual x ∷ eqb (length (x .trades)) 0 ∷ eqb (x .next) 1 ∷ eqb (x .nextstamp) 1 ∷ []) h in
+    let w = all-passed (allOf asleep (x .listings)) (allEqual x ∷ eqb (length (x .trades)) 0 ∷ eqb (x .next) 1 ∷ eqb (x .nextstamp) 1 ∷ []) h in
     record {
       asleep-all = w .0;
       equal-all = w .1 .0;

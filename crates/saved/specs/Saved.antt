@@ -3,9 +3,8 @@
 use mathlib.Core.Bool.{Bool, not, _&&_}
 use mathlib.Core.List.{List, [], _∷_, _++_}
 use mathlib.Core.Path.{_≡_}
-use Prim.Native.Nat.{ℕ, _+_, _-_, _*_}
+use Prim.Native.Nat.{ℕ, _+_, _*_}
 use lib.Dec.{leb, ltb, eqb}
-use lib.IntN.{ℤ, pos, negsuc}
 use lib.ListN.{length, getD}
 use Rattle.laws.specs.Choice.{pick, all, allOf}
 use Rattle.laws.specs.Sums.{sumOf}
@@ -22,8 +21,8 @@ use Rattle.rules.specs.declared.Account.{Account}
 use Rattle.rules.specs.declared.Contract.{Contract}
 use Rattle.rules.specs.declared.Holding.{Holding}
 use Rattle.rules.specs.declared.State.{State}
-use Rattle.endian.specs.Numbers.{two, four, eight}
-use Rattle.statements.specs.Statement.{holdingBytes, section, unsigned, holdingWidth}
+use Rattle.endian.specs.Numbers.{two, four, eight, unsigned, signedOf}
+use Rattle.statements.specs.Statement.{holdingBytes, section, holdingWidth}
 
 -- ---- what is written: "Sections in a fixed order, each after its count"
 
@@ -35,19 +34,31 @@ contractBytes c =
     ++ (four (c .reference)
     ++ (four (c .band) ++ (four (c .limit) ++ (two (c .rate) ++ (two (c .method) ++ four (c .last)))))))
 
+abbrev pub priceWidth : ℕ
+priceWidth = 4
+
 abbrev pub savedContractWidth : ℕ
-savedContractWidth = contractWidth + 4
+savedContractWidth = contractWidth + priceWidth
 
 -- "accounts (signed balance 8, maker mark 1, its value 0 or 1)"
 unfoldable pub accountBytes : Account → List ℕ
 accountBytes a = eight (unsigned (a .balance)) ++ (a .maker ∷ [])
 
+abbrev pub balanceWidth : ℕ
+balanceWidth = 8
+
+abbrev pub markWidth : ℕ
+markWidth = 1
+
 abbrev pub savedAccountWidth : ℕ
-savedAccountWidth = 9
+savedAccountWidth = balanceWidth + markWidth
 
 -- "holdings (long 4, short 4, by account then contract)"
 unfoldable pub rowBytes : Account → List ℕ
 rowBytes a = encode holdingBytes (a .holdings)
+
+abbrev pub lotsWidth : ℕ
+lotsWidth = 4
 
 -- ".. then the settlement count (4) as a section of one"
 unfoldable pub savedBytes : Exchange → List ℕ
@@ -110,24 +121,17 @@ savedContract bs at =
       last = u32At bs (at + contractWidth);
     }
 
--- a signed number in eight bytes: from 2^63 on, what it is above -2^64
-abbrev pub signEnd : ℕ
-signEnd = 9_223_372_036_854_775_808
-
-unfoldable pub signedOf : ℕ → ℤ
-signedOf n = pick (ltb n signEnd) (pos n) (negsuc (18_446_744_073_709_551_615 - n))
-
 -- a loaded day starts with what is held
 unfoldable pub savedHolding : List ℕ → ℕ → Holding
 savedHolding bs at =
-    record { long = u32At bs at; short = u32At bs (at + 4); startlong = u32At bs at; startshort = u32At bs (at + 4) }
+    record { long = u32At bs at; short = u32At bs (at + lotsWidth); startlong = u32At bs at; startshort = u32At bs (at + lotsWidth) }
 
 -- an account's eight bytes and its mark stand at one place, its holdings at another
 unfoldable pub savedAccount : List ℕ → ℕ → ℕ → ℕ → Account
 savedAccount bs contracts at row =
     record {
       balance = signedOf (u64At bs at);
-      maker = u8At bs (at + 8);
+      maker = u8At bs (at + balanceWidth);
       holdings = tabulate contracts (λ c. savedHolding bs (row + holdingWidth * c));
     }
 
@@ -168,7 +172,7 @@ shaped bs =
 
 -- "maker mark 1, its value 0 or 1"
 unfoldable pub markSound : List ℕ → ℕ → Bool
-markSound bs a = leb (u8At bs (accountPlace (contractsIn bs) a + 8)) 1
+markSound bs a = leb (u8At bs (accountPlace (contractsIn bs) a + balanceWidth)) 1
 
 unfoldable pub savedSound : List ℕ → Bool
 savedSound bs = shaped bs && all (markSound bs) (accountsIn bs) && wellFormedContents (loadedFrom bs)

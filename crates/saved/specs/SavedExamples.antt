@@ -23,9 +23,9 @@ use Rattle.rules.specs.declared.Holding.{Holding}
 use Rattle.rules.specs.declared.Order.{Order}
 use Rattle.rules.specs.declared.State.{State}
 use Rattle.rules.specs.declared.Trade.{Trade}
-use Rattle.endian.specs.Numbers.{two, four, eight}
-use Rattle.statements.specs.Statement.{holdingBytes, unsigned}
-use Rattle.saved.specs.Saved.{accountBytes, accountsIn, allEqual, asleep, contractBytes, countsRight, loadedAccount, loadedFrom, loadedInto, loadedListing, loadedState, markSound, readCode, rowBytes, savedAccount, savedBytes, savedContract, savedHolding, savedSound, shaped, signedOf, totalsEqual, writable, writeCode}
+use Rattle.endian.specs.Numbers.{two, four, eight, unsigned, signedOf}
+use Rattle.statements.specs.Statement.{holdingBytes}
+use Rattle.saved.specs.Saved.{accountBytes, accountsIn, allEqual, asleep, contractBytes, countsRight, loadedAccount, loadedFrom, loadedInto, loadedListing, loadedState, markSound, readCode, rowBytes, savedAccount, savedBytes, savedContract, savedHolding, savedSound, shaped, totalsEqual, writable, writeCode}
 
 -- ---- the state
 

@@ -5,5 +5,4 @@ pub mod Lying
 pub mod Placed
 pub mod Sections
 pub mod Shapes
-pub mod Signs
 pub mod Writes

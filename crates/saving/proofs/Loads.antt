@@ -2,15 +2,14 @@
 use mathlib.Core.Bool.{Bool, true, false, _&&_}
 use mathlib.Core.List.{List}
 use mathlib.Core.Path.{_≡_, refl, sym, ap, ap₂, _∙_}
-use Prim.Native.Nat.{ℕ, _*_}
+use Prim.Native.Nat.{ℕ}
 use native.Mathlib.Omega.{arith}
 use lib.Dec.{eqb}
 use lib.ListN.{length, take, length-replicate}
 use Rattle.laws.specs.Choice.{all}
 use Rattle.rules.specs.Answers.{firstOf}
-use Rattle.rules.specs.Bounds.{maxTrades}
 use Rattle.rules.specs.Exchange.{Exchange}
-use Rattle.rules.specs.Memory.{Declared, Memory, countsInRange, exchangeOf, hasRoom, memory, tradeStride, used, wellFormedMemory}
+use Rattle.rules.specs.Memory.{Declared, Memory, countsInRange, exchangeOf, hasRoom, memory, used, wellFormedMemory, tradesWords}
 use Rattle.rules.specs.WellFormed.{wellFormedContents}
 use Rattle.rules.specs.declared.Account.{Account}
 use Rattle.rules.specs.declared.State.{State}
@@ -74,7 +73,7 @@ module _ {m : Memory} {bs : List ℕ} {c a : ℕ} {next : State} (g : Given m bs
 
   spare-room : hasRoom (inSpare next) ≡ true
   spare-room =
-      let e : length spare ≡ tradeStride * maxTrades = length-replicate {A = ℕ} (tradeStride * maxTrades) 0 in
+      let e : length spare ≡ tradesWords = length-replicate {A = ℕ} tradesWords 0 in
       room-test (inSpare next)
       (record {
         buys = omega (arith, g .laid .few-contracts, e, counted .0);

@@ -8,42 +8,45 @@ use lib.IntN.{ℤ}
 use lib.ListN.{length, getD}
 use Rattle.laws.specs.Tabulate.{tabulate, length-tabulate, map-tabulate}
 use Rattle.laws.specs.Written.{written}
-use Rattle.rules.specs.DayFile.{contractsIn, u8At, u32At, u64At}
+use Rattle.rules.specs.Bounds.{maxAccounts, maxContracts}
+use Rattle.rules.specs.DayFile.{contractsIn, u8At, u32At, u64At, countWidth}
 use Rattle.rules.specs.Exchange.{noAccount}
 use Rattle.rules.specs.Memory.{putAccount, putAccounts, putFirst, putState}
 use Rattle.rules.specs.declared.Account.{Account}
 use Rattle.rules.specs.declared.Contract.{Contract}
 use Rattle.rules.specs.declared.Holding.{Holding}
 use Rattle.rules.specs.declared.State.{State}
+use Rattle.endian.specs.Numbers.{signedOf}
 use Rattle.settlement.proofs.Places.{written-accounts, written-first}
-use Rattle.saved.specs.Saved.{accountPlace, accountsIn, contractPlace, loadedAccount, loadedFrom, loadedListing, loadedState, rowPlace, savedAccount, savedContract, savedHolding, settlementsPlace, signedOf}
+use Rattle.statements.specs.Statement.{holdingWidth}
+use Rattle.saved.specs.Saved.{accountPlace, accountsIn, contractPlace, loadedAccount, loadedFrom, loadedListing, loadedState, rowPlace, savedAccount, savedContract, savedHolding, settlementsPlace, balanceWidth, savedAccountWidth, savedContractWidth, settlementsWidth}
 use Rattle.saving.specs.Parts.{Laid}
 use Rattle.saving.proofs.Shapes.{few-bytes}
 
 -- ---- one account
 
-pub account-made : (bs : List ℕ) (n at row : ℕ) (room : Account) {z : ℤ} {m : ℕ} {hs : List Holding} → z ≡ signedOf (u64At bs at) → m ≡ u8At bs (at + 8)
-    → hs ≡ written (λ c. savedHolding bs (row + 8 * c)) (room .holdings) n
+pub account-made : (bs : List ℕ) (n at row : ℕ) (room : Account) {z : ℤ} {m : ℕ} {hs : List Holding} → z ≡ signedOf (u64At bs at) → m ≡ u8At bs (at + balanceWidth)
+    → hs ≡ written (λ c. savedHolding bs (row + holdingWidth * c)) (room .holdings) n
     → record { balance = z; maker = m; holdings = hs } ≡ putAccount (savedAccount bs n at row) room
 unfolding savedAccount
 account-made bs n at row room e f g =
-    let h = g ∙ sym (written-first (λ c. savedHolding bs (row + 8 * c)) (room .holdings) n) in
+    let h = g ∙ sym (written-first (λ c. savedHolding bs (row + holdingWidth * c)) (room .holdings) n) in
     λ i. record { balance = e i; maker = f i; holdings = h i }
 
 -- ---- all of them
 
 module _ (bs : List ℕ) (c a : ℕ) (l : Laid bs c a) (i : ℕ) (h : i < a) where
   -- an account's row ends where the next begins
-  row-ends : 8 * c * i + 8 * c ≤ 8 * c * a
+  row-ends : holdingWidth * c * i + holdingWidth * c ≤ holdingWidth * c * a
   row-ends =
-      let e : 8 * c * (i + 1) ≡ 8 * c * i + 8 * c = omega arith in
-      let p : 8 * c * (i + 1) ≤ 8 * c * a = mul-le-mul-left (8 * c) (let q : i + 1 ≤ a = omega arith in q) in
+      let e : holdingWidth * c * (i + 1) ≡ holdingWidth * c * i + holdingWidth * c = omega arith in
+      let p : holdingWidth * c * (i + 1) ≤ holdingWidth * c * a = mul-le-mul-left (holdingWidth * c) (let q : i + 1 ≤ a = omega arith in q) in
       omega arith
 
   pub record Inside : Type 0 where
-    pub entry : 8 + 24 * c + 9 * i + 9 ≤ length bs
-    pub row : 8 + 24 * c + 9 * a + 4 + 8 * c * i + 8 * c ≤ length bs
-    pub small : 8 * c * i ≤ 1_024
+    pub entry : 2 * countWidth + savedContractWidth * c + savedAccountWidth * i + savedAccountWidth ≤ length bs
+    pub row : 2 * countWidth + savedContractWidth * c + savedAccountWidth * a + countWidth + holdingWidth * c * i + holdingWidth * c ≤ length bs
+    pub small : holdingWidth * c * i ≤ holdingWidth * maxContracts * maxAccounts
 
   pub inside : Inside
   inside =
@@ -53,17 +56,17 @@ module _ (bs : List ℕ) (c a : ℕ) (l : Laid bs c a) (i : ℕ) (h : i < a) whe
         small = omega (arith, row-ends, few-bytes c a (l .few-contracts) (l .few-accounts));
       }
 
-  account-placed : (first rows wide : ℕ) → first ≡ 8 + 24 * c → rows ≡ first + 9 * a + 4 → wide ≡ 8 * c
-      → savedAccount bs c (first + 9 * i) (rows + wide * i) ≡ loadedAccount bs i
+  account-placed : (first rows width : ℕ) → first ≡ 8 + 24 * c → rows ≡ first + 9 * a + 4 → width ≡ 8 * c
+      → savedAccount bs c (first + 9 * i) (rows + width * i) ≡ loadedAccount bs i
   unfolding loadedAccount
-  account-placed first rows wide e f g =
+  account-placed first rows width e f g =
       let p : first + 9 * i ≡ accountPlace c i = omega arith in
-      let q : rows + wide * i ≡ rowPlace c a i = rw g (omega arith) in
+      let q : rows + width * i ≡ rowPlace c a i = rw g (omega arith) in
       ap₂ (λ (x y : ℕ). savedAccount bs c x y) p q ∙ rw (l .contracts-are, l .accounts-are)
 
-  pub account-over : (first rows wide : ℕ) → first ≡ 8 + 24 * c → rows ≡ first + 9 * a + 4 → wide ≡ 8 * c → (r room : Account)
-      → r ≡ putAccount (savedAccount bs c (first + 9 * i) (rows + wide * i)) room → r ≡ putAccount (loadedAccount bs i) room
-  account-over first rows wide e f g r room p = p ∙ ap (λ (o : Account). putAccount o room) (account-placed first rows wide e f g)
+  pub account-over : (first rows width : ℕ) → first ≡ 8 + 24 * c → rows ≡ first + 9 * a + 4 → width ≡ 8 * c → (r room : Account)
+      → r ≡ putAccount (savedAccount bs c (first + 9 * i) (rows + width * i)) room → r ≡ putAccount (loadedAccount bs i) room
+  account-over first rows width e f g r room p = p ∙ ap (λ (o : Account). putAccount o room) (account-placed first rows width e f g)
 
 -- ---- the state
 
@@ -101,21 +104,21 @@ module _ (s : State) (bs : List ℕ) (c a : ℕ) (l : Laid bs c a) where
   unfolding loadedFrom
   account-count = length-tabulate (accountsIn bs) (loadedAccount bs) ∙ sym (l .accounts-are)
 
-  settlements-at : loadedFrom bs .settlements ≡ u32At bs (length bs - 4)
+  settlements-at : loadedFrom bs .settlements ≡ u32At bs (length bs - settlementsWidth)
   unfolding loadedFrom
   settlements-at =
-      let p : length bs - 4 ≡ settlementsPlace c a = omega (arith, l .ends) in
+      let p : length bs - settlementsWidth ≡ settlementsPlace c a = omega (arith, l .ends) in
       sym (ap (u32At bs) (p ∙ rw (l .contracts-are, l .accounts-are)))
 
-  module _ {terms : List Contract} {holders : List Account} {buys sells : List ℕ} {settlements : ℕ} where
+  module _ {terms : List Contract} {accounts : List Account} {buycounts sellcounts : List ℕ} {settlements : ℕ} where
     pub state-made : a ≤ length (s .accounts) → terms ≡ written (λ i. savedContract bs (contractPlace i)) (s .contracts) c
-        → holders ≡ written (λ i. putAccount (loadedAccount bs i) (getD (s .accounts) i noAccount)) (s .accounts) a
-        → buys ≡ putFirst (tabulate c (λ i. 0)) (s .buycounts) → sells ≡ putFirst (tabulate c (λ i. 0)) (s .sellcounts) → settlements ≡ u32At bs (length bs - 4)
+        → accounts ≡ written (λ i. putAccount (loadedAccount bs i) (getD (s .accounts) i noAccount)) (s .accounts) a
+        → buycounts ≡ putFirst (tabulate c (λ i. 0)) (s .buycounts) → sellcounts ≡ putFirst (tabulate c (λ i. 0)) (s .sellcounts) → settlements ≡ u32At bs (length bs - settlementsWidth)
         → record {
           contracts = terms;
-          accounts = holders;
-          buycounts = buys;
-          sellcounts = sells;
+          accounts = accounts;
+          buycounts = buycounts;
+          sellcounts = sellcounts;
           contractcount = c;
           accountcount = a;
           tradecount = 0;

@@ -9,32 +9,37 @@ use lib.Dec.{eqb}
 use lib.ListN.{length}
 use borrow.Author.Tests.{eq-eqb, ne-eqb, le-leb, lt-leb}
 use Rattle.laws.specs.Choice.{false-both}
-use Rattle.rules.specs.DayFile.{contractsIn, u8At, u32At}
+use Rattle.rules.specs.Bounds.{maxAccounts, maxContracts}
+use Rattle.rules.specs.DayFile.{contractsIn, u8At, u32At, countWidth}
 use Rattle.rules.proofs.Terms.{within-high, within-low, within-test}
-use Rattle.saved.specs.Saved.{accountPlace, accountsIn, countsRight, markSound, rowPlace, settlementsPlace, shaped}
+use Rattle.statements.specs.Statement.{holdingWidth}
+use Rattle.saved.specs.Saved.{accountPlace, accountsIn, countsRight, markSound, rowPlace, settlementsPlace, shaped, balanceWidth, savedAccountWidth, savedContractWidth, settlementsWidth}
+use Rattle.dayfile.specs.FileHead.{countBefore}
+use Rattle.dayfile.proofs.Counts.{counted, uncounted}
+use Rattle.dayfile.proofs.Places.{contracts-are, contracts-read}
 use Rattle.saved.proofs.Again.{shape}
 use Rattle.saving.specs.Parts.{Laid}
 
 -- rows of eight bytes for each of four contracts and 32 accounts at most
-pub few-bytes : (contracts accounts : ℕ) → contracts ≤ 4 → accounts ≤ 32 → 8 * contracts * accounts ≤ 1_024
-few-bytes contracts accounts h k = let p : 8 * contracts ≤ 32 = omega arith in mul-le-mul p k
+pub few-bytes : (contracts accounts : ℕ) → contracts ≤ maxContracts → accounts ≤ maxAccounts → holdingWidth * contracts * accounts ≤ holdingWidth * maxContracts * maxAccounts
+few-bytes contracts accounts h k = let p : holdingWidth * contracts ≤ holdingWidth * maxContracts = omega arith in mul-le-mul p k
 
 -- a file whose counts or length contradict its shape is not so
 pub record Lengths (bs : List ℕ) : Type 0 where
   pub some-contract : 1 ≤ contractsIn bs
-  pub few-contracts : contractsIn bs ≤ 4
+  pub few-contracts : contractsIn bs ≤ maxContracts
   pub some-account : 1 ≤ accountsIn bs
-  pub few-accounts : accountsIn bs ≤ 32
-  pub ends : length bs ≡ settlementsPlace (contractsIn bs) (accountsIn bs) + 4
+  pub few-accounts : accountsIn bs ≤ maxAccounts
+  pub ends : length bs ≡ settlementsPlace (contractsIn bs) (accountsIn bs) + settlementsWidth
 
 lengths : (bs : List ℕ) → shaped bs ≡ true → Lengths bs
 lengths bs h =
     let s = shape bs h in
     record {
-      some-contract = within-low 1 4 (contractsIn bs) (s .contracts);
-      few-contracts = within-high 1 4 (contractsIn bs) (s .contracts);
-      some-account = within-low 1 32 (accountsIn bs) (s .accounts);
-      few-accounts = within-high 1 32 (accountsIn bs) (s .accounts);
+      some-contract = within-low 1 maxContracts (contractsIn bs) (s .contracts);
+      few-contracts = within-high 1 maxContracts (contractsIn bs) (s .contracts);
+      some-account = within-low 1 maxAccounts (accountsIn bs) (s .accounts);
+      few-accounts = within-high 1 maxAccounts (accountsIn bs) (s .accounts);
       ends = s .ends;
     }
 
@@ -50,21 +55,39 @@ pub counts-decide : (bs : List ℕ) → Lengths bs → shaped bs ≡ countsRight
 unfolding shaped
 counts-decide bs l =
     rw (
-      within-test 1 4 (contractsIn bs) (l .some-contract) (l .few-contracts),
-      within-test 1 32 (accountsIn bs) (l .some-account) (l .few-accounts),
-      eq-eqb (length bs) (settlementsPlace (contractsIn bs) (accountsIn bs) + 4) (l .ends),
+      within-test 1 maxContracts (contractsIn bs) (l .some-contract) (l .few-contracts),
+      within-test 1 maxAccounts (accountsIn bs) (l .some-account) (l .few-accounts),
+      eq-eqb (length bs) (settlementsPlace (contractsIn bs) (accountsIn bs) + settlementsWidth) (l .ends),
     )
+
+-- ---- the counts as the code reads them
+
+module _ (bs : List ℕ) {c : ℕ} (ec : c ≡ countBefore bs 4 4) where
+  pub no-contracts : c ≡ 0 → false ≡ shaped bs
+  no-contracts z = sym (misshapen bs (λ l. uncounted bs 4 4 ec z (omega (arith, l .ends)) (omega (arith, l .some-contract, contracts-read bs)) (omega (arith, l .few-contracts, contracts-read bs))))
+
+  module _ (some : c ≡ 0 → ⊥) {end a : ℕ} (is : end ≡ 8 + 24 * c) (ea : a ≡ countBefore bs end 32) where
+    count-there : u32At bs (end - 4) ≡ accountsIn bs
+    unfolding accountsIn
+    count-there = ap (u32At bs) (omega (arith, contracts-are bs ec some))
+
+    pub no-accounts : a ≡ 0 → false ≡ shaped bs
+    no-accounts z =
+        sym (misshapen bs (λ l. uncounted bs end 32 ea z (omega (arith, l .ends, contracts-are bs ec some)) (omega (arith, l .some-account, count-there)) (omega (arith, l .few-accounts, count-there))))
+
+    pub accounts-are : (a ≡ 0 → ⊥) → a ≡ accountsIn bs
+    accounts-are more = counted bs end 32 ea more .is ∙ count-there
 
 -- ---- the tests in the order of the code, with what was read so far
 
-module _ (bs : List ℕ) (c a n : ℕ) (e : c ≡ contractsIn bs) (f : a ≡ accountsIn bs) (g : n ≡ settlementsPlace c a + 4) where
-  long-as : settlementsPlace (contractsIn bs) (accountsIn bs) + 4 ≡ n
+module _ (bs : List ℕ) (c a n : ℕ) (e : c ≡ contractsIn bs) (f : a ≡ accountsIn bs) (g : n ≡ settlementsPlace c a + settlementsWidth) where
+  long-as : settlementsPlace (contractsIn bs) (accountsIn bs) + settlementsWidth ≡ n
   long-as = rw (← e, ← f) (sym g)
 
   pub length-wrong : (length bs ≡ n → ⊥) → false ≡ shaped bs
   length-wrong d = sym (misshapen bs (λ l. d (l .ends ∙ long-as)))
 
-  module _ (h : length bs ≡ n) (some-contract : 1 ≤ c) (few-contracts : c ≤ 4) (some-account : 1 ≤ a) (few-accounts : a ≤ 32) where
+  module _ (h : length bs ≡ n) (some-contract : 1 ≤ c) (few-contracts : c ≤ maxContracts) (some-account : 1 ≤ a) (few-accounts : a ≤ maxAccounts) where
     pub laid : Laid bs c a
     laid = record { contracts-are = e; accounts-are = f; few-contracts = few-contracts; few-accounts = few-accounts; ends = h ∙ g }
 
@@ -81,10 +104,10 @@ module _ (bs : List ℕ) (c a n : ℕ) (e : c ≡ contractsIn bs) (f : a ≡ acc
         }))
 
 -- a file that passed
-pub shaped-long : (bs : List ℕ) → shaped bs ≡ true → 4 ≤ length bs
+pub shaped-long : (bs : List ℕ) → shaped bs ≡ true → countWidth ≤ length bs
 shaped-long bs h = omega (arith, lengths bs h .ends)
 
-pub count-ready : (bs : List ℕ) (c : ℕ) → c ≡ contractsIn bs → shaped bs ≡ true → (c ≡ contractsIn bs) × (c ≤ 4) × (8 + 24 * c ≤ length bs)
+pub count-ready : (bs : List ℕ) (c : ℕ) → c ≡ contractsIn bs → shaped bs ≡ true → (c ≡ contractsIn bs) × (c ≤ maxContracts) × (2 * countWidth + savedContractWidth * c ≤ length bs)
 count-ready bs c e h = let l = lengths bs h in (e, omega (arith, e, l .few-contracts), omega (arith, e, l .ends))
 
 pub shaped-laid : (bs : List ℕ) (c a : ℕ) → c ≡ contractsIn bs → a ≡ accountsIn bs → shaped bs ≡ true → Laid bs c a
@@ -99,7 +122,7 @@ shaped-laid bs c a e f h =
     }
 
 module _ (bs : List ℕ) (c a : ℕ) (l : Laid bs c a) where
-  holdings-place : 8 + 24 * c + 9 * a ≡ accountPlace (contractsIn bs) (accountsIn bs)
+  holdings-place : 2 * countWidth + savedContractWidth * c + savedAccountWidth * a ≡ accountPlace (contractsIn bs) (accountsIn bs)
   holdings-place = omega (arith, l .contracts-are, l .accounts-are)
 
   one-place : rowPlace (contractsIn bs) (accountsIn bs) (accountsIn bs) ≡ rowPlace c a a
@@ -111,7 +134,7 @@ module _ (bs : List ℕ) (c a : ℕ) (l : Laid bs c a) where
   abbrev holdingsRight : Bool
   holdingsRight = eqb (u32At bs (accountPlace (contractsIn bs) (accountsIn bs))) (accountsIn bs * contractsIn bs)
 
-  module _ (n : ℕ) (e : n ≡ u32At bs (8 + 24 * c + 9 * a)) where
+  module _ (n : ℕ) (e : n ≡ u32At bs (2 * countWidth + savedContractWidth * c + savedAccountWidth * a)) where
     read-there : u32At bs (accountPlace (contractsIn bs) (accountsIn bs)) ≡ n
     read-there = ap (u32At bs) (sym holdings-place) ∙ sym e
 
@@ -119,17 +142,17 @@ module _ (bs : List ℕ) (c a : ℕ) (l : Laid bs c a) where
     unfolding countsRight
     holdings-wrong d = sym (false-both holdingsRight _ (ne-eqb _ _ (λ h. d (sym read-there ∙ h ∙ product))))
 
-    pub one-decides : n ≡ a * c → (m : ℕ) → m ≡ u32At bs (length bs - 8) → eqb m 1 ≡ countsRight bs
+    pub one-decides : n ≡ a * c → (m : ℕ) → m ≡ u32At bs (length bs - (countWidth + settlementsWidth)) → eqb m 1 ≡ countsRight bs
     unfolding countsRight
     one-decides h m q =
-        let p : length bs - 8 ≡ rowPlace c a a = omega (arith, l .ends) in
+        let p : length bs - (countWidth + settlementsWidth) ≡ rowPlace c a a = omega (arith, l .ends) in
         let t : holdingsRight ≡ true = eq-eqb _ _ (read-there ∙ h ∙ sym product) in
         ap (λ (k : ℕ). eqb k 1) (q ∙ ap (u32At bs) (p ∙ sym one-place)) ∙ sym (ap (λ (b : Bool). b && eqb (u32At bs (rowPlace (contractsIn bs) (accountsIn bs) (accountsIn bs))) 1) t)
 
   -- a mark stands eight bytes behind its account's first byte
-  module _ (first i n : ℕ) (p : first ≡ 16 + 24 * c) (e : n ≡ u8At bs (first + 9 * i)) where
-    mark-there : n ≡ u8At bs (accountPlace (contractsIn bs) i + 8)
-    mark-there = let q : first + 9 * i ≡ accountPlace (contractsIn bs) i + 8 = omega (arith, l .contracts-are) in e ∙ ap (u8At bs) q
+  module _ (first i n : ℕ) (p : first ≡ 2 * countWidth + balanceWidth + savedContractWidth * c) (e : n ≡ u8At bs (first + savedAccountWidth * i)) where
+    mark-there : n ≡ u8At bs (accountPlace (contractsIn bs) i + balanceWidth)
+    mark-there = let q : first + savedAccountWidth * i ≡ accountPlace (contractsIn bs) i + balanceWidth = omega (arith, l .contracts-are) in e ∙ ap (u8At bs) q
 
     pub mark-wrong : 1 < n → markSound bs i ≡ false
     unfolding markSound

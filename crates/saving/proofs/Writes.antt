@@ -12,7 +12,7 @@ use Rattle.rules.specs.Answers.{firstOf}
 use Rattle.rules.specs.Memory.{Declared, Memory, exchangeOf, wellFormedMemory}
 use Rattle.rules.proofs.InUse.{contracts-in-use}
 use Rattle.invariants.proofs.MemoryRoom.{CountsOk, memory-ok}
-use Rattle.saved.specs.Saved.{WrittenIs, savedBytes, settlementsPlace, writable, writeCode}
+use Rattle.saved.specs.Saved.{WrittenIs, savedBytes, settlementsPlace, writable, writeCode, settlementsWidth}
 use Rattle.saved.proofs.Continued.{savable, writes}
 use Rattle.saved.proofs.Reading.{length-saved}
 use Rattle.saving.specs.Parts.{Fitting, stateBytes, stateWritable}
@@ -34,7 +34,7 @@ module _ (m : Memory) (d : Declared (m .state)) (w : wellFormedMemory m ≡ true
     unfolding writeCode firstOf
     by-28 h = not-written m out 28 (rw (w, writable-is m d w, h)) refl
 
-    module _ (h : stateWritable (m .state) ≡ true) (n : ℕ) (e : n ≡ settlementsPlace (m .state .contractcount) (m .state .accountcount) + 4) where
+    module _ (h : stateWritable (m .state) ≡ true) (n : ℕ) (e : n ≡ settlementsPlace (m .state .contractcount) (m .state .accountcount) + settlementsWidth) where
       ready : writable (exchangeOf m) ≡ true
       ready = writable-is m d w ∙ h
 

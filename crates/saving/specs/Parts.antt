@@ -2,14 +2,14 @@
 use mathlib.Core.Bool.{Bool, _&&_}
 use mathlib.Core.List.{List, _++_}
 use mathlib.Core.Path.{_≡_}
-use Prim.Native.Nat.{ℕ, _+_, _*_, _≤_, _<_}
+use Prim.Native.Nat.{ℕ, _+_, _*_, _^_, _≤_, _<_}
 use lib.Dec.{eqb}
 use lib.ListN.{length, getD, take, replicate}
 use Rattle.laws.specs.Choice.{all}
-use Rattle.rules.specs.Bounds.{maxTrades, preOpen, maxContracts, maxAccounts}
+use Rattle.rules.specs.Bounds.{preOpen, maxContracts, maxAccounts}
 use Rattle.rules.specs.DayFile.{contractsIn}
 use Rattle.rules.specs.Exchange.{noAccount, noContract}
-use Rattle.rules.specs.Memory.{Memory, memory, tradeStride}
+use Rattle.rules.specs.Memory.{Memory, memory, tradesWords}
 use Rattle.rules.specs.declared.Account.{Account}
 use Rattle.rules.specs.declared.Contract.{Contract}
 use Rattle.rules.specs.declared.State.{State}
@@ -44,7 +44,7 @@ stateBytes s =
 
 -- multiplier and tick as two bytes hold them
 abbrev pub Short : Contract → Type 0
-Short c = (c .multiplier < 65_536) × (c .tick < 65_536)
+Short c = (c .multiplier < 2 ^ 16) × (c .tick < 2 ^ 16)
 
 -- what writing a state asks for
 pub record Fitting (s : State) (out : List ℕ) : Type 0 where
@@ -82,7 +82,7 @@ savedMost = settlementsPlace maxContracts maxAccounts + settlementsWidth
 
 -- areas with room for any state, for the test of one with room aside
 abbrev pub spare : List ℕ
-spare = replicate (tradeStride * maxTrades) 0
+spare = replicate tradesWords 0
 
 abbrev pub inSpare : State → Memory
 inSpare s = memory s spare spare spare

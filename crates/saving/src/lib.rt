@@ -63,7 +63,7 @@ pub fn write_state(
 fn is_formed(state: State) -> bool
     ensures { λ r. ⌜ r ≡ wellFormedMemory (inSpare state) ⌝ }
 {
-    let spare = [0u32; rules::TRADE_STRIDE * rules::MAX_TRADES];
+    let spare = [0u32; rules::TRADES_WORDS];
     audit::well_formed(state, &spare[..], &spare[..], &spare[..])
 }
 
@@ -83,8 +83,8 @@ pub fn read_state(file: &[u8], state: State, buys: &[u32], sells: &[u32], trades
     if !is_formed(loaded) {
         return Loaded { code: 20, state };
     }
-    let holders = loaded.accounts;
-    if !totals::all_equal(holders, accounts, contracts) {
+    let loaded_accounts = loaded.accounts;
+    if !totals::all_equal(loaded_accounts, accounts, contracts) {
         return Loaded { code: 30, state };
     }
     // well formed with room aside: what is missing is room

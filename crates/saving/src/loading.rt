@@ -8,13 +8,16 @@ ghost use Rattle.rules.specs.Bounds.{maxContracts};
 ghost use Rattle.rules.specs.Exchange.{noAccount};
 ghost use Rattle.rules.specs.Memory.{putAccount};
 ghost use Rattle.statements.specs.Statement.{holdingWidth};
-ghost use Rattle.saved.specs.Saved.{contractPlace, savedContract, signedOf, savedHolding, savedAccount, loadedAccount, loadedFrom, loadedState, savedContractWidth, savedAccountWidth};
+ghost use Rattle.saved.specs.Saved.{contractPlace, savedContract, savedHolding, savedAccount, loadedAccount, loadedFrom, loadedState, savedContractWidth, savedAccountWidth};
 ghost use Rattle.saving.specs.Parts.{Laid};
+use crate::shape::BALANCE_WIDTH;
+use crate::shape::LOTS_WIDTH;
 use crate::shape::SAVED_ACCOUNT_WIDTH;
 use crate::shape::SAVED_CONTRACT_WIDTH;
 use crate::shape::SETTLEMENTS_WIDTH;
 use dayfile::bytes::contract_at;
 use dayfile::head::TWO_COUNTS;
+use endian::reading::signed;
 use endian::reading::u8_at;
 use endian::reading::u32_at;
 use endian::reading::u64_at;
@@ -58,7 +61,7 @@ fn holding_from(file: &[u8], at: usize) -> Holding
     ensures { λ r. ⌜ r ≡ savedHolding (now (file .entry)) at ⌝ }
 {
     let long = u32_at(file, at);
-    let short = u32_at(file, at + 4);
+    let short = u32_at(file, at + LOTS_WIDTH);
     Holding {
         long,
         short,
@@ -85,28 +88,13 @@ fn holdings_over(
     list
 }
 
-// Where the numbers below zero begin among a signed number's eight bytes: 2^63.
-const SIGN_END: u64 = 9223372036854775808;
-
-// A signed number from its eight bytes.
-fn signed(n: u64) -> i64
-    ensures { λ r. ⌜ r ≡ signedOf n ⌝ }
-{
-    if n < SIGN_END {
-        return n as i64;
-    }
-    let size = 18446744073709551615 - n;
-    let opposite = 0 - size as i64;
-    opposite - 1
-}
-
 // An account over another, its holdings in contracts past the count as they were.
 fn account_over(file: &[u8], at: usize, row: usize, n: usize, room: Account) -> Account
     requires { ⌜ (n ≤ maxContracts) × (at + savedAccountWidth ≤ length (now file)) × (row + holdingWidth * n ≤ length (now file)) ⌝ }
     ensures { λ r. ⌜ r ≡ putAccount (savedAccount (now (file .entry)) n at row) room ⌝ }
 {
     let balance = signed(u64_at(file, at));
-    let mark = u8_at(file, at + 8);
+    let mark = u8_at(file, at + BALANCE_WIDTH);
     let places = room.holdings;
     let holdings = holdings_over(file, row, n, places);
     Account {
@@ -127,7 +115,7 @@ fn accounts_over(
 {
     let first = TWO_COUNTS + SAVED_CONTRACT_WIDTH * contracts;
     let rows = first + SAVED_ACCOUNT_WIDTH * accounts + rules::COUNT_WIDTH;
-    let wide = HOLDING_WIDTH * contracts;
+    let row_width = HOLDING_WIDTH * contracts;
     let mut list = places;
     let mut a: usize = 0;
     while a < accounts {
@@ -135,7 +123,7 @@ fn accounts_over(
         list[a] = account_over(
             file,
             first + SAVED_ACCOUNT_WIDTH * a,
-            rows + wide * a,
+            rows + row_width * a,
             contracts,
             room,
         );
@@ -149,19 +137,19 @@ pub fn loaded_state(file: &[u8], contracts: usize, accounts: usize, state: State
     ensures { λ r. ⌜ r ≡ loadedState state (loadedFrom (now (file .entry))) ⌝ }
 {
     let old_terms = state.contracts;
-    let old_holders = state.accounts;
-    let old_buys = state.buycounts;
-    let old_sells = state.sellcounts;
+    let old_accounts = state.accounts;
+    let old_buycounts = state.buycounts;
+    let old_sellcounts = state.sellcounts;
     let terms = contracts_over(file, contracts, old_terms);
-    let holders = accounts_over(file, contracts, accounts, old_holders);
-    let buys = no_orders(old_buys, contracts);
-    let sells = no_orders(old_sells, contracts);
+    let new_accounts = accounts_over(file, contracts, accounts, old_accounts);
+    let buycounts = no_orders(old_buycounts, contracts);
+    let sellcounts = no_orders(old_sellcounts, contracts);
     let settlements = u32_at(file, file.len() - SETTLEMENTS_WIDTH);
     State {
         contracts: terms,
-        accounts: holders,
-        buycounts: buys,
-        sellcounts: sells,
+        accounts: new_accounts,
+        buycounts,
+        sellcounts,
         contractcount: contracts,
         accountcount: accounts,
         tradecount: 0,

@@ -9,32 +9,42 @@ ghost use Rattle.rules.specs.DayFile.{contractsIn, countWidth};
 ghost use Rattle.saved.specs.Saved as saved;
 ghost use Rattle.saving.specs.Parts.{Laid, savedMost};
 use dayfile::head::TWO_COUNTS;
-use dayfile::head::contract_count;
+use dayfile::head::count_before;
 use endian::reading::u8_at;
 use endian::reading::u32_at;
 use statements::writing::HOLDING_WIDTH;
 
-// How many bytes a contract takes, the day file's and the last price; an account, its balance and its mark; and the settlement count.
-pub const SAVED_CONTRACT_WIDTH: usize = rules::CONTRACT_WIDTH + 4;
+// How many bytes a last price, a balance, a maker's mark and the lots of one side of a holding take.
+const PRICE_WIDTH: usize = 4;
 
-pub const SAVED_ACCOUNT_WIDTH: usize = 9;
+pub const BALANCE_WIDTH: usize = 8;
+
+const MARK_WIDTH: usize = 1;
+
+pub const LOTS_WIDTH: usize = 4;
+
+// A contract, the day file's and the last price; an account, its balance and its mark; and the settlement count.
+pub const SAVED_CONTRACT_WIDTH: usize = rules::CONTRACT_WIDTH + PRICE_WIDTH;
+
+pub const SAVED_ACCOUNT_WIDTH: usize = BALANCE_WIDTH + MARK_WIDTH;
 
 pub const SETTLEMENTS_WIDTH: usize = 4;
 
-// The counts of all four sections with the settlement count, and the last section.
-const COUNTS_WIDTH: usize = 4 * rules::COUNT_WIDTH + SETTLEMENTS_WIDTH;
+// How many bytes every file has, however many contracts and accounts: the counts of all four sections and the settlement count; and
+// how many of them are the last section's.
+const FIXED_WIDTH: usize = 4 * rules::COUNT_WIDTH + SETTLEMENTS_WIDTH;
 
 const LAST_SECTION: usize = rules::COUNT_WIDTH + SETTLEMENTS_WIDTH;
 
-// Before the first account's mark, the contracts aside: two counts and the balance's eight bytes.
-const FIRST_MARK: usize = TWO_COUNTS + 8;
+// Before the first account's mark, the contracts aside: two counts and the balance.
+const FIRST_MARK: usize = TWO_COUNTS + BALANCE_WIDTH;
 
 // How many bytes a file of so many contracts and accounts has.
 pub fn file_length(contracts: usize, accounts: usize) -> usize
     requires { ⌜ (contracts ≤ maxContracts) × (accounts ≤ maxAccounts) ⌝ }
     ensures { λ r. ⌜ (r ≡ saved.settlementsPlace contracts accounts + saved.settlementsWidth) × (r ≤ savedMost) ⌝ }
 {
-    COUNTS_WIDTH
+    FIXED_WIDTH
         + SAVED_CONTRACT_WIDTH * contracts
         + SAVED_ACCOUNT_WIDTH * accounts
         + HOLDING_WIDTH * contracts * accounts
@@ -66,24 +76,13 @@ fn counts_right(file: &[u8], contracts: usize, accounts: usize) -> bool
 pub fn is_shaped(file: &[u8]) -> bool
     ensures { λ r. ⌜ r ≡ saved.shaped (now (file .entry)) ⌝ }
 {
-    if file.len() < rules::COUNT_WIDTH {
+    let contracts = count_before(file, rules::COUNT_WIDTH, rules::MAX_CONTRACTS);
+    if contracts == 0 {
         return false;
     }
-    let contracts = contract_count(file);
-    if contracts < 1 {
-        return false;
-    }
-    if rules::MAX_CONTRACTS < contracts {
-        return false;
-    }
-    if file.len() < TWO_COUNTS + SAVED_CONTRACT_WIDTH * contracts {
-        return false;
-    }
-    let accounts = account_count(file, contracts);
-    if accounts < 1 {
-        return false;
-    }
-    if rules::MAX_ACCOUNTS < accounts {
+    let end = TWO_COUNTS + SAVED_CONTRACT_WIDTH * contracts;
+    let accounts = count_before(file, end, rules::MAX_ACCOUNTS);
+    if accounts == 0 {
         return false;
     }
     if file.len() != file_length(contracts, accounts) {

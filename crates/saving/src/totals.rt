@@ -1,6 +1,6 @@
 // Whether a state may be written. For this crate: each requires counts within the arrays.
 ghost use mathlib.Core.Path.{_≡_};
-ghost use Prim.Native.Nat.{_≤_, _<_};
+ghost use Prim.Native.Nat.{_^_, _≤_, _<_};
 ghost use lib.ListN.{take};
 ghost use Rattle.laws.specs.Choice.{all};
 ghost use Rattle.rules.specs.Bounds.{maxContracts, maxAccounts};
@@ -10,8 +10,8 @@ use rules::Account;
 use rules::State;
 
 // A cast as a call, which says how large the number is.
-fn wide(x: u32) -> u64
-    ensures { λ r. ⌜ (r ≡ x) × (r < 4294967296) ⌝ }
+fn wide_lots(x: u32) -> u64
+    ensures { λ r. ⌜ (r ≡ x) × (r < 2 ^ 32) ⌝ }
 {
     x as u64
 }
@@ -27,8 +27,8 @@ fn totals_equal(list: [Account; rules::MAX_ACCOUNTS], accounts: usize, c: usize)
     while a < accounts {
         let holder = list[a];
         let h = holder.holdings[c];
-        long += wide(h.long);
-        short += wide(h.short);
+        long += wide_lots(h.long);
+        short += wide_lots(h.short);
         a += 1;
     }
     long == short
@@ -57,15 +57,15 @@ fn all_asleep(state: State) -> bool
     let mut c: usize = 0;
     while c < contracts {
         let terms = state.contracts[c];
-        let bids = state.buycounts[c];
-        let asks = state.sellcounts[c];
+        let buycount = state.buycounts[c];
+        let sellcount = state.sellcounts[c];
         if terms.phase != rules::PRE_OPEN {
             return false;
         }
-        if bids != 0 {
+        if buycount != 0 {
             return false;
         }
-        if asks != 0 {
+        if sellcount != 0 {
             return false;
         }
         c += 1;
@@ -80,8 +80,8 @@ pub fn is_writable(state: State) -> bool
     if !all_asleep(state) {
         return false;
     }
-    let holders = state.accounts;
-    if !all_equal(holders, state.accountcount, state.contractcount) {
+    let accounts = state.accounts;
+    if !all_equal(accounts, state.accountcount, state.contractcount) {
         return false;
     }
     if state.tradecount != 0 {

@@ -16,11 +16,11 @@ use endian::writing::put_byte;
 use endian::writing::put_u16;
 use endian::writing::put_u32;
 use endian::writing::put_u64;
+use endian::writing::unsigned;
 use rules::Account;
 use rules::Contract;
 use rules::State;
 use statements::writing::put_holdings;
-use statements::writing::unsigned;
 
 // "the day file's 20 bytes, then last price 4"
 fn put_contract(out: &mut [u8], at: usize, c: Contract) -> usize
@@ -139,11 +139,11 @@ pub fn put_state(state: State, out: &mut [u8])
     ensures { λ r. ⌜ now (out .exit) ≡ over (now (out .entry)) 0 (stateBytes state) ⌝ }
 {
     let contracts = state.contractcount;
-    let accounts = state.accountcount;
+    let accountcount = state.accountcount;
     let terms = state.contracts;
-    let holders = state.accounts;
+    let accounts = state.accounts;
     let first = put_contract_section(out, 0, terms, contracts);
-    let second = put_account_section(out, first, holders, accounts);
-    let third = put_holding_section(out, second, holders, accounts, contracts);
+    let second = put_account_section(out, first, accounts, accountcount);
+    let third = put_holding_section(out, second, accounts, accountcount, contracts);
     put_settlements(out, third, state.settlements);
 }

@@ -21,7 +21,7 @@ use Rattle.rules.specs.declared.Trade.{Trade}
 use Rattle.rules.proofs.Codecs.{length-trades}
 use Rattle.rules.proofs.InUse.{contracts-in-use, accounts-in-use, listing-in-use, account-in-use, holding-in-use}
 use Rattle.rules.proofs.Terms.{Terms, contract-terms}
-use Rattle.accounting.specs.Article32.{AllCovered}
+use Rattle.accounting.specs.DayLegs.{AllCovered}
 use Rattle.accounting.proofs.Facts.{trade-facts}
 use Rattle.accounting.proofs.PriceBound.{settlement-price-bound}
 use Rattle.accounting.proofs.Replay.{replay-covered}

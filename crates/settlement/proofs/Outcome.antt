@@ -3,7 +3,7 @@
 use mathlib.Core.Bool.{true}
 use mathlib.Core.List.{List, [], map}
 use mathlib.Core.Path.{_≡_, refl, sym, ap, ap₂, _∙_}
-use Prim.Native.Nat.{ℕ, zero, suc, _+_, _*_, _<_, _≤_}
+use Prim.Native.Nat.{ℕ, zero, suc, _+_, _<_, _≤_}
 use native.Mathlib.Nat.{le-trans, le-of-eq}
 use native.Mathlib.Omega.{arith}
 use borrow.Author.Tests.{leb-false}
@@ -39,12 +39,12 @@ use Rattle.settlement.proofs.Places.{written-accounts}
 
 -- ---- the state of the next day, from its parts
 
-pub next-day-is : (s : State) (accounts : List Account) (prices : List ℕ) (cs : List Contract) (bids offers : List ℕ)
+pub next-day-is : (s : State) (accounts : List Account) (prices : List ℕ) (cs : List Contract) (buycounts sellcounts : List ℕ)
     → cs ≡ putFirst (tabulate (s .contractcount) (λ c. settledContract (contractIn s c) (getD prices c 0))) (s .contracts)
-    → bids ≡ putFirst (tabulate (s .contractcount) (λ c. 0)) (s .buycounts) → offers ≡ putFirst (tabulate (s .contractcount) (λ c. 0)) (s .sellcounts)
-    → record { contracts = cs; accounts = accounts; buycounts = bids; sellcounts = offers; contractcount = s .contractcount; accountcount = s .accountcount; tradecount = 0; next = 1; nextstamp = 1; settlements = s .settlements + 1 }
+    → buycounts ≡ putFirst (tabulate (s .contractcount) (λ c. 0)) (s .buycounts) → sellcounts ≡ putFirst (tabulate (s .contractcount) (λ c. 0)) (s .sellcounts)
+    → record { contracts = cs; accounts = accounts; buycounts = buycounts; sellcounts = sellcounts; contractcount = s .contractcount; accountcount = s .accountcount; tradecount = 0; next = 1; nextstamp = 1; settlements = s .settlements + 1 }
     ≡ nextDay s accounts prices
-next-day-is s accounts prices cs bids offers e f g =
+next-day-is s accounts prices cs buycounts sellcounts e f g =
     λ i. record { contracts = e i; accounts = accounts; buycounts = f i; sellcounts = g i; contractcount = s .contractcount; accountcount = s .accountcount; tradecount = 0; next = 1; nextstamp = 1; settlements = s .settlements + 1 }
 
 -- ---- an account's day, by what stands at its places

@@ -11,6 +11,7 @@ ghost use Rattle.rules.specs.Memory.{putFirst, putQueues};
 ghost use Rattle.rules.specs.Settlement as settlement;
 ghost use Rattle.settlement.specs.Settling.{Clearable, AllClearable, ClearedAre};
 use rules::Contract;
+use rules::PRE_OPEN;
 use rules::State;
 
 // "the settlement price becomes the reference, contracts return to pre-open"
@@ -19,7 +20,7 @@ fn reopened(contract: Contract, price: u32) -> Contract
 {
     let mut next = contract;
     next.reference = price;
-    next.phase = 0;
+    next.phase = PRE_OPEN;
     next
 }
 
@@ -80,10 +81,10 @@ pub fn clear_areas(state: State, buys: &mut [u32], sells: &mut [u32], trades: &m
     ensures { λ _. ⌜ ClearedAre state (now (buys .entry)) (now (sells .entry)) (now (trades .entry)) (now (buys .exit)) (now (sells .exit)) (now (trades .exit)) ⌝ }
 {
     let contracts = state.contractcount;
-    let bids = state.buycounts;
-    let offers = state.sellcounts;
+    let buycounts = state.buycounts;
+    let sellcounts = state.sellcounts;
     let e = rules::TRADE_STRIDE * state.tradecount;
-    clear_queues(buys, bids, contracts);
-    clear_queues(sells, offers, contracts);
+    clear_queues(buys, buycounts, contracts);
+    clear_queues(sells, sellcounts, contracts);
     areas::clear(&mut trades[..e]);
 }

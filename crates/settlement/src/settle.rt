@@ -61,24 +61,24 @@ fn charges<'a>(state: State, buys: &'a [u32], sells: &'a [u32]) -> [u64; rules::
     requires { ⌜ AllChargeable state (now buys) (now sells) ⌝ }
     ensures { λ r. ⌜ ChargesAre state (now (buys .entry)) (now (sells .entry)) r ⌝ }
 {
-    let accounts = state.accountcount;
-    let holders = state.accounts;
+    let accountcount = state.accountcount;
+    let accounts = state.accounts;
     let terms = state.contracts;
-    let bids = state.buycounts;
-    let offers = state.sellcounts;
+    let buycounts = state.buycounts;
+    let sellcounts = state.sellcounts;
     let mut charged: [u64; rules::MAX_ACCOUNTS] = [0; rules::MAX_ACCOUNTS];
     let mut a: usize = 0;
-    while a < accounts {
-        let holder = holders[a];
+    while a < accountcount {
+        let holder = accounts[a];
         let holdings = holder.holdings;
         charged[a] = margin::charged(
             holdings,
             terms,
             state.contractcount,
             buys,
-            bids,
+            buycounts,
             sells,
-            offers,
+            sellcounts,
             a,
         );
         a += 1;
@@ -98,16 +98,16 @@ fn next_day(
 {
     let contracts = state.contractcount;
     let terms = state.contracts;
-    let bids = state.buycounts;
-    let offers = state.sellcounts;
+    let old_buycounts = state.buycounts;
+    let old_sellcounts = state.sellcounts;
     let reopened = reopen::all_reopened(terms, contracts, prices);
-    let nobids = reopen::no_orders(bids, contracts);
-    let nooffers = reopen::no_orders(offers, contracts);
+    let buycounts = reopen::no_orders(old_buycounts, contracts);
+    let sellcounts = reopen::no_orders(old_sellcounts, contracts);
     State {
         contracts: reopened,
         accounts,
-        buycounts: nobids,
-        sellcounts: nooffers,
+        buycounts,
+        sellcounts,
         contractcount: contracts,
         accountcount: state.accountcount,
         tradecount: 0,

@@ -13,9 +13,9 @@ use Rattle.laws.specs.Lists.{getD-map-lt}
 use Rattle.laws.specs.Tabulate.{tabulate, getD-tabulate}
 use Rattle.areas.specs.Records.{store}
 use Rattle.areas.proofs.Records.{length-store, records-store}
-use Rattle.rules.specs.Bounds.{maxTrades}
+use Rattle.rules.specs.Bounds.{maxTrades, maxContracts, maxLimit}
 use Rattle.rules.specs.Exchange.{Exchange, accountAt, holdingAt, noAccount, noHolding, noTrade}
-use Rattle.rules.specs.Memory.{Memory, exchangeOf, listingIn, recordedTrades, tradeWords, used, wellFormedMemory, memory, tradeStride}
+use Rattle.rules.specs.Memory.{Memory, exchangeOf, listingIn, recordedTrades, tradeWords, used, wellFormedMemory, memory, tradeStride, tradesWords}
 use Rattle.rules.specs.WellFormed.{tradeInRange}
 use Rattle.rules.specs.declared.State.{State}
 use Rattle.rules.specs.declared.Trade.{Trade}
@@ -28,7 +28,7 @@ use Rattle.settlement.proofs.Formed.{accounts-declared, contract-at, contracts-
 use Rattle.replaying.specs.Parts.{Booked}
 use Rattle.clients.specs.Parts.{clientTrades, clientsWith}
 use Rattle.statements.specs.Parts.{Brokered, Postable, PostedIs, ToldIs, broker, clientsDay, refusedWith}
-use Rattle.clients.specs.Clients.{Clients, clientAccount, clientExchange, clientPlace, clientTrade, isPosted, legCount, startHolding, startLong, startShort, startsAddUp, total, tradePosted}
+use Rattle.clients.specs.Clients.{Clients, clientAccount, clientExchange, clientPlace, clientTrade, isPosted, legCount, startHolding, startLong, startShort, startsAddUp, total, tradePosted, clientPlaces, maxClients, others}
 use Rattle.statements.specs.declared.Statement.{Statement}
 use Rattle.statements.proofs.Answering.{code-here, code-later, refused-is, same-code}
 use Rattle.clients.proofs.Posted.{client-holding, posted-place, same-price}
@@ -36,19 +36,19 @@ use Rattle.clients.proofs.Rows.{total-at}
 
 -- ---- a trade with clients in the account's place
 
-place-bound : (clients : ℕ) (postings : List ℕ) (number : ℕ) → clients ≤ 16 → clientPlace clients postings number < 17
+place-bound : (clients : ℕ) (postings : List ℕ) (number : ℕ) → clients ≤ maxClients → clientPlace clients postings number < clientPlaces
 unfolding clientPlace
 place-bound clients postings number few = by-posted (isPosted clients postings number) refl
   where
-    by-posted : (p : Bool) → isPosted clients postings number ≡ p → clientPlace clients postings number < 17
+    by-posted : (p : Bool) → isPosted clients postings number ≡ p → clientPlace clients postings number < clientPlaces
     by-posted true e = omega (arith, posted-place clients postings number e)
     by-posted false e = rw e (omega arith)
 
-leg-bound : (whose : Bool) (place : ℕ) → place < 17 → pick whose place 16 < 17
+leg-bound : (whose : Bool) (place : ℕ) → place < clientPlaces → pick whose place others < clientPlaces
 leg-bound true place h = h
 leg-bound false place h = omega arith
 
-booked : (a clients : ℕ) (postings : List ℕ) (x : Exchange) (t : Trade) → clients ≤ 16 → TradeFacts x t → Booked (length (x .listings)) 17 (clientTrade a clients postings t)
+booked : (a clients : ℕ) (postings : List ℕ) (x : Exchange) (t : Trade) → clients ≤ maxClients → TradeFacts x t → Booked (length (x .listings)) clientPlaces (clientTrade a clients postings t)
 unfolding clientTrade
 booked a clients postings x t few f =
     record {
@@ -66,24 +66,24 @@ all-sized a clients postings (t ∷ ts) h =
 
 -- ---- a client's starting lots
 
-module _ (clients : ℕ) (starts : List ℕ) (few : clients ≤ 16) where
+module _ (clients : ℕ) (starts : List ℕ) (few : clients ≤ maxClients) where
   -- past the clients there are none
-  no-lots : (k c : ℕ) → clients ≤ k → k < 17 → c < 4 → holdingAt (tabulate 17 (clientAccount (clientsWith clients starts))) k c ≡ startHolding [] k c
+  no-lots : (k c : ℕ) → clients ≤ k → k < clientPlaces → c < maxContracts → holdingAt (tabulate clientPlaces (clientAccount (clientsWith clients starts))) k c ≡ startHolding [] k c
   unfolding holdingAt accountAt clientAccount
   no-lots k c l lk lc =
-      rw (getD-tabulate 17 k (clientAccount (clientsWith clients starts)) noAccount lk, le-ltb k clients l)
-      (getD-tabulate 4 c (startHolding [] k) noHolding lc)
+      rw (getD-tabulate clientPlaces k (clientAccount (clientsWith clients starts)) noAccount lk, le-ltb k clients l)
+      (getD-tabulate maxContracts c (startHolding [] k) noHolding lc)
 
-  module _ (c long short : ℕ) (lc : c < 4) (el : total clients (λ k. startLong starts k c) ≡ long) (es : total clients (λ k. startShort starts k c) ≡ short)
-      (hl : long ≤ 100_000) (hs : short ≤ 100_000) where
-    lots-bound : (k : ℕ) → k < 17
-        → (holdingAt (tabulate 17 (clientAccount (clientsWith clients starts))) k c .startlong ≤ 100_000)
-        × (holdingAt (tabulate 17 (clientAccount (clientsWith clients starts))) k c .startshort ≤ 100_000)
+  module _ (c long short : ℕ) (lc : c < maxContracts) (el : total clients (λ k. startLong starts k c) ≡ long) (es : total clients (λ k. startShort starts k c) ≡ short)
+      (hl : long ≤ maxLimit) (hs : short ≤ maxLimit) where
+    lots-bound : (k : ℕ) → k < clientPlaces
+        → (holdingAt (tabulate clientPlaces (clientAccount (clientsWith clients starts))) k c .startlong ≤ maxLimit)
+        × (holdingAt (tabulate clientPlaces (clientAccount (clientsWith clients starts))) k c .startshort ≤ maxLimit)
     lots-bound k lk = by-client (ltb k clients) refl
       where
         by-client : (b : Bool) → ltb k clients ≡ b
-            → (holdingAt (tabulate 17 (clientAccount (clientsWith clients starts))) k c .startlong ≤ 100_000)
-            × (holdingAt (tabulate 17 (clientAccount (clientsWith clients starts))) k c .startshort ≤ 100_000)
+            → (holdingAt (tabulate clientPlaces (clientAccount (clientsWith clients starts))) k c .startlong ≤ maxLimit)
+            × (holdingAt (tabulate clientPlaces (clientAccount (clientsWith clients starts))) k c .startshort ≤ maxLimit)
         by-client true e =
             let l = ltb-true k clients e in
             rw (client-holding (clientsWith clients starts) k c l lk lc)
@@ -114,7 +114,7 @@ module _ (s : State) (buys sells trades : List ℕ) (a clients : ℕ) (starts : 
   room : s .accountcount ≤ length (s .accounts)
   room = accounts-declared m (p .formed .declared) formed
 
-  pub few-contracts : n ≤ 4
+  pub few-contracts : n ≤ maxContracts
   few-contracts = contracts-four m room formed
 
   pub few-trades : count ≤ maxTrades
@@ -136,9 +136,9 @@ module _ (s : State) (buys sells trades : List ℕ) (a clients : ℕ) (starts : 
       let e = both-true _ _ (all-at _ c (length (x .listings)) (p .adds) (rw contracts-are lc)) in
       (eqb-true _ _ (e .0), eqb-true _ _ (e .1))
 
-  lots : (k c : ℕ) → k < 17 → c < n
-      → (holdingAt (tabulate 17 (clientAccount (clientsWith clients starts))) k c .startlong ≤ 100_000)
-      × (holdingAt (tabulate 17 (clientAccount (clientsWith clients starts))) k c .startshort ≤ 100_000)
+  lots : (k c : ℕ) → k < clientPlaces → c < n
+      → (holdingAt (tabulate clientPlaces (clientAccount (clientsWith clients starts))) k c .startlong ≤ maxLimit)
+      × (holdingAt (tabulate clientPlaces (clientAccount (clientsWith clients starts))) k c .startshort ≤ maxLimit)
   lots k c lk lc =
       let f = facts x (memory-ok m formed .contents) in
       let q = adds c lc in
@@ -147,7 +147,7 @@ module _ (s : State) (buys sells trades : List ℕ) (a clients : ℕ) (starts : 
 
   -- ---- the area of the clients' trades
 
-  module _ (area₀ area : List ℕ) (long : length area₀ ≡ tradeStride * maxTrades) (content : area ≡ store tradeWords area₀ 0 (clientTrades a clients postings trades count)) where
+  module _ (area₀ area : List ℕ) (long : length area₀ ≡ tradesWords) (content : area ≡ store tradeWords area₀ 0 (clientTrades a clients postings trades count)) where
     so-many : length (clientTrades a clients postings trades count) ≡ count
     so-many = length-map (recordedTrades trades count) (clientTrade a clients postings) ∙ length-trades trades count
 
@@ -164,11 +164,11 @@ module _ (s : State) (buys sells trades : List ℕ) (a clients : ℕ) (starts : 
     unfolding clientsDay clientExchange exchangeOf listingIn clientAccount
     day-is =
         let t : recordedTrades area count ≡ map (clientTrade a clients postings) (recordedTrades trades count) = trades-are in
-        let e : used n 17 (tabulate 17 (clientAccount (clientsWith clients starts))) ≡ used (length (x .listings)) 17 (tabulate 17 (clientAccount b)) =
-        ap (λ (k : ℕ). used k 17 (tabulate 17 (clientAccount b))) (sym contracts-are) in
+        let e : used n clientPlaces (tabulate clientPlaces (clientAccount (clientsWith clients starts))) ≡ used (length (x .listings)) clientPlaces (tabulate clientPlaces (clientAccount b)) =
+        ap (λ (k : ℕ). used k clientPlaces (tabulate clientPlaces (clientAccount b))) (sym contracts-are) in
         λ i. record { listings = x .listings; accounts = e i; trades = t i; next = s .next; nextstamp = s .nextstamp; settlements = s .settlements }
 
-    each-booked : (i : ℕ) → i < count → Booked n 17 (getD (recordedTrades area count) i noTrade)
+    each-booked : (i : ℕ) → i < count → Booked n clientPlaces (getD (recordedTrades area count) i noTrade)
     unfolding exchangeOf
     each-booked i l =
         let k : i < length (recordedTrades trades count) = rw (length-trades trades count) l in

@@ -13,6 +13,8 @@ use Rattle.laws.specs.Sums.{sumTo, sumTo-ext}
 use Rattle.laws.specs.Tabulate.{tabulate, length-tabulate, getD-tabulate}
 use Rattle.areas.specs.Lists.{over, padded}
 use Rattle.areas.proofs.Lists.{getD-padded}
+use Rattle.rules.specs.Bounds.{maxAccounts, maxContracts, maxLimit}
+use Rattle.rules.specs.DayFile.{countWidth}
 use Rattle.rules.specs.Exchange.{Exchange, Listing, accountAt, holdingAt, listingAt, noAccount, noHolding, noTrade}
 use Rattle.rules.specs.Holdings.{bookTrades, neverBelowZero, startOfDay}
 use Rattle.rules.specs.Memory.{Declared, exchangeOf, listingIn, recordedTrades, used, memory}
@@ -24,7 +26,7 @@ use Rattle.rules.specs.declared.State.{State}
 use Rattle.rules.specs.declared.Trade.{Trade}
 use Rattle.rules.proofs.Codecs.{length-trades}
 use Rattle.rules.proofs.InUse.{contracts-in-use, listing-in-use, used-holding}
-use Rattle.accounting.specs.Article32.{AllCovered}
+use Rattle.accounting.specs.DayLegs.{AllCovered}
 use Rattle.accounting.proofs.Replay.{replay-covered}
 use Rattle.settlement.specs.Settling.{AllPayable, BooksIs, accountIn, closingTo, contractIn, dayIn, holdingIn, holdingTo}
 use Rattle.settlement.specs.declared.balances.Books.{Books}
@@ -33,8 +35,8 @@ use Rattle.clients.specs.Parts.{clientsWith}
 use Rattle.replaying.specs.Parts.{Replayable, ReplayIs}
 use Rattle.replaying.proofs.Started.{start-at, used-day}
 use Rattle.statements.specs.Parts.{Brokered, Profitable, Tellable, ToldIs, accountsBytes, bookBytes, clientState, clientsDay, pricesDue, refusedWith, told}
-use Rattle.clients.specs.Clients.{clientAccount, holdingsNow, inRow, legCount, legsIn, neverClosesMore}
-use Rattle.statements.specs.Statement.{holdingBytes, holdingsBytes, profitBytes, profitsBytes, statementOf, tradeBytes, tradesBytes}
+use Rattle.clients.specs.Clients.{clientAccount, holdingsNow, inRow, legCount, legsIn, neverClosesMore, clientPlaces}
+use Rattle.statements.specs.Statement.{holdingBytes, holdingsBytes, profitBytes, profitsBytes, statementOf, tradeBytes, tradesBytes, legWidth, holdingWidth, profitWidth}
 use Rattle.replaying.specs.declared.Held.{Held}
 use Rattle.clients.proofs.Rows.{length-row, length-row-total, row-ext, total-bound}
 use Rattle.statements.specs.declared.Statement.{Statement}
@@ -43,18 +45,18 @@ use Rattle.statements.proofs.Sections.{few-entries, length-holding, len
 
 -- ---- the clients as accounts
 
-pub same-starts : (clients : ℕ) (starts : List ℕ) → tabulate 32 (clientAccount (clientsWith clients starts)) ≡ startOfDay (tabulate 32 (clientAccount (clientsWith clients starts)))
+pub same-starts : (clients : ℕ) (starts : List ℕ) → tabulate maxAccounts (clientAccount (clientsWith clients starts)) ≡ startOfDay (tabulate maxAccounts (clientAccount (clientsWith clients starts)))
 unfolding startOfDay tabulate clientAccount
 same-starts clients starts = refl
 
-first-used : (n : ℕ) (f : ℕ → Account) → used n 17 (tabulate 32 f) ≡ used n 17 (tabulate 17 f)
+first-used : (n : ℕ) (f : ℕ → Account) → used n clientPlaces (tabulate maxAccounts f) ≡ used n clientPlaces (tabulate clientPlaces f)
 unfolding tabulate
 first-used n f = refl
 
 -- ---- the day
 
 module _ {s : State} {buys sells area starts : List ℕ} {clients legs′ : ℕ} (g : Brokered s buys sells area starts clients legs′) {accounts : List Account}
-    (e : accounts ≡ tabulate 32 (clientAccount (clientsWith clients starts))) where
+    (e : accounts ≡ tabulate maxAccounts (clientAccount (clientsWith clients starts))) where
   abbrev y : Exchange
   y = clientsDay s buys sells area starts clients
 
@@ -64,22 +66,22 @@ module _ {s : State} {buys sells area starts : List ℕ} {clients legs′ : ℕ}
   abbrev ts : List Trade
   ts = recordedTrades area (s .tradecount)
 
-  used-clients : used n 17 accounts ≡ used n 17 (tabulate 17 (clientAccount (clientsWith clients starts)))
-  used-clients = ap (used n 17) e ∙ first-used n (clientAccount (clientsWith clients starts))
+  used-clients : used n clientPlaces accounts ≡ used n clientPlaces (tabulate clientPlaces (clientAccount (clientsWith clients starts)))
+  used-clients = ap (used n clientPlaces) e ∙ first-used n (clientAccount (clientsWith clients starts))
 
-  client-at : (k c : ℕ) → k < 17 → c < n → holdingAt accounts k c ≡ holdingAt (tabulate 17 (clientAccount (clientsWith clients starts))) k c
+  client-at : (k c : ℕ) → k < clientPlaces → c < n → holdingAt accounts k c ≡ holdingAt (tabulate clientPlaces (clientAccount (clientsWith clients starts))) k c
   client-at k c lk lc =
-      sym (used-holding n 17 accounts k c lk lc)
+      sym (used-holding n clientPlaces accounts k c lk lc)
       ∙ ap (λ (l : List Account). holdingAt l k c) used-clients
-      ∙ used-holding n 17 (tabulate 17 (clientAccount (clientsWith clients starts))) k c lk lc
+      ∙ used-holding n clientPlaces (tabulate clientPlaces (clientAccount (clientsWith clients starts))) k c lk lc
 
   start : accounts ≡ startOfDay accounts
   start = e ∙ same-starts clients starts ∙ ap startOfDay (sym e)
 
-  used-start : used n 17 accounts ≡ startOfDay (used n 17 accounts)
-  used-start = ap (used n 17) start ∙ used-day n 17 accounts
+  used-start : used n clientPlaces accounts ≡ startOfDay (used n clientPlaces accounts)
+  used-start = ap (used n clientPlaces) start ∙ used-day n clientPlaces accounts
 
-  pub replayable : Replayable accounts n 17 area (s .tradecount)
+  pub replayable : Replayable accounts n clientPlaces area (s .tradecount)
   replayable =
       record {
         few = g .contracts;
@@ -90,16 +92,16 @@ module _ {s : State} {buys sells area starts : List ℕ} {clients legs′ : ℕ}
         held = λ k c lk lc. rw (ap (λ (l : List Account). holdingAt l k c) start ∙ start-at accounts k c) (rw (client-at k c lk lc) (g .lots k c lk lc));
       }
 
-  accounts-of : used n 17 accounts ≡ y .accounts
+  accounts-of : used n clientPlaces accounts ≡ y .accounts
   unfolding clientsDay
   accounts-of = used-clients
 
-  module _ {h : Held} (q : ReplayIs accounts n 17 area (s .tradecount) h) where
+  module _ {h : Held} (q : ReplayIs accounts n clientPlaces area (s .tradecount) h) where
     pub covered-is : h .covered ≡ neverClosesMore y
     unfolding neverClosesMore clientsDay
     covered-is = q .covered ∙ ap (λ (l : List Account). neverBelowZero l ts) (used-start ∙ ap startOfDay used-clients)
 
-    holdings-are : h .covered ≡ true → used n 17 (h .accounts) ≡ holdingsNow y
+    holdings-are : h .covered ≡ true → used n clientPlaces (h .accounts) ≡ holdingsNow y
     unfolding holdingsNow clientsDay
     holdings-are t = q .held t ∙ ap (λ (l : List Account). bookTrades l ts) (used-start ∙ ap startOfDay used-clients)
 
@@ -123,28 +125,28 @@ module _ {s : State} {buys sells area starts : List ℕ} {clients legs′ : ℕ}
   price-is : (c : ℕ) → c < n → getD (pricesDue cs buys sells area) c 0 ≡ settlementPrice y c
   price-is c lc =
       let f : ℕ → ℕ = settlementPrice (exchangeOf (memory cs buys sells area)) in
-      getD-padded 4 c 0 0 (tabulate n f) (rw (length-tabulate n f) lc) ∙ getD-tabulate n c f 0 lc ∙ same-price c
+      getD-padded maxContracts c 0 0 (tabulate n f) (rw (length-tabulate n f) lc) ∙ getD-tabulate n c f 0 lc ∙ same-price c
 
   -- ---- a client's day
 
-  holding-is : (k c : ℕ) → k < 17 → c < n → holdingIn cs k c ≡ holdingAt (y .accounts) k c
+  holding-is : (k c : ℕ) → k < clientPlaces → c < n → holdingIn cs k c ≡ holdingAt (y .accounts) k c
   unfolding holdingAt accountAt
-  holding-is k c lk lc = sym (used-holding n 17 accounts k c lk lc) ∙ ap (λ (l : List Account). holdingAt l k c) accounts-of
+  holding-is k c lk lc = sym (used-holding n clientPlaces accounts k c lk lc) ∙ ap (λ (l : List Account). holdingAt l k c) accounts-of
 
-  day-is : (k c : ℕ) → k < 17 → c < n → dayIn cs area k c ≡ dayOf y k c
+  day-is : (k c : ℕ) → k < clientPlaces → c < n → dayIn cs area k c ≡ dayOf y k c
   unfolding dayIn dayOf clientsDay
   day-is k c lk lc =
       ap₂ (λ (r : ℕ) (h : Holding). afterLegs (dayStart r (h .startlong) (h .startshort)) (legs k c ts))
       (sym (ap (λ (t : Contract). t .reference) (contract-is c lc))) (holding-is k c lk lc)
 
-  closing-is : (k : ℕ) → k < 17 → closingTo cs area k n ≡ closingProfit y k
+  closing-is : (k : ℕ) → k < clientPlaces → closingTo cs area k n ≡ closingProfit y k
   unfolding closingTo closingProfit
   closing-is k lk =
       sumTo-ext n _ (λ c. pos (listingAt y c .contract .multiplier) *ℤ dayOf y k c .closing)
       (λ c lc. ap₂ (λ (t : Contract) (d : Day). pos (t .multiplier) *ℤ d .closing) (sym (contract-is c lc)) (day-is k c lk lc))
       ∙ ap (λ (m : ℕ). sumTo m (λ c. pos (listingAt y c .contract .multiplier) *ℤ dayOf y k c .closing)) (sym contracts-are)
 
-  holding-profit-is : (k : ℕ) → k < 17 → holdingTo cs area (pricesDue cs buys sells area) k n ≡ holdingProfit y k
+  holding-profit-is : (k : ℕ) → k < clientPlaces → holdingTo cs area (pricesDue cs buys sells area) k n ≡ holdingProfit y k
   unfolding holdingTo holdingProfit
   holding-profit-is k lk =
       sumTo-ext n _ (λ c. pos (listingAt y c .contract .multiplier) *ℤ holdingGain (settlementPrice y c) (dayOf y k c))
@@ -154,25 +156,25 @@ module _ {s : State} {buys sells area starts : List ℕ} {clients legs′ : ℕ}
   -- ---- what paying the clients asks for
 
   module _ (covered : neverClosesMore y ≡ true) where
-    day-covered : (k c : ℕ) → k < 17 → c < n → AllCovered (dayStart (contractIn s c .reference) (holdingIn cs k c .startlong) (holdingIn cs k c .startshort)) (legs k c ts)
+    day-covered : (k c : ℕ) → k < clientPlaces → c < n → AllCovered (dayStart (contractIn s c .reference) (holdingIn cs k c .startlong) (holdingIn cs k c .startshort)) (legs k c ts)
     unfolding neverClosesMore clientsDay
     day-covered k c lk lc =
         subst (λ (h : Holding). AllCovered (dayStart (contractIn s c .reference) (h .startlong) (h .startshort)) (legs k c ts))
         (sym (holding-is k c lk lc))
         (replay-covered k c (y .accounts) (y .trades) (contractIn s c .reference) covered)
 
-    lots-small : (k c : ℕ) → k < 17 → c < n → (holdingIn cs k c .startlong ≤ 100_000) × (holdingIn cs k c .startshort ≤ 100_000)
+    lots-small : (k c : ℕ) → k < clientPlaces → c < n → (holdingIn cs k c .startlong ≤ maxLimit) × (holdingIn cs k c .startshort ≤ maxLimit)
     unfolding holdingAt accountAt
     lots-small k c lk lc = rw (client-at k c lk lc) (g .lots k c lk lc)
 
-    account-is : (k : ℕ) → k < 32 → accountIn cs k ≡ clientAccount (clientsWith clients starts) k
-    account-is k lk = ap (λ (l : List Account). getD l k noAccount) e ∙ getD-tabulate 32 k (clientAccount (clientsWith clients starts)) noAccount lk
+    account-is : (k : ℕ) → k < maxAccounts → accountIn cs k ≡ clientAccount (clientsWith clients starts) k
+    account-is k lk = ap (λ (l : List Account). getD l k noAccount) e ∙ getD-tabulate maxAccounts k (clientAccount (clientsWith clients starts)) noAccount lk
 
-    no-balance : (k : ℕ) → k < 32 → accountIn cs k .balance ≡ pos 0
+    no-balance : (k : ℕ) → k < maxAccounts → accountIn cs k .balance ≡ pos 0
     unfolding clientAccount
     no-balance k lk = ap (λ (a : Account). a .balance) (account-is k lk)
 
-    four-holdings : (k : ℕ) → k < 32 → length (accountAt accounts k .holdings) ≡ 4
+    four-holdings : (k : ℕ) → k < maxAccounts → length (accountAt accounts k .holdings) ≡ maxContracts
     unfolding clientAccount accountAt tabulate
     four-holdings k lk = ap (λ (a : Account). length (a .holdings)) (account-is k lk)
 
@@ -181,9 +183,9 @@ module _ {s : State} {buys sells area starts : List ℕ} {clients legs′ : ℕ}
         let d = g .declared in
         record {
           contracts = d .contracts;
-          accounts = ap length e ∙ length-tabulate 32 (clientAccount (clientsWith clients starts));
-          buys = d .buys;
-          sells = d .sells;
+          accounts = ap length e ∙ length-tabulate maxAccounts (clientAccount (clientsWith clients starts));
+          buycounts = d .buycounts;
+          sellcounts = d .sellcounts;
           holdings = four-holdings;
         }
 
@@ -219,7 +221,7 @@ module _ {s : State} {buys sells area starts : List ℕ} {clients legs′ : ℕ}
   -- ---- the statement's length
 
   abbrev size : ℕ
-  size = 12 + 16 * legs′ + 8 * (clients * n) + 16 * clients
+  size = 3 * countWidth + legWidth * legs′ + holdingWidth * (clients * n) + profitWidth * clients
 
   -- each trade has two legs at most
   few-legs : legs′ ≤ 2_048
@@ -233,13 +235,13 @@ module _ {s : State} {buys sells area starts : List ℕ} {clients legs′ : ℕ}
   statement-length : length (statementOf y clients) ≡ size
   unfolding statementOf tradesBytes holdingsBytes profitsBytes legCount clientsDay
   statement-length =
-      let t : length (inRow (length ts) (λ i. tradeBytes (getD ts i noTrade))) ≡ 16 * legCount ts =
-      length-row-total (λ i. tradeBytes (getD ts i noTrade)) (λ i. legsIn (getD ts i noTrade)) 16 (length ts) (λ i. length-trade (getD ts i noTrade)) in
+      let t : length (inRow (length ts) (λ i. tradeBytes (getD ts i noTrade))) ≡ legWidth * legCount ts =
+      length-row-total (λ i. tradeBytes (getD ts i noTrade)) (λ i. legsIn (getD ts i noTrade)) legWidth (length ts) (λ i. length-trade (getD ts i noTrade)) in
       let h : length (inRow clients (λ k. inRow (length (y .listings)) (λ c. holdingBytes (holdingAt (holdingsNow y) k c)))) ≡ 8 * length (y .listings) * clients =
       length-row (λ k. inRow (length (y .listings)) (λ c. holdingBytes (holdingAt (holdingsNow y) k c))) (8 * length (y .listings)) clients
       (λ k lk. length-row (λ c. holdingBytes (holdingAt (holdingsNow y) k c)) 8 (length (y .listings)) (λ c lc. length-holding (holdingAt (holdingsNow y) k c))) in
-      let p : length (inRow clients (λ k. profitBytes (closingProfit y k) (holdingProfit y k))) ≡ 16 * clients =
-      length-row (λ k. profitBytes (closingProfit y k) (holdingProfit y k)) 16 clients (λ k lk. length-profit (closingProfit y k) (holdingProfit y k)) in
+      let p : length (inRow clients (λ k. profitBytes (closingProfit y k) (holdingProfit y k))) ≡ profitWidth * clients =
+      length-row (λ k. profitBytes (closingProfit y k) (holdingProfit y k)) profitWidth clients (λ k lk. length-profit (closingProfit y k) (holdingProfit y k)) in
       let m : 8 * length (y .listings) * clients ≡ 8 * (clients * n) =
       ap (λ (i : ℕ). 8 * i * clients) contracts-are ∙ mul-assoc 8 n clients ∙ ap (λ (i : ℕ). 8 * i) (mul-comm n clients) in
       let l = g .legs-are in
@@ -247,10 +249,10 @@ module _ {s : State} {buys sells area starts : List ℕ} {clients legs′ : ℕ}
 
   -- ---- the bytes that the code writes are the statement's
 
-  module _ {h : Held} (q : ReplayIs accounts n 17 area (s .tradecount) h) (t : h .covered ≡ true) {r : Books} (w : BooksIs cs area (pricesDue cs buys sells area) r) where
-    now-at : (k c : ℕ) → k < 17 → c < n → getD (getD (h .accounts) k noAccount .holdings) c noHolding ≡ holdingAt (holdingsNow y) k c
+  module _ {h : Held} (q : ReplayIs accounts n clientPlaces area (s .tradecount) h) (t : h .covered ≡ true) {r : Books} (w : BooksIs cs area (pricesDue cs buys sells area) r) where
+    now-at : (k c : ℕ) → k < clientPlaces → c < n → getD (getD (h .accounts) k noAccount .holdings) c noHolding ≡ holdingAt (holdingsNow y) k c
     unfolding holdingAt accountAt
-    now-at k c lk lc = sym (used-holding n 17 (h .accounts) k c lk lc) ∙ ap (λ (l : List Account). holdingAt l k c) (holdings-are q t)
+    now-at k c lk lc = sym (used-holding n clientPlaces (h .accounts) k c lk lc) ∙ ap (λ (l : List Account). holdingAt l k c) (holdings-are q t)
 
     holdings-told : accountsBytes (h .accounts) clients n ≡ holdingsBytes (holdingsNow y) clients n
     unfolding holdingsBytes
@@ -258,8 +260,8 @@ module _ {s : State} {buys sells area starts : List ℕ} {clients legs′ : ℕ}
         row-ext _ (λ k. inRow n (λ c. holdingBytes (holdingAt (holdingsNow y) k c))) clients
         (λ k lk. row-ext _ (λ c. holdingBytes (holdingAt (holdingsNow y) k c)) n (λ c lc. ap holdingBytes (now-at k c (omega (arith, g .few)) lc)))
 
-    paid-at : (f : ℕ → ℤ) (k : ℕ) → k < clients → getD (padded 32 (pos 0) (tabulate clients f)) k (pos 0) ≡ f k
-    paid-at f k lk = getD-padded 32 k (pos 0) (pos 0) (tabulate clients f) (rw (length-tabulate clients f) lk) ∙ getD-tabulate clients k f (pos 0) lk
+    paid-at : (f : ℕ → ℤ) (k : ℕ) → k < clients → getD (padded maxAccounts (pos 0) (tabulate clients f)) k (pos 0) ≡ f k
+    paid-at f k lk = getD-padded maxAccounts k (pos 0) (pos 0) (tabulate clients f) (rw (length-tabulate clients f) lk) ∙ getD-tabulate clients k f (pos 0) lk
 
     profits-told : bookBytes (r .closing) (r .holding) clients ≡ profitsBytes y clients
     unfolding profitsBytes
@@ -292,7 +294,7 @@ module _ {s : State} {buys sells area starts : List ℕ} {clients legs′ : ℕ}
 
   -- ---- nothing is told: a client closes more than it has, or the area is too short
 
-  module _ {h : Held} (q : ReplayIs accounts n 17 area (s .tradecount) h) {out : List ℕ} {r : Statement} where
+  module _ {h : Held} (q : ReplayIs accounts n clientPlaces area (s .tradecount) h) {out : List ℕ} {r : Statement} where
     pub told-uncovered : h .covered ≡ false → r ≡ refusedWith 27 → ToldIs y clients out r out
     told-uncovered t = told-27 y clients out (sym (covered-is q) ∙ t) r
 

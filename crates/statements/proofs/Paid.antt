@@ -15,7 +15,7 @@ use Rattle.rules.proofs.InUse.{contracts-in-use}
 use Rattle.rules.proofs.Refusals.{Failed, failed}
 use Rattle.accounting.proofs.Facts.{facts}
 use Rattle.invariants.proofs.MemoryRoom.{memory-ok}
-use Rattle.clients.specs.Clients.{Clients}
+use Rattle.clients.specs.Clients.{Clients, maxClients}
 use Rattle.clients.proofs.AddUp.{Granted, clients-add-up}
 use Rattle.statements.specs.Statement.{AddsUp, brokerRefusals, statementCode}
 
@@ -38,9 +38,9 @@ module _ (m : Memory) (account : ℕ) (b : Clients) (room : ℕ) (e : statementC
   pub granted : Granted day (placeOf account) b
   unfolding brokerRefusals
   granted =
-      let q = either-false (ltb 16 (b .count)) _ (tests .1 .1 .0) in
+      let q = either-false (ltb maxClients (b .count)) _ (tests .1 .1 .0) in
       record {
-        few = ltb-false 16 (b .count) (q .0);
+        few = ltb-false maxClients (b .count) (q .0);
         adds = yes _ (q .1);
         posted = yes _ (tests .1 .1 .1 .0);
         covered = yes _ (tests .1 .1 .1 .1 .0);

@@ -2,7 +2,7 @@
 use mathlib.Core.Bool.{Bool, true, false, not, _&&_, _||_}
 use mathlib.Core.List.{List}
 use mathlib.Core.Path.{_≡_, refl, sym, ap, _∙_}
-use Prim.Native.Nat.{ℕ, _-_, _<_, _≤_}
+use Prim.Native.Nat.{ℕ, _<_, _≤_}
 use native.Mathlib.Omega.{arith}
 use borrow.Author.Tests.{eqb-false, le-ltb, lt-ltb, ltb-false, not-false}
 use lib.Dec.{eqb, ltb}
@@ -16,7 +16,7 @@ use Rattle.rules.specs.declared.State.{State}
 use Rattle.rules.proofs.InUse.{contracts-in-use, holding-in-use}
 use Rattle.engine.proofs.Formed.{formed, no-account}
 use Rattle.statements.specs.Parts.{AnswerIs, Postable, PostedIs, broker, refusedWith}
-use Rattle.clients.specs.Clients.{Clients, clientExchange, startLong, startShort, startsAddUp, total}
+use Rattle.clients.specs.Clients.{Clients, clientExchange, startLong, startShort, startsAddUp, total, maxClients}
 use Rattle.statements.specs.Statement.{StatementIs, brokerRefusals, statementCode}
 use Rattle.statements.specs.declared.Statement.{Statement}
 use Rattle.statements.proofs.Paid.{statement-adds-up}
@@ -57,11 +57,11 @@ module _ (m : Memory) (account : ℕ) (b : Clients) (out : List ℕ) where
     by-2 e r v = refused-by 2 (past-21 ∙ code-here 2 _ _ e) refl r v
 
     module _ (there : absent account (x .accounts) ≡ false) where
-      pub by-25 : (ltb 16 (b .count) || not (startsAddUp x (placeOf account) b)) ≡ true → (r : Statement) → r ≡ refusedWith 25 → StatementIs m account b out r out
+      pub by-25 : (ltb maxClients (b .count) || not (startsAddUp x (placeOf account) b)) ≡ true → (r : Statement) → r ≡ refusedWith 25 → StatementIs m account b out r out
       unfolding brokerRefusals
       by-25 e r v = refused-by 25 (past-21 ∙ code-later 2 _ _ there ∙ code-here 25 _ _ e) refl r v
 
-      pub from-26 : (ltb 16 (b .count) || not (startsAddUp x (placeOf account) b)) ≡ false → (r : Statement) (out′ : List ℕ)
+      pub from-26 : (ltb maxClients (b .count) || not (startsAddUp x (placeOf account) b)) ≡ false → (r : Statement) (out′ : List ℕ)
           → PostedIs m (placeOf account) (b .count) (b .starts) (b .postings) out r out′ → StatementIs m account b out r out′
       unfolding brokerRefusals
       from-26 e r out′ a = answered _ (sym (past-21 ∙ code-later 2 _ _ there ∙ code-later 25 _ _ e)) r out′ a
@@ -89,11 +89,11 @@ module _ (s : State) (buys sells trades : List ℕ) (f : WellFormedState s buys 
     there : absent account (exchangeOf memory′ .accounts) ≡ false
     there = no-account memory′ (formed f) account ∙ present
 
-    pub too-many : 16 < clients → (r : Statement) → r ≡ refusedWith 25 → StatementIs memory′ account b′ out r out
-    too-many h r w = by-25 memory′ account b′ out (f .formed) there (true-either _ _ (lt-ltb 16 clients h)) r w
+    pub too-many : maxClients < clients → (r : Statement) → r ≡ refusedWith 25 → StatementIs memory′ account b′ out r out
+    too-many h r w = by-25 memory′ account b′ out (f .formed) there (true-either _ _ (lt-ltb maxClients clients h)) r w
 
     -- t: the code's answer whether the clients' lots add up, read at the account's place
-    module _ (few : clients ≤ 16) (k : ℕ) (ek : k ≡ clients) (place : ℕ) (ep : place ≡ account - 1) (t : Bool)
+    module _ (few : clients ≤ maxClients) (k : ℕ) (ek : k ≡ clients) (place : ℕ) (ep : place ≡ placeOf account) (t : Bool)
         (et : t ≡ all (λ c. eqb (total k (λ i. startLong starts i c)) (getD (getD (s .accounts) place noAccount .holdings) c noHolding .startlong)
         && eqb (total k (λ i. startShort starts i c)) (getD (getD (s .accounts) place noAccount .holdings) c noHolding .startshort)) (s .contractcount)) where
       adds-is : t ≡ startsAddUp (exchangeOf memory′) (placeOf account) b′
@@ -103,15 +103,15 @@ module _ (s : State) (buys sells trades : List ℕ) (f : WellFormedState s buys 
           ∙ rw (ek, ep, contracts-in-use memory′)
           (all-ext _ _ (s .contractcount)
           (λ c lc. ap (λ (h : Holding). eqb (total clients (λ i. startLong starts i c)) (h .startlong) && eqb (total clients (λ i. startShort starts i c)) (h .startshort))
-          (sym (holding-in-use memory′ (account - 1) c (omega (arith, account-low account (s .accountcount) present, account-high account (s .accountcount) present)) lc))))
+          (sym (holding-in-use memory′ (placeOf account) c (omega (arith, account-low account (s .accountcount) present, account-high account (s .accountcount) present)) lc))))
 
       pub not-adding : not t ≡ true → (r : Statement) → r ≡ refusedWith 25 → StatementIs memory′ account b′ out r out
-      not-adding h r w = by-25 memory′ account b′ out (f .formed) there (either-true (ltb 16 clients) _ (ap not (sym adds-is) ∙ h)) r w
+      not-adding h r w = by-25 memory′ account b′ out (f .formed) there (either-true (ltb maxClients clients) _ (ap not (sym adds-is) ∙ h)) r w
 
       module _ (h : not t ≡ false) where
-        pub postable : Postable s buys sells trades (account - 1) clients starts
+        at-place : Postable s buys sells trades (placeOf account) clients starts
         unfolding startsAddUp
-        postable =
+        at-place =
             record {
               formed = f;
               account = omega (arith, account-low account (s .accountcount) present, account-high account (s .accountcount) present);
@@ -119,7 +119,11 @@ module _ (s : State) (buys sells trades : List ℕ) (f : WellFormedState s buys 
               adds = sym adds-is ∙ not-false t h;
             }
 
-        pub adding : (r : Statement) (out′ : List ℕ) → PostedIs memory′ (account - 1) clients starts postings out r out′ → StatementIs memory′ account b′ out r out′
-        adding r out′ a =
-            from-26 memory′ account b′ out (f .formed) there
-            (rw (le-ltb 16 clients few) (ap not (sym adds-is) ∙ h)) r out′ a
+        module _ {word : ℕ} (same : word ≡ placeOf account) where
+          pub postable : Postable s buys sells trades word clients starts
+          postable = rw same at-place
+
+          pub adding : (r : Statement) (out′ : List ℕ) → PostedIs memory′ word clients starts postings out r out′ → StatementIs memory′ account b′ out r out′
+          adding r out′ a =
+              from-26 memory′ account b′ out (f .formed) there
+              (rw (le-ltb maxClients clients few) (ap not (sym adds-is) ∙ h)) r out′ (rw same at a)

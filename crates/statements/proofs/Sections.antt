@@ -1,17 +1,14 @@
 -- The statement's bytes written one after the other. Assumes nothing.
-use mathlib.Core.Bool.{Bool, true, false, true≢false}
+use mathlib.Core.Bool.{Bool, true, false}
 use mathlib.Core.List.{List, [], _∷_, _++_}
 use mathlib.Core.Path.{_≡_, refl, ap, _∙_}
-use Prim.Native.Nat.{ℕ, zero, suc, _+_, _-_, _*_, _<_, _≤_, _^_}
-use native.Mathlib.Nat.{le-refl, not-suc-le-zero, mul-le-mul-right}
+use Prim.Native.Nat.{ℕ, zero, suc, _+_, _-_, _*_, _<_, _≤_}
+use native.Mathlib.Nat.{le-refl, mul-le-mul-right}
 use native.Mathlib.Omega.{arith}
-use borrow.Author.Tests.{lt-ltb, le-ltb, ltb-true}
+use borrow.Author.Tests.{lt-ltb, le-ltb}
 use lib.Dec.{eqb}
-use lib.IntN.{ℤ, pos, negsuc, natAbs}
+use lib.IntN.{ℤ}
 use lib.ListN.{length, getD, length-append}
-use lib.Signed.{ltZ}
-use mir.Syntax.{w64}
-use mir.Val.{SFits}
 use Rattle.laws.specs.Choice.{pick}
 use Rattle.areas.specs.Lists.{over}
 use Rattle.rules.specs.Bounds.{maxResting}
@@ -22,9 +19,9 @@ use Rattle.rules.specs.declared.Trade.{Trade}
 use Rattle.rules.proofs.Codecs.{length-trades}
 use Rattle.endian.specs.Written.{Written}
 use Rattle.endian.proofs.Writes.{then, no-byte, looser, length-four}
-use Rattle.endian.specs.Numbers.{two, four, eight}
+use Rattle.endian.specs.Numbers.{two, four, eight, unsigned}
 use Rattle.clients.specs.Clients.{inRow, isClient, legsIn}
-use Rattle.statements.specs.Statement.{legBytes, tradeBytes, tradesBytes, holdingBytes, profitBytes, section, unsigned}
+use Rattle.statements.specs.Statement.{legBytes, tradeBytes, tradesBytes, holdingBytes, profitBytes, section}
 use Rattle.clients.proofs.Rows.{row-more}
 
 -- no looser than they are
@@ -168,31 +165,6 @@ profit-written closing holding m n e f w v = rw (← e, ← f) (then w v)
 pub length-profit : (closing holding : ℤ) → length (profitBytes closing holding) ≡ 16
 unfolding profitBytes eight four two
 length-profit closing holding = refl
-
--- a signed number, from its size
-module _ (x : ℤ) (n : ℕ) (f : SFits w64 x) (e : n ≡ natAbs x) where
-  pub some-below : ltZ x (pos 0) ≡ true → (1 ≤ n) × (n ≤ 2 ^ 63)
-  some-below t = by-sign x f e t
-    where
-      by-sign : (x : ℤ) → SFits w64 x → n ≡ natAbs x → ltZ x (pos 0) ≡ true → (1 ≤ n) × (n ≤ 2 ^ 63)
-      by-sign (pos k) f e t = absurd (not-suc-le-zero (ltb-true k 0 t))
-      by-sign (negsuc k) f e t = (omega arith, omega (arith, f .sfits))
-
-  pub unsigned-below : ltZ x (pos 0) ≡ true → 18_446_744_073_709_551_615 - n + 1 ≡ unsigned x
-  unfolding unsigned
-  unsigned-below t = by-sign x f e t
-    where
-      by-sign : (x : ℤ) → SFits w64 x → n ≡ natAbs x → ltZ x (pos 0) ≡ true → 18_446_744_073_709_551_615 - n + 1 ≡ unsigned x
-      by-sign (pos k) f e t = absurd (not-suc-le-zero (ltb-true k 0 t))
-      by-sign (negsuc k) f e t = omega (arith, f .sfits)
-
-  pub unsigned-above : ltZ x (pos 0) ≡ false → n ≡ unsigned x
-  unfolding unsigned
-  unsigned-above t = by-sign x e t
-    where
-      by-sign : (x : ℤ) → n ≡ natAbs x → ltZ x (pos 0) ≡ false → n ≡ unsigned x
-      by-sign (pos k) e t = e
-      by-sign (negsuc k) e t = absurd (true≢false t)
 
 -- ---- the three sections, each after its count
 

@@ -3,9 +3,9 @@
 use mathlib.Core.Bool.{not, _||_}
 use mathlib.Core.List.{List, [], _∷_, _++_}
 use mathlib.Core.Path.{_≡_}
-use Prim.Native.Nat.{ℕ, _+_, _-_, _*_}
+use Prim.Native.Nat.{ℕ, _+_, _*_}
 use lib.Dec.{eqb, ltb}
-use lib.IntN.{ℤ, pos, negsuc, _+ℤ_}
+use lib.IntN.{ℤ, _+ℤ_}
 use lib.ListN.{length, getD}
 use Rattle.laws.specs.Choice.{pick, allOf}
 use Rattle.laws.specs.Sums.{sumTo}
@@ -17,7 +17,7 @@ use Rattle.rules.specs.Settlement.{closingProfit, holdingProfit}
 use Rattle.rules.specs.declared.Account.{Account}
 use Rattle.rules.specs.declared.Holding.{Holding}
 use Rattle.rules.specs.declared.Trade.{Trade}
-use Rattle.endian.specs.Numbers.{four, eight}
+use Rattle.endian.specs.Numbers.{four, eight, unsigned}
 use Rattle.clients.specs.Clients.{Clients, clientExchange, holdingsNow, inRow, isClient, legCount, maxClients, neverClosesMore, startsAddUp, tradePosted}
 use Rattle.statements.specs.declared.Statement.{Statement}
 
@@ -53,11 +53,6 @@ holdingWidth = 8
 
 unfoldable pub holdingsBytes : List Account → ℕ → ℕ → List ℕ
 holdingsBytes accounts clients contracts = inRow clients (λ k. inRow contracts (λ c. holdingBytes (holdingAt accounts k c)))
-
--- a signed number in eight bytes: below zero, what it is above -2^64
-unfoldable pub unsigned : ℤ → ℕ
-unsigned (pos n) = n
-unsigned (negsuc n) = 18_446_744_073_709_551_615 - n
 
 -- "profit (signed closing 8, signed holding 8, by client)"
 unfoldable pub profitBytes : ℤ → ℤ → List ℕ

@@ -2,7 +2,7 @@
 -- 100. It buys 4 at 102 for client 1 (order 2), sells 2 at 104 to close for client 2 (order 3), and meets its own order for client 2: a
 -- lot bought at 103 (order 5) is closed in the same trade (order 6). The settlement price due is 719 / 7, rounded down: 102.
 -- Client 1 holds 7 and gains 3 x 2 x 10 on what it holds; client 2 holds nothing and gained 2 x 4 x 10 by closing. By the account's own
--- order the parts are 110 and 30. Assumes nothing.
+-- order the parts are 110 and 30. A second day, short in contract 2, and the codes follow. Assumes nothing.
 use mathlib.Core.Bool.{Bool, true}
 use mathlib.Core.List.{List, [], _∷_, _++_}
 use mathlib.Core.Path.{_≡_, refl}
@@ -22,9 +22,9 @@ use Rattle.rules.specs.Memory.{Memory, countsInRange, hasRoom, wellFormedMemory
 use Rattle.rules.specs.Settlement.{afterDayLeg, afterLegs, closingProfit, dayOf, dayStart, firstLots, gain, holdingGain, holdingProfit, legs, only, otherLots, priceFrom, settlementPrice, tradedValue, tradesIn, weightedPrice}
 use Rattle.rules.specs.WellFormed.{ahead, aheadOfFirst, allListed, balanceInRange, contractInRange, countersInRange, holdingInRange, holdingsInRange, listed, listingQuoted, markAllowed, markInRange, orderInRange, ordersInRange, queueQuoted, queuesSorted, quotes, rangesKept, replays, restingInRange, sorted, tradeInRange, uncrossed, usedOnce, wellFormedContents}
 use Rattle.rules.specs.declared.Trade.{Trade}
-use Rattle.endian.specs.Numbers.{two, four, eight}
+use Rattle.endian.specs.Numbers.{two, four, eight, unsigned}
 use Rattle.clients.specs.Clients.{Clients, clientAccount, clientExchange, clientPlace, clientTrade, holdingsNow, inRow, isPosted, legCount, legsIn, neverClosesMore, posted, postedTo, startsAddUp, total, tradePosted}
-use Rattle.statements.specs.Statement.{brokerRefusals, holdingBytes, holdingsBytes, legBytes, profitBytes, profitsBytes, statementCode, statementOf, tradeBytes, tradesBytes, unsigned}
+use Rattle.statements.specs.Statement.{brokerRefusals, holdingBytes, holdingsBytes, legBytes, profitBytes, profitsBytes, statementCode, statementOf, tradeBytes, tradesBytes}
 
 unfoldable pub trade : ℕ → ℕ → ℕ → ℕ → ℕ → ℕ → ℕ → ℕ → Trade
 trade price lots buyorder sellorder buyer seller buyclose sellclose =

@@ -10,7 +10,7 @@ use rules::Account;
 use rules::State;
 
 // The counts of the three sections.
-const COUNTS_WIDTH: usize = 3 * rules::COUNT_WIDTH;
+const SECTION_COUNTS: usize = 3 * rules::COUNT_WIDTH;
 
 // The state with clients in place of its accounts.
 fn with_clients(state: State, accounts: [Account; rules::MAX_ACCOUNTS], clients: usize) -> State
@@ -43,7 +43,7 @@ fn tell<'a>(
     if !held.covered {
         return refused(27);
     }
-    let length = COUNTS_WIDTH
+    let length = SECTION_COUNTS
         + writing::LEG_WIDTH * legs
         + writing::HOLDING_WIDTH * (clients * contracts)
         + writing::PROFIT_WIDTH * clients;
@@ -85,7 +85,7 @@ pub fn posted_statement<'a>(
     ensures { λ r. ⌜ PostedIs (memory state (now (buys .entry)) (now (sells .entry)) (now (trades .entry))) place clients (now (starts .entry)) (now (postings .entry)) (now (out .entry)) r (now (out .exit)) ⌝ }
 {
     let count = state.tradecount;
-    let mut area = [0u32; rules::TRADE_STRIDE * rules::MAX_TRADES];
+    let mut area = [0u32; rules::TRADES_WORDS];
     let posting = clients::posting::post_trades(
         trades,
         count,

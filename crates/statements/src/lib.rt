@@ -50,8 +50,8 @@ pub fn client_statement<'a>(
         return refused(25);
     }
     let place = laws::place_of(account);
-    let holders = state.accounts;
-    let holder = holders[place];
+    let accounts = state.accounts;
+    let holder = accounts[place];
     let holdings = holder.holdings;
     if !clients::starts::add_up(starts, laws::wide(clients), holdings, state.contractcount) {
         return refused(25);
@@ -61,7 +61,7 @@ pub fn client_statement<'a>(
         buys,
         sells,
         trades,
-        account - 1,
+        laws::place_word(account),
         clients,
         starts,
         postings,

@@ -24,9 +24,18 @@ fn prices_due<'a>(
     let mut c: usize = 0;
     while c < contracts {
         let terms = state.contracts[c];
-        let bids = state.buycounts[c];
-        let offers = state.sellcounts[c];
-        prices[c] = price::settlement_price(terms, buys, bids, sells, offers, area, count, c);
+        let buycount = state.buycounts[c];
+        let sellcount = state.sellcounts[c];
+        prices[c] = price::settlement_price(
+            terms,
+            buys,
+            buycount,
+            sells,
+            sellcount,
+            area,
+            count,
+            c,
+        );
         c += 1;
     }
     prices

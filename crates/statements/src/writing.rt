@@ -19,7 +19,7 @@ use book::trades;
 use endian::writing::put_byte;
 use endian::writing::put_u32;
 use endian::writing::put_u64;
-use lines::number::magnitude;
+use endian::writing::unsigned;
 use rules::Account;
 use rules::Holding;
 use rules::Trade;
@@ -147,17 +147,6 @@ pub fn put_holdings(
         k += 1;
     }
     next
-}
-
-// A signed number as its eight bytes hold it.
-pub fn unsigned(x: i64) -> u64
-    ensures { λ r. ⌜ r ≡ statement.unsigned x ⌝ }
-{
-    let size = magnitude(x);
-    if x < 0 {
-        return 18446744073709551615 - size + 1;
-    }
-    size
 }
 
 fn put_profit(out: &mut [u8], at: usize, closing: i64, holding: i64) -> usize

@@ -19,9 +19,9 @@ use rules::Taker;
 
 // What stands in the book: orders on either side, trades of the day, the last price.
 struct Standing {
-    buys: usize,
-    sells: usize,
-    trades: usize,
+    buycount: usize,
+    sellcount: usize,
+    tradecount: usize,
     last: u32,
 }
 
@@ -171,11 +171,11 @@ fn order(
     if sell {
         let e = submit(
             sells,
-            s.sells,
+            s.sellcount,
             buys,
-            s.buys,
+            s.buycount,
             area,
-            s.trades,
+            s.tradecount,
             t,
             lots,
             price,
@@ -183,19 +183,19 @@ fn order(
         );
         print_entry(e, sell, lots, price);
         return Standing {
-            buys: e.opposite,
-            sells: e.own,
-            trades: e.made,
+            buycount: e.opposite,
+            sellcount: e.own,
+            tradecount: e.made,
             last: e.last,
         };
     }
     let e = submit(
         buys,
-        s.buys,
+        s.buycount,
         sells,
-        s.sells,
+        s.sellcount,
         area,
-        s.trades,
+        s.tradecount,
         t,
         lots,
         price,
@@ -203,9 +203,9 @@ fn order(
     );
     print_entry(e, sell, lots, price);
     Standing {
-        buys: e.own,
-        sells: e.opposite,
-        trades: e.made,
+        buycount: e.own,
+        sellcount: e.opposite,
+        tradecount: e.made,
         last: e.last,
     }
 }
@@ -264,22 +264,22 @@ fn main() {
     let mut sells = [0u32; rules::QUEUE_STRIDE];
     let mut area = [0u32; 90];
     let empty = Standing {
-        buys: 0,
-        sells: 0,
-        trades: 0,
+        buycount: 0,
+        sellcount: 0,
+        tradecount: 0,
         last: 109,
     };
     let mut s = fill(&mut buys, &mut sells, &mut area, empty);
-    print(b"fillable at 111: ", fillable(&sells, s.sells, 111));
-    print(b"\nfillable at 110: ", fillable(&sells, s.sells, 110));
+    print(b"fillable at 111: ", fillable(&sells, s.sellcount, 111));
+    print(b"\nfillable at 110: ", fillable(&sells, s.sellcount, 110));
     io::write_all(1, b"\n");
     s = order(&mut buys, &mut sells, &mut area, s, 8, false, 7, 110);
     s = order(&mut buys, &mut sells, &mut area, s, 9, false, 8, 112);
     io::write_all(1, b"buys:");
-    print_queue(&buys, s.buys);
+    print_queue(&buys, s.buycount);
     io::write_all(1, b"\nsells:");
-    print_queue(&sells, s.sells);
+    print_queue(&sells, s.sellcount);
     io::write_all(1, b"\ntrades:");
-    print_trades(&area, s.trades);
+    print_trades(&area, s.tradecount);
     io::write_all(1, b"\n");
 }

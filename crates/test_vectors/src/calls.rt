@@ -1,16 +1,16 @@
 // The calls, each on what a vector gives and held against what the vector tells.
 ghost use Prim.Native.Nat.{_≤_};
-use crate::building;
-use crate::building::ALL;
-use crate::building::Given;
-use crate::comparing;
-use crate::reading;
 use exchange::settling::Report;
 use mending::mend::Mended;
 use rules::Answer;
 use rules::State;
 use saving::Saved;
 use statements::Statement;
+use test_given::building;
+use test_given::building::ALL;
+use test_given::building::Given;
+use test_given::comparing;
+use test_given::reading;
 
 // Whether a call answered as told, and where the vector goes on.
 pub struct Checked {

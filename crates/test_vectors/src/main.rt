@@ -3,16 +3,16 @@
 ghost use Prim.Native.Nat.{_≤_};
 ghost use lib.ListN.{length};
 
-mod building;
 mod calls;
-mod comparing;
-mod reading;
 
-use building::ALL;
-use building::Given;
 use calls::Checked;
 use calls::Ran;
 use libc::STDOUT_FILENO;
+use test_given::building;
+use test_given::building::ALL;
+use test_given::building::Given;
+use test_given::comparing;
+use test_given::reading;
 
 fn left_as_told(
     ran: Ran,

@@ -6,8 +6,8 @@ use native.Mathlib.Omega.{arith}
 use borrow.Author.Needs.{needs}
 use lib.ListN.{length}
 use Rattle.laws.specs.Lists.{unmapped}
+use Rattle.laws.specs.Tests.{_and_, fails, last, passed, refused}
 use Rattle.invariants.proofs.MemoryRoom.{counts-ok}
-use Rattle.audit.proofs.Chains.{_and_, fails, last, passed, refused}
 use Rattle.audit.proofs.Whole.{contents-chain, few-settlements, ready, starts-tested, terms-tested, trades-tested, trades-words}
 use Rattle.audit.proofs.contents_are_well_formed.Statement.{statement}
 use Rattle.audit.proofs.contents_are_well_formed.Tie as tie

@@ -1,7 +1,7 @@
 -- `audit::well_formed` meets its contract: counts and room, then the contents. Assumes nothing.
 use mathlib.Core.Path.{_∙_}
 use borrow.Author.Needs.{needs}
-use Rattle.audit.proofs.Chains.{fails, last, passed, refused}
+use Rattle.laws.specs.Tests.{fails, last, passed, refused}
 use Rattle.audit.proofs.Whole.{whole-chain}
 use Rattle.audit.proofs.well_formed.Statement.{statement}
 use Rattle.audit.proofs.well_formed.Tie as tie

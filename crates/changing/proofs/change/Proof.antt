@@ -21,12 +21,12 @@ zero c = sym (c .before .continuous-code .ensures .first (c .before .before .bef
 none : (c : tie.Else1) → let start = c .before .before .before .before .before in Failed (namedRefusals (exchangeOf (memory (start .args .state) (now (start .args .buys)) (now (start .args .sells)) (now (start .args .trades)))) notContinuous (start .args .account) (start .args .contract))
 none c = failed _ (omega arith) (zero c)
 
-passed : (c : tie.Else2) → let start = c .before .before .before .before .before .before .before .before .before .before .before .before .before .before .before in
-    Changeable (start .args .state) (now (start .args .buys)) (now (start .args .sells)) (now (start .args .trades)) (start .args .account) (start .args .contract) (start .args .number) (start .args .lots) (start .args .price) (c .before .before .resting-order .result)
+passed : (c : tie.Else2) → let start = c .before .before .before .before .before .before .before .before .before .before .before .before .before .before .before .before in
+    Changeable (start .args .state) (now (start .args .buys)) (now (start .args .sells)) (now (start .args .trades)) (start .args .account) (start .args .contract) (start .args .number) (start .args .lots) (start .args .price) (c .before .before .before .resting-order .result)
 passed c =
-    let start = c .before .before .before .before .before .before .before .before .before .before .before .before .before .before .before in
-    changeable (start .pre) (start .args .account) (start .args .contract) (start .args .number) (start .args .lots) (start .args .price) (zero (c .before .before .before .before .before .before .before .before .before .before)) (c .before .before .before .before .before .before .before .before .before .place-of .ensures) (c .before .before .before .before .before .before .side-count .ensures) (c .before .before .before .before .before .side-count2 .ensures)
-    (c .before .before .resting-order .ensures) (c .before .resting-code .ensures) (c .if2 .left)
+    let start = c .before .before .before .before .before .before .before .before .before .before .before .before .before .before .before .before in
+    changeable (start .pre) (start .args .account) (start .args .contract) (start .args .number) (start .args .lots) (start .args .price) (zero (c .before .before .before .before .before .before .before .before .before .before .before)) (c .before .before .before .before .before .before .before .before .before .before .place-of .ensures) (c .before .before .before .before .before .before .before .side-count .ensures) (c .before .before .before .before .before .before .side-count2 .ensures)
+    (c .before .before .before .resting-order .ensures) (c .before .before .place-word .ensures) (c .before .resting-code .ensures) (c .if2 .left)
 
 -- ---- the needs
 
@@ -69,15 +69,15 @@ resting-order-requires c κs =
     let start = c .before .before .before .before .before .before .before .before .before .before .before .before in
     rooms (start .pre) _ _ (none (c .before .before .before .before .before .before .before)) (c .before .before .before .before .before .before .place-of .ensures) (c .before .before .before .side-count .ensures) (c .before .before .side-count2 .ensures)
 
-sub-resting-code : tie.Need-sub-resting-code
-sub-resting-code c =
+place-word-requires : tie.Need-place-word-requires
+place-word-requires c κs =
     let start = c .before .before .before .before .before .before .before .before .before .before .before .before .before in
     account-low (start .pre) _ _ (none (c .before .before .before .before .before .before .before .before))
 
 resting-code-requires : tie.Need-resting-code-requires
 resting-code-requires c κs =
-    let start = c .before .before .before .before .before .before .before .before .before .before .before .before .before in
-    terms-ok (start .pre) _ _ (none (c .before .before .before .before .before .before .before .before)) (c .before .before .before .before .before .before .before .place-of .ensures)
+    let start = c .before .before .before .before .before .before .before .before .before .before .before .before .before .before in
+    terms-ok (start .pre) _ _ (none (c .before .before .before .before .before .before .before .before .before)) (c .before .before .before .before .before .before .before .before .place-of .ensures)
 
 refused-requires-2 : tie.Need-refused-requires-2
 refused-requires-2 c κs = search needs
@@ -90,14 +90,14 @@ same-length-2 c = search needs
 
 returns-2 : tie.Need-returns-2
 returns-2 c =
-    let after = c .before .before .before .before .before .before in
+    let after = c .before .before .before .before .before .before .before in
     let start = after .before .before .before .before .before .before .before .before .before .before in
-    order-refused (start .pre) (start .args .account) (start .args .contract) (start .args .number) (start .args .lots) (start .args .price) (zero (after .before .before .before .before .before)) (after .before .before .before .before .place-of .ensures) (after .before .side-count .ensures) (after .side-count2 .ensures) (c .before .before .before .resting-order .ensures) (c .before .before .resting-code .ensures) (c .before .if2 .taken) (c .refused2 .ensures)
+    order-refused (start .pre) (start .args .account) (start .args .contract) (start .args .number) (start .args .lots) (start .args .price) (zero (after .before .before .before .before .before)) (after .before .before .before .before .place-of .ensures) (after .before .side-count .ensures) (after .side-count2 .ensures) (c .before .before .before .before .resting-order .ensures) (c .before .before .before .place-word .ensures) (c .before .before .resting-code .ensures) (c .before .if2 .taken) (c .refused2 .ensures)
 
 take-out-requires : tie.Need-take-out-requires
 take-out-requires c κs =
-    let start = c .before .before .before .before .before .before .before .before .before .before .before .before .before .before .before .before .before .before .before in
-    can-take-out (start .pre) _ _ _ _ _ (passed (c .before .before .before .before)) (c .before .before .before .before .before .before .before .before .before .before .before .before .before .place-of .ensures)
+    let start = c .before .before .before .before .before .before .before .before .before .before .before .before .before .before .before .before .before .before .before .before in
+    can-take-out (start .pre) _ _ _ _ _ (passed (c .before .before .before .before)) (c .before .before .before .before .before .before .before .before .before .before .before .before .before .before .place-of .ensures)
 
 accepted-requires : tie.Need-accepted-requires
 accepted-requires c κs = search needs
@@ -111,15 +111,15 @@ same-length-4 c = search needs
 returns-3 : tie.Need-returns-3
 returns-3 c =
     let after = c .before .before .before .before .before in
-    let start = after .before .before .before .before .before .before .before .before .before .before .before .before .before .before .before .before .before .before .before .before in
-    rw (c .accepted .ensures) (zero-changed (start .pre) _ _ _ _ _ (passed (after .before .before .before .before .before)) (after .before .before .before .if3 .taken) (taken-out (start .pre) _ _ _ _ _ (passed (after .before .before .before .before .before)) (after .before .before .before .before .before .before .before .before .before .before .before .before .before .before .place-of .ensures) (after .take-out .ensures .0) (after .take-out .ensures .1 .0) (after .take-out .ensures .1 .1)))
+    let start = after .before .before .before .before .before .before .before .before .before .before .before .before .before .before .before .before .before .before .before .before .before in
+    rw (c .accepted .ensures) (zero-changed (start .pre) _ _ _ _ _ (passed (after .before .before .before .before .before)) (after .before .before .before .if3 .taken) (taken-out (start .pre) _ _ _ _ _ (passed (after .before .before .before .before .before)) (after .before .before .before .before .before .before .before .before .before .before .before .before .before .before .before .place-of .ensures) (after .take-out .ensures .0) (after .take-out .ensures .1 .0) (after .take-out .ensures .1 .1)))
 
 loses-place-requires : tie.Need-loses-place-requires
 loses-place-requires c κs = search needs
 
 lose-place-requires : tie.Need-lose-place-requires
 lose-place-requires c κs =
-    let start = c .before .before .before .before .before .before .before .before .before .before .before .before .before .before .before .before .before .before .before .before .before .before in
+    let start = c .before .before .before .before .before .before .before .before .before .before .before .before .before .before .before .before .before .before .before .before .before .before .before in
     (start .pre, (passed (c .before .before .before .before .before .before .before)), c .before .before .before .before .before .if3 .left, sym (c .before .before .before .before .loses-place .ensures) ∙ c .before .before .before .if4 .taken)
 
 same-length-5 : tie.Need-same-length-5
@@ -145,19 +145,19 @@ same-length-9 c = search needs
 
 returns-5 : tie.Need-returns-5
 returns-5 c =
-    let start = c .before .before .before .before .before .before .before .before .before .before .before .before .before .before .before .before .before .before .before .before .before .before in
+    let start = c .before .before .before .before .before .before .before .before .before .before .before .before .before .before .before .before .before .before .before .before .before .before .before in
     equal-changed (start .pre) _ _ _ _ _ (passed (c .before .before .before .before .before .before .before)) (c .before .before .before .before .before .if3 .left) (sym (c .before .before .before .before .loses-place .ensures) ∙ c .before .before .before .if4 .left) (c .before .if5 .taken) (c .accepted2 .ensures)
 
 side-count-requires-3 : tie.Need-side-count-requires-3
 side-count-requires-3 c κs =
-    let start = c .before .before .before .before .before .before .before .before .before .before .before .before .before .before .before .before .before .before .before .before .before in
-    contract-fits (start .pre) _ _ (none (c .before .before .before .before .before .before .before .before .before .before .before .before .before .before .before .before)) (c .before .before .before .before .before .before .before .before .before .before .before .before .before .before .before .place-of .ensures)
+    let start = c .before .before .before .before .before .before .before .before .before .before .before .before .before .before .before .before .before .before .before .before .before .before in
+    contract-fits (start .pre) _ _ (none (c .before .before .before .before .before .before .before .before .before .before .before .before .before .before .before .before .before)) (c .before .before .before .before .before .before .before .before .before .before .before .before .before .before .before .before .place-of .ensures)
 
 lessen-requires : tie.Need-lessen-requires
 lessen-requires c κs =
     let after = c .before .before .before .before .before in
-    let start = after .before .before .before .before .before .before .before .before .before .before .before .before .before .before .before .before .before .before .before in
-    can-lessen (start .pre) _ _ _ _ _ (passed (after .before .before .before .before)) (after .before .before .if3 .left) (sym (after .before .loses-place .ensures) ∙ after .if4 .left) (after .before .before .before .before .before .before .before .before .before .before .before .before .before .place-of .ensures) (c .before .before .side-count3 .ensures)
+    let start = after .before .before .before .before .before .before .before .before .before .before .before .before .before .before .before .before .before .before .before .before in
+    can-lessen (start .pre) _ _ _ _ _ (passed (after .before .before .before .before)) (after .before .before .if3 .left) (sym (after .before .loses-place .ensures) ∙ after .if4 .left) (after .before .before .before .before .before .before .before .before .before .before .before .before .before .before .place-of .ensures) (c .before .before .side-count3 .ensures)
 
 accepted-requires-3 : tie.Need-accepted-requires-3
 accepted-requires-3 c κs = search needs
@@ -171,8 +171,8 @@ same-length-11 c = search needs
 returns-6 : tie.Need-returns-6
 returns-6 c =
     let after = c .before .before .before .before .before .before .before .before in
-    let start = after .before .before .before .before .before .before .before .before .before .before .before .before .before .before .before .before .before .before .before .before .before .before in
-    fewer-changed (start .pre) _ _ _ _ _ (passed (after .before .before .before .before .before .before .before)) (after .before .before .before .before .before .if3 .left) (sym (after .before .before .before .before .loses-place .ensures) ∙ after .before .before .before .if4 .left) (after .before .if5 .left) (after .before .before .before .before .before .before .before .before .before .before .before .before .before .before .before .before .place-of .ensures) (after .side-count3 .ensures) (c .before .before .before .before .before .lessen .ensures .0) (c .before .before .before .before .before .lessen .ensures .1) (c .accepted3 .ensures)
+    let start = after .before .before .before .before .before .before .before .before .before .before .before .before .before .before .before .before .before .before .before .before .before .before .before in
+    fewer-changed (start .pre) _ _ _ _ _ (passed (after .before .before .before .before .before .before .before)) (after .before .before .before .before .before .if3 .left) (sym (after .before .before .before .before .loses-place .ensures) ∙ after .before .before .before .if4 .left) (after .before .if5 .left) (after .before .before .before .before .before .before .before .before .before .before .before .before .before .before .before .before .before .place-of .ensures) (after .side-count3 .ensures) (c .before .before .before .before .before .lessen .ensures .0) (c .before .before .before .before .before .lessen .ensures .1) (c .accepted3 .ensures)
 
 pub change-spec : {M : Type 1} → statement M
 change-spec =
@@ -187,7 +187,7 @@ change-spec =
     side-count-requires
     side-count-requires-2
     resting-order-requires
-    sub-resting-code
+    place-word-requires
     resting-code-requires
     refused-requires-2
     same-length

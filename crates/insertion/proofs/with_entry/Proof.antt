@@ -12,20 +12,20 @@ array-set-from-contracts c = search needs
 by-side-requires : tie.Need-by-side-requires
 by-side-requires c κs = search needs
 
-mul-bids : tie.Need-mul-bids
-mul-bids c = search needs
+mul-buycounts : tie.Need-mul-buycounts
+mul-buycounts c = search needs
 
-array-write-bids : tie.Need-array-write-bids
-array-write-bids c = search needs
+array-write-buycounts : tie.Need-array-write-buycounts
+array-write-buycounts c = search needs
 
 by-side-requires-2 : tie.Need-by-side-requires-2
 by-side-requires-2 c κs = search needs
 
-mul-offers : tie.Need-mul-offers
-mul-offers c = search needs
+mul-sellcounts : tie.Need-mul-sellcounts
+mul-sellcounts c = search needs
 
-array-write-offers : tie.Need-array-write-offers
-array-write-offers c = search needs
+array-write-sellcounts : tie.Need-array-write-sellcounts
+array-write-sellcounts c = search needs
 
 add-t23 : tie.Need-add-t23
 add-t23 c = search needs
@@ -40,10 +40,10 @@ with-entry-spec =
     mul-contracts
     array-set-from-contracts
     by-side-requires
-    mul-bids
-    array-write-bids
+    mul-buycounts
+    array-write-buycounts
     by-side-requires-2
-    mul-offers
-    array-write-offers
+    mul-sellcounts
+    array-write-sellcounts
     add-t23
     returns)

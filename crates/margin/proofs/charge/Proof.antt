@@ -21,6 +21,9 @@ mul-result c = omega (arith, value-small (c .before .before .before .args .c) (c
 mul-result-2 : tie.Need-mul-result-2
 mul-result-2 c = omega (arith, rated-small (c .before .before .before .args .c) (c .before .before .before .pre))
 
+sub-result : tie.Need-sub-result
+sub-result c = search needs
+
 add-result : tie.Need-add-result
 add-result c = omega (arith, rated-small (c .before .before .before .args .c) (c .before .before .before .pre))
 
@@ -31,4 +34,4 @@ returns c = search needs
 pub charge-spec : {M : Type 1} → statement M
 charge-spec =
     tie.close
-    (tie.spec cast-multiplier cast-reference cast-rate mul-result mul-result-2 add-result returns)
+    (tie.spec cast-multiplier cast-reference cast-rate mul-result mul-result-2 sub-result add-result returns)

@@ -6,10 +6,10 @@ use Rattle.margin.proofs.charged.Statement.{statement}
 use Rattle.margin.proofs.charged.Tie as tie
 
 abbrev Inv-loop : tie.InvT-loop
-Inv-loop contracts buys sells a holdings terms bids offers account total₀ c₀ total c = Charging holdings terms buys bids sells offers a contracts total c
+Inv-loop contracts buys sells a holdings terms buycounts sellcounts account total₀ c₀ total c = Charging holdings terms buys buycounts sells sellcounts a contracts total c
 
 abbrev μ-loop : tie.MeasureT-loop
-μ-loop contracts buys sells a holdings terms bids offers account total₀ c₀ total c = contracts - c
+μ-loop contracts buys sells a holdings terms buycounts sellcounts account total₀ c₀ total c = contracts - c
 
 cast-account : tie.Need-cast-account Inv-loop μ-loop
 cast-account c = omega arith

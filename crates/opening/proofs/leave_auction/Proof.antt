@@ -51,20 +51,20 @@ returns c =
     let start = c .before .before .before .before .before .before .before .before .before .before .before .before .before .before .before .before .before in
     left-full (start .pre .0) _ (start .pre .1) (c .before .before .before .before .before .before .before .before .before .before .before .before .before .place-of .ensures) (c .before .before .before .before .before .before .chosen .ensures) (c .before .before .before .trades-needed .ensures) (c .before .if1 .taken) (c .refused .ensures)
 
-sub-match-queues : tie.Need-sub-match-queues
-sub-match-queues c =
+place-word-requires : tie.Need-place-word-requires
+place-word-requires c κs =
     let start = c .before .before .before .before .before .before .before .before .before .before .before .before .before .before .before .before .before .before .before .before in
     contract-low (start .pre .0) _ (start .pre .1)
 
 match-queues-requires : tie.Need-match-queues-requires
 match-queues-requires c κs =
-    let place = c .before .before .before .before .before .before .before .before .before .before .before .before .before .before .before .before in
+    let place = c .before .before .before .before .before .before .before .before .before .before .before .before .before .before .before .before .before in
     let start = place .before .before .before .before in
-    left-ready (start .pre .0) _ (start .pre .1) (place .place-of .ensures) (c .before .before .before .before .before .before .before .before .before .chosen .ensures) (c .before .before .before .before .before .before .trades-needed .ensures) (c .before .before .before .before .if1 .left)
+    left-ready (start .pre .0) _ (start .pre .1) (place .place-of .ensures) (c .before .before .before .before .before .before .before .before .before .before .chosen .ensures) (c .before .before .before .before .before .before .before .trades-needed .ensures) (c .before .before .before .before .before .if1 .left) (c .place-word .ensures)
 
 with-match-requires : tie.Need-with-match-requires
 with-match-requires c κs =
-    let place = c .before .before .before .before .before .before .before .before .before .before .before .before .before .before .before .before .before .before .before .before .before .before .before in
+    let place = c .before .before .before .before .before .before .before .before .before .before .before .before .before .before .before .before .before .before .before .before .before .before .before .before in
     let start = place .before .before .before .before in
     place-fits (start .pre .0) _ (start .pre .1) (place .place-of .ensures)
 
@@ -82,13 +82,13 @@ same-length-5 c = search needs
 
 returns-2 : tie.Need-returns-2
 returns-2 c =
-    let room = c .before .before .before .before .before .before .before .before .before .before .before .before .before in
+    let room = c .before .before .before .before .before .before .before .before .before .before .before .before .before .before in
     let needed = room .before .before in
     let level = needed .before .before .before in
     let place = level .before .before .before .before .before .before .before in
     let start = place .before .before .before .before in
     left-accepted (start .pre .0) _ (start .pre .1) (place .place-of .ensures) (level .chosen .ensures) (needed .trades-needed .ensures) (room .if1 .left)
-    (c .before .before .before .before .before .before .before .before .match-queues .ensures) (c .before .with-match .ensures) (c .accepted .ensures)
+    (c .before .before .before .before .before .before .before .before .before .place-word .ensures) (c .before .before .before .before .before .before .before .before .match-queues .ensures) (c .before .with-match .ensures) (c .accepted .ensures)
 
 pub leave-auction-spec : {M : Type 1} → statement M
 leave-auction-spec =
@@ -108,7 +108,7 @@ leave-auction-spec =
     same-length
     same-length-2
     returns
-    sub-match-queues
+    place-word-requires
     match-queues-requires
     with-match-requires
     accepted-requires

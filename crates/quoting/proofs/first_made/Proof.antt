@@ -4,12 +4,6 @@ use borrow.Author.Tests.{le-leb, lt-leb}
 use Rattle.quoting.proofs.first_made.Statement.{statement}
 use Rattle.quoting.proofs.first_made.Tie as tie
 
-sub-if1 : tie.Need-sub-if1
-sub-if1 c = search needs
-
-sub-result : tie.Need-sub-result
-sub-result c = search needs
-
 mul-result : tie.Need-mul-result
 mul-result c = search needs
 
@@ -23,4 +17,4 @@ returns-2 : tie.Need-returns-2
 returns-2 c = rw (le-leb _ _ (c .if1 .left))
 
 pub first-made-spec : {M : Type 1} → statement M
-first-made-spec = tie.close (tie.spec sub-if1 sub-result mul-result returns mul-result-2 returns-2)
+first-made-spec = tie.close (tie.spec mul-result returns mul-result-2 returns-2)

@@ -27,30 +27,25 @@ array-read-sold c =
     let start = c .before .before .before .before .before .before in
     contract-fits (start .pre .0) _ _ _ (start .pre .1) (c .before .before .place-of .ensures)
 
-sub-pull : tie.Need-sub-pull
-sub-pull c =
-    let start = c .before .before .before .before .before .before .before in
+place-word-requires : tie.Need-place-word-requires
+place-word-requires c κs =
+    let start = c .before .before .before .before .before .before in
     account-low (start .pre .0) _ _ _ (start .pre .1)
 
 pull-requires : tie.Need-pull-requires
 pull-requires c κs =
-    let start = c .before .before .before .before .before .before .before in
-    (side-few (start .pre .0) _ _ _ (start .pre .1) (c .before .before .before .place-of .ensures) false, side-room (start .pre .0) _ _ _ (start .pre .1) (c .before .before .before .place-of .ensures) false)
-
-sub-pull-2 : tie.Need-sub-pull-2
-sub-pull-2 c =
-    let start = c .before .before .before .before .before .before .before .before .before .before .before in
-    account-low (start .pre .0) _ _ _ (start .pre .1)
+    let start = c .before .before .before .before .before .before .before .before in
+    (side-few (start .pre .0) _ _ _ (start .pre .1) (c .before .before .before .before .place-of .ensures) false, side-room (start .pre .0) _ _ _ (start .pre .1) (c .before .before .before .before .place-of .ensures) false)
 
 pull-requires-2 : tie.Need-pull-requires-2
 pull-requires-2 c κs =
-    let start = c .before .before .before .before .before .before .before .before .before .before .before in
-    (side-few (start .pre .0) _ _ _ (start .pre .1) (c .before .before .before .before .before .before .before .place-of .ensures) true, side-room (start .pre .0) _ _ _ (start .pre .1) (c .before .before .before .before .before .before .before .place-of .ensures) true)
+    let start = c .before .before .before .before .before .before .before .before .before .before .before .before in
+    (side-few (start .pre .0) _ _ _ (start .pre .1) (c .before .before .before .before .before .before .before .before .place-of .ensures) true, side-room (start .pre .0) _ _ _ (start .pre .1) (c .before .before .before .before .before .before .before .before .place-of .ensures) true)
 
 with-counts-requires : tie.Need-with-counts-requires
 with-counts-requires c κs =
-    let start = c .before .before .before .before .before .before .before .before .before .before .before .before .before .before in
-    contract-fits (start .pre .0) _ _ _ (start .pre .1) (c .before .before .before .before .before .before .before .before .before .before .place-of .ensures)
+    let start = c .before .before .before .before .before .before .before .before .before .before .before .before .before .before .before in
+    contract-fits (start .pre .0) _ _ _ (start .pre .1) (c .before .before .before .before .before .before .before .before .before .before .before .place-of .ensures)
 
 same-length : tie.Need-same-length
 same-length c = search needs
@@ -60,8 +55,8 @@ same-length-2 c = search needs
 
 returns : tie.Need-returns
 returns c =
-    let start = c .before .before .before .before .before .before .before .before .before .before .before .before .before .before .before in
-    gone-written (start .pre .0) _ _ (start .pre .1) (c .before .before .before .before .before .before .before .before .before .before .before .place-of .ensures) (c .before .before .before .before .before .before .before .pull .ensures) (c .before .before .before .pull2 .ensures) (c .with-counts .ensures)
+    let start = c .before .before .before .before .before .before .before .before .before .before .before .before .before .before .before .before in
+    gone-written (start .pre .0) _ _ (start .pre .1) (c .before .before .before .before .before .before .before .before .before .before .before .before .place-of .ensures) (c .before .before .before .before .before .before .before .before .before .place-word .ensures) (c .before .before .before .before .before .before .before .pull .ensures) (c .before .before .before .pull2 .ensures) (c .with-counts .ensures)
 
 pub remove-quote-spec : {M : Type 1} → statement M
 remove-quote-spec =
@@ -72,9 +67,8 @@ remove-quote-spec =
     array-read-bought
     mul-sold
     array-read-sold
-    sub-pull
+    place-word-requires
     pull-requires
-    sub-pull-2
     pull-requires-2
     with-counts-requires
     same-length

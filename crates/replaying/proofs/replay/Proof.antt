@@ -12,10 +12,10 @@ use Rattle.replaying.proofs.replay.Statement.{statement}
 use Rattle.replaying.proofs.replay.Tie as tie
 
 abbrev Inv-loop : tie.InvT-loop
-Inv-loop accounts contracts holders area count held₀ i₀ held i = Going held₀ contracts holders area count held i
+Inv-loop accounts contracts accountcount area count held₀ i₀ held i = Going held₀ contracts accountcount area count held i
 
 abbrev μ-loop : tie.MeasureT-loop
-μ-loop accounts contracts holders area count held₀ i₀ held i = count - i
+μ-loop accounts contracts accountcount area count held₀ i₀ held i = count - i
 
 loop-holds : tie.Need-loop-holds Inv-loop μ-loop
 loop-holds c =
@@ -25,7 +25,7 @@ trade-at-requires : tie.Need-trade-at-requires Inv-loop μ-loop
 trade-at-requires c κs = omega (arith, c .before .before .before .pre .room, c .loop-test .taken)
 
 -- the trade read is of contracts and accounts in use
-trade : (c : tie.After-trade-at Inv-loop μ-loop) → Booked (c .before .before .before .before .args .contracts) (c .before .before .before .before .args .holders) (c .trade-at .result)
+trade : (c : tie.After-trade-at Inv-loop μ-loop) → Booked (c .before .before .before .before .args .contracts) (c .before .before .before .before .args .accountcount) (c .trade-at .result)
 trade c = trade-read _ _ _ (c .before .loop-test .taken) (c .trade-at .ensures) (c .before .before .before .before .pre .each _ (c .before .loop-test .taken))
 
 wide-requires : tie.Need-wide-requires Inv-loop μ-loop
@@ -78,7 +78,7 @@ seller c = omega (arith, c .wide3 .ensures, trade (c .before .before .before .be
 -- between the two legs
 bought : (c : tie.After-book-leg Inv-loop μ-loop)
     → let a = c .before .before .before .before .before .before .before .before .before .before .before .args in
-    Bought (a .accounts) (a .contracts) (a .holders) (a .area .now) (a .count) (set (c .before .before .before .before .before .before .before .before .before .loop .held) (c .before .before .before .before .before .wide2 .result) (c .book-leg .result)) (c .before .before .before .before .before .before .before .before .before .loop .i) (c .before .before .before .before .before .before .before .trade-at .result)
+    Bought (a .accounts) (a .contracts) (a .accountcount) (a .area .now) (a .count) (set (c .before .before .before .before .before .before .before .before .before .loop .held) (c .before .before .before .before .before .wide2 .result) (c .book-leg .result)) (c .before .before .before .before .before .before .before .before .before .loop .i) (c .before .before .before .before .before .before .before .trade-at .result)
 bought c =
     buyer-booked (c .before .before .before .before .before .before .before .before .before .loop .inv) (c .before .before .before .before .before .before .before .before .loop-test .taken) (c .before .before .before .before .before .before .before .trade-at .ensures) (trade (c .before .before .before .before .before .before .before)) (c .before .before .before .before .before .wide2 .ensures) (c .before .before .before .before .before .before .wide .ensures)
     (passed (c .before .before .before .is-covered .ensures) (c .before .before .if1 .left)) (c .book-leg .ensures)

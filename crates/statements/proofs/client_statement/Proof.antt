@@ -76,23 +76,23 @@ returns-4 c =
     not-adding _ _ _ _ (well (few .before .before .before)) _ _ _ _ _ (present (few .before)) (few .if3 .left) _ (c .before .before .before .wide .ensures) _ (c .before .before .before .before .before .before .before .place-of .ensures) _
     (c .before .before .add-up .ensures) (c .before .if4 .taken) _ (c .refused4 .ensures)
 
-sub-posted-statement : tie.Need-sub-posted-statement
-sub-posted-statement c = omega (arith, numbered (c .before .before .before .before .before .before .before .before) .0)
+place-word-requires : tie.Need-place-word-requires
+place-word-requires c κs = omega (arith, numbered (c .before .before .before .before .before .before .before .before) .0)
 
 posted-statement-requires : tie.Need-posted-statement-requires
 posted-statement-requires c κs =
-    let few = c .before .before .before .before .before .before .before .before in
-    postable _ _ _ _ (well (few .before .before .before)) _ _ _ [] [] (present (few .before)) (few .if3 .left) _ (c .before .before .before .wide .ensures) _ (c .before .before .before .before .before .before .before .place-of .ensures) _
-    (c .before .before .add-up .ensures) (c .before .if4 .left)
+    let few = c .before .before .before .before .before .before .before .before .before in
+    postable _ _ _ _ (well (few .before .before .before)) _ _ _ [] [] (present (few .before)) (few .if3 .left) _ (c .before .before .before .before .wide .ensures) _ (c .before .before .before .before .before .before .before .before .place-of .ensures) _
+    (c .before .before .before .add-up .ensures) (c .before .before .if4 .left) (c .before .place-word .ensures)
 
 same-length : tie.Need-same-length
 same-length c = search needs
 
 returns-5 : tie.Need-returns-5
 returns-5 c =
-    let few = c .before .before .before .before .before .before .before .before .before .before .before in
-    adding _ _ _ _ (well (few .before .before .before)) _ _ _ _ _ (present (few .before)) (few .if3 .left) _ (c .before .before .before .before .before .before .wide .ensures) _ (c .before .before .before .before .before .before .before .before .before .before .place-of .ensures) _
-    (c .before .before .before .before .before .add-up .ensures) (c .before .before .before .before .if4 .left) _ _ (c .before .before .posted-statement .ensures)
+    let few = c .before .before .before .before .before .before .before .before .before .before .before .before in
+    adding _ _ _ _ (well (few .before .before .before)) _ _ _ _ _ (present (few .before)) (few .if3 .left) _ (c .before .before .before .before .before .before .before .wide .ensures) _ (c .before .before .before .before .before .before .before .before .before .before .before .place-of .ensures) _
+    (c .before .before .before .before .before .before .add-up .ensures) (c .before .before .before .before .before .if4 .left) (c .before .before .before .before .place-word .ensures) _ _ (c .before .before .posted-statement .ensures)
 
 pub client-statement-spec : {M : Type 1} → statement M
 client-statement-spec =
@@ -113,7 +113,7 @@ client-statement-spec =
     add-up-requires
     refused-requires-4
     returns-4
-    sub-posted-statement
+    place-word-requires
     posted-statement-requires
     same-length
     returns-5)

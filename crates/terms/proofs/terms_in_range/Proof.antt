@@ -5,7 +5,7 @@ use Prim.Native.Nat.{_≤_}
 use borrow.Author.Needs.{needs}
 use lib.Dec.{leb}
 use Rattle.laws.specs.Tests.{Chain, fails, last, passed, refused}
-use Rattle.rules.specs.Bounds.{maxMethod, tickMultiple, termsInRange, within}
+use Rattle.rules.specs.Bounds.{maxMethod, tickMultiple, termsInRange, within, maxMultiplier, maxTick, maxLimit, maxRate}
 use Rattle.rules.specs.declared.Contract.{Contract}
 use Rattle.rules.proofs.Terms.{within-low}
 use Rattle.terms.proofs.terms_in_range.Statement.{statement}
@@ -13,12 +13,12 @@ use Rattle.terms.proofs.terms_in_range.Tie as tie
 
 -- the terms as a chain of tests
 terms-chain : (c : Contract) → Chain (termsInRange c) (
-    within 1 1_000 (c .multiplier)
-    ∷ within 1 1_000 (c .tick)
+    within 1 maxMultiplier (c .multiplier)
+    ∷ within 1 maxTick (c .tick)
     ∷ tickMultiple (c .tick) (c .reference)
     ∷ tickMultiple (c .tick) (c .band)
-    ∷ within 1 100_000 (c .limit)
-    ∷ within 1 10_000 (c .rate)
+    ∷ within 1 maxLimit (c .limit)
+    ∷ within 1 maxRate (c .rate)
     ∷ []
     ) (leb (c .method) maxMethod)
 unfolding termsInRange
@@ -26,7 +26,7 @@ terms-chain c = record { is = refl }
 
 -- a contract whose tick passed has one
 some-tick : (c : tie.Else2) → 1 ≤ c .before .before .before .before .args .c .tick
-some-tick c = within-low 1 1_000 (c .before .before .before .before .args .c .tick) (passed (c .before .within2 .ensures) (c .if2 .left))
+some-tick c = within-low 1 maxTick (c .before .before .before .before .args .c .tick) (passed (c .before .within2 .ensures) (c .if2 .left))
 
 within-requires : tie.Need-within-requires
 within-requires c κs = search needs

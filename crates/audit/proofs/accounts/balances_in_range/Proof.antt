@@ -5,9 +5,9 @@ use native.Mathlib.Omega.{arith}
 use borrow.Author.Needs.{needs}
 use lib.ListN.{length, take}
 use Rattle.laws.specs.Choice.{allOf}
+use Rattle.laws.specs.Tests.{passed, refused}
 use Rattle.rules.specs.Exchange.{noAccount}
 use Rattle.rules.specs.WellFormed.{balanceInRange}
-use Rattle.audit.proofs.Chains.{passed, refused}
 use Rattle.audit.proofs.Walks.{Each, each-end, each-out, each-turn, next-in, none-in}
 use Rattle.audit.proofs.accounts.balances_in_range.Statement.{statement}
 use Rattle.audit.proofs.accounts.balances_in_range.Tie as tie

@@ -5,13 +5,13 @@ use Prim.Native.Nat.{_-_, _<_, _≤_}
 use native.Mathlib.Omega.{arith}
 use borrow.Author.Needs.{needs}
 use Rattle.laws.specs.Choice.{all, all-more, all-none, all-stop}
+use Rattle.laws.specs.Tests.{passed, refused}
 use Rattle.rules.specs.Exchange.{accountAt, holdingAt}
 use Rattle.rules.specs.Memory.{listingIn}
 use Rattle.rules.specs.WellFormed.{holdingInRange}
 use Rattle.rules.proofs.Codecs.{length-queue}
 use Rattle.invariants.proofs.MemoryRoom.{counts-ok}
 use Rattle.audit.specs.Parts.{listing}
-use Rattle.audit.proofs.Chains.{passed, refused}
 use Rattle.audit.proofs.RestingSums.{held-same, orders-summable}
 use Rattle.audit.proofs.Rooms.{buys-room, contract-in, few-buys, few-sells, sells-room}
 use Rattle.audit.proofs.Walks.{all-end}
@@ -19,11 +19,11 @@ use Rattle.audit.proofs.accounts.held_in_range.Statement.{statement}
 use Rattle.audit.proofs.accounts.held_in_range.Tie as tie
 
 abbrev Inv-loop : tie.InvT-loop
-Inv-loop c buys sells state limit bids asks accounts bought sold a₀ a =
+Inv-loop c buys sells state limit buycount sellcount accounts bought sold a₀ a =
     (a ≤ accounts) × (all (λ a. holdingInRange (listing state buys sells c) a (holdingAt (state .accounts) a c)) a ≡ true)
 
 abbrev μ-loop : tie.MeasureT-loop
-μ-loop c buys sells state limit bids asks accounts bought sold a₀ a = accounts - a
+μ-loop c buys sells state limit buycount sellcount accounts bought sold a₀ a = accounts - a
 
 -- the account is one of 32
 few : (c : tie.In-loop Inv-loop μ-loop) → c .before .loop .a < 32
@@ -46,17 +46,17 @@ mul-contract c = search needs
 element-copy-out-contract : tie.Need-element-copy-out-contract Inv-loop μ-loop
 element-copy-out-contract c = contract-in (c .before .before .pre .0) (c .before .before .pre .1)
 
-mul-bids : tie.Need-mul-bids Inv-loop μ-loop
-mul-bids c = search needs
+mul-buycount : tie.Need-mul-buycount Inv-loop μ-loop
+mul-buycount c = search needs
 
-element-copy-out-bids : tie.Need-element-copy-out-bids Inv-loop μ-loop
-element-copy-out-bids c = contract-in (c .before .before .before .pre .0) (c .before .before .before .pre .1)
+element-copy-out-buycount : tie.Need-element-copy-out-buycount Inv-loop μ-loop
+element-copy-out-buycount c = contract-in (c .before .before .before .pre .0) (c .before .before .before .pre .1)
 
-mul-asks : tie.Need-mul-asks Inv-loop μ-loop
-mul-asks c = search needs
+mul-sellcount : tie.Need-mul-sellcount Inv-loop μ-loop
+mul-sellcount c = search needs
 
-element-copy-out-asks : tie.Need-element-copy-out-asks Inv-loop μ-loop
-element-copy-out-asks c = contract-in (c .before .before .before .before .pre .0) (c .before .before .before .before .pre .1)
+element-copy-out-sellcount : tie.Need-element-copy-out-sellcount Inv-loop μ-loop
+element-copy-out-sellcount c = contract-in (c .before .before .before .before .pre .0) (c .before .before .before .before .pre .1)
 
 resting-lots-requires : tie.Need-resting-lots-requires Inv-loop μ-loop
 unfolding listingIn
@@ -151,10 +151,10 @@ held-in-range-spec =
     μ-loop
     mul-contract
     element-copy-out-contract
-    mul-bids
-    element-copy-out-bids
-    mul-asks
-    element-copy-out-asks
+    mul-buycount
+    element-copy-out-buycount
+    mul-sellcount
+    element-copy-out-sellcount
     resting-lots-requires
     resting-lots-requires-2
     loop-holds

@@ -5,10 +5,10 @@ use mathlib.Core.Bool.{true}
 use Prim.Native.Nat.{_-_, _≤_}
 use native.Mathlib.Omega.{arith}
 use Rattle.laws.specs.Choice.{all, all-at, all-more, all-none, all-stop}
+use Rattle.laws.specs.Tests.{passed, refused}
 use Rattle.rules.specs.Exchange.{holdingAt}
 use Rattle.rules.specs.WellFormed.{holdingInRange}
 use Rattle.audit.specs.Parts.{listing}
-use Rattle.audit.proofs.Chains.{passed, refused}
 use Rattle.audit.proofs.Walks.{all-end, all-swap}
 use Rattle.audit.proofs.accounts.holdings_in_range.Statement.{statement}
 use Rattle.audit.proofs.accounts.holdings_in_range.Tie as tie

@@ -1,9 +1,10 @@
 -- `audit::accounts::resting_lots` meets its contract. The invariant: `lots` has the resting lots of the first i orders. Assumes nothing.
 use mathlib.Core.Path.{_≡_, sym, subst, _∙_}
-use Prim.Native.Nat.{_-_, _<_, _≤_}
+use Prim.Native.Nat.{_-_, _*_, _<_, _≤_}
 use native.Mathlib.Omega.{arith}
 use borrow.Author.Needs.{needs}
 use lib.ListN.{length, getD}
+use Rattle.rules.specs.Bounds.{maxAccounts}
 use Rattle.rules.specs.Exchange.{noOrder}
 use Rattle.rules.specs.Memory.{queueIn}
 use Rattle.rules.specs.declared.Order.{Order}
@@ -30,7 +31,7 @@ there : (c : tie.After-order-at Inv-loop μ-loop) → c .before .before .loop .i
 there c = rw (length-queue (c .before .before .before .before .args .area .now) (c .before .before .before .before .args .c) (c .before .before .before .before .args .count)) (c .before .loop-test .taken)
 
 -- its account's place
-inside : (c : tie.After-wide Inv-loop μ-loop) → c .wide .result < 64
+inside : (c : tie.After-wide Inv-loop μ-loop) → c .wide .result < 2 * maxAccounts
 inside c = omega (arith, summable (c .before .before .before) .account, summable (c .before .before .before) .close, c .wide .ensures)
 
 loop-holds : tie.Need-loop-holds Inv-loop μ-loop

@@ -1,6 +1,6 @@
 -- `audit::counts::counters_in_range` meets its contract: the three tests in turn. Assumes nothing.
 use borrow.Author.Needs.{needs}
-use Rattle.audit.proofs.Chains.{fails, last, passed, refused}
+use Rattle.laws.specs.Tests.{fails, last, passed, refused}
 use Rattle.audit.proofs.Clauses.{counters-chain}
 use Rattle.audit.proofs.counts.counters_in_range.Statement.{statement}
 use Rattle.audit.proofs.counts.counters_in_range.Tie as tie

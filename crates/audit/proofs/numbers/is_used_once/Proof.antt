@@ -5,7 +5,7 @@ use Prim.Native.Nat.{ℕ, _-_, _%_, _≤_}
 use native.Mathlib.Nat.{mod-lt}
 use native.Mathlib.Omega.{arith}
 use borrow.Author.Needs.{needs}
-use Rattle.audit.proofs.Chains.{passed, refused}
+use Rattle.laws.specs.Tests.{passed, refused}
 use Rattle.audit.proofs.Remainders.{Marked, marked-again, marked-all, marked-fresh, marked-new, marked-none}
 use Rattle.audit.proofs.numbers.is_used_once.Statement.{statement}
 use Rattle.audit.proofs.numbers.is_used_once.Tie as tie

@@ -7,17 +7,17 @@ use Rattle.audit.proofs.FieldLists.{behind-both, queue-listed}
 use Rattle.audit.proofs.numbers.with_listing.Statement.{statement}
 use Rattle.audit.proofs.numbers.with_listing.Tie as tie
 
-mul-bids : tie.Need-mul-bids
-mul-bids c = search needs
+mul-buycount : tie.Need-mul-buycount
+mul-buycount c = search needs
 
-element-copy-out-bids : tie.Need-element-copy-out-bids
-element-copy-out-bids c = contract-in (c .before .before .pre .1) (c .before .before .pre .2)
+element-copy-out-buycount : tie.Need-element-copy-out-buycount
+element-copy-out-buycount c = contract-in (c .before .before .pre .1) (c .before .before .pre .2)
 
-mul-asks : tie.Need-mul-asks
-mul-asks c = search needs
+mul-sellcount : tie.Need-mul-sellcount
+mul-sellcount c = search needs
 
-element-copy-out-asks : tie.Need-element-copy-out-asks
-element-copy-out-asks c = contract-in (c .before .before .before .pre .1) (c .before .before .before .pre .2)
+element-copy-out-sellcount : tie.Need-element-copy-out-sellcount
+element-copy-out-sellcount c = contract-in (c .before .before .before .pre .1) (c .before .before .before .pre .2)
 
 with-queue-requires : tie.Need-with-queue-requires
 with-queue-requires c κs =
@@ -37,10 +37,10 @@ pub with-listing-spec : {M : Type 1} → statement M
 with-listing-spec =
     tie.close
     (tie.spec
-    mul-bids
-    element-copy-out-bids
-    mul-asks
-    element-copy-out-asks
+    mul-buycount
+    element-copy-out-buycount
+    mul-sellcount
+    element-copy-out-sellcount
     with-queue-requires
     with-queue-requires-2
     returns)

@@ -4,9 +4,9 @@ use Prim.Native.Nat.{_-_, _≤_}
 use native.Mathlib.Omega.{arith}
 use borrow.Author.Needs.{needs}
 use lib.ListN.{drop}
+use Rattle.laws.specs.Tests.{passed, refused}
 use Rattle.rules.specs.Memory.{queueIn}
 use Rattle.rules.specs.WellFormed.{sorted}
-use Rattle.audit.proofs.Chains.{passed, refused}
 use Rattle.audit.proofs.SortedQueues.{sorted-end, sorted-out, sorted-turn}
 use Rattle.audit.proofs.queues.is_sorted.Statement.{statement}
 use Rattle.audit.proofs.queues.is_sorted.Tie as tie

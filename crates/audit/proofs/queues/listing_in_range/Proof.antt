@@ -1,9 +1,9 @@
 -- `audit::queues::listing_in_range` meets its contract: the tests in the definition's order. Assumes nothing.
 use mathlib.Core.Path.{_∙_}
 use borrow.Author.Needs.{needs}
+use Rattle.laws.specs.Tests.{_and_, fails, last, passed, refused}
 use Rattle.rules.specs.Memory.{listingIn}
 use Rattle.rules.proofs.Terms.{terms-passed}
-use Rattle.audit.proofs.Chains.{_and_, fails, last, passed, refused}
 use Rattle.audit.proofs.Clauses.{listing-chain}
 use Rattle.audit.proofs.Rooms.{buys-room, contract-in, sells-room}
 use Rattle.audit.proofs.queues.listing_in_range.Statement.{statement}
@@ -15,17 +15,17 @@ mul-contract c = search needs
 element-copy-out-contract : tie.Need-element-copy-out-contract
 element-copy-out-contract c = contract-in (c .before .before .pre .0) (c .before .before .pre .1)
 
-mul-bids : tie.Need-mul-bids
-mul-bids c = search needs
+mul-buycount : tie.Need-mul-buycount
+mul-buycount c = search needs
 
-element-copy-out-bids : tie.Need-element-copy-out-bids
-element-copy-out-bids c = contract-in (c .before .before .before .pre .0) (c .before .before .before .pre .1)
+element-copy-out-buycount : tie.Need-element-copy-out-buycount
+element-copy-out-buycount c = contract-in (c .before .before .before .pre .0) (c .before .before .before .pre .1)
 
-mul-asks : tie.Need-mul-asks
-mul-asks c = search needs
+mul-sellcount : tie.Need-mul-sellcount
+mul-sellcount c = search needs
 
-element-copy-out-asks : tie.Need-element-copy-out-asks
-element-copy-out-asks c =
+element-copy-out-sellcount : tie.Need-element-copy-out-sellcount
+element-copy-out-sellcount c =
     contract-in (c .before .before .before .before .pre .0) (c .before .before .before .before .pre .1)
 
 contract-in-range-requires : tie.Need-contract-in-range-requires
@@ -91,10 +91,10 @@ listing-in-range-spec =
     (tie.spec
     mul-contract
     element-copy-out-contract
-    mul-bids
-    element-copy-out-bids
-    mul-asks
-    element-copy-out-asks
+    mul-buycount
+    element-copy-out-buycount
+    mul-sellcount
+    element-copy-out-sellcount
     contract-in-range-requires
     returns
     is-sorted-requires

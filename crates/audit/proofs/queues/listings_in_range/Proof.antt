@@ -4,8 +4,8 @@ use mathlib.Core.Bool.{true}
 use Prim.Native.Nat.{_-_, _≤_}
 use native.Mathlib.Omega.{arith}
 use Rattle.laws.specs.Choice.{all, all-more, all-none, all-stop}
+use Rattle.laws.specs.Tests.{passed, refused}
 use Rattle.audit.specs.Parts.{listing, listingInRange}
-use Rattle.audit.proofs.Chains.{passed, refused}
 use Rattle.audit.proofs.Walks.{all-end}
 use Rattle.audit.proofs.queues.listings_in_range.Statement.{statement}
 use Rattle.audit.proofs.queues.listings_in_range.Tie as tie

@@ -3,10 +3,10 @@ use mathlib.Core.Path.{refl}
 use Prim.Native.Nat.{_-_, _≤_}
 use native.Mathlib.Omega.{arith}
 use Rattle.laws.specs.Choice.{allOf}
+use Rattle.laws.specs.Tests.{passed, refused}
 use Rattle.rules.specs.Memory.{queueIn}
 use Rattle.rules.specs.WellFormed.{orderInRange}
 use Rattle.book.proofs.Queues.{next-order, no-more}
-use Rattle.audit.proofs.Chains.{passed, refused}
 use Rattle.audit.proofs.Walks.{Each, each-end, each-out, each-turn}
 use Rattle.audit.proofs.queues.orders_in_range.Statement.{statement}
 use Rattle.audit.proofs.queues.orders_in_range.Tie as tie

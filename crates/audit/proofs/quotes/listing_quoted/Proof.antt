@@ -2,28 +2,28 @@
 use mathlib.Core.Bool.{true, false}
 use mathlib.Core.Path.{_∙_}
 use borrow.Author.Needs.{needs}
+use Rattle.laws.specs.Tests.{fails, last, passed, refused}
 use Rattle.rules.specs.Memory.{listingIn}
 use Rattle.rules.proofs.Codecs.{length-queue}
 use Rattle.invariants.proofs.MemoryRoom.{counts-ok}
 use Rattle.audit.specs.Parts.{listing}
-use Rattle.audit.proofs.Chains.{fails, last, passed, refused}
 use Rattle.audit.proofs.Clauses.{quoted-chain}
 use Rattle.audit.proofs.MarkedOrders.{orders-markable}
 use Rattle.audit.proofs.Rooms.{buys-room, contract-in, sells-room}
 use Rattle.audit.proofs.quotes.listing_quoted.Statement.{statement}
 use Rattle.audit.proofs.quotes.listing_quoted.Tie as tie
 
-mul-bids : tie.Need-mul-bids
-mul-bids c = search needs
+mul-buycount : tie.Need-mul-buycount
+mul-buycount c = search needs
 
-element-copy-out-bids : tie.Need-element-copy-out-bids
-element-copy-out-bids c = contract-in (c .before .before .pre .0) (c .before .before .pre .1)
+element-copy-out-buycount : tie.Need-element-copy-out-buycount
+element-copy-out-buycount c = contract-in (c .before .before .pre .0) (c .before .before .pre .1)
 
-mul-asks : tie.Need-mul-asks
-mul-asks c = search needs
+mul-sellcount : tie.Need-mul-sellcount
+mul-sellcount c = search needs
 
-element-copy-out-asks : tie.Need-element-copy-out-asks
-element-copy-out-asks c = contract-in (c .before .before .before .pre .0) (c .before .before .before .pre .1)
+element-copy-out-sellcount : tie.Need-element-copy-out-sellcount
+element-copy-out-sellcount c = contract-in (c .before .before .before .pre .0) (c .before .before .before .pre .1)
 
 queue-quoted-requires : tie.Need-queue-quoted-requires
 unfolding listingIn
@@ -55,10 +55,10 @@ pub listing-quoted-spec : {M : Type 1} → statement M
 listing-quoted-spec =
     tie.close
     (tie.spec
-    mul-bids
-    element-copy-out-bids
-    mul-asks
-    element-copy-out-asks
+    mul-buycount
+    element-copy-out-buycount
+    mul-sellcount
+    element-copy-out-sellcount
     queue-quoted-requires
     returns
     queue-quoted-requires-2

@@ -5,9 +5,9 @@ use Prim.Native.Nat.{_-_, _≤_}
 use native.Mathlib.Omega.{arith}
 use lib.ListN.{take}
 use Rattle.laws.specs.Choice.{all, all-at, all-more, all-none, all-stop}
+use Rattle.laws.specs.Tests.{passed, refused}
 use Rattle.rules.specs.WellFormed.{listingQuoted}
 use Rattle.audit.specs.Parts.{listing, listingInRange}
-use Rattle.audit.proofs.Chains.{passed, refused}
 use Rattle.audit.proofs.Walks.{all-end}
 use Rattle.audit.proofs.quotes.listings_quoted.Statement.{statement}
 use Rattle.audit.proofs.quotes.listings_quoted.Tie as tie

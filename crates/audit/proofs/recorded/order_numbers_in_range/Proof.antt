@@ -1,7 +1,7 @@
 -- `audit::recorded::order_numbers_in_range` meets its contract: the tests in the definition's order. Assumes nothing.
 use mathlib.Core.Path.{sym}
 use borrow.Author.Tests.{le-leb, le-ltb, lt-leb, lt-ltb}
-use Rattle.audit.proofs.Chains.{fails, last}
+use Rattle.laws.specs.Tests.{fails, last}
 use Rattle.audit.proofs.Clauses.{numbers-chain}
 use Rattle.audit.proofs.FieldLists.{other-number, same-number}
 use Rattle.audit.proofs.recorded.order_numbers_in_range.Statement.{statement}

@@ -3,10 +3,10 @@ use mathlib.Core.Path.{refl}
 use Prim.Native.Nat.{_-_, _≤_}
 use native.Mathlib.Omega.{arith}
 use Rattle.laws.specs.Choice.{allOf}
+use Rattle.laws.specs.Tests.{passed, refused}
 use Rattle.rules.specs.Memory.{recordedTrades}
 use Rattle.rules.specs.WellFormed.{tradeInRange}
 use Rattle.audit.specs.Parts.{tested}
-use Rattle.audit.proofs.Chains.{passed, refused}
 use Rattle.audit.proofs.Walks.{Each, each-end, each-out, each-turn}
 use Rattle.replaying.proofs.Trades.{next-trade, no-trades}
 use Rattle.audit.proofs.recorded.trades_in_range.Statement.{statement}

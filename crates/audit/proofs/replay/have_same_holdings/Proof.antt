@@ -5,9 +5,9 @@ use native.Mathlib.Omega.{arith}
 use borrow.Author.Needs.{needs}
 use lib.ListN.{drop, length}
 use Rattle.laws.specs.Lists.{unmapped}
+use Rattle.laws.specs.Tests.{passed, refused}
 use Rattle.rules.specs.Holdings.{sameHoldings}
 use Rattle.rules.specs.Memory.{used}
-use Rattle.audit.proofs.Chains.{passed, refused}
 use Rattle.audit.proofs.UsedAccounts.{account-differs, account-turn, accounts-end}
 use Rattle.audit.proofs.replay.have_same_holdings.Statement.{statement}
 use Rattle.audit.proofs.replay.have_same_holdings.Tie as tie

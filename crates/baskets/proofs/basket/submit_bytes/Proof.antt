@@ -5,6 +5,7 @@ use native.Mathlib.Nat.{div-mul-le-self}
 use native.Mathlib.Omega.{arith}
 use borrow.Author.Needs.{needs}
 use lib.ListN.{length}
+use Rattle.rules.specs.DayFile.{commandWidth}
 use Rattle.engine.proofs.Declared.{declared}
 use Rattle.baskets.proofs.Bundles.{not-refused, refused, whole-carried}
 use Rattle.baskets.proofs.basket.submit_bytes.Statement.{statement}
@@ -28,7 +29,7 @@ returns c = refused _ (declared (c .before .before .before .before .before .befo
 answer-records-requires : tie.Need-answer-records-requires
 answer-records-requires c κs =
     let free = not-refused _ _ _ (sym (c .before .before .before .before .before .refusal .ensures) ∙ c .before .before .before .before .if1 .left) in
-    (sym (free .formed), omega (arith, div-mul-le-self (length (c .before .before .before .before .before .before .before .before .before .before .before .before .before .before .args .bytes .now)) 24), free .room)
+    (sym (free .formed), omega (arith, div-mul-le-self (length (c .before .before .before .before .before .before .before .before .before .before .before .before .before .before .args .bytes .now)) commandWidth), free .room)
 
 same-length-4 : tie.Need-same-length-4
 same-length-4 c = search needs

@@ -1,4 +1,5 @@
 -- `posting::client_place` meets its contract: what the loop keeps is `Met`. Assumes nothing.
+use mathlib.Core.Path.{_∙_}
 use Prim.Native.Nat.{_-_}
 use native.Mathlib.Omega.{arith}
 use Rattle.clients.proofs.Postings.{Met, met-none, met-other, met-more, place-times, place-zero, place-past, place-known}
@@ -62,8 +63,11 @@ returns-2 c = place-zero _ _ _ _ _ _ (c .before .before .loop-test .left) (c .be
 returns-3 : tie.Need-returns-3 Inv-loop μ-loop
 returns-3 c = place-past _ _ _ _ _ _ (c .before .before .before .loop-test .left) (c .before .before .before .before .loop .inv) (c .before .before .if2 .left) (c .before .if3 .left) (c .if4 .taken)
 
+place-word-requires : tie.Need-place-word-requires Inv-loop μ-loop
+place-word-requires c κs = c .before .if3 .left
+
 returns-4 : tie.Need-returns-4 Inv-loop μ-loop
-returns-4 c = place-known _ _ _ _ _ _ (c .before .before .before .loop-test .left) (c .before .before .before .before .loop .inv) (c .before .before .if2 .left) (c .before .if3 .left) (c .if4 .left)
+returns-4 c = c .place-word .ensures ∙ place-known _ _ _ _ _ _ (c .before .before .before .before .loop-test .left) (c .before .before .before .before .before .loop .inv) (c .before .before .before .if2 .left) (c .before .before .if3 .left) (c .before .if4 .left)
 
 pub client-place-spec : {M : Type 1} → statement M
 client-place-spec =
@@ -88,4 +92,5 @@ client-place-spec =
     returns
     returns-2
     returns-3
+    place-word-requires
     returns-4)

@@ -4,16 +4,17 @@ use native.Mathlib.Omega.{arith}
 use lib.ListN.{length-replicate}
 use Rattle.laws.specs.Written.{Writing, writing-none, writing-more}
 use Rattle.clients.specs.Parts.{clientsWith}
+use Rattle.rules.specs.Bounds.{maxAccounts}
 use Rattle.clients.specs.Clients.{clientAccount}
 use Rattle.clients.proofs.StartLots.{all-written}
 use Rattle.clients.proofs.starts.client_accounts.Statement.{statement}
 use Rattle.clients.proofs.starts.client_accounts.Tie as tie
 
 abbrev Inv-loop : tie.InvT-loop
-Inv-loop starts clients accounts₀ k₀ accounts k = Writing (clientAccount (clientsWith clients starts)) accounts₀ 32 k accounts
+Inv-loop starts clients accounts₀ k₀ accounts k = Writing (clientAccount (clientsWith clients starts)) accounts₀ maxAccounts k accounts
 
 abbrev μ-loop : tie.MeasureT-loop
-μ-loop starts clients accounts₀ k₀ accounts k = 32 - k
+μ-loop starts clients accounts₀ k₀ accounts k = maxAccounts - k
 
 client-account-requires : tie.Need-client-account-requires Inv-loop μ-loop
 client-account-requires c κs = omega arith
@@ -40,7 +41,7 @@ loop-again : tie.Need-loop-again Inv-loop μ-loop
 loop-again c = writing-more _ _ _ (omega arith) _ _ _ (c .before .loop-test .taken) (c .client-account2 .ensures) (c .before .before .loop .inv)
 
 returns : tie.Need-returns Inv-loop μ-loop
-returns c = all-written _ _ _ 32 _ (length-replicate 32 (c .before .before .client-account .result)) (c .loop-test .left) (c .before .loop .inv)
+returns c = all-written _ _ _ maxAccounts _ (length-replicate maxAccounts (c .before .before .client-account .result)) (c .loop-test .left) (c .before .loop .inv)
 
 pub client-accounts-spec : {M : Type 1} → statement M
 client-accounts-spec =

@@ -7,8 +7,8 @@ use Rattle.endian.proofs.reading.u16_at.Tie as tie
 u8-at-requires : tie.Need-u8-at-requires
 u8-at-requires c κs = search needs
 
-wide-requires : tie.Need-wide-requires
-wide-requires c κs = search needs
+wide-byte-requires : tie.Need-wide-byte-requires
+wide-byte-requires c κs = search needs
 
 add-u8-at : tie.Need-add-u8-at
 add-u8-at c = search needs
@@ -16,8 +16,8 @@ add-u8-at c = search needs
 u8-at-requires-2 : tie.Need-u8-at-requires-2
 u8-at-requires-2 c κs = search needs
 
-wide-requires-2 : tie.Need-wide-requires-2
-wide-requires-2 c κs = search needs
+wide-byte-requires-2 : tie.Need-wide-byte-requires-2
+wide-byte-requires-2 c κs = search needs
 
 mul-result : tie.Need-mul-result
 mul-result c = search needs
@@ -28,8 +28,8 @@ add-result c = search needs
 returns : tie.Need-returns
 unfolding u16At
 returns c = rw (
-  c .before .before .wide .ensures .0,
-  c .wide2 .ensures .0,
+  c .before .before .wide-byte .ensures .0,
+  c .wide-byte2 .ensures .0,
   c .before .before .before .u8-at .ensures,
   c .before .u8-at2 .ensures,
 )
@@ -39,10 +39,10 @@ u16-at-spec =
     tie.close
     (tie.spec
     u8-at-requires
-    wide-requires
+    wide-byte-requires
     add-u8-at
     u8-at-requires-2
-    wide-requires-2
+    wide-byte-requires-2
     mul-result
     add-result
     returns)

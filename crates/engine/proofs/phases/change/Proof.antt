@@ -4,7 +4,7 @@ use mathlib.Core.Path.{_≡_, sym, _∙_}
 use borrow.Author.Needs.{needs}
 use borrow.Author.Tests.{not-true, not-false}
 use Rattle.rules.specs.Exchange.{isAbsent}
-use Rattle.rules.specs.Command.{phaseKnown}
+use Rattle.rules.specs.Bounds.{phaseKnown}
 use Rattle.engine.proofs.Changes.{phase-unknown, phase-absent, phase-unlisted, phase-accepted}
 use Rattle.engine.proofs.Formed.{contract-fits}
 use Rattle.engine.proofs.Tests.{place-below}

@@ -35,27 +35,27 @@ returns c = cancel-refused (c .before .before .before .before .before .before .p
 place-of-requires : tie.Need-place-of-requires
 place-of-requires c κs = contract-low (c .before .before .before .before .before .pre) _ _ _ (none c)
 
+place-word-requires : tie.Need-place-word-requires
+place-word-requires c κs = account-low (c .before .before .before .before .before .before .pre) _ _ _ (none (c .before))
+
 mul-bought : tie.Need-mul-bought
 mul-bought c = search needs
 
 array-read-bought : tie.Need-array-read-bought
-array-read-bought c = place (c .before .before)
+array-read-bought c = place (c .before .before .before)
 
 mul-sold : tie.Need-mul-sold
 mul-sold c = search needs
 
 array-read-sold : tie.Need-array-read-sold
-array-read-sold c = place (c .before .before)
-
-sub-cancel-in : tie.Need-sub-cancel-in
-sub-cancel-in c = account-low (c .before .before .before .before .before .before .before .before .before .pre) _ _ _ (none (c .before .before .before .before))
+array-read-sold c = place (c .before .before .before)
 
 cancel-in-requires : tie.Need-cancel-in-requires
 cancel-in-requires c κs =
-    (side-room (c .before .before .before .before .before .before .before .before .before .pre) _ _ _ (none (c .before .before .before .before)) (c .before .before .before .place-of .ensures) false, side-once (c .before .before .before .before .before .before .before .before .before .pre) _ _ _ (none (c .before .before .before .before)) (c .before .before .before .place-of .ensures) false)
+    (side-room (c .before .before .before .before .before .before .before .before .before .before .pre) _ _ _ (none (c .before .before .before .before .before)) (c .before .before .before .before .place-of .ensures) false, side-once (c .before .before .before .before .before .before .before .before .before .before .pre) _ _ _ (none (c .before .before .before .before .before)) (c .before .before .before .before .place-of .ensures) false)
 
 with-counts-requires : tie.Need-with-counts-requires
-with-counts-requires c κs = place (c .before .before .before .before .before .before .before .before)
+with-counts-requires c κs = place (c .before .before .before .before .before .before .before .before .before)
 
 accepted-requires : tie.Need-accepted-requires
 accepted-requires c κs = search needs
@@ -65,7 +65,7 @@ same-length c = search needs
 
 returns-2 : tie.Need-returns-2
 returns-2 c =
-    bid-done (c .before .before .before .before .before .before .before .before .before .before .before .before .before .before .before .before .pre) _ _ _ (none (c .before .before .before .before .before .before .before .before .before .before .before)) (c .before .before .before .before .before .before .before .before .before .before .place-of .ensures) _ (c .before .before .before .before .before .before .cancel-in .ensures) (c .before .before .if2 .taken)
+    bid-done (c .before .before .before .before .before .before .before .before .before .before .before .before .before .before .before .before .before .pre) _ _ _ (none (c .before .before .before .before .before .before .before .before .before .before .before .before)) (c .before .before .before .before .before .before .before .before .before .before .before .place-of .ensures) _ (c .before .before .before .before .before .before .before .before .before .before .place-word .ensures) (c .before .before .before .before .before .before .cancel-in .ensures) (c .before .before .if2 .taken)
     (c .before .with-counts .ensures) (c .accepted .ensures)
 
 refused-requires-2 : tie.Need-refused-requires-2
@@ -76,14 +76,11 @@ same-length-2 c = search needs
 
 returns-3 : tie.Need-returns-3
 returns-3 c =
-    bid-another (c .before .before .before .before .before .before .before .before .before .before .before .before .before .before .before .before .before .pre) _ _ _ (none (c .before .before .before .before .before .before .before .before .before .before .before .before)) (c .before .before .before .before .before .before .before .before .before .before .before .place-of .ensures) _ (c .before .before .before .before .before .before .before .cancel-in .ensures) (c .before .if3 .taken) (c .refused2 .ensures)
-
-sub-cancel-in-2 : tie.Need-sub-cancel-in-2
-sub-cancel-in-2 c = account-low (c .before .before .before .before .before .before .before .before .before .before .before .before .before .before .before .before .before .pre) _ _ _ (none (c .before .before .before .before .before .before .before .before .before .before .before .before))
+    bid-another (c .before .before .before .before .before .before .before .before .before .before .before .before .before .before .before .before .before .before .pre) _ _ _ (none (c .before .before .before .before .before .before .before .before .before .before .before .before .before)) (c .before .before .before .before .before .before .before .before .before .before .before .before .place-of .ensures) _ (c .before .before .before .before .before .before .before .before .before .before .before .place-word .ensures) (c .before .before .before .before .before .before .before .cancel-in .ensures) (c .before .if3 .taken) (c .refused2 .ensures)
 
 cancel-in-requires-2 : tie.Need-cancel-in-requires-2
 cancel-in-requires-2 c κs =
-    let after = c .before .before .before .before .before .before .before .before .before .before .before in
+    let after = c .before .before .before .before .before .before .before .before .before .before .before .before in
     (side-room (after .before .before .before .before .before .before .pre) _ _ _ (none (after .before)) (after .place-of .ensures) true, side-once (after .before .before .before .before .before .before .pre) _ _ _ (none (after .before)) (after .place-of .ensures) true)
 
 refused-requires-3 : tie.Need-refused-requires-3
@@ -98,11 +95,11 @@ same-length-4 c = search needs
 returns-4 : tie.Need-returns-4
 returns-4 c =
     let after = c .before .before .before .before .before .before .before .before .before .before .before .before .before in
-    offer-refused (after .before .before .before .before .before .before .before .before .before .before .pre) _ _ _ (none (after .before .before .before .before .before)) (after .before .before .before .before .place-of .ensures) _ (after .cancel-in .ensures) (c .before .before .before .before .before .before .before .before .before .if2 .left) (c .before .before .before .before .before .before .before .if3 .left)
+    offer-refused (after .before .before .before .before .before .before .before .before .before .before .before .pre) _ _ _ (none (after .before .before .before .before .before .before)) (after .before .before .before .before .before .place-of .ensures) _ (after .before .before .before .before .place-word .ensures) (after .cancel-in .ensures) (c .before .before .before .before .before .before .before .before .before .if2 .left) (c .before .before .before .before .before .before .before .if3 .left)
     (c .before .before .before .before .before .cancel-in2 .ensures) (c .before .if4 .taken) (c .refused3 .ensures)
 
 with-counts-requires-2 : tie.Need-with-counts-requires-2
-with-counts-requires-2 c κs = place (c .before .before .before .before .before .before .before .before .before .before .before .before .before .before .before .before)
+with-counts-requires-2 c κs = place (c .before .before .before .before .before .before .before .before .before .before .before .before .before .before .before .before .before)
 
 accepted-requires-2 : tie.Need-accepted-requires-2
 accepted-requires-2 c κs = search needs
@@ -116,7 +113,7 @@ same-length-6 c = search needs
 returns-5 : tie.Need-returns-5
 returns-5 c =
     let after = c .before .before .before .before .before .before .before .before .before .before .before .before .before .before in
-    offer-done (after .before .before .before .before .before .before .before .before .before .before .pre) _ _ _ (none (after .before .before .before .before .before)) (after .before .before .before .before .place-of .ensures) _ (after .cancel-in .ensures) (c .before .before .before .before .before .before .before .before .before .before .if2 .left) (c .before .before .before .before .before .before .before .before .if3 .left)
+    offer-done (after .before .before .before .before .before .before .before .before .before .before .before .pre) _ _ _ (none (after .before .before .before .before .before .before)) (after .before .before .before .before .before .place-of .ensures) _ (after .before .before .before .before .place-word .ensures) (after .cancel-in .ensures) (c .before .before .before .before .before .before .before .before .before .before .if2 .left) (c .before .before .before .before .before .before .before .before .if3 .left)
     (c .before .before .before .before .before .before .cancel-in2 .ensures) (c .before .before .if4 .left) (c .before .with-counts2 .ensures) (c .accepted2 .ensures)
 
 pub cancel-spec : {M : Type 1} → statement M
@@ -127,11 +124,11 @@ cancel-spec =
     refused-requires
     returns
     place-of-requires
+    place-word-requires
     mul-bought
     array-read-bought
     mul-sold
     array-read-sold
-    sub-cancel-in
     cancel-in-requires
     with-counts-requires
     accepted-requires
@@ -140,7 +137,6 @@ cancel-spec =
     refused-requires-2
     same-length-2
     returns-3
-    sub-cancel-in-2
     cancel-in-requires-2
     refused-requires-3
     same-length-3

@@ -24,9 +24,9 @@ place c = contract-fits (c .before .before .before .before .before .before .pre)
 
 few : (c : tie.After-struct-known2) → c .before .before .before .before .before .before .before .before .pull .result .lots + c .before .before .before .before .pull2 .result .lots ≤ 2 * (maxResting * maxLots)
 few c =
-    let after = c .before .before .before .before .before .before .before .before .before .before .before .before in
-    let b = pulled-high (after .before .before .before .before .before .before .pre) _ _ _ (none (after .before)) (after .place-of .ensures) false (c .before .before .before .before .before .before .before .before .pull .ensures) in
-    let o = pulled-high (after .before .before .before .before .before .before .pre) _ _ _ (none (after .before)) (after .place-of .ensures) true (c .before .before .before .before .pull2 .ensures) in
+    let after = c .before .before .before .before .before .before .before .before .before .before .before .before .before in
+    let b = pulled-high (after .before .before .before .before .before .before .pre) _ _ _ (none (after .before)) (after .place-of .ensures) false (c .before .before .before .before .before .before .before .before .before .before .before .before .place-word .ensures) (c .before .before .before .before .before .before .before .before .pull .ensures) in
+    let o = pulled-high (after .before .before .before .before .before .before .pre) _ _ _ (none (after .before)) (after .place-of .ensures) true (c .before .before .before .before .before .before .before .before .before .before .before .before .place-word .ensures) (c .before .before .before .before .pull2 .ensures) in
     omega arith
 
 -- ---- the needs
@@ -43,31 +43,28 @@ returns c = pull-refused (c .before .before .before .before .before .before .pre
 place-of-requires : tie.Need-place-of-requires
 place-of-requires c κs = contract-low (c .before .before .before .before .before .pre) _ _ _ (none c)
 
+place-word-requires : tie.Need-place-word-requires
+place-word-requires c κs = account-low (c .before .before .before .before .before .before .pre) _ _ _ (none (c .before))
+
 mul-bought : tie.Need-mul-bought
 mul-bought c = search needs
 
 array-read-bought : tie.Need-array-read-bought
-array-read-bought c = place (c .before .before)
+array-read-bought c = place (c .before .before .before)
 
 mul-sold : tie.Need-mul-sold
 mul-sold c = search needs
 
 array-read-sold : tie.Need-array-read-sold
-array-read-sold c = place (c .before .before)
-
-sub-pull : tie.Need-sub-pull
-sub-pull c = account-low (c .before .before .before .before .before .before .before .before .before .pre) _ _ _ (none (c .before .before .before .before))
+array-read-sold c = place (c .before .before .before)
 
 pull-requires : tie.Need-pull-requires
 pull-requires c κs =
-    (side-few (c .before .before .before .before .before .before .before .before .before .pre) _ _ _ (none (c .before .before .before .before)) (c .before .before .before .place-of .ensures) false, side-room (c .before .before .before .before .before .before .before .before .before .pre) _ _ _ (none (c .before .before .before .before)) (c .before .before .before .place-of .ensures) false)
-
-sub-pull-2 : tie.Need-sub-pull-2
-sub-pull-2 c = account-low (c .before .before .before .before .before .before .before .before .before .before .before .before .before .pre) _ _ _ (none (c .before .before .before .before .before .before .before .before))
+    (side-few (c .before .before .before .before .before .before .before .before .before .before .pre) _ _ _ (none (c .before .before .before .before .before)) (c .before .before .before .before .place-of .ensures) false, side-room (c .before .before .before .before .before .before .before .before .before .before .pre) _ _ _ (none (c .before .before .before .before .before)) (c .before .before .before .before .place-of .ensures) false)
 
 pull-requires-2 : tie.Need-pull-requires-2
 pull-requires-2 c κs =
-    let after = c .before .before .before .before .before .before .before in
+    let after = c .before .before .before .before .before .before .before .before in
     (side-few (after .before .before .before .before .before .before .pre) _ _ _ (none (after .before)) (after .place-of .ensures) true, side-room (after .before .before .before .before .before .before .pre) _ _ _ (none (after .before)) (after .place-of .ensures) true)
 
 add-lots : tie.Need-add-lots
@@ -77,7 +74,7 @@ cast-lots : tie.Need-cast-lots
 cast-lots c = omega (arith, few c)
 
 with-counts-requires : tie.Need-with-counts-requires
-with-counts-requires c κs = place (c .before .before .before .before .before .before .before .before .before .before .before .before)
+with-counts-requires c κs = place (c .before .before .before .before .before .before .before .before .before .before .before .before .before)
 
 accepted-requires : tie.Need-accepted-requires
 accepted-requires c κs = search needs
@@ -91,7 +88,7 @@ same-length-2 c = search needs
 returns-2 : tie.Need-returns-2
 returns-2 c =
     let after = c .before .before .before .before .before .before .before .before .before .before in
-    pull-accepted (after .before .before .before .before .before .before .before .before .before .before .pre) _ _ _ (none (after .before .before .before .before .before)) (after .before .before .before .before .place-of .ensures) (after .pull .ensures) (c .before .before .before .before .before .before .pull2 .ensures) (c .before .with-counts .ensures) refl
+    pull-accepted (after .before .before .before .before .before .before .before .before .before .before .before .pre) _ _ _ (none (after .before .before .before .before .before .before)) (after .before .before .before .before .before .place-of .ensures) (after .before .before .before .before .place-word .ensures) (after .pull .ensures) (c .before .before .before .before .before .before .pull2 .ensures) (c .before .with-counts .ensures) refl
     (c .accepted .ensures)
 
 pub pull-spec : {M : Type 1} → statement M
@@ -102,13 +99,12 @@ pull-spec =
     refused-requires
     returns
     place-of-requires
+    place-word-requires
     mul-bought
     array-read-bought
     mul-sold
     array-read-sold
-    sub-pull
     pull-requires
-    sub-pull-2
     pull-requires-2
     add-lots
     cast-lots

@@ -10,6 +10,7 @@ use denote.Ref.{now}
 use lib.ListN.{length}
 use Rattle.rules.specs.Bounds.{maxResting}
 use Rattle.rules.specs.Condition3.{run}
+use Rattle.rules.specs.DayFile.{commandWidth}
 use Rattle.rules.specs.Memory.{Declared, wellFormedMemory, memory}
 use Rattle.engine.proofs.Declared.{declared}
 use Rattle.exchange.specs.Run.{firstCommands}
@@ -26,8 +27,8 @@ Inv-loop buys₀ sells₀ trades₀ bytes n current₀ k₀ buys sells trades cu
 abbrev μ-loop : tie.MeasureT-loop
 μ-loop buys₀ sells₀ trades₀ bytes n current₀ k₀ buys sells trades current k = n - k
 
-whole : (n : ℕ) → n / 24 * 24 ≤ n
-whole n = div-mul-le-self n 24
+whole : (n : ℕ) → n / commandWidth * commandWidth ≤ n
+whole n = div-mul-le-self n commandWidth
 
 typed : (c : tie.Start Inv-loop μ-loop) → Declared (c .args .state)
 typed c = declared (c .good .0)

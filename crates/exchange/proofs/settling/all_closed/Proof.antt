@@ -8,12 +8,13 @@ use borrow.Author.Needs.{needs}
 use lib.Dec.{eqb}
 use lib.ListN.{getD}
 use Rattle.laws.specs.Choice.{all, all-none, all-more, all-stop}
+use Rattle.rules.specs.Bounds.{closed}
 use Rattle.rules.specs.Exchange.{noContract}
 use Rattle.exchange.proofs.settling.all_closed.Statement.{statement}
 use Rattle.exchange.proofs.settling.all_closed.Tie as tie
 
 abbrev Inv-loop : tie.InvT-loop
-Inv-loop n contracts c₀ c = (c ≤ n) × (all (λ k. eqb (getD contracts k noContract .phase) 3) c ≡ true)
+Inv-loop n contracts c₀ c = (c ≤ n) × (all (λ k. eqb (getD contracts k noContract .phase) closed) c ≡ true)
 
 abbrev μ-loop : tie.MeasureT-loop
 μ-loop n contracts c₀ c = n - c

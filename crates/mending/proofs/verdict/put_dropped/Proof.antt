@@ -3,13 +3,13 @@ use mathlib.Core.Path.{_≡_}
 use Prim.Native.Nat.{_-_, _*_, _≤_}
 use native.Mathlib.Omega.{arith}
 use Rattle.endian.specs.Written.{Written}
-use Rattle.mending.specs.Mend.{kept as Mend·kept, dropped}
+use Rattle.mending.specs.Mend.{kept as Mend·kept, dropped, entryWidth}
 use Rattle.mending.proofs.Records.{kept-none, kept-most, count-keeps, count-drops, none-dropped, list-keeps, list-drops, list-room}
 use Rattle.mending.proofs.verdict.put_dropped.Statement.{statement}
 use Rattle.mending.proofs.verdict.put_dropped.Tie as tie
 
 abbrev Inv-loop : tie.InvT-loop
-Inv-loop file first n list₀ at next₀ kept₀ k₀ list next kept k = (k ≤ n) × ((kept ≡ Mend·kept file first k) × Written (9 * k) list₀ at (dropped file first k) list next)
+Inv-loop file first n list₀ at next₀ kept₀ k₀ list next kept k = (k ≤ n) × ((kept ≡ Mend·kept file first k) × Written (entryWidth * k) list₀ at (dropped file first k) list next)
 
 abbrev μ-loop : tie.MeasureT-loop
 μ-loop file first n list₀ at next₀ kept₀ k₀ list next kept k = n - k

@@ -3,13 +3,14 @@ use mathlib.Core.Path.{_≡_}
 use Prim.Native.Nat.{_-_, _*_, _≤_}
 use native.Mathlib.Omega.{arith}
 use Rattle.endian.specs.Written.{Written}
+use Rattle.rules.specs.DayFile.{commandWidth}
 use Rattle.mending.specs.Mend.{kept as Mend·kept, keptBytes}
 use Rattle.mending.proofs.Records.{kept-none, kept-most, count-keeps, count-drops, none-kept, file-keeps, file-drops, file-room}
 use Rattle.mending.proofs.verdict.put_kept.Statement.{statement}
 use Rattle.mending.proofs.verdict.put_kept.Tie as tie
 
 abbrev Inv-loop : tie.InvT-loop
-Inv-loop file first n out₀ at next₀ kept₀ k₀ out next kept k = (k ≤ n) × ((kept ≡ Mend·kept file first k) × Written (24 * k) out₀ at (keptBytes file first k) out next)
+Inv-loop file first n out₀ at next₀ kept₀ k₀ out next kept k = (k ≤ n) × ((kept ≡ Mend·kept file first k) × Written (commandWidth * k) out₀ at (keptBytes file first k) out next)
 
 abbrev μ-loop : tie.MeasureT-loop
 μ-loop file first n out₀ at next₀ kept₀ k₀ out next kept k = n - k

@@ -14,7 +14,7 @@ lots : (c : tie.After-lots-refused) → let start = c .before .before .before .b
 lots c =
     let start = c .before .before .before .before .before .before .before .before .before .before .before .before .before in
     lots-are (start .pre .0) (start .args .o) (start .pre .1) (c .before .before .before .before .before .before .before .before .before .place-of .ensures) (c .before .before .before .before .before .side-area .ensures)
-    (c .before .before .before .before .side-count .ensures) (c .before .before .mark .ensures) (c .before .resting .ensures) (start .pre .3) (c .lots-refused .ensures)
+    (c .before .before .before .before .side-count .ensures) (c .before .before .before .place-word .ensures) (c .before .before .mark .ensures) (c .before .resting .ensures) (start .pre .3) (c .lots-refused .ensures)
 
 place-of-requires : tie.Need-place-of-requires
 place-of-requires c κs = search needs
@@ -43,8 +43,8 @@ side-count-requires c κs =
     let start = c .before .before .before .before .before .before .before .before in
     place-fits (start .pre .0) (start .args .o) (start .pre .1) (c .before .before .before .before .place-of .ensures)
 
-sub-resting : tie.Need-sub-resting
-sub-resting c = search needs
+place-word-requires : tie.Need-place-word-requires
+place-word-requires c κs = search needs
 
 mark-requires : tie.Need-mark-requires
 mark-requires c κs = search needs
@@ -57,7 +57,7 @@ resting-requires c κs =
 lots-refused-requires : tie.Need-lots-refused-requires
 lots-refused-requires c κs =
     let start = c .before .before .before .before .before .before .before .before .before .before .before .before in
-    rested-low (start .pre .0) (start .args .o) (start .pre .1) (c .before .before .before .before .before .before .before .before .place-of .ensures) (c .before .before .before .before .side-area .ensures) (c .before .before .before .side-count .ensures) (c .before .mark .ensures) (c .resting .ensures)
+    rested-low (start .pre .0) (start .args .o) (start .pre .1) (c .before .before .before .before .before .before .before .before .place-of .ensures) (c .before .before .before .before .side-area .ensures) (c .before .before .before .side-count .ensures) (c .before .before .place-word .ensures) (c .before .mark .ensures) (c .resting .ensures)
 
 returns : tie.Need-returns
 unfolding firstOf
@@ -85,7 +85,7 @@ account-code-spec =
     element-copy-out-h
     side-area-requires
     side-count-requires
-    sub-resting
+    place-word-requires
     mark-requires
     resting-requires
     lots-refused-requires

@@ -7,9 +7,6 @@ use Rattle.refusals.proofs.Arrivals.{few-trades, trades-fit, trades-non
 use Rattle.refusals.proofs.codes.trades_refused.Statement.{statement}
 use Rattle.refusals.proofs.codes.trades_refused.Tie as tie
 
-sub-if2 : tie.Need-sub-if2
-sub-if2 c = search needs
-
 returns : tie.Need-returns
 returns c = trades-none _ _ _ (c .before .before .before .pre .0) _ (c .before .before .before .pre .1) (eq-eqb _ _ (c .if1 .taken))
 
@@ -26,4 +23,4 @@ returns-3 : tie.Need-returns-3
 returns-3 c = trades-told _ _ _ (c .before .before .before .before .before .pre .0) (ne-eqb _ _ (c .before .before .if1 .left)) _ (c .count-trades .ensures)
 
 pub trades-refused-spec : {M : Type 1} → statement M
-trades-refused-spec = tie.close (tie.spec returns sub-if2 returns-2 count-trades-requires add-result returns-3)
+trades-refused-spec = tie.close (tie.spec returns returns-2 count-trades-requires add-result returns-3)

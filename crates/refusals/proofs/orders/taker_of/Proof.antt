@@ -12,17 +12,17 @@ best-price-requires c κs = search needs
 method-of-requires : tie.Need-method-of-requires
 method-of-requires c κs = search needs
 
-sub-t12 : tie.Need-sub-t12
-sub-t12 c = search needs
+place-word-requires : tie.Need-place-word-requires
+place-word-requires c κs = search needs
 
-sub-t13 : tie.Need-sub-t13
-sub-t13 c = search needs
+place-word-requires-2 : tie.Need-place-word-requires-2
+place-word-requires-2 c κs = search needs
 
 mark-requires : tie.Need-mark-requires
 mark-requires c κs = search needs
 
 returns : tie.Need-returns
-returns c = rw (c .mark .ensures, c .before .before .before .method-of .ensures, c .before .before .before .before .best-price .ensures, c .before .before .before .before .before .place-of .ensures)
+returns c = rw (c .mark .ensures, c .before .place-word2 .ensures, c .before .before .place-word .ensures, c .before .before .before .method-of .ensures, c .before .before .before .before .best-price .ensures, c .before .before .before .before .before .place-of .ensures)
 
 pub taker-of-spec : {M : Type 1} → statement M
 taker-of-spec =
@@ -31,7 +31,7 @@ taker-of-spec =
     place-of-requires
     best-price-requires
     method-of-requires
-    sub-t12
-    sub-t13
+    place-word-requires
+    place-word-requires-2
     mark-requires
     returns)

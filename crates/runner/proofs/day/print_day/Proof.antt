@@ -3,14 +3,14 @@ use mathlib.Core.Path.{refl, _∙_}
 use Prim.Native.Nat.{_-_}
 use native.Mathlib.Omega.{arith}
 use Rattle.rules.specs.Memory.{memory}
-use Rattle.runner.specs.Day.{openingOf}
+use Rattle.dayfile.specs.Opening.{openingMemory}
 use Rattle.runner.proofs.WholeDay.{PrintedTo, buffer-stays, bytes-most, can-play, day-begun, fewer-left, part-done, part-written, stopped, whole-day}
 use Rattle.runner.proofs.day.print_day.Statement.{statement}
 use Rattle.runner.proofs.day.print_day.Tie as tie
 
 abbrev Inv-loop : tie.InvT-loop
 Inv-loop fd file buys₀ sells₀ trades₀ n out₀ state₀ k₀ bytes₀ buys sells trades out state k bytes =
-    PrintedTo file (openingOf file buys₀ sells₀ trades₀) k (memory state buys sells trades) out bytes
+    PrintedTo file (openingMemory file buys₀ sells₀ trades₀) k (memory state buys sells trades) out bytes
 
 abbrev μ-loop : tie.MeasureT-loop
 μ-loop fd file buys₀ sells₀ trades₀ n out₀ state₀ k₀ bytes₀ buys sells trades out state k bytes = n - k

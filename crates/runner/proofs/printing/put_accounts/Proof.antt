@@ -9,6 +9,7 @@ use mir.Val.{toZ, ofZ}
 use lib.IntN.{pos}
 use Rattle.rules.specs.Exchange.{noAccount}
 use Rattle.endian.specs.Written.{Written}
+use Rattle.lines.specs.Tables.{accountLineMost}
 use Rattle.runner.specs.Rows.{rows, accountRow}
 use Rattle.runner.proofs.Tables.{rows-none, rows-more}
 use Rattle.runner.proofs.printing.put_accounts.Statement.{statement}
@@ -16,7 +17,7 @@ use Rattle.runner.proofs.printing.put_accounts.Tie as tie
 
 abbrev Inv-loop : tie.InvT-loop
 Inv-loop out₀ at n accounts closing holding charged next₀ a₀ out next a =
-    (a ≤ n) × Written (110 * a) out₀ at (rows (accountRow closing holding charged accounts) a) out next
+    (a ≤ n) × Written (accountLineMost * a) out₀ at (rows (accountRow closing holding charged accounts) a) out next
 
 abbrev μ-loop : tie.MeasureT-loop
 μ-loop out₀ at n accounts closing holding charged next₀ a₀ out next a = n - a
@@ -80,7 +81,7 @@ loop-again c =
     let turn = c .before .before .before .before .before .before .before .before .before in
     let a = turn .before .before .before .before .before .args in (
       omega arith,
-      rows-more (accountRow (a .report .closing) (a .report .holding) (a .report .charged) (a .t4)) (turn .loop .a) _ 110 _ (omega arith) (turn .loop .inv .1)
+      rows-more (accountRow (a .report .closing) (a .report .holding) (a .report .charged) (a .t4)) (turn .loop .a) _ accountLineMost _ (omega arith) (turn .loop .inv .1)
           (rw (closing-back c, holding-back c, balance-back c) at (c .before .before .put-account .ensures)),
     )
 

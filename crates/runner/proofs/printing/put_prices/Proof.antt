@@ -3,6 +3,7 @@ use mathlib.Core.Path.{_≡_}
 use Prim.Native.Nat.{_-_, _*_, _≤_}
 use native.Mathlib.Omega.{arith}
 use Rattle.endian.specs.Written.{Written}
+use Rattle.lines.specs.Tables.{priceLineMost}
 use Rattle.runner.specs.Rows.{rows, priceRow}
 use Rattle.runner.proofs.Tables.{rows-none, rows-more}
 use Rattle.runner.proofs.printing.put_prices.Statement.{statement}
@@ -10,7 +11,7 @@ use Rattle.runner.proofs.printing.put_prices.Tie as tie
 
 abbrev Inv-loop : tie.InvT-loop
 Inv-loop out₀ at n prices next₀ c₀ out next c =
-    (c ≤ n) × Written (44 * c) out₀ at (rows (priceRow prices) c) out next
+    (c ≤ n) × Written (priceLineMost * c) out₀ at (rows (priceRow prices) c) out next
 
 abbrev μ-loop : tie.MeasureT-loop
 μ-loop out₀ at n prices next₀ c₀ out next c = n - c
@@ -37,7 +38,7 @@ loop-less : tie.Need-loop-less Inv-loop μ-loop
 loop-less c = omega arith
 
 loop-again : tie.Need-loop-again Inv-loop μ-loop
-loop-again c = (omega arith, rows-more (priceRow (c .before .before .before .before .before .before .before .args .t3)) (c .before .before .before .before .before .loop .c) _ 44 _ (omega arith) (c .before .before .before .before .before .loop .inv .1) (c .before .before .put-price .ensures))
+loop-again c = (omega arith, rows-more (priceRow (c .before .before .before .before .before .before .before .args .t3)) (c .before .before .before .before .before .loop .c) _ priceLineMost _ (omega arith) (c .before .before .before .before .before .loop .inv .1) (c .before .before .put-price .ensures))
 
 same-length : tie.Need-same-length Inv-loop μ-loop
 same-length c = c .before .loop .inv .1 .kept

@@ -7,13 +7,14 @@ use Rattle.rules.specs.Lines.{tradeLines}
 use Rattle.rules.specs.Memory.{recordedTrades}
 use Rattle.endian.specs.Written.{Written}
 use Rattle.endian.proofs.Writes.{looser}
+use Rattle.lines.specs.Tables.{tradeLineMost}
 use Rattle.runner.proofs.Recorded.{trades-none, trades-more, trades-done}
 use Rattle.runner.proofs.printing.put_trades.Statement.{statement}
 use Rattle.runner.proofs.printing.put_trades.Tie as tie
 
 abbrev Inv-loop : tie.InvT-loop
 Inv-loop out₀ at area first count next₀ i₀ out next i =
-    (first ≤ i) × ((i ≤ max first count) × Written (128 * (i - first)) out₀ at (tradeLines (first + 1) (drop first (recordedTrades area i))) out next)
+    (first ≤ i) × ((i ≤ max first count) × Written (tradeLineMost * (i - first)) out₀ at (tradeLines (first + 1) (drop first (recordedTrades area i))) out next)
 
 abbrev μ-loop : tie.MeasureT-loop
 μ-loop out₀ at area first count next₀ i₀ out next i = count - i

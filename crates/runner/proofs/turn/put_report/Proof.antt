@@ -3,6 +3,7 @@ use native.Mathlib.Omega.{arith}
 use borrow.Author.Needs.{needs}
 use Rattle.laws.specs.Tests.{passed, refused}
 use Rattle.endian.proofs.Writes.{looser, no-byte}
+use Rattle.runner.specs.Turns.{settlementMost}
 use Rattle.runner.proofs.Responded.{report-none, report-refused, report-made}
 use Rattle.runner.proofs.turn.put_report.Statement.{statement}
 use Rattle.runner.proofs.turn.put_report.Tie as tie
@@ -11,11 +12,11 @@ is-settle-requires : tie.Need-is-settle-requires
 is-settle-requires c κs = search needs
 
 returns : tie.Need-returns
-returns c = rw (report-none _ (c .before .before .before .args .response) (refused (c .before .is-settle .ensures) (c .if1 .taken))) (looser (no-byte _ _ (omega arith)) 3_696 (omega arith))
+returns c = rw (report-none _ (c .before .before .before .args .response) (refused (c .before .is-settle .ensures) (c .if1 .taken))) (looser (no-byte _ _ (omega arith)) settlementMost (omega arith))
 
 returns-2 : tie.Need-returns-2
 returns-2 c =
-    rw (report-refused _ (c .before .before .before .before .before .before .args .response) (passed (c .before .before .before .before .is-settle .ensures) (c .before .before .before .if1 .left)) (c .if2 .taken)) (looser (no-byte _ _ (omega arith)) 3_696 (omega arith))
+    rw (report-refused _ (c .before .before .before .before .before .before .args .response) (passed (c .before .before .before .before .is-settle .ensures) (c .before .before .before .if1 .left)) (c .if2 .taken)) (looser (no-byte _ _ (omega arith)) settlementMost (omega arith))
 
 put-settlement-requires : tie.Need-put-settlement-requires
 put-settlement-requires c κs = omega (arith, c .before .before .before .before .before .before .before .before .before .pre)

@@ -3,6 +3,7 @@ use native.Mathlib.Omega.{arith}
 use borrow.Author.Needs.{needs}
 use Rattle.endian.proofs.Writes.{looser, then}
 use Rattle.runner.specs.Rows.{responseRows}
+use Rattle.runner.specs.Turns.{commandMost}
 use Rattle.runner.proofs.turn.put_response.Statement.{statement}
 use Rattle.runner.proofs.turn.put_response.Tie as tie
 
@@ -27,7 +28,7 @@ same-length c = search needs
 
 returns : tie.Need-returns
 unfolding responseRows
-returns c = looser (then (c .before .before .before .before .before .before .before .before .before .before .put-answer .ensures) (then (c .before .before .before .before .before .before .put-trades .ensures) (c .before .before .put-report .ensures))) 134_875 (omega (arith, c .before .before .before .before .before .before .before .before .before .before .before .before .before .before .before .before .pre .0 .count))
+returns c = looser (then (c .before .before .before .before .before .before .before .before .before .before .put-answer .ensures) (then (c .before .before .before .before .before .before .put-trades .ensures) (c .before .before .put-report .ensures))) commandMost (omega (arith, c .before .before .before .before .before .before .before .before .before .before .before .before .before .before .before .before .pre .0 .count))
 
 pub put-response-spec : {M : Type 1} → statement M
 put-response-spec =

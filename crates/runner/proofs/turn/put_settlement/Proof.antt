@@ -3,6 +3,7 @@ use native.Mathlib.Omega.{arith}
 use borrow.Author.Needs.{needs}
 use Rattle.endian.proofs.Writes.{looser, then}
 use Rattle.runner.specs.Rows.{settlementRows}
+use Rattle.runner.specs.Turns.{settlementMost}
 use Rattle.runner.proofs.turn.put_settlement.Statement.{statement}
 use Rattle.runner.proofs.turn.put_settlement.Tie as tie
 
@@ -17,7 +18,7 @@ same-length c = search needs
 
 returns : tie.Need-returns
 unfolding settlementRows
-returns c = looser (then (c .before .before .before .before .before .before .put-prices .ensures) (c .before .before .put-accounts .ensures)) 3_696 (omega arith)
+returns c = looser (then (c .before .before .before .before .before .before .put-prices .ensures) (c .before .before .put-accounts .ensures)) settlementMost (omega arith)
 
 pub put-settlement-spec : {M : Type 1} → statement M
 put-settlement-spec =

@@ -2,7 +2,7 @@
 use mathlib.Core.Path.{ap, _∙_}
 use mir.Facts.{toZ-ofZ}
 use mir.Syntax.{w64}
-use Rattle.saved.specs.Saved.{signedOf}
+use Rattle.endian.specs.Numbers.{signedOf}
 use Rattle.saving.proofs.Placed.{account-made}
 use borrow.Author.Needs.{needs}
 use Rattle.saving.proofs.loading.account_over.Statement.{statement}

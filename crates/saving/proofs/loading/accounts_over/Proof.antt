@@ -14,10 +14,10 @@ use Rattle.saving.proofs.loading.accounts_over.Statement.{statement}
 use Rattle.saving.proofs.loading.accounts_over.Tie as tie
 
 abbrev Inv-loop : tie.InvT-loop
-Inv-loop file contracts accounts places first rows wide list₀ a₀ list a = Writing (λ i. putAccount (loadedAccount file i) (getD places i noAccount)) places accounts a list
+Inv-loop file contracts accounts places first rows width list₀ a₀ list a = Writing (λ i. putAccount (loadedAccount file i) (getD places i noAccount)) places accounts a list
 
 abbrev μ-loop : tie.MeasureT-loop
-μ-loop file contracts accounts places first rows wide list₀ a₀ list a = accounts - a
+μ-loop file contracts accounts places first rows width list₀ a₀ list a = accounts - a
 
 -- the array has its places
 places : (c : tie.Start Inv-loop μ-loop) → length (c .args .t4) ≡ 32
@@ -38,8 +38,8 @@ add-rows c = omega (arith, c .before .pre .few-accounts, c .before .pre .few-con
 add-rows-2 : tie.Need-add-rows-2 Inv-loop μ-loop
 add-rows-2 c = omega (arith, c .before .pre .few-accounts, c .before .pre .few-contracts)
 
-mul-wide : tie.Need-mul-wide Inv-loop μ-loop
-mul-wide c = omega (arith, c .before .pre .few-contracts)
+mul-row-width : tie.Need-mul-row-width Inv-loop μ-loop
+mul-row-width c = omega (arith, c .before .pre .few-contracts)
 
 loop-holds : tie.Need-loop-holds Inv-loop μ-loop
 loop-holds c = writing-none _ _ _
@@ -94,7 +94,7 @@ accounts-over-spec =
     mul-rows
     add-rows
     add-rows-2
-    mul-wide
+    mul-row-width
     loop-holds
     mul-room
     array-copy-out-room

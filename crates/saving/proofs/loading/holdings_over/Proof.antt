@@ -6,12 +6,13 @@ use borrow.Author.Needs.{needs}
 use lib.ListN.{length}
 use Rattle.laws.specs.Lists.{unmapped}
 use Rattle.laws.specs.Written.{Writing, writing-none, writing-more, writing-done}
+use Rattle.statements.specs.Statement.{holdingWidth}
 use Rattle.saved.specs.Saved.{savedHolding}
 use Rattle.saving.proofs.loading.holdings_over.Statement.{statement}
 use Rattle.saving.proofs.loading.holdings_over.Tie as tie
 
 abbrev Inv-loop : tie.InvT-loop
-Inv-loop file row n list₀ c₀ list c = Writing (λ i. savedHolding file (row + 8 * i)) list₀ n c list
+Inv-loop file row n list₀ c₀ list c = Writing (λ i. savedHolding file (row + holdingWidth * i)) list₀ n c list
 
 abbrev μ-loop : tie.MeasureT-loop
 μ-loop file row n list₀ c₀ list c = n - c

@@ -25,17 +25,17 @@ mul-terms c = omega arith
 element-copy-out-terms : tie.Need-element-copy-out-terms Inv-loop μ-loop
 element-copy-out-terms c = omega arith
 
-mul-bids : tie.Need-mul-bids Inv-loop μ-loop
-mul-bids c = omega arith
+mul-buycount : tie.Need-mul-buycount Inv-loop μ-loop
+mul-buycount c = omega arith
 
-element-copy-out-bids : tie.Need-element-copy-out-bids Inv-loop μ-loop
-element-copy-out-bids c = omega arith
+element-copy-out-buycount : tie.Need-element-copy-out-buycount Inv-loop μ-loop
+element-copy-out-buycount c = omega arith
 
-mul-asks : tie.Need-mul-asks Inv-loop μ-loop
-mul-asks c = omega arith
+mul-sellcount : tie.Need-mul-sellcount Inv-loop μ-loop
+mul-sellcount c = omega arith
 
-element-copy-out-asks : tie.Need-element-copy-out-asks Inv-loop μ-loop
-element-copy-out-asks c = omega arith
+element-copy-out-sellcount : tie.Need-element-copy-out-sellcount Inv-loop μ-loop
+element-copy-out-sellcount c = omega arith
 
 returns : tie.Need-returns Inv-loop μ-loop
 returns c = sym (all-stop _ _ _ (c .before .before .before .before .before .loop-test .taken) (not-pre-open (c .before .before .before .before .before .before .before .args .t1) (c .before .before .before .before .before .before .loop .c) (c .if1 .taken)))
@@ -67,10 +67,10 @@ all-asleep-spec =
     loop-holds
     mul-terms
     element-copy-out-terms
-    mul-bids
-    element-copy-out-bids
-    mul-asks
-    element-copy-out-asks
+    mul-buycount
+    element-copy-out-buycount
+    mul-sellcount
+    element-copy-out-sellcount
     returns
     returns-2
     returns-3

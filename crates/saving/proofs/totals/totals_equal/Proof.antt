@@ -34,17 +34,17 @@ mul-h c = omega arith
 element-copy-out-h : tie.Need-element-copy-out-h Inv-loop μ-loop
 element-copy-out-h c = omega arith
 
-wide-requires : tie.Need-wide-requires Inv-loop μ-loop
-wide-requires c κs = tt
+wide-lots-requires : tie.Need-wide-lots-requires Inv-loop μ-loop
+wide-lots-requires c κs = tt
 
 add-long : tie.Need-add-long Inv-loop μ-loop
-add-long c = omega (arith, c .before .before .before .before .loop .inv .long-small, c .wide .ensures .1)
+add-long c = omega (arith, c .before .before .before .before .loop .inv .long-small, c .wide-lots .ensures .1)
 
-wide-requires-2 : tie.Need-wide-requires-2 Inv-loop μ-loop
-wide-requires-2 c κs = tt
+wide-lots-requires-2 : tie.Need-wide-lots-requires-2 Inv-loop μ-loop
+wide-lots-requires-2 c κs = tt
 
 add-short : tie.Need-add-short Inv-loop μ-loop
-add-short c = omega (arith, c .before .before .before .before .before .loop .inv .short-small, c .wide2 .ensures .1)
+add-short c = omega (arith, c .before .before .before .before .before .loop .inv .short-small, c .wide-lots2 .ensures .1)
 
 add-a : tie.Need-add-a Inv-loop μ-loop
 add-a c = omega arith
@@ -53,7 +53,7 @@ loop-less : tie.Need-loop-less Inv-loop μ-loop
 loop-less c = omega arith
 
 loop-again : tie.Need-loop-again Inv-loop μ-loop
-loop-again c = adding-more _ _ _ _ _ _ _ _ (omega (arith, places (c .before .before .before .before .before .before))) (c .before .before .before .before .loop-test .taken) (c .before .before .before .before .before .loop .inv) (c .before .wide .ensures .0) (c .wide2 .ensures .0) (omega (arith, c .before .wide .ensures .1)) (omega (arith, c .wide2 .ensures .1))
+loop-again c = adding-more _ _ _ _ _ _ _ _ (omega (arith, places (c .before .before .before .before .before .before))) (c .before .before .before .before .loop-test .taken) (c .before .before .before .before .before .loop .inv) (c .before .wide-lots .ensures .0) (c .wide-lots2 .ensures .0) (omega (arith, c .before .wide-lots .ensures .1)) (omega (arith, c .wide-lots2 .ensures .1))
 
 returns : tie.Need-returns Inv-loop μ-loop
 returns c = adding-done _ _ _ _ _ _ (c .loop-test .left) (c .before .loop .inv)
@@ -69,9 +69,9 @@ totals-equal-spec =
     array-copy-out-holder
     mul-h
     element-copy-out-h
-    wide-requires
+    wide-lots-requires
     add-long
-    wide-requires-2
+    wide-lots-requires-2
     add-short
     add-a
     loop-less

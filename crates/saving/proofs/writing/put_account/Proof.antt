@@ -3,7 +3,7 @@ use mathlib.Core.Path.{refl, ap, _∙_}
 use native.Mathlib.Omega.{arith}
 use mir.Facts.{toZ-ofZ}
 use mir.Syntax.{w64}
-use Rattle.statements.specs.Statement.{unsigned}
+use Rattle.endian.specs.Numbers.{unsigned}
 use Rattle.saving.proofs.Sections.{account-written}
 use borrow.Author.Needs.{needs}
 use Rattle.saving.proofs.writing.put_account.Statement.{statement}

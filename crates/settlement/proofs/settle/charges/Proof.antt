@@ -6,10 +6,10 @@ use Rattle.settlement.proofs.settle.charges.Statement.{statement}
 use Rattle.settlement.proofs.settle.charges.Tie as tie
 
 abbrev Inv-loop : tie.InvT-loop
-Inv-loop state buys sells accounts holders terms bids offers charged₀ a₀ charged a = ChargesSoFar state buys sells a charged
+Inv-loop state buys sells accountcount accounts terms buycounts sellcounts charged₀ a₀ charged a = ChargesSoFar state buys sells a charged
 
 abbrev μ-loop : tie.MeasureT-loop
-μ-loop state buys sells accounts holders terms bids offers charged₀ a₀ charged a = accounts - a
+μ-loop state buys sells accountcount accounts terms buycounts sellcounts charged₀ a₀ charged a = accountcount - a
 
 loop-holds : tie.Need-loop-holds Inv-loop μ-loop
 loop-holds c = charges-none _ _ _

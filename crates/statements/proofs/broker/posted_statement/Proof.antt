@@ -1,6 +1,6 @@
 -- `broker::posted_statement` meets its contract. Assumes nothing.
 use mathlib.Core.List.{[]}
-use Prim.Native.Nat.{ℕ, _*_}
+use Prim.Native.Nat.{ℕ}
 use native.Mathlib.Omega.{arith}
 use borrow.Author.Tests.{not-false}
 use lib.ListN.{length-replicate}
@@ -9,8 +9,7 @@ use borrow.Author.Needs.{needs}
 use Rattle.statements.proofs.broker.posted_statement.Statement.{statement}
 use Rattle.statements.proofs.broker.posted_statement.Tie as tie
 use Rattle.clients.proofs.PostedTrades.{posted-content, posted-legs}
-use Rattle.rules.specs.Bounds.{maxTrades}
-use Rattle.rules.specs.Memory.{tradeStride}
+use Rattle.rules.specs.Memory.{tradesWords}
 
 slice-aggregate-post-trades : tie.Need-slice-aggregate-post-trades
 slice-aggregate-post-trades c = search needs
@@ -35,7 +34,7 @@ tell-requires c κs =
     let posted = c .before .before .before .before .before .before .post-trades .ensures in
     let all = not-false _ (c .before .before .before .if1 .left) in
     rw (c .before .wide .ensures)
-    (brokered _ _ _ _ _ _ _ (c .before .before .before .before .before .before .before .before .before .before .before .before .before .before .pre) _ _ _ (length-replicate {A = ℕ} (tradeStride * maxTrades) 0) (posted-content posted all) _ (posted-legs posted all))
+    (brokered _ _ _ _ _ _ _ (c .before .before .before .before .before .before .before .before .before .before .before .before .before .before .pre) _ _ _ (length-replicate {A = ℕ} tradesWords 0) (posted-content posted all) _ (posted-legs posted all))
 
 same-length : tie.Need-same-length
 same-length c = search needs
@@ -44,7 +43,7 @@ returns-2 : tie.Need-returns-2
 returns-2 c =
     let posted = c .before .before .before .before .before .before .before .before .before .post-trades .ensures in
     let all = not-false _ (c .before .before .before .before .before .before .if1 .left) in
-    posted-told _ _ _ _ _ _ _ (c .before .before .before .before .before .before .before .before .before .before .before .before .before .before .before .before .before .pre) _ _ _ (length-replicate {A = ℕ} (tradeStride * maxTrades) 0) (posted-content posted all) _ (posted .all) all
+    posted-told _ _ _ _ _ _ _ (c .before .before .before .before .before .before .before .before .before .before .before .before .before .before .before .before .before .pre) _ _ _ (length-replicate {A = ℕ} tradesWords 0) (posted-content posted all) _ (posted .all) all
     _ (c .before .before .before .before .wide .ensures) _ _ _ (c .before .before .tell .ensures)
 
 pub posted-statement-spec : {M : Type 1} → statement M

@@ -22,17 +22,17 @@ mul-terms c = omega (arith, c .before .before .before .before .before .pre .few)
 element-copy-out-terms : tie.Need-element-copy-out-terms Inv-loop μ-loop
 element-copy-out-terms c = omega (arith, c .before .before .before .before .before .pre .few)
 
-mul-bids : tie.Need-mul-bids Inv-loop μ-loop
-mul-bids c = omega (arith, c .before .before .before .before .before .before .pre .few)
+mul-buycount : tie.Need-mul-buycount Inv-loop μ-loop
+mul-buycount c = omega (arith, c .before .before .before .before .before .before .pre .few)
 
-element-copy-out-bids : tie.Need-element-copy-out-bids Inv-loop μ-loop
-element-copy-out-bids c = omega (arith, c .before .before .before .before .before .before .pre .few)
+element-copy-out-buycount : tie.Need-element-copy-out-buycount Inv-loop μ-loop
+element-copy-out-buycount c = omega (arith, c .before .before .before .before .before .before .pre .few)
 
-mul-offers : tie.Need-mul-offers Inv-loop μ-loop
-mul-offers c = omega (arith, c .before .before .before .before .before .before .before .pre .few)
+mul-sellcount : tie.Need-mul-sellcount Inv-loop μ-loop
+mul-sellcount c = omega (arith, c .before .before .before .before .before .before .before .pre .few)
 
-element-copy-out-offers : tie.Need-element-copy-out-offers Inv-loop μ-loop
-element-copy-out-offers c = omega (arith, c .before .before .before .before .before .before .before .pre .few)
+element-copy-out-sellcount : tie.Need-element-copy-out-sellcount Inv-loop μ-loop
+element-copy-out-sellcount c = omega (arith, c .before .before .before .before .before .before .before .pre .few)
 
 settlement-price-requires : tie.Need-settlement-price-requires Inv-loop μ-loop
 settlement-price-requires c κs = c .before .before .before .before .before .before .before .before .pre .priceable _ (c .before .before .before .loop-test .taken)
@@ -64,10 +64,10 @@ prices-due-spec =
     loop-holds
     mul-terms
     element-copy-out-terms
-    mul-bids
-    element-copy-out-bids
-    mul-offers
-    element-copy-out-offers
+    mul-buycount
+    element-copy-out-buycount
+    mul-sellcount
+    element-copy-out-sellcount
     settlement-price-requires
     mul-prices
     array-write-prices

@@ -1,7 +1,7 @@
 -- `writing::put_profit` meets its contract. Assumes nothing.
 use mathlib.Core.Path.{ap, _∙_}
 use mir.Facts.{toZ-ofZ}
-use Rattle.statements.specs.Statement.{unsigned}
+use Rattle.endian.specs.Numbers.{unsigned}
 use Rattle.statements.proofs.Sections.{profit-written}
 use borrow.Author.Needs.{needs}
 use Rattle.statements.proofs.writing.put_profit.Statement.{statement}
