@@ -13,7 +13,7 @@ use Rattle.laws.specs.Choice.{all, allOf, all-at, allOf-at, both-true}
 use Rattle.laws.specs.Chains.{Passed, all-passed}
 use Rattle.rules.specs.Bounds.{within, onTick, dayLow, dayHigh, allowedToday, maxPrice, maxLots}
 use Rattle.rules.specs.Exchange.{Exchange, Listing, noListing, listingAt, holdingAt, restingOpens, restingCloses}
-use Rattle.rules.specs.WellFormed.{countersInRange, contractInRange, markInRange, rangesKept, queuesSorted, orderInRange, ordersInRange, allNumbers, allStamps, usedOnce, listingQuoted, restingInRange, tradeInRange, replays, holdingInRange, holdingsInRange, balanceInRange, wellFormedContents}
+use Rattle.rules.specs.WellFormed.{countersInRange, contractInRange, markInRange, rangesKept, queuesSorted, orderInRange, ordersInRange, allNumbers, allStamps, usedOnce, listingQuoted, restingInRange, tradeInRange, replays, heldInRange, holdingInRange, holdingsInRange, balanceInRange, wellFormedContents}
 use Rattle.rules.specs.declared.Contract.{Contract}
 use Rattle.rules.specs.declared.Holding.{Holding}
 use Rattle.rules.specs.declared.Order.{Order}
@@ -108,7 +108,7 @@ module _ (x : Exchange) (h : wellFormedContents x ≡ true) where
 
   start-lots : (m : Listing) (a : ℕ) (k : Holding) → holdingInRange m a k ≡ true →
       (k .startlong ≤ m .contract .limit) × (k .startshort ≤ m .contract .limit)
-  unfolding holdingInRange
+  unfolding heldInRange holdingInRange
   start-lots m a k e =
       let p = all-passed (leb (k .startlong) (m .contract .limit))
       (leb (k .startshort) (m .contract .limit)

@@ -19,7 +19,7 @@ use Rattle.rules.specs.Exchange.{Exchange, accountAt, holdingAt, listingAt, lot
 use Rattle.rules.specs.Holdings.{afterLeg, bookLeg, bookTrade, bookTrades, legCovered, neverBelowZero, sameHoldings, sameLots, startOfDay}
 use Rattle.rules.specs.Matching.{tradedLots}
 use Rattle.rules.specs.Settlement.{Leg, afterDayLeg, afterLegs, closingProfit, dayOf, dayStart, firstLots, gain, holdingGain, holdingProfit, legs, only, otherLots, priceFrom, settlementPrice, tradedValue, tradesIn, weightedPrice}
-use Rattle.rules.specs.WellFormed.{allListed, balanceInRange, contractInRange, countersInRange, holdingInRange, holdingsInRange, listed, listingQuoted, markAllowed, markInRange, ordersInRange, queueQuoted, queuesSorted, quotes, rangesKept, replays, restingInRange, sorted, tradeInRange, uncrossed, usedOnce, wellFormedContents}
+use Rattle.rules.specs.WellFormed.{allListed, balanceInRange, contractInRange, countersInRange, heldInRange, holdingInRange, holdingsInRange, listed, listingQuoted, markAllowed, markInRange, ordersInRange, queueQuoted, queuesSorted, quotes, rangesKept, replays, restingInRange, sorted, tradeInRange, uncrossed, usedOnce, wellFormedContents}
 use Rattle.rules.specs.declared.Trade.{Trade}
 use Rattle.accounting.specs.Pairing.{Side, long, short, Lot, noLot, Pairing, PairsDay, closedLots, closedOf, closes, closingBy, dayClosing, dayHolding, gained, heldAtStart, holdingBy, inOrder, lotsOfLegs, openLots, openOf, opens, pairedClosing, pairedHolding, unpaired}
 
@@ -139,7 +139,7 @@ table =
     ∷ []
 
 pub pairing-examples : allRight table ≡ true
-unfolding allRight table day trade pairs pairsOwn isPairing pairedWell todayFirst up down all allOf sumOf sumTo allowedToday dayHigh dayLow onTick termsInRange tickMultiple accountAt holdingAt listingAt lotsWhere resting afterLeg bookLeg bookTrade bookTrades legCovered neverBelowZero sameHoldings sameLots startOfDay tradedLots afterDayLeg afterLegs closingProfit dayOf dayStart firstLots gain holdingGain holdingProfit legs only otherLots priceFrom settlementPrice tradedValue tradesIn weightedPrice allListed balanceInRange contractInRange countersInRange holdingInRange holdingsInRange rangesKept queuesSorted ordersInRange restingInRange listed replays sorted tradeInRange uncrossed usedOnce wellFormedContents quotes markAllowed queueQuoted listingQuoted markInRange closedLots closedOf closes closingBy dayClosing dayHolding gained heldAtStart holdingBy lotsOfLegs openLots openOf opens pairedClosing pairedHolding unpaired
+unfolding allRight table day trade pairs pairsOwn isPairing pairedWell todayFirst up down all allOf sumOf sumTo allowedToday dayHigh dayLow onTick termsInRange tickMultiple accountAt holdingAt listingAt lotsWhere resting afterLeg bookLeg bookTrade bookTrades legCovered neverBelowZero sameHoldings sameLots startOfDay tradedLots afterDayLeg afterLegs closingProfit dayOf dayStart firstLots gain holdingGain holdingProfit legs only otherLots priceFrom settlementPrice tradedValue tradesIn weightedPrice allListed balanceInRange contractInRange countersInRange heldInRange holdingInRange holdingsInRange rangesKept queuesSorted ordersInRange restingInRange listed replays sorted tradeInRange uncrossed usedOnce wellFormedContents quotes markAllowed queueQuoted listingQuoted markInRange closedLots closedOf closes closingBy dayClosing dayHolding gained heldAtStart holdingBy lotsOfLegs openLots openOf opens pairedClosing pairedHolding unpaired
 pairing-examples = refl
 
 -- so the theorem speaks of today's lots first

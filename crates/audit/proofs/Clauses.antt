@@ -11,14 +11,14 @@ use Rattle.laws.specs.Tests.{Chain}
 use Rattle.rules.specs.Bounds.{within, inAuction, phaseKnown, termsInRange, tickMultiple, allowedToday, maxResting, maxTrades}
 use Rattle.rules.specs.Exchange.{Listing}
 use Rattle.rules.specs.Memory.{Memory, countsInRange, hasRoom, queueStride, tradesWords}
-use Rattle.rules.specs.WellFormed.{contractInRange, orderInRange, ordersInRange, queuesSorted, sorted, uncrossed, queueQuoted, listingQuoted}
+use Rattle.rules.specs.WellFormed.{contractInRange, heldInRange, orderInRange, ordersInRange, queuesSorted, sorted, uncrossed, queueQuoted, listingQuoted}
 use Rattle.rules.specs.declared.Account.{Account}
 use Rattle.rules.specs.declared.Contract.{Contract}
 use Rattle.rules.specs.declared.Holding.{Holding}
 use Rattle.rules.specs.declared.Order.{Order}
 use Rattle.rules.specs.declared.State.{State}
 use Rattle.rules.specs.declared.Trade.{Trade}
-use Rattle.audit.specs.Parts.{heldInRange, listingInRange}
+use Rattle.audit.specs.Parts.{listingInRange}
 use Rattle.invariants.proofs.Clauses.{ListingOk, listing-ok}
 
 -- ---- counts and room

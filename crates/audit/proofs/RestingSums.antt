@@ -12,11 +12,11 @@ use Rattle.laws.specs.Choice.{pick, allOf-at, false-both, both-false, true-both
 use Rattle.laws.specs.Sums.{sumOf, sumOf-more}
 use Rattle.rules.specs.Bounds.{maxAccounts, maxLots}
 use Rattle.rules.specs.Exchange.{Listing, lotsWhere, noOrder, own, resting}
-use Rattle.rules.specs.WellFormed.{holdingInRange, orderInRange}
+use Rattle.rules.specs.WellFormed.{heldInRange, holdingInRange, orderInRange}
 use Rattle.rules.specs.declared.Holding.{Holding}
 use Rattle.rules.specs.declared.Order.{Order}
 use Rattle.invariants.proofs.Clauses.{order-ok}
-use Rattle.audit.specs.Parts.{Summable, Summed, heldInRange, listingInRange}
+use Rattle.audit.specs.Parts.{Summable, Summed, listingInRange}
 use Rattle.audit.proofs.Clauses.{listing-tested}
 
 -- what a listing in range says of its orders

@@ -4,7 +4,6 @@ use mathlib.Core.Bool.{Bool, true, _&&_}
 use mathlib.Core.List.{List, []}
 use mathlib.Core.Path.{_≡_}
 use Prim.Native.Nat.{ℕ, _+_, _*_, _<_, _≤_}
-use lib.Dec.{leb}
 use lib.ListN.{length, getD, replicate}
 use Rattle.laws.specs.Tabulate.{tabulate}
 use Rattle.rules.specs.Bounds.{maxAccounts, maxLots}
@@ -13,7 +12,6 @@ use Rattle.rules.specs.Memory.{countsInRange, listingIn, memory, queueStride}
 use Rattle.rules.specs.WellFormed.{contractInRange, queuesSorted, ordersInRange}
 use Rattle.rules.specs.declared.Account.{Account}
 use Rattle.rules.specs.declared.Contract.{Contract}
-use Rattle.rules.specs.declared.Holding.{Holding}
 use Rattle.rules.specs.declared.Order.{Order}
 use Rattle.rules.specs.declared.State.{State}
 use Rattle.rules.specs.declared.Trade.{Trade}
@@ -47,16 +45,6 @@ pub record Summable (o : Order) : Type 0 where
 -- the resting lots of a queue by account, each account's opens before its closes
 pub record Summed (queue : List Order) (lots : List ℕ) : Type 0 where
   pub sums : (a close : ℕ) → a < maxAccounts → close ≤ 1 → getD lots (2 * a + close) 0 ≡ resting close a queue
-
--- a holding within its limit and above its closes, of lots that are summed already: opens and closes of the buys, then of the sells
-unfoldable pub heldInRange : Holding → ℕ → ℕ → ℕ → ℕ → ℕ → Bool
-heldInRange h limit buyopens buycloses sellopens sellcloses =
-    leb (h .startlong) limit
-    && leb (h .startshort) limit
-    && leb (h .long + buyopens) limit
-    && leb (h .short + sellopens) limit
-    && leb sellcloses (h .long)
-    && leb buycloses (h .short)
 
 -- what a recorded trade is tested against: the contracts, the numbers of accounts and contracts, the next order number
 unfoldable pub tested : List Contract → ℕ → ℕ → ℕ → Exchange

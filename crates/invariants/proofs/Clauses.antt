@@ -14,7 +14,7 @@ use Rattle.laws.specs.Chains.{Passed, all-passed, join}
 use Rattle.rules.specs.Bounds.{within, allowedToday, inAuction, numbersEnd, maxContracts, maxTrades, maxResting, maxLots, maxSettlements, maxBalance, maxDayProfit}
 use Rattle.rules.specs.Exchange.{Exchange, Listing, listingAt, accountAt, holdingAt, own, restingOpens, restingCloses, noListing, noAccount}
 use Rattle.rules.specs.Holdings.{bookTrades, neverBelowZero, startOfDay, sameHoldings}
-use Rattle.rules.specs.WellFormed.{contractInRange, countersInRange, markInRange, rangesKept, sorted, uncrossed, queuesSorted, orderInRange, ordersInRange, allNumbers, allStamps, usedOnce, markAllowed, quotes, queueQuoted, listingQuoted, restingInRange, tradeInRange, replays, holdingInRange, holdingsInRange, balanceInRange, wellFormedContents}
+use Rattle.rules.specs.WellFormed.{contractInRange, countersInRange, markInRange, rangesKept, sorted, uncrossed, queuesSorted, orderInRange, ordersInRange, allNumbers, allStamps, usedOnce, markAllowed, quotes, queueQuoted, listingQuoted, restingInRange, tradeInRange, replays, heldInRange, holdingInRange, holdingsInRange, balanceInRange, wellFormedContents}
 use Rattle.rules.specs.declared.Account.{Account}
 use Rattle.rules.specs.declared.Contract.{Contract}
 use Rattle.rules.specs.declared.Holding.{Holding}
@@ -261,7 +261,7 @@ module _ (m : Listing) (a : ℕ) (h : Holding) where
       ∷ []
 
   pub holding-ok : holdingInRange m a h ≡ true → HoldingOk m a h
-  unfolding holdingInRange
+  unfolding heldInRange holdingInRange
   holding-ok e =
       let p = all-passed (leb (h .startlong) (m .contract .limit)) holdingTests e in
       record {
@@ -272,7 +272,7 @@ module _ (m : Listing) (a : ℕ) (h : Holding) where
       }
 
   pub holding-test : HoldingOk m a h → holdingInRange m a h ≡ true
-  unfolding holdingInRange
+  unfolding heldInRange holdingInRange
   holding-test k =
       join (leb (h .startlong) (m .contract .limit)) holdingTests (
         omega (arith, le-leb),

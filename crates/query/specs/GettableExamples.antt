@@ -18,7 +18,7 @@ use Rattle.rules.specs.Command.{bits, commandOf, insertFlags, insertOf, newOrde
 use Rattle.rules.specs.Holdings.{afterLeg, bookLeg, bookTrade, bookTrades, legCovered, neverBelowZero, sameHoldings, sameLots, startOfDay}
 use Rattle.rules.specs.Matching.{fillable, meets}
 use Rattle.rules.specs.Memory.{Memory, countsInRange, exchangeOf, hasRoom, listingIn, queueIn, recordedTrades, wellFormedMemory, queueStride, tradesWords}
-use Rattle.rules.specs.WellFormed.{ahead, aheadOfFirst, allListed, balanceInRange, contractInRange, countersInRange, holdingInRange, holdingsInRange, listed, listingQuoted, markAllowed, markInRange, orderInRange, ordersInRange, queueQuoted, queuesSorted, quotes, rangesKept, replays, restingInRange, sorted, tradeInRange, uncrossed, usedOnce, wellFormedContents}
+use Rattle.rules.specs.WellFormed.{ahead, aheadOfFirst, allListed, balanceInRange, contractInRange, countersInRange, heldInRange, holdingInRange, holdingsInRange, listed, listingQuoted, markAllowed, markInRange, orderInRange, ordersInRange, queueQuoted, queuesSorted, quotes, rangesKept, replays, restingInRange, sorted, tradeInRange, uncrossed, usedOnce, wellFormedContents}
 use Rattle.rules.specs.declared.NewOrder.{NewOrder}
 use Rattle.rules.specs.declared.Order.{Order}
 use Rattle.rules.specs.declared.PriceCondition.{PriceCondition}
@@ -176,5 +176,5 @@ table =
     ∷ []
 
 pub gettable-examples : allRight table ≡ true
-unfolding allRight table order book sells asking buyAt sellAt market best from now′ memoryOf bytes absent accountAt afterLeg ahead aheadOfFirst all allListed allOf allowedToday askRefusals balanceInRange bestPrice bits bookLeg bookTrade bookTrades commandOf contractInRange countersInRange countsInRange dayHigh dayLow decode exchangeOf fillable fillableLots firstOf gettableNow hasRoom holdingAt holdingInRange holdingsInRange insertFlags insertOf legCovered listingAt listingIn rangesKept queuesSorted ordersInRange restingInRange listingOf lotsNow lotsWhere meets neverBelowZero newOrder listed onTick orderInRange orderReading questionRefusals ordersRead priceCondition priceRefusedBy pullOf queueIn readNow readingWith recordedTrades records replays resting sameHoldings sameLots sorted startOfDay sumOf tabulate takerOf termsInRange tickMultiple timeCondition tradeInRange uncrossed usedOnce quotes markAllowed queueQuoted listingQuoted markInRange wellFormedContents wellFormedMemory zeros
+unfolding allRight table order book sells asking buyAt sellAt market best from now′ memoryOf bytes absent accountAt afterLeg ahead aheadOfFirst all allListed allOf allowedToday askRefusals balanceInRange bestPrice bits bookLeg bookTrade bookTrades commandOf contractInRange countersInRange countsInRange dayHigh dayLow decode exchangeOf fillable fillableLots firstOf gettableNow hasRoom holdingAt heldInRange holdingInRange holdingsInRange insertFlags insertOf legCovered listingAt listingIn rangesKept queuesSorted ordersInRange restingInRange listingOf lotsNow lotsWhere meets neverBelowZero newOrder listed onTick orderInRange orderReading questionRefusals ordersRead priceCondition priceRefusedBy pullOf queueIn readNow readingWith recordedTrades records replays resting sameHoldings sameLots sorted startOfDay sumOf tabulate takerOf termsInRange tickMultiple timeCondition tradeInRange uncrossed usedOnce quotes markAllowed queueQuoted listingQuoted markInRange wellFormedContents wellFormedMemory zeros
 gettable-examples = refl

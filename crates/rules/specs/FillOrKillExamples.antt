@@ -17,7 +17,7 @@ use Rattle.rules.specs.Kinds.{codeOf, decide, kindOf, step}
 use Rattle.rules.specs.Margin.{chargeOf, chargedLots, chargedTo}
 use Rattle.rules.specs.Matching.{enter, fillable, lastPrice, meets, methodOf, middle, pairedPrice, remainder, restIn, restLots, restedLots, stays, sweep, tradePrice, tradeWith, tradedLots}
 use Rattle.rules.specs.Step.{enteredOf, exchangeAfter, inserted, listingAfter}
-use Rattle.rules.specs.WellFormed.{ahead, aheadOfFirst, allListed, balanceInRange, contractInRange, countersInRange, holdingInRange, holdingsInRange, listed, listingQuoted, markAllowed, markInRange, orderInRange, ordersInRange, queueQuoted, queuesSorted, quotes, rangesKept, replays, restingInRange, sorted, tradeInRange, uncrossed, usedOnce, wellFormedContents}
+use Rattle.rules.specs.WellFormed.{ahead, aheadOfFirst, allListed, balanceInRange, contractInRange, countersInRange, heldInRange, holdingInRange, holdingsInRange, listed, listingQuoted, markAllowed, markInRange, orderInRange, ordersInRange, queueQuoted, queuesSorted, quotes, rangesKept, replays, restingInRange, sorted, tradeInRange, uncrossed, usedOnce, wellFormedContents}
 use Rattle.rules.specs.declared.Account.{Account}
 use Rattle.rules.specs.declared.Command.{Command}
 use Rattle.rules.specs.declared.Command.the-variants.{Insert}
@@ -88,5 +88,5 @@ fill-or-kill-examples = refl
 
 -- the state that it is asked of is well formed
 pub book-well-formed : wellFormedContents book ≡ true
-unfolding order account book all allOf sumOf accountAt afterLeg ahead aheadOfFirst allListed allowedToday balanceInRange bookLeg bookTrade bookTrades contractInRange countersInRange dayHigh dayLow holdingAt holdingInRange holdingsInRange legCovered listed listingAt rangesKept queuesSorted ordersInRange restingInRange listingQuoted markAllowed markInRange queueQuoted quotes lotsWhere neverBelowZero onTick orderInRange replays resting sameHoldings sameLots sorted startOfDay termsInRange tickMultiple tradeInRange uncrossed usedOnce wellFormedContents
+unfolding order account book all allOf sumOf accountAt afterLeg ahead aheadOfFirst allListed allowedToday balanceInRange bookLeg bookTrade bookTrades contractInRange countersInRange dayHigh dayLow holdingAt heldInRange holdingInRange holdingsInRange legCovered listed listingAt rangesKept queuesSorted ordersInRange restingInRange listingQuoted markAllowed markInRange queueQuoted quotes lotsWhere neverBelowZero onTick orderInRange replays resting sameHoldings sameLots sorted startOfDay termsInRange tickMultiple tradeInRange uncrossed usedOnce wellFormedContents
 book-well-formed = refl

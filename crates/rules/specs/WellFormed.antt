@@ -161,14 +161,19 @@ replays x =
 -- ---- 6. "starting holdings, and holdings now plus resting opens on that side, keep the limit; resting closes are covered by
 -- holdings"
 
+-- a holding, its contract's limit, and the account's lots that rest: opens and closes of the buys, then of the sells
+unfoldable pub heldInRange : Holding → ℕ → ℕ → ℕ → ℕ → ℕ → Bool
+heldInRange h limit buyopens buycloses sellopens sellcloses =
+    leb (h .startlong) limit
+    && leb (h .startshort) limit
+    && leb (h .long + buyopens) limit
+    && leb (h .short + sellopens) limit
+    && leb sellcloses (h .long)
+    && leb buycloses (h .short)
+
 unfoldable pub holdingInRange : Listing → ℕ → Holding → Bool
 holdingInRange l a h =
-    leb (h .startlong) (l .contract .limit)
-    && leb (h .startshort) (l .contract .limit)
-    && leb (h .long + restingOpens a (l .buys)) (l .contract .limit)
-    && leb (h .short + restingOpens a (l .sells)) (l .contract .limit)
-    && leb (restingCloses a (l .sells)) (h .long)
-    && leb (restingCloses a (l .buys)) (h .short)
+    heldInRange h (l .contract .limit) (restingOpens a (l .buys)) (restingCloses a (l .buys)) (restingOpens a (l .sells)) (restingCloses a (l .sells))
 
 unfoldable pub holdingsInRange : Exchange → ℕ → Bool
 holdingsInRange x a = all (λ c. holdingInRange (listingAt x c) a (heldAt x a c)) (length (x .listings))

@@ -14,7 +14,7 @@ use Rattle.rules.specs.Exchange.{Exchange, accountAt, holdingAt, listing
 use Rattle.rules.specs.Holdings.{afterLeg, bookLeg, bookTrade, bookTrades, legCovered, neverBelowZero, sameHoldings, sameLots, startOfDay}
 use Rattle.rules.specs.Answers.{mark}
 use Rattle.rules.specs.Memory.{Memory, memory, countsInRange, hasRoom}
-use Rattle.rules.specs.WellFormed.{ahead, aheadOfFirst, allListed, balanceInRange, contractInRange, countersInRange, holdingInRange, holdingsInRange, listed, listingQuoted, markAllowed, markInRange, orderInRange, ordersInRange, queueQuoted, queuesSorted, quotes, rangesKept, replays, restingInRange, sorted, tradeInRange, uncrossed, usedOnce, wellFormedContents}
+use Rattle.rules.specs.WellFormed.{ahead, aheadOfFirst, allListed, balanceInRange, contractInRange, countersInRange, heldInRange, holdingInRange, holdingsInRange, listed, listingQuoted, markAllowed, markInRange, orderInRange, ordersInRange, queueQuoted, queuesSorted, quotes, rangesKept, replays, restingInRange, sorted, tradeInRange, uncrossed, usedOnce, wellFormedContents}
 use Rattle.rules.specs.declared.Account.{Account}
 use Rattle.rules.specs.declared.Contract.{Contract}
 use Rattle.rules.specs.declared.Order.{Order}
@@ -112,7 +112,7 @@ table =
     ∷ []
 
 pub well-formed-examples : allRight table ≡ true
-unfolding allRight table contract order stamped trade account asked buys sells trades test testIn all allOf sumOf accountAt afterLeg ahead aheadOfFirst allListed allowedToday balanceInRange bookLeg bookTrade bookTrades contractInRange countersInRange dayHigh dayLow holdingAt holdingInRange holdingsInRange legCovered listingAt rangesKept queuesSorted ordersInRange restingInRange lotsWhere neverBelowZero listed onTick orderInRange replays resting sameHoldings sameLots sorted startOfDay termsInRange tickMultiple tradeInRange uncrossed usedOnce wellFormedContents quotes markAllowed queueQuoted listingQuoted markInRange
+unfolding allRight table contract order stamped trade account asked buys sells trades test testIn all allOf sumOf accountAt afterLeg ahead aheadOfFirst allListed allowedToday balanceInRange bookLeg bookTrade bookTrades contractInRange countersInRange dayHigh dayLow holdingAt heldInRange holdingInRange holdingsInRange legCovered listingAt rangesKept queuesSorted ordersInRange restingInRange lotsWhere neverBelowZero listed onTick orderInRange replays resting sameHoldings sameLots sorted startOfDay termsInRange tickMultiple tradeInRange uncrossed usedOnce wellFormedContents quotes markAllowed queueQuoted listingQuoted markInRange
 well-formed-examples = refl
 
 -- ---- counts and room, on a state as it lies, and the replay of closes
@@ -225,5 +225,5 @@ quoted =
     ∷ []
 
 pub quoted-examples : allRight quoted ≡ true
-unfolding allRight quoted quoting quoteAt contract all allOf sumOf accountAt afterLeg ahead aheadOfFirst allListed allowedToday balanceInRange bookLeg bookTrade bookTrades contractInRange countersInRange dayHigh dayLow holdingAt holdingInRange holdingsInRange legCovered listingAt rangesKept queuesSorted ordersInRange restingInRange lotsWhere neverBelowZero listed onTick orderInRange replays resting sameHoldings sameLots sorted startOfDay termsInRange tickMultiple tradeInRange uncrossed usedOnce wellFormedContents quotes markAllowed queueQuoted listingQuoted markInRange
+unfolding allRight quoted quoting quoteAt contract all allOf sumOf accountAt afterLeg ahead aheadOfFirst allListed allowedToday balanceInRange bookLeg bookTrade bookTrades contractInRange countersInRange dayHigh dayLow holdingAt heldInRange holdingInRange holdingsInRange legCovered listingAt rangesKept queuesSorted ordersInRange restingInRange lotsWhere neverBelowZero listed onTick orderInRange replays resting sameHoldings sameLots sorted startOfDay termsInRange tickMultiple tradeInRange uncrossed usedOnce wellFormedContents quotes markAllowed queueQuoted listingQuoted markInRange
 quoted-examples = refl

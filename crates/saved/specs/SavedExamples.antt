@@ -16,7 +16,7 @@ use Rattle.rules.specs.DayFile.{u8At, u16At, u32At, u64At, contractsIn, contrac
 use Rattle.rules.specs.Exchange.{Exchange, accountAt, holdingAt, listingAt, lotsWhere, noContract, noOrder, noTrade, resting}
 use Rattle.rules.specs.Holdings.{bookTrades, neverBelowZero, startOfDay, sameLots, sameHoldings}
 use Rattle.rules.specs.Memory.{Memory, countsInRange, exchangeOf, hasRoom, listingIn, memory, putAccounts, putState, queueIn, queueStride, recordedTrades, tradeStride, wellFormedMemory}
-use Rattle.rules.specs.WellFormed.{allListed, balanceInRange, contractInRange, countersInRange, holdingInRange, holdingsInRange, listed, listingQuoted, markAllowed, markInRange, ordersInRange, queueQuoted, queuesSorted, quotes, rangesKept, replays, restingInRange, sorted, uncrossed, usedOnce, wellFormedContents}
+use Rattle.rules.specs.WellFormed.{allListed, balanceInRange, contractInRange, countersInRange, heldInRange, holdingInRange, holdingsInRange, listed, listingQuoted, markAllowed, markInRange, ordersInRange, queueQuoted, queuesSorted, quotes, rangesKept, replays, restingInRange, sorted, uncrossed, usedOnce, wellFormedContents}
 use Rattle.rules.specs.declared.Account.{Account}
 use Rattle.rules.specs.declared.Contract.{Contract}
 use Rattle.rules.specs.declared.Holding.{Holding}
@@ -160,11 +160,11 @@ read-codes =
     ∷ []
 
 pub write-example : write-codes ≡ 0 ∷ 29 ∷ 28 ∷ 28 ∷ 28 ∷ 21 ∷ []
-unfolding write-codes terms holders all allOf sumOf tabulate decode encode records onTick tickMultiple termsInRange accountAt holdingAt listingAt lotsWhere resting bookTrades neverBelowZero startOfDay sameLots sameHoldings contractInRange countersInRange sorted uncrossed rangesKept queuesSorted ordersInRange restingInRange listed allListed usedOnce quotes markAllowed queueQuoted listingQuoted markInRange replays holdingInRange holdingsInRange balanceInRange wellFormedContents countsInRange hasRoom exchangeOf listingIn queueIn recordedTrades wellFormedMemory two four eight unsigned contractBytes accountBytes rowBytes holdingBytes savedBytes asleep totalsEqual allEqual writable firstOf writeCode
+unfolding write-codes terms holders all allOf sumOf tabulate decode encode records onTick tickMultiple termsInRange accountAt holdingAt listingAt lotsWhere resting bookTrades neverBelowZero startOfDay sameLots sameHoldings contractInRange countersInRange sorted uncrossed rangesKept queuesSorted ordersInRange restingInRange listed allListed usedOnce quotes markAllowed queueQuoted listingQuoted markInRange replays heldInRange holdingInRange holdingsInRange balanceInRange wellFormedContents countsInRange hasRoom exchangeOf listingIn queueIn recordedTrades wellFormedMemory two four eight unsigned contractBytes accountBytes rowBytes holdingBytes savedBytes asleep totalsEqual allEqual writable firstOf writeCode
 write-example = refl
 
 pub read-example : read-codes ≡ 0 ∷ 0 ∷ 20 ∷ 20 ∷ 20 ∷ 20 ∷ 20 ∷ 20 ∷ 30 ∷ 29 ∷ 30 ∷ []
-unfolding read-codes terms holders fileOf all allOf sumOf tabulate decode records onTick tickMultiple termsInRange u8At u16At u32At u64At contractsIn contractFrom accountAt holdingAt listingAt lotsWhere resting bookTrades neverBelowZero startOfDay sameLots sameHoldings contractInRange countersInRange sorted uncrossed rangesKept queuesSorted ordersInRange restingInRange listed allListed usedOnce quotes markAllowed queueQuoted listingQuoted markInRange replays holdingInRange holdingsInRange balanceInRange wellFormedContents hasRoom putAccounts putState signedOf savedContract savedHolding savedAccount accountsIn loadedListing loadedAccount loadedFrom countsRight shaped markSound savedSound totalsEqual allEqual loadedState firstOf readCode
+unfolding read-codes terms holders fileOf all allOf sumOf tabulate decode records onTick tickMultiple termsInRange u8At u16At u32At u64At contractsIn contractFrom accountAt holdingAt listingAt lotsWhere resting bookTrades neverBelowZero startOfDay sameLots sameHoldings contractInRange countersInRange sorted uncrossed rangesKept queuesSorted ordersInRange restingInRange listed allListed usedOnce quotes markAllowed queueQuoted listingQuoted markInRange replays heldInRange holdingInRange holdingsInRange balanceInRange wellFormedContents hasRoom putAccounts putState signedOf savedContract savedHolding savedAccount accountsIn loadedListing loadedAccount loadedFrom countsRight shaped markSound savedSound totalsEqual allEqual loadedState firstOf readCode
 read-example = refl
 
 -- ---- the state after reading: the second contract's places and counts stay as they were

@@ -56,16 +56,16 @@ module _ (bs : List ℕ) (c a : ℕ) (l : Laid bs c a) (i : ℕ) (h : i < a) whe
         small = omega (arith, row-ends, few-bytes c a (l .few-contracts) (l .few-accounts));
       }
 
-  account-placed : (first rows width : ℕ) → first ≡ 8 + 24 * c → rows ≡ first + 9 * a + 4 → width ≡ 8 * c
-      → savedAccount bs c (first + 9 * i) (rows + width * i) ≡ loadedAccount bs i
+  account-placed : (first rows width : ℕ) → first ≡ 2 * countWidth + savedContractWidth * c → rows ≡ first + savedAccountWidth * a + countWidth → width ≡ holdingWidth * c
+      → savedAccount bs c (first + savedAccountWidth * i) (rows + width * i) ≡ loadedAccount bs i
   unfolding loadedAccount
   account-placed first rows width e f g =
-      let p : first + 9 * i ≡ accountPlace c i = omega arith in
+      let p : first + savedAccountWidth * i ≡ accountPlace c i = omega arith in
       let q : rows + width * i ≡ rowPlace c a i = rw g (omega arith) in
       ap₂ (λ (x y : ℕ). savedAccount bs c x y) p q ∙ rw (l .contracts-are, l .accounts-are)
 
-  pub account-over : (first rows width : ℕ) → first ≡ 8 + 24 * c → rows ≡ first + 9 * a + 4 → width ≡ 8 * c → (r room : Account)
-      → r ≡ putAccount (savedAccount bs c (first + 9 * i) (rows + width * i)) room → r ≡ putAccount (loadedAccount bs i) room
+  pub account-over : (first rows width : ℕ) → first ≡ 2 * countWidth + savedContractWidth * c → rows ≡ first + savedAccountWidth * a + countWidth → width ≡ holdingWidth * c → (r room : Account)
+      → r ≡ putAccount (savedAccount bs c (first + savedAccountWidth * i) (rows + width * i)) room → r ≡ putAccount (loadedAccount bs i) room
   account-over first rows width e f g r room p = p ∙ ap (λ (o : Account). putAccount o room) (account-placed first rows width e f g)
 
 -- ---- the state

@@ -32,9 +32,9 @@ use Rattle.rules.proofs.InUse.{contracts-in-use, listing-in-use, account-in-use
 use Rattle.rules.proofs.Refusals.{failed}
 use Rattle.invariants.proofs.MemoryKeeps.{accepted-read, accepted-keeps}
 use Rattle.invariants.proofs.MemoryRoom.{memory-ok}
-use Rattle.settlement.specs.Settling.{Settleable, SettledIs, contractIn, holdingIn, dayIn, closingTo, holdingTo, AllPayable, paidAccount, BooksIs, AllClearable, ClearedAre, AllChargeable, ChargesAre, nextDay}
+use Rattle.settlement.specs.Settling.{AllPriceable, pricesDue, Settleable, SettledIs, contractIn, holdingIn, dayIn, closingTo, holdingTo, AllPayable, paidAccount, BooksIs, AllClearable, ClearedAre, AllChargeable, ChargesAre, nextDay}
 use Rattle.dayprofit.specs.Sides.{dayOver}
-use Rattle.settlement.proofs.Formed.{accounts-declared, contracts-four, accounts-few, contract-at, price-high, holding-starts, legs-covered, chargeable, sized-trades, placed-trades, balance-within, accounts-counted}
+use Rattle.settlement.proofs.Formed.{accounts-declared, contracts-four, accounts-few, contract-at, price-high, holding-starts, legs-covered, chargeable, sized-trades, placed-trades, balance-within, accounts-counted, priceable}
 use Rattle.settlement.proofs.Places.{written-accounts}
 
 -- ---- the state of the next day, from its parts
@@ -90,8 +90,11 @@ module _ (s : State) (buys sells trades : List ℕ) (g : Settleable s buys sells
 
   -- ---- the prices
 
+  pub all-priceable : AllPriceable s buys sells trades
+  all-priceable = record { few = few-contracts; each = priceable m room (g .state .formed) }
+
   abbrev Prices : List ℕ → Type 0
-  Prices prices = prices ≡ padded 4 0 (tabulate (s .contractcount) (settlementPrice x))
+  Prices prices = prices ≡ pricesDue s buys sells trades
 
   price-at : (prices : List ℕ) → Prices prices → (c : ℕ) → c < s .contractcount → getD prices c 0 ≡ settlementPrice x c
   price-at prices e c lc =

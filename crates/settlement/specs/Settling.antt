@@ -21,6 +21,7 @@ use Rattle.rules.specs.declared.Contract.{Contract}
 use Rattle.rules.specs.declared.Holding.{Holding}
 use Rattle.rules.specs.declared.State.{State}
 use Rattle.margin.specs.Charge.{ChargeableAt}
+use Rattle.dayprofit.specs.Day.{Priceable}
 use Rattle.dayprofit.specs.Sides.{dayOver, Profitable, sideFrom, closingFrom, holdingFrom, profitMost}
 use Rattle.dayprofit.specs.Slots.{slotOf, PlacedTrades, sumsAt, DaySmall}
 use Rattle.dayprofit.specs.declared.profit.Profit.{Profit}
@@ -53,6 +54,16 @@ accountIn s a = getD (s .accounts) a noAccount
 
 abbrev pub holdingIn : State → ℕ → ℕ → Holding
 holdingIn s a c = getD (accountIn s a .holdings) c noHolding
+
+-- the settlement prices of the contracts in use, with zeros past their count
+abbrev pub pricesDue : State → List ℕ → List ℕ → List ℕ → List ℕ
+pricesDue s buys sells trades = padded maxContracts 0 (tabulate (s .contractcount) (settlementPrice (exchangeOf (memory s buys sells trades))))
+
+-- every contract in use can be priced
+pub record AllPriceable (s : State) (buys sells trades : List ℕ) : Type 0 where
+  pub few : s .contractcount ≤ maxContracts
+  pub each : (c : ℕ) → c < s .contractcount
+      → Priceable (contractIn s c) buys (getD (s .buycounts) c 0) sells (getD (s .sellcounts) c 0) trades (s .tradecount) c
 
 -- an account's day in a contract
 unfoldable pub dayIn : State → List ℕ → ℕ → ℕ → Day

@@ -1,13 +1,10 @@
 // The daily settlement (document 01, "Margin and settlement"). For our own crates: `settle` asks for a well-formed state in which a
-// settle command is accepted.
+// settle command is accepted, `prices_due` for contracts that can be priced.
 ghost use mathlib.Core.Path.{_≡_};
 ghost use Prim.Native.Nat.{_<_, _≤_};
-ghost use Rattle.laws.specs.Tabulate.{tabulate};
-ghost use Rattle.areas.specs.Lists.{padded};
 ghost use Rattle.rules.specs.Bounds.{maxContracts, maxSettlements};
-ghost use Rattle.rules.specs.Memory.{exchangeOf, memory};
-ghost use Rattle.rules.specs.Settlement as settlement;
-ghost use Rattle.settlement.specs.Settling.{Settleable, SettledIs, AllChargeable, ChargesAre, nextDay};
+ghost use Rattle.rules.specs.Memory.{memory};
+ghost use Rattle.settlement.specs.Settling.{Settleable, SettledIs, AllChargeable, AllPriceable, ChargesAre, nextDay, pricesDue};
 use crate::balances;
 use crate::reopen;
 use dayprofit::price;
@@ -23,15 +20,15 @@ pub struct Settled {
     pub charged: [u64; rules::MAX_ACCOUNTS],
 }
 
-// The settlement price of each contract in use.
-fn prices<'a>(
+// The settlement price of each contract in use, as a settlement now would find it. Another crate asks for it too.
+pub fn prices_due<'a>(
     state: State,
     buys: &'a [u32],
     sells: &'a [u32],
     trades: &'a [u32],
 ) -> [u32; rules::MAX_CONTRACTS]
-    requires { ⌜ Settleable state (now buys) (now sells) (now trades) ⌝ }
-    ensures { λ r. ⌜ r ≡ padded maxContracts 0 (tabulate (state .contractcount) (settlement.settlementPrice (exchangeOf (memory state (now (buys .entry)) (now (sells .entry)) (now (trades .entry)))))) ⌝ }
+    requires { ⌜ AllPriceable state (now buys) (now sells) (now trades) ⌝ }
+    ensures { λ r. ⌜ r ≡ pricesDue state (now (buys .entry)) (now (sells .entry)) (now (trades .entry)) ⌝ }
 {
     let contracts = state.contractcount;
     let count = state.tradecount;
@@ -121,7 +118,7 @@ pub fn settle(state: State, buys: &mut [u32], sells: &mut [u32], trades: &mut [u
     requires { ⌜ Settleable state (now buys) (now sells) (now trades) ⌝ }
     ensures { λ r. ⌜ SettledIs (memory state (now (buys .entry)) (now (sells .entry)) (now (trades .entry))) r (now (buys .exit)) (now (sells .exit)) (now (trades .exit)) ⌝ }
 {
-    let prices = prices(state, &buys[..], &sells[..], &trades[..]);
+    let prices = prices_due(state, &buys[..], &sells[..], &trades[..]);
     let books = balances::all_paid(state, &trades[..], prices);
     let accounts = books.accounts;
     let closing = books.closing;

@@ -10,9 +10,9 @@ use lib.ListN.{length}
 use Rattle.areas.specs.Lists.{over}
 use Rattle.rules.specs.Answers.{Refusal, firstOf, _when_}
 use Rattle.rules.specs.Exchange.{Exchange}
-use Rattle.statements.specs.Parts.{AnswerIs, ToldIs, lastRefusals, refusedWith}
+use Rattle.statements.specs.Parts.{AnswerIs, ToldIs, refusedWith}
 use Rattle.clients.specs.Clients.{neverClosesMore}
-use Rattle.statements.specs.Statement.{statementOf}
+use Rattle.statements.specs.Statement.{dayRefusals, statementOf}
 use Rattle.statements.specs.declared.Statement.{Statement}
 
 -- ---- codes
@@ -45,7 +45,7 @@ module _ (y : Exchange) (clients : ℕ) (out : List ℕ) where
   told-27 e r w = refused-is _ 27 (code-here 27 (not (neverClosesMore y)) _ (ap not e)) refl r w
 
   module _ (covered : neverClosesMore y ≡ true) where
-    past-27 : firstOf (lastRefusals y clients (length out)) ≡ firstOf ((29 when ltb (length out) (length (statementOf y clients))) ∷ [])
+    past-27 : firstOf (dayRefusals y clients (length out)) ≡ firstOf ((29 when ltb (length out) (length (statementOf y clients))) ∷ [])
     past-27 = code-later 27 (not (neverClosesMore y)) _ (ap not covered)
 
     pub told-29 : (n : ℕ) → n ≡ length (statementOf y clients) → length out < n → (r : Statement) → r ≡ refusedWith 29 → ToldIs y clients out r out

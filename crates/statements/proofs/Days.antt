@@ -28,13 +28,13 @@ use Rattle.rules.proofs.Codecs.{length-trades}
 use Rattle.rules.proofs.InUse.{contracts-in-use, listing-in-use, used-holding}
 use Rattle.accounting.specs.DayLegs.{AllCovered}
 use Rattle.accounting.proofs.Replay.{replay-covered}
-use Rattle.settlement.specs.Settling.{AllPayable, BooksIs, accountIn, closingTo, contractIn, dayIn, holdingIn, holdingTo}
+use Rattle.settlement.specs.Settling.{AllPayable, BooksIs, accountIn, closingTo, contractIn, dayIn, holdingIn, holdingTo, pricesDue}
 use Rattle.settlement.specs.declared.balances.Books.{Books}
 use Rattle.endian.proofs.Writes.{length-four}
 use Rattle.clients.specs.Parts.{clientsWith}
 use Rattle.replaying.specs.Parts.{Replayable, ReplayIs}
 use Rattle.replaying.proofs.Started.{start-at, used-day}
-use Rattle.statements.specs.Parts.{Brokered, Profitable, Tellable, ToldIs, accountsBytes, bookBytes, clientState, clientsDay, pricesDue, refusedWith, told}
+use Rattle.statements.specs.Parts.{Brokered, Profitable, Tellable, ToldIs, accountsBytes, bookBytes, clientState, clientsDay, refusedWith, told}
 use Rattle.clients.specs.Clients.{clientAccount, holdingsNow, inRow, legCount, legsIn, neverClosesMore, clientPlaces}
 use Rattle.statements.specs.Statement.{holdingBytes, holdingsBytes, profitBytes, profitsBytes, statementOf, tradeBytes, tradesBytes, legWidth, holdingWidth, profitWidth}
 use Rattle.replaying.specs.declared.Held.{Held}
@@ -216,7 +216,7 @@ module _ {s : State} {buys sells area starts : List ℕ} {clients legs′ : ℕ}
         }
 
     pub profitable : Profitable cs buys sells area
-    profitable = record { few = g .contracts; priceable = g .priceable; payable = payable }
+    profitable = record { priceable = record { few = g .contracts; each = g .priceable }; payable = payable }
 
   -- ---- the statement's length
 

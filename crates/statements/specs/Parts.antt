@@ -1,15 +1,15 @@
 -- What the functions of this crate ask for and give back, for their contracts. Assumes nothing.
-use mathlib.Core.Bool.{true, not}
-use mathlib.Core.List.{List, [], _∷_, _++_}
+use mathlib.Core.Bool.{true}
+use mathlib.Core.List.{List, [], _++_}
 use mathlib.Core.Path.{_≡_}
 use Prim.Native.Nat.{ℕ, _*_, _<_, _≤_}
 use lib.IntN.{ℤ, pos}
 use lib.ListN.{length, getD}
-use lib.Dec.{eqb, ltb}
-use Rattle.laws.specs.Choice.{allOf, pick}
+use lib.Dec.{eqb}
+use Rattle.laws.specs.Choice.{pick}
 use Rattle.laws.specs.Tabulate.{tabulate}
-use Rattle.areas.specs.Lists.{over, padded}
-use Rattle.rules.specs.Answers.{Refusal, firstOf, _when_}
+use Rattle.areas.specs.Lists.{over}
+use Rattle.rules.specs.Answers.{firstOf}
 use Rattle.rules.specs.Bounds.{maxTrades, maxContracts, maxPrice, maxMultiplier, maxLimit}
 use Rattle.rules.specs.Exchange.{Exchange, holdingAt, noAccount, noHolding, noTrade}
 use Rattle.rules.specs.Memory.{Declared, Memory, exchangeOf, recordedTrades, used, WellFormedState, memory, tradeStride}
@@ -18,22 +18,16 @@ use Rattle.rules.specs.declared.Account.{Account}
 use Rattle.rules.specs.declared.State.{State}
 use Rattle.rules.specs.declared.Trade.{Trade}
 use Rattle.dayprofit.specs.Day.{Priceable, SizedTrades}
-use Rattle.settlement.specs.Settling.{AllPayable, contractIn}
+use Rattle.settlement.specs.Settling.{AllPayable, AllPriceable, contractIn, pricesDue}
 use Rattle.replaying.specs.Parts.{Booked}
 use Rattle.clients.specs.Parts.{clientsWith}
-use Rattle.clients.specs.Clients.{Clients, clientAccount, clientExchange, inRow, legCount, neverClosesMore, startsAddUp, tradePosted, maxClients, clientPlaces}
-use Rattle.statements.specs.Statement.{holdingBytes, profitBytes, section, statementOf, tradesBytes}
+use Rattle.clients.specs.Clients.{Clients, clientAccount, clientExchange, inRow, legCount, startsAddUp, maxClients, clientPlaces}
+use Rattle.statements.specs.Statement.{dayRefusals, holdingBytes, postedRefusals, profitBytes, section, statementOf, tradesBytes}
 use Rattle.statements.specs.declared.Statement.{Statement}
-
--- the settlement prices of the contracts in use, with zeros past their count
-abbrev pub pricesDue : State → List ℕ → List ℕ → List ℕ → List ℕ
-pricesDue s buys sells area = padded maxContracts 0 (tabulate (s .contractcount) (settlementPrice (exchangeOf (memory s buys sells area))))
 
 -- a state whose contracts can be priced, and whose accounts can be paid at those prices
 pub record Profitable (s : State) (buys sells area : List ℕ) : Type 0 where
-  pub few : s .contractcount ≤ maxContracts
-  pub priceable : (c : ℕ) → c < s .contractcount
-      → Priceable (contractIn s c) buys (getD (s .buycounts) c 0) sells (getD (s .sellcounts) c 0) area (s .tradecount) c
+  pub priceable : AllPriceable s buys sells area
   pub payable : AllPayable s area (pricesDue s buys sells area)
 
 -- ---- the statement's bytes, from what the code has worked out
@@ -102,12 +96,8 @@ pub record AnswerIs (code : ℕ) (y : Exchange) (clients : ℕ) (out : List ℕ)
   pub length-is : r .length ≡ pick (eqb (r .code) 0) (length (statementOf y clients)) 0
   pub out-is : out′ ≡ pick (eqb (r .code) 0) (over out 0 (statementOf y clients)) out
 
--- the last two refusals
-abbrev pub lastRefusals : Exchange → ℕ → ℕ → List Refusal
-lastRefusals y clients room = (27 when not (neverClosesMore y)) ∷ (29 when ltb room (length (statementOf y clients))) ∷ []
-
 abbrev pub ToldIs : Exchange → ℕ → List ℕ → Statement → List ℕ → Type 0
-ToldIs y clients out r out′ = AnswerIs (firstOf (lastRefusals y clients (length out))) y clients out r out′
+ToldIs y clients out r out′ = AnswerIs (firstOf (dayRefusals y clients (length out))) y clients out r out′
 
 -- all that the clients' day is worked out from
 pub record Brokered (s : State) (buys sells area starts : List ℕ) (clients legs : ℕ) : Type 0 where
@@ -136,8 +126,5 @@ pub record Postable (s : State) (buys sells trades : List ℕ) (a clients : ℕ)
 
 abbrev pub PostedIs : Memory → ℕ → ℕ → List ℕ → List ℕ → List ℕ → Statement → List ℕ → Type 0
 PostedIs m a clients starts postings out r out′ =
-    AnswerIs
-    (firstOf
-    ((26 when not (allOf (tradePosted a clients postings) (exchangeOf m .trades)))
-    ∷ lastRefusals (clientExchange (exchangeOf m) a (broker clients starts postings)) clients (length out)))
+    AnswerIs (firstOf (postedRefusals (exchangeOf m) a (broker clients starts postings) (length out)))
     (clientExchange (exchangeOf m) a (broker clients starts postings)) clients out r out′

@@ -74,15 +74,25 @@ statementOf x clients =
 -- account that traded is unposted, posted twice or posted to an unknown client; 27 a client would close more than it holds; 29 output
 -- area too short."
 
--- on a well-formed state, the account by its number, and so much room in the output area
+-- of the clients' day y, with so much room in the output area
+abbrev pub dayRefusals : Exchange → ℕ → ℕ → List Refusal
+dayRefusals y clients room =
+    (27 when not (neverClosesMore y))
+    ∷ (29 when ltb room (length (statementOf y clients)))
+    ∷ []
+
+-- and of the postings, the account by its place
+abbrev pub postedRefusals : Exchange → ℕ → Clients → ℕ → List Refusal
+postedRefusals x a b room =
+    (26 when not (allOf (tradePosted a (b .count) (b .postings)) (x .trades)))
+    ∷ dayRefusals (clientExchange x a b) (b .count) room
+
+-- all of them on a well-formed state, the account by its number
 unfoldable pub brokerRefusals : Exchange → ℕ → Clients → ℕ → List Refusal
 brokerRefusals x account b room =
     (2 when absent account (x .accounts))
     ∷ (25 when (ltb maxClients (b .count) || not (startsAddUp x (placeOf account) b)))
-    ∷ (26 when not (allOf (tradePosted (placeOf account) (b .count) (b .postings)) (x .trades)))
-    ∷ (27 when not (neverClosesMore (clientExchange x (placeOf account) b)))
-    ∷ (29 when ltb room (length (statementOf (clientExchange x (placeOf account) b) (b .count))))
-    ∷ []
+    ∷ postedRefusals x (placeOf account) b room
 
 unfoldable pub statementCode : Memory → ℕ → Clients → ℕ → ℕ
 statementCode m account b room = firstOf ((21 when not (wellFormedMemory m)) ∷ brokerRefusals (exchangeOf m) account b room)

@@ -20,7 +20,7 @@ use Rattle.rules.specs.Holdings.{afterLeg, bookLeg, bookTrade, bookTrades, legC
 use Rattle.rules.specs.Matching.{tradedLots}
 use Rattle.rules.specs.Memory.{Memory, countsInRange, hasRoom, wellFormedMemory}
 use Rattle.rules.specs.Settlement.{afterDayLeg, afterLegs, closingProfit, dayOf, dayStart, firstLots, gain, holdingGain, holdingProfit, legs, only, otherLots, priceFrom, settlementPrice, tradedValue, tradesIn, weightedPrice}
-use Rattle.rules.specs.WellFormed.{ahead, aheadOfFirst, allListed, balanceInRange, contractInRange, countersInRange, holdingInRange, holdingsInRange, listed, listingQuoted, markAllowed, markInRange, orderInRange, ordersInRange, queueQuoted, queuesSorted, quotes, rangesKept, replays, restingInRange, sorted, tradeInRange, uncrossed, usedOnce, wellFormedContents}
+use Rattle.rules.specs.WellFormed.{ahead, aheadOfFirst, allListed, balanceInRange, contractInRange, countersInRange, heldInRange, holdingInRange, holdingsInRange, listed, listingQuoted, markAllowed, markInRange, orderInRange, ordersInRange, queueQuoted, queuesSorted, quotes, rangesKept, replays, restingInRange, sorted, tradeInRange, uncrossed, usedOnce, wellFormedContents}
 use Rattle.rules.specs.declared.Trade.{Trade}
 use Rattle.endian.specs.Numbers.{two, four, eight, unsigned}
 use Rattle.clients.specs.Clients.{Clients, clientAccount, clientExchange, clientPlace, clientTrade, holdingsNow, inRow, isPosted, legCount, legsIn, neverClosesMore, posted, postedTo, startsAddUp, total, tradePosted}
@@ -182,7 +182,7 @@ second-example = refl
 
 pub well-formed-days : (wellFormedContents day ≡ true) × (wellFormedContents shortDay ≡ true) × (wellFormedContents (dayWith 0 0 0 []) ≡ true)
     × (wellFormedContents (dayWith 0 1 1 []) ≡ true)
-unfolding day dayWith shortDay inSecond trade all allOf sumOf accountAt afterLeg ahead aheadOfFirst allListed allowedToday balanceInRange bookLeg bookTrade bookTrades contractInRange countersInRange dayHigh dayLow holdingAt holdingInRange holdingsInRange legCovered listed listingAt rangesKept queuesSorted ordersInRange restingInRange lotsWhere neverBelowZero onTick orderInRange replays resting sameHoldings sameLots sorted startOfDay termsInRange tickMultiple tradeInRange uncrossed usedOnce quotes markAllowed queueQuoted listingQuoted markInRange wellFormedContents
+unfolding day dayWith shortDay inSecond trade all allOf sumOf accountAt afterLeg ahead aheadOfFirst allListed allowedToday balanceInRange bookLeg bookTrade bookTrades contractInRange countersInRange dayHigh dayLow holdingAt heldInRange holdingInRange holdingsInRange legCovered listed listingAt rangesKept queuesSorted ordersInRange restingInRange lotsWhere neverBelowZero onTick orderInRange replays resting sameHoldings sameLots sorted startOfDay termsInRange tickMultiple tradeInRange uncrossed usedOnce quotes markAllowed queueQuoted listingQuoted markInRange wellFormedContents
 well-formed-days = (refl, refl, refl, refl)
 
 -- ---- refusals: a day, an account's number, clients, room, and the code they must get; the statement above is 124 bytes long

@@ -1,14 +1,14 @@
 -- `settlement::settle::settle` meets its contract: the parts make the state of the next day and the report. Assumes nothing.
-use Rattle.settlement.proofs.Outcome.{settlements-left, few-contracts, all-clearable, all-payable, all-chargeable, settled-is}
+use Rattle.settlement.proofs.Outcome.{settlements-left, few-contracts, all-clearable, all-priceable, all-payable, all-chargeable, settled-is}
 use borrow.Author.Needs.{needs}
 use Rattle.settlement.proofs.settle.settle.Statement.{statement}
 use Rattle.settlement.proofs.settle.settle.Tie as tie
 
-prices-requires : tie.Need-prices-requires
-prices-requires c κs = search needs
+prices-due-requires : tie.Need-prices-due-requires
+prices-due-requires c κs = all-priceable _ _ _ _ (c .before .before .before .before .before .before .pre)
 
 all-paid-requires : tie.Need-all-paid-requires
-all-paid-requires c κs = all-payable _ _ _ _ (c .before .before .before .before .before .before .before .before .pre) _ (c .before .prices .ensures)
+all-paid-requires c κs = all-payable _ _ _ _ (c .before .before .before .before .before .before .before .before .pre) _ (c .before .prices-due .ensures)
 
 clear-areas-requires : tie.Need-clear-areas-requires
 clear-areas-requires c κs = all-clearable _ _ _ _ (c .before .before .before .before .before .before .before .before .before .before .before .before .before .before .before .pre)
@@ -19,7 +19,7 @@ next-day-requires c κs = let start = c .before .before .before .before .before 
 charges-requires : tie.Need-charges-requires
 charges-requires c κs =
     let paid = c .before .before .before .before .before .before .before .before .before .before .before .before .before .before .before .before in
-    all-chargeable _ _ _ _ (paid .before .before .before .before .before .before .before .before .before .pre) _ (paid .before .before .prices .ensures) _ (paid .all-paid .ensures .accounts) _ _ _ (c .before .before .before .before .before .before .before .before .before .clear-areas .ensures) _ (c .before .before .next-day .ensures)
+    all-chargeable _ _ _ _ (paid .before .before .before .before .before .before .before .before .before .pre) _ (paid .before .before .prices-due .ensures) _ (paid .all-paid .ensures .accounts) _ _ _ (c .before .before .before .before .before .before .before .before .before .clear-areas .ensures) _ (c .before .before .next-day .ensures)
 
 same-length : tie.Need-same-length
 same-length c = search needs
@@ -33,14 +33,14 @@ same-length-3 c = search needs
 returns : tie.Need-returns
 returns c =
     let paid = c .before .before .before .before .before .before .before .before .before .before .before .before .before .before .before .before .before in
-    settled-is _ _ _ _ (paid .before .before .before .before .before .before .before .before .before .pre) _ (paid .before .before .prices .ensures) _ (paid .all-paid .ensures .accounts) _ _ _ (c .before .before .before .before .before .before .before .before .before .before .clear-areas .ensures) _ _ _ _
+    settled-is _ _ _ _ (paid .before .before .before .before .before .before .before .before .before .pre) _ (paid .before .before .prices-due .ensures) _ (paid .all-paid .ensures .accounts) _ _ _ (c .before .before .before .before .before .before .before .before .before .before .clear-areas .ensures) _ _ _ _
     (c .before .before .before .next-day .ensures) (paid .all-paid .ensures) (c .charges .ensures)
 
 pub settle-spec : {M : Type 1} → statement M
 settle-spec =
     tie.close
     (tie.spec
-    prices-requires
+    prices-due-requires
     all-paid-requires
     clear-areas-requires
     next-day-requires

@@ -1,10 +1,9 @@
 -- `profits::books` meets its contract. Assumes nothing.
-use borrow.Author.Needs.{needs}
 use Rattle.statements.proofs.profits.books.Statement.{statement}
 use Rattle.statements.proofs.profits.books.Tie as tie
 
 prices-due-requires : tie.Need-prices-due-requires
-prices-due-requires c κs = search needs
+prices-due-requires c κs = c .before .before .before .pre .priceable
 
 all-paid-requires : tie.Need-all-paid-requires
 all-paid-requires c κs = rw (c .prices-due .ensures) (c .before .before .before .before .pre .payable)

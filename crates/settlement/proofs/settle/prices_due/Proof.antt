@@ -1,26 +1,26 @@
--- `profits::prices_due` meets its contract: the prices of the contracts before c are written. Assumes nothing.
+-- `settlement::settle::prices_due` meets its contract: the prices of the contracts so far. Assumes nothing.
 use Prim.Native.Nat.{_-_}
 use native.Mathlib.Omega.{arith}
-use Rattle.rules.specs.Memory.{memory}
 use Rattle.laws.specs.Written.{writing-none, writing-more}
+use Rattle.rules.specs.Memory.{memory}
 use Rattle.settlement.proofs.Report.{PricesSoFar, price-in-use, prices-done}
-use Rattle.statements.proofs.profits.prices_due.Statement.{statement}
-use Rattle.statements.proofs.profits.prices_due.Tie as tie
+use Rattle.settlement.proofs.settle.prices_due.Statement.{statement}
+use Rattle.settlement.proofs.settle.prices_due.Tie as tie
 
 abbrev Inv-loop : tie.InvT-loop
-Inv-loop buys sells area state contracts count prices₀ c₀ prices c = PricesSoFar (memory state buys sells area) c prices
+Inv-loop buys sells trades state contracts count prices₀ c₀ prices c = PricesSoFar (memory state buys sells trades) c prices
 
 abbrev μ-loop : tie.MeasureT-loop
-μ-loop buys sells area state contracts count prices₀ c₀ prices c = contracts - c
+μ-loop buys sells trades state contracts count prices₀ c₀ prices c = contracts - c
 
 loop-holds : tie.Need-loop-holds Inv-loop μ-loop
 loop-holds c = writing-none _ _ _
 
-mul-terms : tie.Need-mul-terms Inv-loop μ-loop
-mul-terms c = omega (arith, c .before .before .before .before .before .pre .few)
+mul-contract : tie.Need-mul-contract Inv-loop μ-loop
+mul-contract c = omega (arith, c .before .before .before .before .before .pre .few)
 
-element-copy-out-terms : tie.Need-element-copy-out-terms Inv-loop μ-loop
-element-copy-out-terms c = omega (arith, c .before .before .before .before .before .pre .few)
+element-copy-out-contract : tie.Need-element-copy-out-contract Inv-loop μ-loop
+element-copy-out-contract c = omega (arith, c .before .before .before .before .before .pre .few)
 
 mul-buycount : tie.Need-mul-buycount Inv-loop μ-loop
 mul-buycount c = omega (arith, c .before .before .before .before .before .before .pre .few)
@@ -35,7 +35,7 @@ element-copy-out-sellcount : tie.Need-element-copy-out-sellcount Inv-loop μ-loo
 element-copy-out-sellcount c = omega (arith, c .before .before .before .before .before .before .before .pre .few)
 
 settlement-price-requires : tie.Need-settlement-price-requires Inv-loop μ-loop
-settlement-price-requires c κs = c .before .before .before .before .before .before .before .before .pre .priceable _ (c .before .before .before .loop-test .taken)
+settlement-price-requires c κs = c .before .before .before .before .before .before .before .before .pre .each _ (c .before .before .before .loop-test .taken)
 
 mul-prices : tie.Need-mul-prices Inv-loop μ-loop
 mul-prices c = omega (arith, c .before .before .before .before .before .before .before .before .before .pre .few)
@@ -62,8 +62,8 @@ prices-due-spec =
     Inv-loop
     μ-loop
     loop-holds
-    mul-terms
-    element-copy-out-terms
+    mul-contract
+    element-copy-out-contract
     mul-buycount
     element-copy-out-buycount
     mul-sellcount
