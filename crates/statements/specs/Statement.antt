@@ -87,7 +87,7 @@ postedRefusals x a b room =
     (26 when not (allOf (tradePosted a (b .count) (b .postings)) (x .trades)))
     ∷ dayRefusals (clientExchange x a b) (b .count) room
 
--- all of them on a well-formed state, the account by its number
+-- all of them but 21, on a well-formed state, the account by its number
 unfoldable pub brokerRefusals : Exchange → ℕ → Clients → ℕ → List Refusal
 brokerRefusals x account b room =
     (2 when absent account (x .accounts))

@@ -1,5 +1,5 @@
-// The clients' profit at the settlement prices due, on a state whose accounts are the clients. For this crate: each function asks for
-// values in the ranges of a well-formed state.
+// The clients' profit at the settlement prices due, on a state whose accounts are the clients. For this crate: `books` asks for
+// contracts that can be priced, and accounts that can be paid at those prices.
 ghost use Rattle.settlement.specs.Settling.{BooksIs, pricesDue};
 ghost use Rattle.statements.specs.Parts.{Profitable};
 use rules::State;
