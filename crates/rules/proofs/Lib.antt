@@ -26,3 +26,4 @@ pub mod AuctionSteps
 pub mod Changes
 pub mod Lessened
 pub mod WithoutMarks
+pub mod Touches

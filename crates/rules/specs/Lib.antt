@@ -18,6 +18,7 @@ pub mod Kinds
 pub mod Memory
 pub mod Side
 pub mod Condition3
+pub mod Touches
 pub mod DayFile
 pub mod Lines
 pub mod Examples
