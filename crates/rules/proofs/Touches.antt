@@ -14,13 +14,13 @@ use Rattle.laws.specs.Choice.{allOf, allOf-append, allOf-true, both-true, eithe
 use Rattle.laws.specs.Lists.{at-set, kept-at}
 use Rattle.rules.specs.Answers.{Refusal, absentRefusals, cancelRefusals, depositRefusals, firstOf, insertRefusals, listingOf, phaseRefusals, pullRefusals, takerOf, withdrawRefusals}
 use Rattle.rules.specs.Auction.{matchOf}
-use Rattle.rules.specs.Change.{Asked, asked, arriving, changed, changeRefusals, changeTrades, gone, placeKept, placeLost, reentered, unchanged}
+use Rattle.rules.specs.Change.{Asked, asked, arriving, changed, changeRefusals, gone, placeKept, placeLost, reentered, unchanged}
 use Rattle.rules.specs.Command.{isSettle}
-use Rattle.rules.specs.Exchange.{Exchange, Listing, absent, accountAt, heldAt, holderAt, holdingAt, listingAt, listingNamed, noAccount, noHolding, noListing, noOrder, opposite, own, placeOf}
+use Rattle.rules.specs.Exchange.{Exchange, Listing, absent, accountAt, heldAt, holdingAt, listingAt, listingNamed, noAccount, noHolding, noListing, noOrder, opposite, own, placeOf}
 use Rattle.rules.specs.Holdings.{bookTrades}
 use Rattle.rules.specs.Kinds.{codeOf, decide, kindOf, lastOf, step}
 use Rattle.rules.specs.Matching.{enter, restWhole}
-use Rattle.rules.specs.Quote.{Offered, buyEntered, buyOf, half, offered, quoted, quoteRefusals, quoteTrades, sellEntered, sellOf, withBuy, withSell, withoutQuote}
+use Rattle.rules.specs.Quote.{Offered, buyOf, half, offered, quoted, quoteRefusals, sellOf, withBuy, withSell, withoutQuote}
 use Rattle.rules.specs.Step.{cancelled, deposited, enteredOf, exchangeAfter, exchangeMatched, inserted, isOf, listingWithout, paid, phaseChanged, pulled, removed, withListing, withdrawn, without}
 use Rattle.rules.specs.Touches.{BalanceStays, BlankIsRefused, ContractStays, Field, unused, holds, HeldByTrades, MoneyStays, OrdersUntouched, PullTakesOwn, QueuesAlone, RefusedAndUnchanged, RefusedChangesNothing, accountField, contractField, isBlank, isPayment, names, ordersOf, ordersWhere}
 use Rattle.rules.specs.declared.Account.{Account}

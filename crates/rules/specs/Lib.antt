@@ -36,4 +36,5 @@ pub mod ProfitExamples
 pub mod QuoteExamples
 pub mod SideExamples
 pub mod StepExamples
+pub mod TouchExamples
 pub mod WellFormedExamples
