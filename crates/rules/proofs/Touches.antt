@@ -9,7 +9,7 @@ use borrow.Author.Tests.{eqb-true, eqb-false, ne-eqb}
 use lib.Dec.{eqb, ltb}
 use lib.IntN.{ℤ}
 use lib.ListN.{length, getD, set}
-use lib.Seq.{getD-set-other, getD-set-same}
+use lib.Seq.{getD-set-other, getD-set-same, map-set-same}
 use Rattle.laws.specs.Choice.{allOf, allOf-append, allOf-true, both-true, either-false, pick, true-both}
 use Rattle.laws.specs.Lists.{at-set, kept-at}
 use Rattle.rules.specs.Answers.{Refusal, absentRefusals, cancelRefusals, depositRefusals, firstOf, insertRefusals, listingOf, phaseRefusals, pullRefusals, takerOf, withdrawRefusals}
@@ -22,7 +22,7 @@ use Rattle.rules.specs.Kinds.{codeOf, decide, kindOf, lastOf, step}
 use Rattle.rules.specs.Matching.{enter, restWhole}
 use Rattle.rules.specs.Quote.{Offered, buyOf, half, offered, quoted, quoteRefusals, sellOf, withBuy, withSell, withoutQuote}
 use Rattle.rules.specs.Step.{cancelled, deposited, enteredOf, exchangeAfter, exchangeMatched, inserted, isOf, listingWithout, paid, phaseChanged, pulled, removed, withListing, withdrawn, without}
-use Rattle.rules.specs.Touches.{BalanceStays, BlankIsRefused, ContractStays, Field, unused, holds, HeldByTrades, MoneyStays, OrdersUntouched, PullTakesOwn, QueuesAlone, RefusedAndUnchanged, RefusedChangesNothing, accountField, contractField, isBlank, isPayment, names, ordersOf, ordersWhere}
+use Rattle.rules.specs.Touches.{BalanceStays, BlankIsRefused, ContractStays, Field, unused, holds, HeldByTrades, MoneyStays, OrdersUntouched, PullTakesOwn, QueuesAlone, RefusedAndUnchanged, RefusedChangesNothing, accountField, contractField, holdingsOf, isBlank, isPayment, names, ordersOf, ordersWhere}
 use Rattle.rules.specs.declared.Account.{Account}
 use Rattle.rules.specs.declared.Command.{Command}
 use Rattle.rules.specs.declared.Command.the-variants.{Malformed, Deposit, Withdraw, Insert, Cancel, Pull, Phase, Settle, Quote, Change}
@@ -59,7 +59,7 @@ both-there : (x : Exchange) (account contract : ℕ) (rs : List Refusal) → fir
 both-there x account contract rs e = let f = both-zero (absentRefusals x account contract) rs (omega arith) e .0 in (f .0, f .1 .0)
 
 -- of an accepted command neither field is blank
-accepted-named : (x : Exchange) (command : Command) → codeOf x command ≡ 0 →
+pub accepted-named : (x : Exchange) (command : Command) → codeOf x command ≡ 0 →
     (isBlank (accountField command) (x .accounts) ≡ false) × (isBlank (contractField command) (x .listings) ≡ false)
 unfolding codeOf kindOf depositRefusals withdrawRefusals insertRefusals cancelRefusals pullRefusals phaseRefusals quoteRefusals changeRefusals
 accepted-named x Malformed e = (refl, refl)
@@ -237,7 +237,7 @@ module _ (x : Exchange) (c : ℕ) where
 
 -- ---- 4. a pull
 
-relisted : (x : Exchange) (c : ℕ) (l : Listing) → c < length (x .listings) → listingAt (withListing x c l) c ≡ l
+pub relisted : (x : Exchange) (c : ℕ) (l : Listing) → c < length (x .listings) → listingAt (withListing x c l) c ≡ l
 unfolding listingAt
 relisted x c l there = getD-set-same (x .listings) c l noListing there
 
@@ -299,7 +299,7 @@ module _ (a : ℕ) where
   pub none-its : (test : Order → Bool) → ((o : Order) → (test o && isOf a o) ≡ false) → (q : List Order) → allOf (λ o. not (test o && isOf a o)) q ≡ true
   none-its test f q = allOf-true (λ o. not (test o && isOf a o)) q noOrder (λ i b. rw (f (getD q i noOrder)) refl)
 
-accepted-step : (x : Exchange) (command : Command) → codeOf x command ≡ 0 → step x command ≡ lastOf x (kindOf x command .effect .stages)
+pub accepted-step : (x : Exchange) (command : Command) → codeOf x command ≡ 0 → step x command ≡ lastOf x (kindOf x command .effect .stages)
 unfolding step
 accepted-step x command e = decided (λ d. lastOf x (d .stages) ≡ lastOf x (kindOf x command .effect .stages)) x command (λ f. refl) (λ r. absurd (r e))
 
@@ -364,10 +364,14 @@ owns-in : (d : ℕ) (x y : Exchange) → InContract d x y → (a : ℕ) → Bala
 owns-in d x y i a = ap (λ (as′ : List Account). accountAt as′ a .balance) (i .booked) ∙ booked-balance (x .accounts) (i .made) a
 
 held-in : (d : ℕ) (x y : Exchange) → InContract d x y → HeldByTrades x y
-held-in d x y i = record { made = i .made; recorded = i .recorded; held = λ a c. ap (λ (as′ : List Account). holdingAt as′ a c) (i .booked) }
+held-in d x y i = record { made = i .made; recorded = i .recorded; held = ap holdingsOf (i .booked) }
+
+paid-holdings : (x : Exchange) (b : ℕ) (balance : ℤ) → holdingsOf (paid x b balance .accounts) ≡ holdingsOf (x .accounts)
+unfolding paid accountAt
+paid-holdings x b balance = map-set-same (λ (a : Account). a .holdings) (x .accounts) b _ noAccount refl
 
 paid-held : (x : Exchange) (b : ℕ) (balance : ℤ) → HeldByTrades x (paid x b balance)
-paid-held x b balance = record { made = []; recorded = unfold paid in sym (append-nil (x .trades)); held = λ a c. unfold bookTrades in paid-holds x b balance a c }
+paid-held x b balance = record { made = []; recorded = unfold paid in sym (append-nil (x .trades)); held = unfold bookTrades in paid-holdings x b balance }
 
 -- a payment is of the account that it names
 kind-pays : (x : Exchange) (command : Command) → isPayment command ≡ true → (b : ℕ) × (balance : ℤ) ×
@@ -387,7 +391,7 @@ kind-pays x (Change account contract number lots price) p = absurd (false≢true
 module _ (x : Exchange) (command : Command) (n : isSettle command ≡ false) where
   nothing-moves : MoneyStays x command x
   nothing-moves =
-      record { others = λ a f. refl; orders = λ p a. refl; holdings = held-in 0 x x (same-in 0 x); payments = λ p a c. refl }
+      record { others = λ a f. refl; orders = λ p a. refl; holdings = held-in 0 x x (same-in 0 x); payments = λ p. refl }
 
   kind-money : codeOf x command ≡ 0 → MoneyStays x command (lastOf x (kindOf x command .effect .stages))
   kind-money e = by-payment (isPayment command) refl
@@ -400,7 +404,7 @@ module _ (x : Exchange) (command : Command) (n : isSettle command ≡ false) whe
             others = λ a f. paid-owns x a (k .0) (k .1) (sym (k .3 a) ∙ account-at x command a f e);
             orders = λ q. absurd (true≢false (sym p ∙ q));
             holdings = paid-held x (k .0) (k .1);
-            payments = λ q a c. paid-holds x (k .0) (k .1) a c;
+            payments = λ q. paid-holdings x (k .0) (k .1);
           }
       by-payment false p =
           let i = kind-in x command p n in

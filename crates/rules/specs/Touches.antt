@@ -1,18 +1,20 @@
 -- WHAT A COMMAND MAY TOUCH: the words of laws that hold of the rules' `step`, of every command on every state (`x` before, `y` after). The
 -- theorems stand in proofs/Touches.antt; those that need a well-formed state have their words in the crate invariants. Assumes nothing.
 use mathlib.Core.Bool.{Bool, true, false, not, _||_}
-use mathlib.Core.List.{List, [], _∷_, _++_}
+use mathlib.Core.List.{List, [], _∷_, _++_, map}
 use mathlib.Core.Path.{_≡_}
 use Prim.Native.Nat.{ℕ, _+_}
 use lib.Dec.{eqb}
 use Rattle.laws.specs.Choice.{pick}
 use Rattle.rules.specs.Command.{kindNumber}
-use Rattle.rules.specs.Exchange.{Exchange, absent, contractAt, heldAt, holderAt, holdingAt, listingAt, listingNamed, own, placeOf}
+use Rattle.rules.specs.Exchange.{Exchange, absent, contractAt, heldAt, holderAt, listingAt, listingNamed, own, placeOf}
 use Rattle.rules.specs.Holdings.{bookTrades}
 use Rattle.rules.specs.Kinds.{codeOf, decide, step}
 use Rattle.rules.specs.Step.{isOf}
+use Rattle.rules.specs.declared.Account.{Account}
 use Rattle.rules.specs.declared.Command.{Command}
 use Rattle.rules.specs.declared.Command.the-variants.{Malformed, Deposit, Withdraw, Insert, Cancel, Pull, Phase, Settle, Quote, Change}
+use Rattle.rules.specs.declared.Holding.{Holding}
 use Rattle.rules.specs.declared.Order.{Order}
 use Rattle.rules.specs.declared.Trade.{Trade}
 
@@ -120,14 +122,18 @@ pub record OrdersUntouched (a : ℕ) (x y : Exchange) : Type 0 where
 abbrev pub BalanceStays : ℕ → Exchange → Exchange → Type 0
 BalanceStays a x y = holderAt y a .balance ≡ holderAt x a .balance
 
+-- what each account holds, contract by contract
+abbrev pub holdingsOf : List Account → List (List Holding)
+holdingsOf accounts = map (λ a. a .holdings) accounts
+
 -- the trades made are those recorded behind the day's earlier ones, and booking them is all that happens to the holdings
 pub record HeldByTrades (x y : Exchange) : Type 0 where
   pub made : List Trade
   pub recorded : y .trades ≡ x .trades ++ made
-  pub held : (a c : ℕ) → heldAt y a c ≡ holdingAt (bookTrades (x .accounts) made) a c
+  pub held : holdingsOf (y .accounts) ≡ holdingsOf (bookTrades (x .accounts) made)
 
 pub record MoneyStays (x : Exchange) (command : Command) (y : Exchange) : Type 0 where
   pub others : (a : ℕ) → names (accountField command) a ≡ false → BalanceStays a x y
   pub orders : isPayment command ≡ false → (a : ℕ) → BalanceStays a x y
   pub holdings : HeldByTrades x y
-  pub payments : isPayment command ≡ true → (a c : ℕ) → heldAt y a c ≡ heldAt x a c
+  pub payments : isPayment command ≡ true → holdingsOf (y .accounts) ≡ holdingsOf (x .accounts)
