@@ -11,8 +11,9 @@ use Rattle.rules.specs.Step.{cancelled, hasNumber, listingWithout, removed, wit
 use Rattle.rules.specs.WellFormed.{wellFormedContents}
 use Rattle.rules.specs.declared.Command.{Command}
 use Rattle.rules.specs.declared.Command.the-variants.{Cancel}
+use Rattle.rules.proofs.EachKind.{accepted-named}
 use Rattle.rules.proofs.Refusals.{Failed, both-zero, failed, present}
-use Rattle.rules.proofs.Touches.{accepted-named, accepted-step, queues-alone, relisted}
+use Rattle.rules.proofs.Touches.{accepted-step, queues-alone, relisted}
 use Rattle.invariants.proofs.Clauses.{well-formed}
 use Rattle.invariants.proofs.OneOrder.{once-in, one-goes}
 use Rattle.invariants.specs.RestingOrders.{CancelTakesOne}

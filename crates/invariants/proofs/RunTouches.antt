@@ -7,19 +7,19 @@ use borrow.Author.Tests.{eq-eqb, ne-eqb, not-true}
 use lib.ListN.{getD, set, List·getD-map}
 use Rattle.laws.specs.Choice.{allOf, both-true, true-both}
 use Rattle.laws.specs.Lists.{map-set}
-use Rattle.rules.specs.Command.{isSettle}
+use Rattle.rules.specs.Command.{accountField, contractField, isPayment, isSettle}
 use Rattle.rules.specs.Condition3.{isAccepted, run}
 use Rattle.rules.specs.Exchange.{Exchange, accountAt, holdingAt, noAccount, noHolding}
 use Rattle.rules.specs.Holdings.{afterLeg, bookBuyer, bookLeg, bookTrade, bookTrades}
 use Rattle.rules.specs.Kinds.{codeOf, step}
 use Rattle.rules.specs.Memory.{Memory, exchangeOf, respond, wellFormedMemory}
-use Rattle.rules.specs.Touches.{BalanceStays, ContractStays, HeldByTrades, accountField, contractField, holdingsOf, isPayment, names}
+use Rattle.rules.specs.Touches.{BalanceStays, ContractStays, HeldByTrades, holdingsOf, names}
 use Rattle.rules.specs.declared.Account.{Account}
 use Rattle.rules.specs.declared.Command.{Command}
 use Rattle.rules.specs.declared.Holding.{Holding}
 use Rattle.rules.specs.declared.Trade.{Trade}
 use Rattle.rules.proofs.Holdings.{bookTrades-append}
-use Rattle.rules.proofs.Touches.{blank-is-refused, money-stays, other-contract-stays}
+use Rattle.rules.proofs.Touches.{blank-is-refused, held-same, money-stays, other-contract-stays}
 use Rattle.accounting.proofs.Runs.{accepted-is, never-accepted, run-stays}
 use Rattle.invariants.proofs.Clauses.{Sound}
 use Rattle.invariants.proofs.MemoryKeeps.{memory-keeps, read-back, sound}
@@ -111,10 +111,6 @@ booked-by-holdings l k (t ∷ ts) e =
     booked-by-holdings (bookTrade l t) (bookTrade k t) ts
     (leg-by-holdings (bookBuyer l t) (bookBuyer k t) (t .seller) (t .contract) true (t .sellclose) (t .lots)
     (leg-by-holdings l k (t .buyer) (t .contract) false (t .buyclose) (t .lots) e))
-
-held-same : (x : Exchange) → HeldByTrades x x
-unfolding bookTrades
-held-same x = record { made = []; recorded = sym (append-nil (x .trades)); held = refl }
 
 held-more : (x y z : Exchange) → HeldByTrades x y → HeldByTrades y z → HeldByTrades x z
 held-more x y z f g =

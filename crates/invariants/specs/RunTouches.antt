@@ -6,10 +6,10 @@ use mathlib.Core.List.{List, _∷_}
 use mathlib.Core.Path.{_≡_}
 use Prim.Native.Nat.{ℕ}
 use Rattle.laws.specs.Choice.{allOf}
-use Rattle.rules.specs.Command.{isSettle}
+use Rattle.rules.specs.Command.{accountField, contractField, isPayment, isSettle}
 use Rattle.rules.specs.Condition3.{balanceIn, isAccepted, run}
 use Rattle.rules.specs.Memory.{Memory, exchangeOf, respond}
-use Rattle.rules.specs.Touches.{ContractStays, HeldByTrades, accountField, contractField, isBlank, isPayment, names}
+use Rattle.rules.specs.Touches.{ContractStays, HeldByTrades, isBlank, names}
 use Rattle.rules.specs.declared.Command.{Command}
 
 -- ---- 1. A COMMAND THAT IS REFUSED CHANGES NO WORD OF THE MEMORY; given again at once it gets the same answer; and a run leaves what it would

@@ -1,53 +1,23 @@
 -- WHAT A COMMAND MAY TOUCH: the words of laws that hold of the rules' `step`, of every command on every state (`x` before, `y` after). The
 -- theorems stand in proofs/Touches.antt; those that need a well-formed state have their words in the crate invariants. Assumes nothing.
-use mathlib.Core.Bool.{Bool, true, false, not, _||_}
+use mathlib.Core.Bool.{Bool, true, false, not}
 use mathlib.Core.List.{List, [], _∷_, _++_, map}
 use mathlib.Core.Path.{_≡_}
 use Prim.Native.Nat.{ℕ, _+_}
 use lib.Dec.{eqb}
 use Rattle.laws.specs.Choice.{pick}
-use Rattle.rules.specs.Command.{kindNumber}
+use Rattle.rules.specs.Command.{Field, unused, holds, accountField, contractField, isPayment}
 use Rattle.rules.specs.Exchange.{Exchange, absent, contractAt, heldAt, holderAt, listingAt, listingNamed, own, placeOf}
 use Rattle.rules.specs.Holdings.{bookTrades}
 use Rattle.rules.specs.Kinds.{codeOf, decide, step}
 use Rattle.rules.specs.Step.{isOf}
 use Rattle.rules.specs.declared.Account.{Account}
 use Rattle.rules.specs.declared.Command.{Command}
-use Rattle.rules.specs.declared.Command.the-variants.{Malformed, Deposit, Withdraw, Insert, Cancel, Pull, Phase, Settle, Quote, Change}
 use Rattle.rules.specs.declared.Holding.{Holding}
 use Rattle.rules.specs.declared.Order.{Order}
 use Rattle.rules.specs.declared.Trade.{Trade}
 
 -- ---- what a command names
-
--- a field for a number: a command's kind does not use it, or it holds the number
-pub data Field : Type 0 where
-  unused : Field
-  holds : ℕ → Field
-
-abbrev pub contractField : Command → Field
-contractField Malformed = unused
-contractField (Deposit account amount) = unused
-contractField (Withdraw account amount) = unused
-contractField (Insert o) = holds (o .contract)
-contractField (Cancel account contract operator number) = holds contract
-contractField (Pull account contract operator) = holds contract
-contractField (Phase contract phase) = holds contract
-contractField Settle = unused
-contractField (Quote account contract lots buy sell) = holds contract
-contractField (Change account contract number lots price) = holds contract
-
-abbrev pub accountField : Command → Field
-accountField Malformed = unused
-accountField (Deposit account amount) = holds account
-accountField (Withdraw account amount) = holds account
-accountField (Insert o) = holds (o .account)
-accountField (Cancel account contract operator number) = holds account
-accountField (Pull account contract operator) = holds account
-accountField (Phase contract phase) = unused
-accountField Settle = unused
-accountField (Quote account contract lots buy sell) = holds account
-accountField (Change account contract number lots price) = holds account
 
 -- the field is used and has a number that none of the places has: 0, left blank, or above their count
 abbrev pub isBlank : {A : Type 0} → Field → List A → Bool
@@ -58,10 +28,6 @@ isBlank (holds number) places = absent number places
 abbrev pub names : Field → ℕ → Bool
 names unused place = false
 names (holds number) place = eqb number (place + 1)
-
--- a deposit or a withdrawal
-abbrev pub isPayment : Command → Bool
-isPayment command = eqb (kindNumber command) 1 || eqb (kindNumber command) 2
 
 -- ---- 1. A COMMAND THAT IS REFUSED CHANGES NOTHING, and given again at once gets the same answer.
 
