@@ -28,6 +28,8 @@ pub mod Singly
 pub mod QuoteAsOrders
 pub mod Makers
 pub mod Stamps
+pub mod OneOrder
+pub mod Fates
 pub mod EachKind
 pub mod MemoryRoom
 pub mod MemoryLaws
@@ -38,6 +40,5 @@ pub mod ToldWhole
 pub mod Opening
 pub mod Condition3
 pub mod SameInUse
-pub mod OneOrder
 pub mod RestingOrders
 pub mod RunTouches

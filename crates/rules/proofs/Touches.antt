@@ -57,7 +57,7 @@ blank-is-refused x command =
 -- ---- what an accepted command names has a number
 
 -- the same by places, where a blank would be the first place's
-abbrev isAt : Field → ℕ → Bool
+abbrev pub isAt : Field → ℕ → Bool
 isAt unused place = false
 isAt (holds number) place = eqb place (placeOf number)
 
@@ -72,7 +72,7 @@ at-place (holds number) places i there n =
 contract-at : (x : Exchange) (command : Command) (c : ℕ) → names (contractField command) c ≡ false → codeOf x command ≡ 0 → isAt (contractField command) c ≡ false
 contract-at x command c n e = at-place (contractField command) (x .listings) c (accepted-named x command e .1) n
 
-account-at : (x : Exchange) (command : Command) (a : ℕ) → names (accountField command) a ≡ false → codeOf x command ≡ 0 → isAt (accountField command) a ≡ false
+pub account-at : (x : Exchange) (command : Command) (a : ℕ) → names (accountField command) a ≡ false → codeOf x command ≡ 0 → isAt (accountField command) a ≡ false
 account-at x command a n e = at-place (accountField command) (x .accounts) a (accepted-named x command e .0) n
 
 -- ---- 3. other contracts
