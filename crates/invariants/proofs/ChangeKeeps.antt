@@ -212,7 +212,7 @@ module _ (x : Exchange) (w : WellFormed x) (k : Asked) (e : firstOf (changeRefus
   abbrev left : Listing
   left = listingWithout (hasNumber number) listing
 
-  gone-keeps : WellFormed (gone x k)
+  pub gone-keeps : WellFormed (gone x k)
   unfolding gone removed
   gone-keeps = removed-keeps (hasNumber number) x place there number w
 

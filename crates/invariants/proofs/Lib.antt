@@ -30,6 +30,7 @@ pub mod Makers
 pub mod Stamps
 pub mod OneOrder
 pub mod Fates
+pub mod OthersOrders
 pub mod EachKind
 pub mod MemoryRoom
 pub mod MemoryLaws

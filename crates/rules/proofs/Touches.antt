@@ -23,6 +23,7 @@ use Rattle.rules.specs.declared.Account.{Account}
 use Rattle.rules.specs.declared.Command.{Command}
 use Rattle.rules.specs.declared.Command.the-variants.{Pull}
 use Rattle.rules.specs.declared.Order.{Order}
+use Rattle.rules.specs.declared.Trade.{Trade}
 use Rattle.rules.proofs.EachKind.{Pays, Works, accepted-named, kind-pays, kind-works}
 use Rattle.rules.proofs.InContract.{InContract}
 use Rattle.rules.proofs.Holdings.{booked-balance, other-holding}
@@ -85,16 +86,16 @@ paid-holds x b balance a c = ap (λ hs. getD hs c noHolding) (kept-at (λ (k : A
 paid-stays : (x : Exchange) (b : ℕ) (balance : ℤ) (c : ℕ) → ContractStays c x (paid x b balance)
 paid-stays x b balance c = record { listing = unfold paid listingAt in refl; held = λ a. paid-holds x b balance a c }
 
-stays-in : (d : ℕ) (x y : Exchange) → InContract d x y → (c : ℕ) → eqb c d ≡ false → ContractStays c x y
-stays-in d x y i c n =
+stays-in : (d : ℕ) (ts : List Trade) (x y : Exchange) → InContract d ts x y → (c : ℕ) → eqb c d ≡ false → ContractStays c x y
+stays-in d ts x y i c n =
     record {
       listing = i .others c n;
-      held = λ a. ap (λ (as′ : List Account). holdingAt as′ a c) (i .booked) ∙ other-holding d (x .accounts) (i .made) a c (i .here) (eqb-false c d n);
+      held = λ a. ap (λ (as′ : List Account). holdingAt as′ a c) (i .booked) ∙ other-holding d (x .accounts) ts a c (i .here) (eqb-false c d n);
     }
 
 works-stay : (f : Field) (x y : Exchange) → Works f x y → (c : ℕ) → isAt f c ≡ false → ContractStays c x y
 works-stay unused x y e c n = record { listing = ap (λ (z : Exchange). listingAt z c) e; held = λ a. ap (λ (z : Exchange). heldAt z a c) e }
-works-stay (holds number) x y i c n = stays-in (placeOf number) x y i c n
+works-stay (holds number) x y (ts, i) c n = stays-in (placeOf number) ts x y i c n
 
 pays-stay : (f : Field) (x y : Exchange) → Pays f x y → (c : ℕ) → ContractStays c x y
 pays-stay unused x y e c = record { listing = ap (λ (z : Exchange). listingAt z c) e; held = λ a. ap (λ (z : Exchange). heldAt z a c) e }
@@ -237,7 +238,7 @@ paid-owns x a b balance n = ap (λ (k : Account). k .balance) (getD-set-other (x
 
 works-owns : (f : Field) (x y : Exchange) → Works f x y → (a : ℕ) → BalanceStays a x y
 works-owns unused x y e a = ap (λ (z : Exchange). holderAt z a .balance) e
-works-owns (holds number) x y i a = ap (λ (as′ : List Account). accountAt as′ a .balance) (i .booked) ∙ booked-balance (x .accounts) (i .made) a
+works-owns (holds number) x y (ts, i) a = ap (λ (as′ : List Account). accountAt as′ a .balance) (i .booked) ∙ booked-balance (x .accounts) ts a
 
 pub held-same : (x : Exchange) → HeldByTrades x x
 unfolding bookTrades
@@ -245,7 +246,7 @@ held-same x = record { made = []; recorded = sym (append-nil (x .trades)); held 
 
 works-held : (f : Field) (x y : Exchange) → Works f x y → HeldByTrades x y
 works-held unused x y e = rw e (held-same x)
-works-held (holds number) x y i = record { made = i .made; recorded = i .recorded; held = ap holdingsOf (i .booked) }
+works-held (holds number) x y (ts, i) = record { made = ts; recorded = i .recorded; held = ap holdingsOf (i .booked) }
 
 paid-holdings : (x : Exchange) (b : ℕ) (balance : ℤ) → holdingsOf (paid x b balance .accounts) ≡ holdingsOf (x .accounts)
 unfolding paid accountAt
