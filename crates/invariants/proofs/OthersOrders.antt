@@ -7,11 +7,12 @@ use Prim.Native.Nat.{ℕ, _+_, _<_, _≤_}
 use native.Mathlib.Omega.{arith}
 use borrow.Author.Tests.{eqb-true, eqb-false, ne-eqb}
 use lib.Dec.{eqb}
+use lib.IntN.{ℤ}
 use lib.ListN.{length, getD, length-set}
 use lib.Seq.{getD-set-same}
 use Rattle.laws.specs.Choice.{pick, allOf, allOf-imp, both-true}
 use Rattle.laws.specs.Lists.{at-set}
-use Rattle.rules.specs.Answers.{firstOf, listingOf, namedRefusals, notContinuous, ofAnother, ownerRefusals, restingOrder, takerOf}
+use Rattle.rules.specs.Answers.{cancelRefusals, firstOf, listingOf, namedRefusals, notContinuous, ofAnother, ownerRefusals, removalRefused, restingOrder, takerOf}
 use Rattle.rules.specs.Auction.{Matched, matchOf}
 use Rattle.rules.specs.Bounds.{onTick}
 use Rattle.rules.specs.Change.{Asked, arriving, changed, changeRefusals, changeTrades, gone, lessened, listingLessened, placeKept, placeLost, reentered, unchanged}
@@ -19,7 +20,7 @@ use Rattle.rules.specs.Exchange.{Exchange, Listing, listingAt, listingNamed, no
 use Rattle.rules.specs.Kinds.{lastOf}
 use Rattle.rules.specs.Matching.{Entered, enter, restLots, restWhole, sweep}
 use Rattle.rules.specs.Quote.{Offered, buyEntered, buyOf, half, quoted, quoteRefusals, sellEntered, sellOf, withBuy, withSell, withoutQuote}
-use Rattle.rules.specs.Step.{cancelled, enteredOf, exchangeAfter, exchangeMatched, hasNumber, isOf, limitOf, listingAfter, listingMatched, listingWithout, removed, withListing, without}
+use Rattle.rules.specs.Step.{cancelled, enteredOf, exchangeAfter, exchangeMatched, hasNumber, isOf, limitOf, listingAfter, listingMatched, listingWithout, paid, removed, withListing, without}
 use Rattle.rules.specs.Touches.{ordersOf}
 use Rattle.rules.specs.WellFormed.{isQuoteOf, orderInRange}
 use Rattle.rules.specs.declared.NewOrder.{NewOrder}
@@ -31,7 +32,7 @@ use Rattle.rules.proofs.AuctionSteps.{entered-either, match-either}
 use Rattle.rules.proofs.Changes.{changed-either}
 use Rattle.rules.proofs.InContract.{InContract, entered-in, matched-in, relisted-in}
 use Rattle.rules.proofs.Prices.{allowed-facts, method-rounds}
-use Rattle.rules.proofs.Refusals.{both-zero, present}
+use Rattle.rules.proofs.Refusals.{both-zero, failed, present}
 use Rattle.rules.proofs.Sweep.{ofContract}
 use Rattle.rules.proofs.Terms.{contract-terms}
 use Rattle.rules.proofs.Touches.{none-its, of-without, relisted}
@@ -93,6 +94,22 @@ module _ (a : ℕ) where
   -- a test that no order of the account passes
   pub spared : (test : Order → Bool) → ((o : Order) → (test o && isOf a o) ≡ false) → (l : Listing) → Spared test l
   spared test f l sell = none-its a test f (own sell l)
+
+  -- the order that a cancel names is its own account's
+  pub cancel-spares : (x : Exchange) → WellFormed x → (account contract : ℕ) (operator : Bool) (number : ℕ) → firstOf (cancelRefusals x account contract operator number) ≡ 0 →
+      eqb (placeOf account) a ≡ false → Spared (hasNumber number) (listingNamed x contract)
+  unfolding cancelRefusals
+  cancel-spares x w account contract operator number e other =
+      owned-in number a (placeOf account) other (listingNamed x contract) (once-in x w (placeOf contract) number)
+      (failed (ownerRefusals (placeOf account) (restingOrder (listingNamed x contract) number)) (omega arith)
+      (both-zero (namedRefusals x (λ c. removalRefused c operator) account contract) (ownerRefusals (placeOf account) (restingOrder (listingNamed x contract) number)) (omega arith) e .1) .1 .0)
+
+  -- ---- a payment
+
+  pub paid-fated : (x : Exchange) (b : ℕ) (balance : ℤ) → Fated x (paid x b balance)
+  unfolding paid listingAt
+  paid-fated x b balance =
+      record { made = []; recorded = sym (append-nil (x .trades)); fate = λ c sell. fate-none c sell a (own sell (listingAt x c)) (own sell (listingAt x c)) refl }
 
   -- ---- an order of another account entered
 

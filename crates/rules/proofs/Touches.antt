@@ -76,6 +76,10 @@ contract-at x command c n e = at-place (contractField command) (x .listings) c (
 pub account-at : (x : Exchange) (command : Command) (a : ℕ) → names (accountField command) a ≡ false → codeOf x command ≡ 0 → isAt (accountField command) a ≡ false
 account-at x command a n e = at-place (accountField command) (x .accounts) a (accepted-named x command e .0) n
 
+pub contract-there : (x : Exchange) (command : Command) (number : ℕ) → contractField command ≡ holds number → codeOf x command ≡ 0 → placeOf number < length (x .listings)
+contract-there x command number f e =
+    present number (x .listings) (ap (λ (k : Field). isBlank k (x .listings)) (sym f) ∙ accepted-named x command e .1)
+
 -- ---- 3. other contracts
 
 -- a payment leaves listings, trades and holdings as they are
@@ -191,7 +195,7 @@ module _ (x : Exchange) (account contract : ℕ) (operator : Bool) where
   pull-step e = accepted-step x pulls e
 
   pull-there : codeOf x pulls ≡ 0 → placeOf contract < length (x .listings)
-  pull-there e = present contract (x .listings) (accepted-named x pulls e .1)
+  pull-there e = contract-there x pulls contract refl e
 
   pub pull-takes-own : codeOf x pulls ≡ 0 → PullTakesOwn x account contract (step x pulls)
   pull-takes-own e =
@@ -205,7 +209,7 @@ module _ (x : Exchange) (account contract : ℕ) (operator : Bool) where
     abbrev Spares : Exchange → Type 0
     Spares y = (c : ℕ) (sell : Bool) → ordersOf a (own sell (listingAt y c)) ≡ ordersOf a (own sell (listingAt x c))
 
-    not-its : eqb a (placeOf account) ≡ false → (o : Order) → (isOf (placeOf account) o && isOf a o) ≡ false
+    pub not-its : eqb a (placeOf account) ≡ false → (o : Order) → (isOf (placeOf account) o && isOf a o) ≡ false
     not-its other o = by-account (eqb (o .account) (placeOf account)) refl
       where
         by-account : (b : Bool) → eqb (o .account) (placeOf account) ≡ b → (b && isOf a o) ≡ false
