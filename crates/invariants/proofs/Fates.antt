@@ -7,7 +7,7 @@ use mathlib.Core.Path.{_≡_, refl, sym, ap, _∙_, subst}
 use Prim.Native.Nat.{ℕ, zero, suc, _+_, _-_, _≤_, min}
 use native.Mathlib.Omega.{arith}
 use borrow.Author.Tests.{eq-eqb, eqb-true, not-true, le-leb, leb-true, ltb-true, ltb-false}
-use lib.Dec.{eqb, leb, ltb}
+use lib.Dec.{eqb, ltb}
 use Rattle.laws.specs.Choice.{pick, allOf, allOf-append, allOf-imp, both-false, both-true, true-both, true-either, either-true}
 use Rattle.laws.specs.Sums.{sumOf, sumOf-append}
 use Rattle.rules.specs.Auction.{Matched, lessFirst, matchAt, paired, reaches, tradeAt, unmatched}
@@ -15,7 +15,7 @@ use Rattle.rules.specs.Bounds.{onTick}
 use Rattle.rules.specs.Change.{lessened, unmarked}
 use Rattle.rules.specs.Exchange.{lotsWhere, worse}
 use Rattle.rules.specs.Matching.{counterpart, meets, pairedPrice, remainder, restIn, restLots, sweep, tradePrice, tradeWith, withLots}
-use Rattle.rules.specs.Step.{hasNumber, isOf, without}
+use Rattle.rules.specs.Step.{hasNumber, isOf}
 use Rattle.rules.specs.Touches.{ordersOf}
 use Rattle.rules.specs.WellFormed.{numberOf}
 use Rattle.rules.specs.declared.Order.{Order}
@@ -29,7 +29,7 @@ use Rattle.rules.proofs.AuctionTurns.{less-filled, less-part, match-ind}
 use Rattle.rules.proofs.AuctionUncrossed.{hasLots}
 use Rattle.rules.proofs.Prices.{RoundsTo, average-above, average-high, middle-high, middle-low}
 use Rattle.rules.proofs.Sweep.{sweep-ind}
-use Rattle.rules.proofs.Touches.{of-its, of-other, of-without}
+use Rattle.rules.proofs.Touches.{of-its, of-other}
 use Rattle.invariants.proofs.Numbers.{uses}
 use Rattle.invariants.proofs.OneOrder.{lots-none, none-has, uses-met, uses-unmet}
 use Rattle.invariants.specs.RestingOrders.{Kept, accountIn, atItsLimit, isOfAccount, lotsTradedBy, orderIn, someOrder}

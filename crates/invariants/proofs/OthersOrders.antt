@@ -1,25 +1,24 @@
 -- The orders of an account that a command does not name, over a whole state: one law for each way in which a command changes queues, from a
 -- well-formed state. What each kind does stands in `EachKind`. Assumes nothing.
 use mathlib.Core.Bool.{Bool, true, false, not, _&&_}
-use mathlib.Core.List.{List, [], _∷_, _++_, append-assoc, append-nil}
+use mathlib.Core.List.{List, [], _++_, append-assoc, append-nil}
 use mathlib.Core.Path.{_≡_, refl, sym, ap, _∙_}
 use Prim.Native.Nat.{ℕ, _+_, _<_, _≤_}
 use native.Mathlib.Omega.{arith}
 use borrow.Author.Tests.{eqb-true, eqb-false, ne-eqb}
 use lib.Dec.{eqb}
 use lib.IntN.{ℤ}
-use lib.ListN.{length, getD, length-set}
+use lib.ListN.{length, length-set}
 use lib.Seq.{getD-set-same}
-use Rattle.laws.specs.Choice.{pick, allOf, allOf-imp, both-true}
-use Rattle.laws.specs.Lists.{at-set}
+use Rattle.laws.specs.Choice.{pick, allOf, allOf-imp}
 use Rattle.rules.specs.Answers.{cancelRefusals, firstOf, listingOf, namedRefusals, notContinuous, ofAnother, ownerRefusals, removalRefused, restingOrder, takerOf}
-use Rattle.rules.specs.Auction.{Matched, matchOf}
+use Rattle.rules.specs.Auction.{matchOf}
 use Rattle.rules.specs.Bounds.{onTick}
-use Rattle.rules.specs.Change.{Asked, arriving, changed, changeRefusals, changeTrades, gone, lessened, listingLessened, placeKept, placeLost, reentered, unchanged}
+use Rattle.rules.specs.Change.{Asked, arriving, changed, changeRefusals, gone, listingLessened, placeKept, placeLost, reentered, unchanged}
 use Rattle.rules.specs.Exchange.{Exchange, Listing, listingAt, listingNamed, noListing, opposite, own, placeOf}
 use Rattle.rules.specs.Kinds.{lastOf}
 use Rattle.rules.specs.Matching.{Entered, enter, restLots, restWhole, sweep}
-use Rattle.rules.specs.Quote.{Offered, buyEntered, buyOf, half, quoted, quoteRefusals, sellEntered, sellOf, withBuy, withSell, withoutQuote}
+use Rattle.rules.specs.Quote.{Offered, buyOf, half, quoted, quoteRefusals, sellOf, withBuy, withSell, withoutQuote}
 use Rattle.rules.specs.Step.{cancelled, enteredOf, exchangeAfter, exchangeMatched, hasNumber, isOf, limitOf, listingAfter, listingMatched, listingWithout, paid, removed, withListing, without}
 use Rattle.rules.specs.Touches.{ordersOf}
 use Rattle.rules.specs.WellFormed.{isQuoteOf, orderInRange}
@@ -32,7 +31,7 @@ use Rattle.rules.proofs.AuctionSteps.{entered-either, match-either}
 use Rattle.rules.proofs.Changes.{changed-either}
 use Rattle.rules.proofs.InContract.{InContract, entered-in, matched-in, relisted-in}
 use Rattle.rules.proofs.Prices.{allowed-facts, method-rounds}
-use Rattle.rules.proofs.Refusals.{both-zero, failed, present}
+use Rattle.rules.proofs.Refusals.{Failed, both-zero, failed, present}
 use Rattle.rules.proofs.Sweep.{ofContract}
 use Rattle.rules.proofs.Terms.{contract-terms}
 use Rattle.rules.proofs.Touches.{none-its, of-without, relisted}
@@ -43,6 +42,14 @@ use Rattle.invariants.proofs.OneOrder.{once-in, owned-in}
 use Rattle.invariants.proofs.InsertQueues.{other-own}
 use Rattle.invariants.proofs.QuoteKeeps.{quote-stages}
 use Rattle.invariants.specs.RestingOrders.{isOfAccount}
+
+-- of an accepted cancel: there is such an order, and it is not another account's
+pub cancel-owner : (x : Exchange) (account contract : ℕ) (operator : Bool) (number : ℕ) → firstOf (cancelRefusals x account contract operator number) ≡ 0 →
+    Failed (ownerRefusals (placeOf account) (restingOrder (listingNamed x contract) number))
+unfolding cancelRefusals
+cancel-owner x account contract operator number e =
+    failed (ownerRefusals (placeOf account) (restingOrder (listingNamed x contract) number)) (omega arith)
+    (both-zero (namedRefusals x (λ c. removalRefused c operator) account contract) (ownerRefusals (placeOf account) (restingOrder (listingNamed x contract) number)) (omega arith) e .1)
 
 module _ (a : ℕ) where
   -- from one state to another: the trades recorded behind the day's earlier ones, and in every contract and on each side what became of the
@@ -98,11 +105,8 @@ module _ (a : ℕ) where
   -- the order that a cancel names is its own account's
   pub cancel-spares : (x : Exchange) → WellFormed x → (account contract : ℕ) (operator : Bool) (number : ℕ) → firstOf (cancelRefusals x account contract operator number) ≡ 0 →
       eqb (placeOf account) a ≡ false → Spared (hasNumber number) (listingNamed x contract)
-  unfolding cancelRefusals
   cancel-spares x w account contract operator number e other =
-      owned-in number a (placeOf account) other (listingNamed x contract) (once-in x w (placeOf contract) number)
-      (failed (ownerRefusals (placeOf account) (restingOrder (listingNamed x contract) number)) (omega arith)
-      (both-zero (namedRefusals x (λ c. removalRefused c operator) account contract) (ownerRefusals (placeOf account) (restingOrder (listingNamed x contract) number)) (omega arith) e .1) .1 .0)
+      owned-in number a (placeOf account) other (listingNamed x contract) (once-in x w (placeOf contract) number) (cancel-owner x account contract operator number e .1 .0)
 
   -- ---- a payment
 
