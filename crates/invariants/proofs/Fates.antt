@@ -32,7 +32,7 @@ use Rattle.rules.proofs.Sweep.{sweep-ind}
 use Rattle.rules.proofs.Touches.{of-its, of-other}
 use Rattle.invariants.proofs.Numbers.{uses}
 use Rattle.invariants.proofs.OneOrder.{lots-none, none-has, uses-met, uses-unmet}
-use Rattle.invariants.specs.RestingOrders.{Kept, accountIn, atItsLimit, isOfAccount, lotsTradedBy, orderIn, someOrder}
+use Rattle.invariants.specs.RestingOrders.{Kept, accountIn, atItsLimit, isOfAccount, lotsTradedBy, orderIn, someOrder, withinLimit}
 
 -- the second list is the first, in its order, but that orders may have fewer lots or be gone
 abbrev pub Fewer : List Order → List Order → Type 0
@@ -222,24 +222,29 @@ module _ (c : ℕ) (sell : Bool) (a : ℕ) where
       earlier : (t : Trade) → atItsLimit c sell a (ordersOf a r) t ≡ true → atItsLimit c sell a (ordersOf a q) t ≡ true
       earlier t = by-account (isOfAccount c sell a t)
         where
-          by-account : (b : Bool) → (not b || someOrder (λ o. hasNumber (orderIn sell t) o && reaches sell (t .price) o) (ordersOf a r)) ≡ true →
-              (not b || someOrder (λ o. hasNumber (orderIn sell t) o && reaches sell (t .price) o) (ordersOf a q)) ≡ true
-          by-account true h = fewer-some (λ o. hasNumber (orderIn sell t) o && reaches sell (t .price) o) (λ o k. refl) (ordersOf a q) (ordersOf a r) (i .fewer) h
+          by-account : (b : Bool) → (not b || someOrder (withinLimit sell t) (ordersOf a r)) ≡ true →
+              (not b || someOrder (withinLimit sell t) (ordersOf a q)) ≡ true
+          by-account true h = fewer-some (withinLimit sell t) (λ o k. refl) (ordersOf a q) (ordersOf a r) (i .fewer) h
           by-account false h = refl
 
   -- ---- a trade with the first order of a queue, at its limit or better
 
   module _ (o : Order) (os : List Order) (t : Trade) (low : t .lots ≤ o .lots) (here : t .contract ≡ c) (its : accountIn sell t ≡ o .account) (numbered : orderIn sell t ≡ o .number)
-      (limit : isOf a o ≡ true → reaches sell (t .price) o ≡ true) where
+      (limit : reaches sell (t .price) o ≡ true) where
     of-account : isOfAccount c sell a t ≡ isOf a o
     of-account = rw (here, eq-eqb c c refl, its) refl
 
     one-traded : (n : ℕ) → isOf a o ≡ true → lotsTradedBy c sell a n (t ∷ []) ≡ pick (hasNumber n o) (t .lots) 0
     one-traded n b = traded-cons n t [] ∙ rw (of-account, b, numbered, none-traded [] (unfold allOf in refl) n) (omega arith)
 
-    met : isOf a o ≡ true → (q : List Order) → allOf (atItsLimit c sell a (o ∷ q)) (t ∷ []) ≡ true
+    its-limit : withinLimit sell t o ≡ true
+    its-limit = true-both (hasNumber (orderIn sell t) o) (reaches sell (t .price) o) (eq-eqb (o .number) (orderIn sell t) (sym numbered)) limit
+
+    met : (q : List Order) → allOf (atItsLimit c sell a (o ∷ q)) (t ∷ []) ≡ true
     unfolding allOf someOrder
-    met b q = rw (numbered, eq-eqb (o .number) (o .number) refl, limit b) (true-both (not (isOfAccount c sell a t) || true) true (either-true (not (isOfAccount c sell a t)) true refl) refl)
+    met q =
+        true-both (atItsLimit c sell a (o ∷ q) t) true
+        (either-true (not (isOfAccount c sell a t)) (someOrder (withinLimit sell t) (o ∷ q)) (true-either (withinLimit sell t o) (someOrder (withinLimit sell t) q) its-limit)) refl
 
     pub first-fate : Fate c sell a (t ∷ []) (o ∷ os) (lessFirst (t .lots) o os)
     first-fate = by-account (isOf a o) refl (ltb (t .lots) (o .lots)) refl
@@ -252,7 +257,7 @@ module _ (c : ℕ) (sell : Bool) (a : ℕ) where
                   rw (of-its a o os b, of-its a (withLots o (o .lots - t .lots)) os b)
                   (inr (o .lots - t .lots, ordersOf a os, omega arith, refl, fewer-refl (ordersOf a os)));
               lots = λ n. rw (of-its a o os b, of-its a (withLots o (o .lots - t .lots)) os b, one-traded n b, lots-cons n o (ordersOf a os), lots-cons n (withLots o (o .lots - t .lots)) (ordersOf a os)) (part n (hasNumber n o));
-              limits = rw (of-its a o os b) (met b (ordersOf a os));
+              limits = rw (of-its a o os b) (met (ordersOf a os));
             }
           where
             part : (n : ℕ) (h : Bool) → pick h (o .lots) 0 + lotsWhere (hasNumber n) (ordersOf a os) ≡ pick h (o .lots - t .lots) 0 + lotsWhere (hasNumber n) (ordersOf a os) + pick h (t .lots) 0
@@ -263,7 +268,7 @@ module _ (c : ℕ) (sell : Bool) (a : ℕ) where
             record {
               fewer = rw (of-its a o os b) (inl (fewer-refl (ordersOf a os)));
               lots = λ n. rw (of-its a o os b, one-traded n b, lots-cons n o (ordersOf a os)) (full n (hasNumber n o));
-              limits = rw (of-its a o os b) (met b (ordersOf a os));
+              limits = rw (of-its a o os b) (met (ordersOf a os));
             }
           where
             full : (n : ℕ) (h : Bool) → pick h (o .lots) 0 + lotsWhere (hasNumber n) (ordersOf a os) ≡ lotsWhere (hasNumber n) (ordersOf a os) + pick h (t .lots) 0
@@ -374,7 +379,7 @@ module _ (t : Taker) (a : ℕ) where
     turn left last k o os e met on =
         rw e
         (first-fate (t .contract) (not (t .sell)) a o os (tradeWith t o left last) (omega arith) refl (theirs (t .sell) (t .account) (o .account)) (theirs (t .sell) (t .number) (o .number))
-        (λ b. at-limit tick some (t .method) (t .condition) (t .sell) (t .best) last o rounds on met))
+        (at-limit tick some (t .method) (t .condition) (t .sell) (t .best) last o rounds on met))
 
     pub sweep-fate : (left last : ℕ) (os : List Order) → Met os (sweep t left last os .trades) (sweep t left last os .rest)
     unfolding allOf
@@ -406,6 +411,6 @@ module _ (c price a : ℕ) where
       (λ b bs s ss m f r ih.
       let k = paired b s in
       let t = tradeAt c price k b s in (
-        fate-more c false a (t ∷ []) (m .trades) (b ∷ bs) (lessFirst k b bs) (m .buys) (first-fate c false a b bs t (omega arith) refl refl refl (λ i. f)) (ih .0),
-        fate-more c true a (t ∷ []) (m .trades) (s ∷ ss) (lessFirst k s ss) (m .sells) (first-fate c true a s ss t (omega arith) refl refl refl (λ i. r)) (ih .1),
+        fate-more c false a (t ∷ []) (m .trades) (b ∷ bs) (lessFirst k b bs) (m .buys) (first-fate c false a b bs t (omega arith) refl refl refl f) (ih .0),
+        fate-more c true a (t ∷ []) (m .trades) (s ∷ ss) (lessFirst k s ss) (m .sells) (first-fate c true a s ss t (omega arith) refl refl refl r) (ih .1),
       ))

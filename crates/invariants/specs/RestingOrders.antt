@@ -66,9 +66,13 @@ unfoldable pub someOrder : (Order → Bool) → List Order → Bool
 someOrder test [] = false
 someOrder test (o ∷ os) = test o || someOrder test os
 
--- a trade, where it is one of the account, was with one of these orders, at its limit or better for it
+-- a trade is with this order, at its limit or better for it
+abbrev pub withinLimit : Bool → Trade → Order → Bool
+withinLimit sell t o = hasNumber (orderIn sell t) o && reaches sell (t .price) o
+
+-- .. or, where it is one of the account, with one of these
 abbrev pub atItsLimit : ℕ → Bool → ℕ → List Order → Trade → Bool
-atItsLimit c sell a orders t = not (isOfAccount c sell a t) || someOrder (λ o. hasNumber (orderIn sell t) o && reaches sell (t .price) o) orders
+atItsLimit c sell a orders t = not (isOfAccount c sell a t) || someOrder (withinLimit sell t) orders
 
 pub record OrdersStay (a : ℕ) (x y : Exchange) : Type 0 where
   -- the trades made, recorded behind the day's earlier ones
