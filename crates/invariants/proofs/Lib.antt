@@ -38,4 +38,5 @@ pub mod ToldWhole
 pub mod Opening
 pub mod Condition3
 pub mod SameInUse
+pub mod QueueFronts
 pub mod Throughout
