@@ -39,4 +39,9 @@ pub mod Opening
 pub mod Condition3
 pub mod SameInUse
 pub mod QueueFronts
+pub mod SweptFairly
+pub mod LargestPrice
+pub mod SumsByKey
+pub mod BestAuction
+pub mod FairlyEntered
 pub mod Throughout

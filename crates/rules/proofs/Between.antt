@@ -53,7 +53,7 @@ resting-number t o left last = by-side (t .sell)
     by-side true = refl
     by-side false = refl
 
-every-order : (os : List Order) → allOf (λ o. true) os ≡ true
+pub every-order : (os : List Order) → allOf (λ o. true) os ≡ true
 unfolding allOf
 every-order [] = refl
 every-order (o ∷ os) = every-order os

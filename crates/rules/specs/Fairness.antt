@@ -159,7 +159,7 @@ lotsAllowed sell price number queue = lotsWhere (λ o. eqb (o .number) number &&
 
 -- trades at one price that respect limits and lots: a buyer's order is at or above the price, a seller's at or below it, and no order trades
 -- more than it has
-pub record Allowed (price : ℕ) (buys sells : List Order) (trades : List Trade) : Type 0 where
+pub record RespectsLimits (price : ℕ) (buys sells : List Order) (trades : List Trade) : Type 0 where
   pub uniform : allOf (λ trade. eqb (trade .price) price) trades ≡ true
   pub within : (sell : Bool) (number : ℕ) → lotsTraded sell number trades ≤ lotsAllowed sell price number (pick sell sells buys)
 
@@ -169,12 +169,12 @@ leftOn sell m = pick sell (m .sells) (m .buys)
 
 pub record BestAuction (last : ℕ) (buys sells : List Order) (m : Matched) : Type 0 where
   -- its trades are such, at its one price
-  pub allowed : Allowed (chosenPrice last buys sells) buys sells (m .trades)
+  pub allowed : RespectsLimits (chosenPrice last buys sells) buys sells (m .trades)
   -- each within both limits: an order that has traded reaches the price
   pub rational : (sell : Bool) (i : ℕ) → i < length (pick sell sells buys) → 0 < lotsTraded sell (orderAt (pick sell sells buys) i .number) (m .trades)
       → reaches sell (chosenPrice last buys sells) (orderAt (pick sell sells buys) i) ≡ true
   -- no such trades, at whatever price, trade more lots
-  pub maximum : (price : ℕ) (trades : List Trade) → Allowed price buys sells trades → tradedLots trades ≤ tradedLots (m .trades)
+  pub maximum : (price : ℕ) (trades : List Trade) → RespectsLimits price buys sells trades → tradedLots trades ≤ tradedLots (m .trades)
   pub fair : (sell : Bool) → PriceThenTime sell (pick sell sells buys) (leftOn sell m) (m .trades)
   pub accounted : (sell : Bool) → LotsAccounted sell (pick sell sells buys) (leftOn sell m) (m .trades)
 
