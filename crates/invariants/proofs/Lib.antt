@@ -45,3 +45,4 @@ pub mod SumsByKey
 pub mod BestAuction
 pub mod FairlyEntered
 pub mod Throughout
+pub mod FairCommands
