@@ -1,9 +1,9 @@
 -- LAWS 8 TO 13 (rules, specs/Fairness) OF EVERY COMMAND on a well-formed state: an insert, both orders of a quote, a change that loses its place,
 -- and a change of state that leaves auction; throughout a run, and of the memory that a call leaves. Assumes nothing.
-use mathlib.Core.Bool.{Bool, true, false, not}
+use mathlib.Core.Bool.{Bool, true, false, not, true≢false}
 use mathlib.Core.List.{List, [], _∷_}
 use mathlib.Core.Path.{_≡_, refl, ap, _∙_}
-use Prim.Native.Nat.{ℕ, _<_}
+use Prim.Native.Nat.{ℕ, suc, _<_}
 use native.Mathlib.Omega.{arith}
 use borrow.Author.Tests.{eqb-true, eq-eqb}
 use lib.Dec.{eqb}
@@ -13,15 +13,17 @@ use Rattle.rules.specs.Answers.{phaseRefusals}
 use Rattle.rules.specs.Auction.{matchOf}
 use Rattle.rules.specs.Bounds.{inAuction}
 use Rattle.rules.specs.Change.{Asked, arriving, asked, gone, losesPlace, placeKept, placeLost, reentered, unchanged}
+use Rattle.rules.specs.Command.{isSettle}
 use Rattle.rules.specs.Exchange.{Exchange, contractAt, listingAt, own, placeOf}
-use Rattle.rules.specs.Fairness.{EachEntering, EndsIn, Entering, FairAuction, FairMatching, FairlyEntered, auctionAt, entering, ordersEntered}
+use Rattle.rules.specs.Fairness.{EachEntering, EndsIn, Entering, FairAuction, FairMatching, FairlyEntered, auctionAt, entering, leavesAuction, ordersEntered}
 use Rattle.rules.specs.Kinds.{codeOf, kindOf, lastOf, step}
 use Rattle.rules.specs.Memory.{Memory, exchangeOf, respond, wellFormedMemory}
 use Rattle.rules.specs.Quote.{Offered, offered, quoted, withBuy, withSell}
-use Rattle.rules.specs.Step.{cancelled, exchangeMatched, inserted, phaseChanged}
+use Rattle.rules.specs.Step.{Effect, cancelled, deposited, exchangeMatched, inserted, paid, phaseChanged, pulled, removed, withdrawn}
 use Rattle.rules.specs.WellFormed.{numbers, sorted, usedOnce}
 use Rattle.rules.specs.declared.Command.{Command}
 use Rattle.rules.specs.declared.Command.the-variants.{Malformed, Deposit, Withdraw, Insert, Cancel, Pull, Phase, Settle, Quote, Change}
+use Rattle.rules.proofs.AuctionSteps.{changed-elsewhere}
 use Rattle.rules.proofs.Changes.{changed-either, zero-keeps-none}
 use Rattle.rules.proofs.Refusals.{failed, present}
 use Rattle.rules.proofs.Stages.{decided}
@@ -56,8 +58,7 @@ module _ (x : Exchange) (k : Sound x) where
       let a = holder x w q e in
       let c = listed x w q e in
       let m = maker x w q e in
-      let b = codes x w q e in
-      (
+      let b = codes x w q e in (
         fairly-entered _ (gone-keeps x w q a c) _ 1 _ (buy-passes x w q a c m (b .0)) _,
         (fairly-entered _ (buy-keeps x w q a c m (b .0)) _ 1 _ (sell-passes x w q a c m (b .0) (b .1)) _, tt),
       )
@@ -98,9 +99,33 @@ module _ (x : Exchange) where
   unfolding step
   ends-in command e = decided (λ d. EndsIn (lastOf x (d .stages)) (ordersEntered x command)) x command (λ q. kind-ends command) (λ r. absurd (r e))
 
+  -- no other command makes a trade
+  none-entered : (a : Entering) (as′ : List Entering) → a ∷ as′ ≡ [] → ⊥
+  none-entered a as′ e = let h : suc (length as′) ≡ 0 = ap length e in omega arith
+
+  kind-only : (command : Command) → ordersEntered x command ≡ [] → leavesAuction x command ≡ false → isSettle command ≡ false
+      → lastOf x (kindOf x command .effect .stages) .trades ≡ x .trades
+  unfolding kindOf deposited withdrawn paid cancelled pulled removed unchanged placeKept
+  kind-only Malformed h a s = refl
+  kind-only (Deposit account amount) h a s = refl
+  kind-only (Withdraw account amount) h a s = refl
+  kind-only (Insert o) h a s = absurd (none-entered _ _ h)
+  kind-only (Cancel account contract operator number) h a s = refl
+  kind-only (Pull account contract operator) h a s = refl
+  kind-only (Phase contract phase) h a s = ap (λ (f : Effect). lastOf x (f .stages) .trades) (changed-elsewhere x (placeOf contract) a phase)
+  kind-only Settle h a s = absurd (true≢false s)
+  kind-only (Quote account contract lots buy sell) h a s = absurd (none-entered _ _ h)
+  kind-only (Change account contract number lots price) h a s =
+      let q = asked account contract number lots price in
+      changed-either x q (λ ts f. lastOf x (f .stages) .trades ≡ x .trades) (λ z. refl) (λ lost. absurd (none-entered _ _ (rw lost at h))) (λ l e. refl) (λ z l e. refl)
+
+  trades-only : (command : Command) → ordersEntered x command ≡ [] → leavesAuction x command ≡ false → isSettle command ≡ false → step x command .trades ≡ x .trades
+  unfolding step
+  trades-only command h a s = decided (λ d. lastOf x (d .stages) .trades ≡ x .trades) x command (λ q. kind-only command h a s) (λ r. refl)
+
 -- FAIR AND COMPLETE MATCHING
 pub fair-matching : (x : Exchange) (command : Command) → Sound x → FairMatching x command (step x command)
-fair-matching x command k = record { each = each-fairly x k command; leaves = ends-in x command }
+fair-matching x command k = record { each = each-fairly x k command; leaves = ends-in x command; only = trades-only x command }
 
 -- ---- laws 12 and 13
 

@@ -4,14 +4,15 @@ use mathlib.Core.List.{List, [], _∷_, _++_}
 use mathlib.Core.Path.{_≡_, refl, sym, ap, subst⁻¹, _∙_}
 use Prim.Native.Nat.{ℕ, zero, suc, _+_, _<_, _≤_, min}
 use native.Mathlib.Omega.{arith}
+use lib.Dec.{eqb}
 use lib.ListN.{length, getD}
 use Rattle.laws.specs.Choice.{allOf, allOf-imp, pick}
 use Rattle.laws.specs.Sums.{sumOf}
 use Rattle.rules.specs.Answers.{fillableLots, isFillOrKill, isGoodForDay, listingOf, takerOf}
 use Rattle.rules.specs.Bounds.{inAuction, onTick}
-use Rattle.rules.specs.Exchange.{Exchange, Listing, listingAt, noListing, opposite, own, placeOf}
-use Rattle.rules.specs.Fairness.{AtLimitOrBetter, FairlyEntered, LotsAccounted, NothingBetterLeft, OrderAccounted, PriceThenTime, entering, lotsTraded}
-use Rattle.rules.specs.Matching.{Entered, enter, fillable, restLots, restWhole, restedLots, sweep, tradedLots}
+use Rattle.rules.specs.Exchange.{Exchange, Listing, listingAt, lotsWhere, noListing, opposite, own, placeOf}
+use Rattle.rules.specs.Fairness.{AtLimitOrBetter, FairlyEntered, LotsAccounted, NothingBetterLeft, OrderAccounted, PriceThenTime, entering, lotsOf, lotsTraded}
+use Rattle.rules.specs.Matching.{Entered, enter, fillable, remainder, restLots, restWhole, restedLots, sweep, tradedLots}
 use Rattle.rules.specs.Step.{enteredOf, limitOf}
 use Rattle.rules.specs.WellFormed.{allListed, allNumbers, listed, numbers, orderInRange, sorted, usedOnce}
 use Rattle.rules.specs.declared.Contract.{Contract}
@@ -26,6 +27,7 @@ use Rattle.rules.proofs.Queue.{once-append}
 use Rattle.rules.proofs.Terms.{contract-terms}
 use Rattle.invariants.proofs.Clauses.{ListingOk, WellFormed, order-ok}
 use Rattle.invariants.proofs.InsertAccepted.{Passes}
+use Rattle.invariants.proofs.Sorting.{restIn-sum}
 use Rattle.invariants.proofs.SweptFairly.{nothing-traded, swept-accounted, swept-limits, swept-nothing-better, swept-priority}
 
 -- ---- numbers used once over all queues are used once in each
@@ -133,6 +135,22 @@ module _ (x : Exchange) (k : WellFormed x) (number quote : ℕ) (o : NewOrder) (
   unfolding enter restedLots restLots
   none-rests g = by-sweep (λ e. (e .rested ≡ 0) × (e .own ≡ own (o .sell) l)) (not-auctioned g) (rw g (refl, refl))
 
+  rest-added : (number′ n : ℕ) → lotsOf number′ (restLots t (limitOf (o .condition)) n (own (o .sell) l)) ≡ pick (eqb number number′) n 0 + lotsOf number′ (own (o .sell) l)
+  unfolding restLots remainder takerOf lotsWhere
+  rest-added number′ zero = by-number (eqb number number′)
+    where
+      by-number : (same : Bool) → lotsOf number′ (own (o .sell) l) ≡ pick same 0 0 + lotsOf number′ (own (o .sell) l)
+      by-number true = omega arith
+      by-number false = omega arith
+  rest-added number′ (suc n) =
+      restIn-sum (λ p. pick (eqb (p .number) number′) (p .lots) 0) (t .sell) (remainder t (limitOf (o .condition)) (suc n)) (own (o .sell) l)
+
+  own-added : (number′ : ℕ) → lotsOf number′ (enteredOf x number quote o .own) ≡ pick (eqb number number′) (enteredOf x number quote o .rested) 0 + lotsOf number′ (own (o .sell) l)
+  unfolding enter restWhole
+  own-added number′ =
+      entered-either x number quote o (λ e. lotsOf number′ (e .own) ≡ pick (eqb number number′) (e .rested) 0 + lotsOf number′ (own (o .sell) l))
+      (λ a. rest-added number′ (o .lots)) (λ a. rest-added number′ _)
+
   -- EVERY ORDER ENTERED ON A WELL-FORMED STATE IS ENTERED FAIRLY
   pub fairly-entered : (next : ℕ) → FairlyEntered (entering x number quote next o)
   unfolding takerOf enter restWhole
@@ -150,5 +168,5 @@ module _ (x : Exchange) (k : WellFormed x) (number quote : ℕ) (o : NewOrder) (
         accounted =
             entered-either x number quote o (λ e. LotsAccounted (not (o .sell)) queue (e .opposite) (e .trades)) (λ a. nothing-traded (not (o .sell)) queue)
             (λ a. swept-accounted t (o .lots) last queue);
-        order = record { most = most-traded; whole = whole-traded; rests = rests-whole; vanishes = none-rests };
+        order = record { most = most-traded; whole = whole-traded; rests = rests-whole; vanishes = none-rests; added = own-added };
       }

@@ -12,7 +12,8 @@ use Rattle.rules.specs.Answers.{isGoodForDay, isLimit, listingOf, opposi
 use Rattle.rules.specs.Auction.{Matched, apart, auctionMatch, bestOf, better, chosenPrice, reaches, restingPrices, surplus, volume}
 use Rattle.rules.specs.Bounds.{inAuction}
 use Rattle.rules.specs.Change.{arriving, asked, gone, losesPlace}
-use Rattle.rules.specs.Exchange.{Exchange, bestPrice, contractAt, listingAt, lotsWhere, noOrder, noTrade, own, placeOf, worse}
+use Rattle.rules.specs.Command.{isSettle}
+use Rattle.rules.specs.Exchange.{Exchange, bestPrice, contractAt, listingAt, lotsWhere, noOrder, noTrade, placeOf, worse}
 use Rattle.rules.specs.Kinds.{codeOf}
 use Rattle.rules.specs.Matching.{Entered, counterpart, fillable, tradedLots}
 use Rattle.rules.specs.Quote.{buyOf, offered, sellOf, withBuy, withoutQuote}
@@ -121,6 +122,8 @@ pub record OrderAccounted (t : Taker) (auctioned : Bool) (o : NewOrder) (own opp
   pub rests : isGoodForDay (o .time) ≡ true → tradedLots (e .trades) + e .rested ≡ o .lots
   -- not good for day: nothing rests, and its own queue is what it was
   pub vanishes : isGoodForDay (o .time) ≡ false → (e .rested ≡ 0) × (e .own ≡ own)
+  -- in its own queue what rests of it is added, and no other order's lots change
+  pub added : (number : ℕ) → lotsOf number (e .own) ≡ pick (eqb (t .number) number) (e .rested) 0 + lotsOf number own
 
 -- ---- 12. THE PRICE HAS THE LARGEST VOLUME OF ALL PRICES THERE ARE, resting or not; among the resting ones of that volume the ticket's steps
 -- choose one, whichever order they are looked at.
@@ -247,10 +250,26 @@ EndsIn y [] = Unit {0}
 EndsIn y (a ∷ []) = y ≡ leftBy a
 EndsIn y (a ∷ b ∷ as′) = (b .state ≡ leftBy a) × EndsIn y (b ∷ as′)
 
--- LAWS 8 TO 11 OF A COMMAND that is accepted on x and leaves y
+-- it changes the state of a contract in auction
+abbrev pub leavesAuction : Exchange → Command → Bool
+leavesAuction x Malformed = false
+leavesAuction x (Deposit account amount) = false
+leavesAuction x (Withdraw account amount) = false
+leavesAuction x (Insert o) = false
+leavesAuction x (Cancel account contract operator number) = false
+leavesAuction x (Pull account contract operator) = false
+leavesAuction x (Phase contract phase) = inAuction (contractAt x (placeOf contract))
+leavesAuction x Settle = false
+leavesAuction x (Quote account contract lots buy sell) = false
+leavesAuction x (Change account contract number lots price) = false
+
+-- LAWS 8 TO 11 OF A COMMAND on x that leaves y
 pub record FairMatching (x : Exchange) (command : Command) (y : Exchange) : Type 0 where
+  -- where it is accepted: each order that it enters
   pub each : codeOf x command ≡ 0 → EachEntering FairlyEntered (ordersEntered x command)
   pub leaves : codeOf x command ≡ 0 → EndsIn y (ordersEntered x command)
+  -- and no other command makes a trade but one that leaves auction, of which laws 12 and 13 speak; a settlement ends the day
+  pub only : ordersEntered x command ≡ [] → leavesAuction x command ≡ false → isSettle command ≡ false → y .trades ≡ x .trades
 
 -- the auction of the contract at a place
 abbrev pub auctionAt : Exchange → ℕ → Matched

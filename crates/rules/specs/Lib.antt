@@ -27,6 +27,7 @@ pub mod ChangeExamples
 pub mod CodeExamples
 pub mod Condition3Examples
 pub mod DayFileExamples
+pub mod FairnessExamples
 pub mod FillOrKillExamples
 pub mod MarginExamples
 pub mod MatchingExamples
