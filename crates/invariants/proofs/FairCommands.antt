@@ -5,8 +5,7 @@ use mathlib.Core.List.{List, [], _∷_}
 use mathlib.Core.Path.{_≡_, refl, ap, _∙_}
 use Prim.Native.Nat.{ℕ, suc, _<_}
 use native.Mathlib.Omega.{arith}
-use borrow.Author.Tests.{eqb-true, eq-eqb}
-use lib.Dec.{eqb}
+use borrow.Author.Tests.{eq-eqb}
 use lib.ListN.{length}
 use Rattle.laws.specs.Choice.{pick, pick-true}
 use Rattle.rules.specs.Answers.{phaseRefusals}
@@ -14,7 +13,7 @@ use Rattle.rules.specs.Auction.{matchOf}
 use Rattle.rules.specs.Bounds.{inAuction}
 use Rattle.rules.specs.Change.{Asked, arriving, asked, gone, losesPlace, placeKept, placeLost, reentered, unchanged}
 use Rattle.rules.specs.Command.{isSettle}
-use Rattle.rules.specs.Exchange.{Exchange, contractAt, listingAt, own, placeOf}
+use Rattle.rules.specs.Exchange.{Exchange, contractAt, listingAt, placeOf}
 use Rattle.rules.specs.Fairness.{EachEntering, EndsIn, Entering, FairAuction, FairMatching, FairlyEntered, auctionAt, entering, leavesAuction, ordersEntered}
 use Rattle.rules.specs.Kinds.{codeOf, kindOf, lastOf, step}
 use Rattle.rules.specs.Memory.{Memory, exchangeOf, respond, wellFormedMemory}
@@ -30,7 +29,7 @@ use Rattle.rules.proofs.Stages.{decided}
 use Rattle.invariants.specs.Throughout.{Throughout}
 use Rattle.invariants.proofs.BestAuction.{best-auction}
 use Rattle.invariants.proofs.ChangeKeeps as change
-use Rattle.invariants.proofs.Clauses.{Counted, Sound, WellFormed}
+use Rattle.invariants.proofs.Clauses.{Sound}
 use Rattle.invariants.proofs.FairlyEntered.{fairly-entered, once-each}
 use Rattle.invariants.proofs.InsertAccepted.{passes}
 use Rattle.invariants.proofs.LargestPrice.{largest-volume}

@@ -1,8 +1,8 @@
 -- Laws 8 to 11 (rules, specs/Fairness) of every order that is entered on a well-formed state, having passed its tests. Assumes nothing.
-use mathlib.Core.Bool.{Bool, true, false, not, true≢false, false≢true}
+use mathlib.Core.Bool.{Bool, true, false, not, true≢false}
 use mathlib.Core.List.{List, [], _∷_, _++_}
 use mathlib.Core.Path.{_≡_, refl, sym, ap, subst⁻¹, _∙_}
-use Prim.Native.Nat.{ℕ, zero, suc, _+_, _<_, _≤_, min}
+use Prim.Native.Nat.{ℕ, zero, suc, _+_, min}
 use native.Mathlib.Omega.{arith}
 use lib.Dec.{eqb}
 use lib.ListN.{length, getD}
@@ -11,11 +11,10 @@ use Rattle.laws.specs.Sums.{sumOf}
 use Rattle.rules.specs.Answers.{fillableLots, isFillOrKill, isGoodForDay, listingOf, takerOf}
 use Rattle.rules.specs.Bounds.{inAuction, onTick}
 use Rattle.rules.specs.Exchange.{Exchange, Listing, listingAt, lotsWhere, noListing, opposite, own, placeOf}
-use Rattle.rules.specs.Fairness.{AtLimitOrBetter, FairlyEntered, LotsAccounted, NothingBetterLeft, OrderAccounted, PriceThenTime, entering, lotsOf, lotsTraded}
+use Rattle.rules.specs.Fairness.{AtLimitOrBetter, FairlyEntered, LotsAccounted, NothingBetterLeft, PriceThenTime, entering, lotsOf}
 use Rattle.rules.specs.Matching.{Entered, enter, fillable, remainder, restLots, restWhole, restedLots, sweep, tradedLots}
 use Rattle.rules.specs.Step.{enteredOf, limitOf}
 use Rattle.rules.specs.WellFormed.{allListed, allNumbers, listed, numbers, orderInRange, sorted, usedOnce}
-use Rattle.rules.specs.declared.Contract.{Contract}
 use Rattle.rules.specs.declared.NewOrder.{NewOrder}
 use Rattle.rules.specs.declared.Order.{Order}
 use Rattle.rules.specs.declared.Taker.{Taker}

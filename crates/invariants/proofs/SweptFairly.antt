@@ -5,19 +5,16 @@ use mathlib.Core.Logic.{⊎-elim}
 use mathlib.Core.Path.{_≡_, refl, ap, _∙_}
 use Prim.Native.Nat.{ℕ, _+_, _-_, _<_, _≤_, min}
 use native.Mathlib.Omega.{arith}
-use borrow.Author.Tests.{eqb-true, eq-eqb}
 use lib.Dec.{eqb}
-use lib.ListN.{length}
-use Rattle.laws.specs.Choice.{allOf, both-true, pick, true-both}
+use Rattle.laws.specs.Choice.{allOf, pick, true-both}
 use Rattle.laws.specs.Sums.{sumOf}
 use Rattle.rules.specs.Answers.{isLimit}
 use Rattle.rules.specs.Bounds.{onTick}
 use Rattle.rules.specs.Exchange.{bestPrice, lotsWhere}
-use Rattle.rules.specs.Fairness.{AtLimitOrBetter, LotsAccounted, NothingBetterLeft, PriceThenTime, lotsIn, lotsOf, lotsTraded, orderAt, orderOn, tradeOf}
-use Rattle.rules.specs.Matching.{Swept, counterpart, meets, sweep, tradePrice, tradeWith, tradedLots, untouched, withLots}
+use Rattle.rules.specs.Fairness.{AtLimitOrBetter, LotsAccounted, NothingBetterLeft, PriceThenTime, lotsOf, lotsTraded}
+use Rattle.rules.specs.Matching.{Swept, counterpart, meets, sweep, tradePrice, tradeWith, tradedLots, withLots}
 use Rattle.rules.specs.WellFormed.{numbers, sorted, usedOnce}
 use Rattle.rules.specs.declared.Order.{Order}
-use Rattle.rules.specs.declared.PairingMethod.{PairingMethod}
 use Rattle.rules.specs.declared.PriceCondition.{PriceCondition}
 use Rattle.rules.specs.declared.PriceCondition.the-variants.{Limit, Market, Best}
 use Rattle.rules.specs.declared.Taker.{Taker}
@@ -25,7 +22,7 @@ use Rattle.rules.proofs.Between.{every-order, resting-number, swept-between, sw
 use Rattle.rules.proofs.Fillable.{traded-cons, traded-nil, unmet-behind}
 use Rattle.rules.proofs.Prices.{RoundsTo}
 use Rattle.rules.proofs.Sorted.{AllBehind, Behind, best-first, sorted-behind, sorted-tail}
-use Rattle.rules.proofs.Sweep.{Unmet, filled, partFilled, sweep-ind, swept-each, trade-lots, trade-price}
+use Rattle.rules.proofs.Sweep.{Unmet, sweep-ind, swept-each, trade-lots, trade-price}
 use Rattle.invariants.proofs.QueueFronts.{TakenFromFront, filled-front, front-behind, front-priority, none-front, part-left}
 
 -- ---- nothing has traded

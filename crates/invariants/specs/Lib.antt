@@ -1,4 +1,6 @@
--- What is claimed of the memory beside the rules: what is in use, and what a write leaves at each place. Assumes nothing.
+-- What is claimed beside the rules: what of the memory is in use, what a write leaves at each place, a law throughout a run; worked cases. Assumes
+-- nothing.
 pub mod InUse
 pub mod ByPlace
 pub mod Throughout
+pub mod FairCommandExamples

@@ -1,7 +1,7 @@
 -- FAIR AND COMPLETE MATCHING, AND THE AUCTION: what follows from the rules, as a trader may quote it. A sentence, then the record that says
 -- it. Proved of every command in invariants (proofs/FairCommands); worked cases in FairnessExamples. Assumes nothing.
 use mathlib.Core.Bool.{Bool, true, false, not, _&&_, _||_}
-use mathlib.Core.List.{List, [], _∷_, _++_}
+use mathlib.Core.List.{List, [], _∷_}
 use mathlib.Core.Path.{_≡_}
 use Prim.Native.Nat.{ℕ, _+_, _<_, _≤_, min}
 use lib.Dec.{eqb}

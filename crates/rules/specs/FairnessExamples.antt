@@ -3,7 +3,6 @@ use mathlib.Core.Bool.{Bool, true, false}
 use mathlib.Core.List.{List, [], _∷_}
 use mathlib.Core.Path.{_≡_, refl}
 use Prim.Native.Nat.{ℕ, _+_}
-use lib.ListN.{getD}
 use Rattle.laws.specs.Choice.{pick, allOf}
 use Rattle.laws.specs.Sums.{sumOf}
 use Rattle.rules.specs.Auction.{Matched, auctionMatch, bestFrom, bestOf, better, chosenPrice, lotsReaching, matchAt, matchIn, prices, surplus, tradeAt, volume}
