@@ -1,7 +1,7 @@
 -- LAWS 8 TO 13 (rules, specs/Fairness) OF EVERY COMMAND on a well-formed state: an insert, both orders of a quote, a change that loses its place,
 -- and a change of state that leaves auction; throughout a run, and of the memory that a call leaves. Assumes nothing.
 use mathlib.Core.Bool.{Bool, true, false, not, true≢false}
-use mathlib.Core.List.{List, [], _∷_}
+use mathlib.Core.List.{List, [], _∷_, _++_}
 use mathlib.Core.Path.{_≡_, refl, ap, _∙_}
 use Prim.Native.Nat.{ℕ, suc, _<_}
 use native.Mathlib.Omega.{arith}
@@ -13,6 +13,7 @@ use Rattle.rules.specs.Auction.{matchOf}
 use Rattle.rules.specs.Bounds.{inAuction}
 use Rattle.rules.specs.Change.{Asked, arriving, asked, gone, losesPlace, placeKept, placeLost, reentered, unchanged}
 use Rattle.rules.specs.Command.{isSettle}
+use Rattle.rules.specs.Condition3.{run}
 use Rattle.rules.specs.Exchange.{Exchange, contractAt, listingAt, placeOf}
 use Rattle.rules.specs.Fairness.{EachEntering, EndsIn, Entering, FairAuction, FairMatching, FairlyEntered, auctionAt, entering, leavesAuction, ordersEntered}
 use Rattle.rules.specs.Kinds.{codeOf, kindOf, lastOf, step}
@@ -34,7 +35,7 @@ use Rattle.invariants.proofs.FairlyEntered.{fairly-entered, once-each}
 use Rattle.invariants.proofs.InsertAccepted.{passes}
 use Rattle.invariants.proofs.LargestPrice.{largest-volume}
 use Rattle.invariants.proofs.QuoteKeeps.{buy-keeps, buy-passes, codes, gone-keeps, holder, listed, maker, sell-passes}
-use Rattle.invariants.proofs.Throughout.{of-call, throughout}
+use Rattle.invariants.proofs.Throughout.{of-call, of-run, throughout}
 
 -- ---- laws 8 to 11
 
@@ -163,19 +164,28 @@ fair-auction x command k =
           ap (step x) q ∙ ends-auction x k contract phase f a;
     }
 
--- ---- of each command of a run, and of the memory that a call leaves: from a well-formed state, so from every opening and every loaded one
--- that is (a state that is not is answered 21 throughout)
+-- ---- of each command of a run, of the memory that a call leaves and of the last command of a run: from a well-formed state, so from every
+-- opening and every loaded one that is (a state that is not is answered 21 throughout)
 
-pub fair-matching-throughout : (m : Memory) → wellFormedMemory m ≡ true → (cs : List Command) → Throughout FairMatching m cs
-fair-matching-throughout = throughout FairMatching fair-matching
+module _ (m : Memory) (w : wellFormedMemory m ≡ true) where
+  pub fair-matching-throughout : (cs : List Command) → Throughout FairMatching m cs
+  fair-matching-throughout = throughout FairMatching fair-matching m w
 
-pub fair-auction-throughout : (m : Memory) → wellFormedMemory m ≡ true → (cs : List Command) → Throughout FairAuction m cs
-fair-auction-throughout = throughout FairAuction fair-auction
+  pub fair-auction-throughout : (cs : List Command) → Throughout FairAuction m cs
+  fair-auction-throughout = throughout FairAuction fair-auction m w
 
-pub fair-matching-left : (m : Memory) → wellFormedMemory m ≡ true → (command : Command) (m′ : Memory) → m′ ≡ respond m command .memory
-    → FairMatching (exchangeOf m) command (exchangeOf m′)
-fair-matching-left = of-call FairMatching fair-matching
+  -- `m′` is the memory that a call leaves: `ExecutedIs` promises the equation
+  pub fair-matching-left : (command : Command) (m′ : Memory) → m′ ≡ respond m command .memory → FairMatching (exchangeOf m) command (exchangeOf m′)
+  fair-matching-left = of-call FairMatching fair-matching m w
 
-pub fair-auction-left : (m : Memory) → wellFormedMemory m ≡ true → (command : Command) (m′ : Memory) → m′ ≡ respond m command .memory
-    → FairAuction (exchangeOf m) command (exchangeOf m′)
-fair-auction-left = of-call FairAuction fair-auction
+  pub fair-auction-left : (command : Command) (m′ : Memory) → m′ ≡ respond m command .memory → FairAuction (exchangeOf m) command (exchangeOf m′)
+  fair-auction-left = of-call FairAuction fair-auction m w
+
+  -- and here the memory that a run leaves: `RanIs` promises it
+  pub fair-matching-last : (before : List Command) (command : Command) (m′ : Memory) → m′ ≡ run m (before ++ (command ∷ []))
+      → FairMatching (exchangeOf (run m before)) command (exchangeOf m′)
+  fair-matching-last = of-run FairMatching fair-matching m w
+
+  pub fair-auction-last : (before : List Command) (command : Command) (m′ : Memory) → m′ ≡ run m (before ++ (command ∷ []))
+      → FairAuction (exchangeOf (run m before)) command (exchangeOf m′)
+  fair-auction-last = of-run FairAuction fair-auction m w

@@ -53,6 +53,13 @@ offers = order 3 1 110 7 ∷ order 4 1 112 5 ∷ []
 matched : Matched
 matched = auctionMatch 0 110 buys offers
 
+-- buys of 10 at 100 and at 90, sells of 10 at 80 and at 95
+twoBuys : List Order
+twoBuys = order 1 0 100 10 ∷ order 2 0 90 10 ∷ []
+
+twoSells : List Order
+twoSells = order 3 1 80 10 ∷ order 4 1 95 10 ∷ []
+
 pub table : List Row
 table =
     -- 8: 9 lots fill order 1, which is first at the best price, then take 2 of order 2, though it is the buyer's own; none is left for order 3
@@ -99,8 +106,10 @@ table =
     ∷ (lotsTraded true 4 (matched .trades) gives 2)
     ∷ (lotsTraded false 2 (matched .trades) gives 0)
     ∷ (lotsIn (matched .sells) gives 3)
+    -- the most at one price: 10 lots, though 20 could trade at two prices, 80 to 90 and 95 to 100
+    ∷ (tradedLots (auctionMatch 0 90 twoBuys twoSells .trades) gives 10)
     ∷ []
 
 pub fairness-examples : allRight table ≡ true
-unfolding allRight table order sells buyer swept entered price holds buys offers matched allOf sumOf lotsWhere bestPrice average enter fillable meets middle pairedPrice remainder restIn restLots restedLots stays sweep tradePrice tradeWith tradedLots prices lotsReaching volume surplus better bestFrom bestOf chosenPrice tradeAt matchIn matchAt auctionMatch
+unfolding allRight table order sells buyer swept entered price holds buys offers matched twoBuys twoSells allOf sumOf lotsWhere bestPrice average enter fillable meets middle pairedPrice remainder restIn restLots restedLots stays sweep tradePrice tradeWith tradedLots prices lotsReaching volume surplus better bestFrom bestOf chosenPrice tradeAt matchIn matchAt auctionMatch
 fairness-examples = refl
