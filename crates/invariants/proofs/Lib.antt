@@ -38,6 +38,9 @@ pub mod ToldWhole
 pub mod Opening
 pub mod Condition3
 pub mod SameInUse
+pub mod OneOrder
+pub mod RestingOrders
+pub mod RunTouches
 pub mod QueueFronts
 pub mod SweptFairly
 pub mod LargestPrice
