@@ -2,11 +2,12 @@
 -- and a change of state that leaves auction; throughout a run, and of the memory that a call leaves. Assumes nothing.
 use mathlib.Core.Bool.{Bool, true, false, not, true≢false}
 use mathlib.Core.List.{List, [], _∷_, _++_}
-use mathlib.Core.Path.{_≡_, refl, ap, _∙_}
+use mathlib.Core.Path.{_≡_, refl, ap, subst⁻¹, _∙_}
 use Prim.Native.Nat.{ℕ, suc, _<_}
 use native.Mathlib.Omega.{arith}
 use borrow.Author.Tests.{eq-eqb}
 use lib.ListN.{length}
+use lib.Seq.{getD-set-same}
 use Rattle.laws.specs.Choice.{pick, pick-true}
 use Rattle.rules.specs.Answers.{phaseRefusals}
 use Rattle.rules.specs.Auction.{matchOf}
@@ -14,12 +15,12 @@ use Rattle.rules.specs.Bounds.{inAuction}
 use Rattle.rules.specs.Change.{Asked, arriving, asked, gone, losesPlace, placeKept, placeLost, reentered, unchanged}
 use Rattle.rules.specs.Command.{isSettle}
 use Rattle.rules.specs.Condition3.{run}
-use Rattle.rules.specs.Exchange.{Exchange, contractAt, listingAt, placeOf}
-use Rattle.rules.specs.Fairness.{EachEntering, EndsIn, Entering, FairAuction, FairMatching, FairlyEntered, auctionAt, entering, leavesAuction, ordersEntered}
+use Rattle.rules.specs.Exchange.{Exchange, contractAt, listingAt, noListing, own, placeOf}
+use Rattle.rules.specs.Fairness.{AuctionHeld, EachEntering, EndsIn, Entering, FairAuction, FairMatching, FairlyEntered, auctionAt, entering, leavesAuction, leftOn, ordersEntered}
 use Rattle.rules.specs.Kinds.{codeOf, kindOf, lastOf, step}
 use Rattle.rules.specs.Memory.{Memory, exchangeOf, respond, wellFormedMemory}
 use Rattle.rules.specs.Quote.{Offered, offered, quoted, withBuy, withSell}
-use Rattle.rules.specs.Step.{Effect, cancelled, deposited, exchangeMatched, inserted, paid, phaseChanged, pulled, removed, withdrawn}
+use Rattle.rules.specs.Step.{Effect, cancelled, deposited, exchangeMatched, inserted, listingMatched, paid, phaseChanged, pulled, removed, withdrawn}
 use Rattle.rules.specs.WellFormed.{numbers, sorted, usedOnce}
 use Rattle.rules.specs.declared.Command.{Command}
 use Rattle.rules.specs.declared.Command.the-variants.{Malformed, Deposit, Withdraw, Insert, Cancel, Pull, Phase, Settle, Quote, Change}
@@ -150,18 +151,36 @@ module _ (x : Exchange) (k : Sound x) (contract phase : ℕ) (e : codeOf x (Phas
       decided (λ d. lastOf x (d .stages) ≡ exchangeMatched x c phase (auctionAt x c)) x (Phase contract phase)
       (λ q. ap (exchangeMatched x c phase) (pick-true (inAuction (contractAt x c)) (auctionAt x c) _ a)) (λ r. absurd (r e))
 
+  left-listing : listingAt (exchangeMatched x c phase (auctionAt x c)) c ≡ listingMatched (listingAt x c) phase (auctionAt x c)
+  unfolding exchangeMatched listingAt
+  left-listing = getD-set-same (x .listings) c (listingMatched (listingAt x c) phase (auctionAt x c)) noListing there
+
+  left-queues : (sell : Bool) → own sell (listingAt (exchangeMatched x c phase (auctionAt x c)) c) ≡ leftOn sell (auctionAt x c)
+  unfolding listingMatched
+  left-queues sell = ap (own sell) left-listing ∙ by-side sell
+    where
+      by-side : (s : Bool) → own s (listingMatched (listingAt x c) phase (auctionAt x c)) ≡ leftOn s (auctionAt x c)
+      by-side true = refl
+      by-side false = refl
+
+  auction-held : AuctionHeld x c phase (step x (Phase contract phase))
+  unfolding exchangeMatched
+  auction-held =
+      record {
+        price = largest-volume (contractAt x c .last) (listingAt x c .buys) (listingAt x c .sells);
+        trades = best-auction c (contractAt x c .last) (listingAt x c .buys) (listingAt x c .sells) in-order used-once;
+        leaves = ends-auction;
+        queues = λ sell. ap (λ (y : Exchange). own sell (listingAt y c)) ends-auction ∙ left-queues sell;
+        recorded = ap (λ (y : Exchange). y .trades) ends-auction;
+      }
+
 -- THE AUCTION
 pub fair-auction : (x : Exchange) (command : Command) → Sound x → FairAuction x command (step x command)
 fair-auction x command k =
     record {
-      price = λ contract phase q e a. largest-volume (contractAt x (placeOf contract) .last) (listingAt x (placeOf contract) .buys) (listingAt x (placeOf contract) .sells);
-      trades = λ contract phase q e a.
+      held = λ contract phase q e a.
           let f : codeOf x (Phase contract phase) ≡ 0 = rw q at e in
-          best-auction (placeOf contract) (contractAt x (placeOf contract) .last) (listingAt x (placeOf contract) .buys) (listingAt x (placeOf contract) .sells)
-          (in-order x k contract phase f a) (used-once x k contract phase f a);
-      leaves = λ contract phase q e a.
-          let f : codeOf x (Phase contract phase) ≡ 0 = rw q at e in
-          ap (step x) q ∙ ends-auction x k contract phase f a;
+          subst⁻¹ (λ d. AuctionHeld x (placeOf contract) phase (step x d)) q (auction-held x k contract phase f a);
     }
 
 -- ---- of each command of a run, of the memory that a call leaves and of the last command of a run: from a well-formed state, so from every

@@ -6,14 +6,15 @@ use Prim.Native.Nat.{ℕ, zero, suc, _+_, min}
 use native.Mathlib.Omega.{arith}
 use lib.Dec.{eqb}
 use lib.ListN.{length, getD}
+use lib.Seq.{getD-set-same}
 use Rattle.laws.specs.Choice.{allOf, allOf-imp, pick}
 use Rattle.laws.specs.Sums.{sumOf}
 use Rattle.rules.specs.Answers.{fillableLots, isFillOrKill, isGoodForDay, listingOf, takerOf}
 use Rattle.rules.specs.Bounds.{inAuction, onTick}
 use Rattle.rules.specs.Exchange.{Exchange, Listing, listingAt, lotsWhere, noListing, opposite, own, placeOf}
-use Rattle.rules.specs.Fairness.{AtLimitOrBetter, FairlyEntered, LotsAccounted, NothingBetterLeft, PriceThenTime, entering, lotsOf}
+use Rattle.rules.specs.Fairness.{AtLimitOrBetter, FairlyEntered, LeavesThese, LotsAccounted, NothingBetterLeft, PriceThenTime, entering, lotsOf}
 use Rattle.rules.specs.Matching.{Entered, enter, fillable, remainder, restLots, restWhole, restedLots, sweep, tradedLots}
-use Rattle.rules.specs.Step.{enteredOf, limitOf}
+use Rattle.rules.specs.Step.{enteredOf, exchangeAfter, limitOf, listingAfter}
 use Rattle.rules.specs.WellFormed.{allListed, allNumbers, listed, numbers, orderInRange, sorted, usedOnce}
 use Rattle.rules.specs.declared.NewOrder.{NewOrder}
 use Rattle.rules.specs.declared.Order.{Order}
@@ -150,15 +151,39 @@ module _ (x : Exchange) (k : WellFormed x) (number quote : ℕ) (o : NewOrder) (
       entered-either x number quote o (λ e. lotsOf number′ (e .own) ≡ pick (eqb number number′) (e .rested) 0 + lotsOf number′ (own (o .sell) l))
       (λ a. rest-added number′ (o .lots)) (λ a. rest-added number′ _)
 
+  -- ---- what it leaves
+
+  left-listing : (next : ℕ) → listingOf (exchangeAfter x o (enteredOf x number quote o) next) o ≡ listingAfter l (o .sell) (enteredOf x number quote o)
+  unfolding listingOf listingAt exchangeAfter
+  left-listing next = getD-set-same (x .listings) (placeOf (o .contract)) (listingAfter l (o .sell) (enteredOf x number quote o)) noListing (p .contract)
+
+  leaves-these : (next : ℕ) → LeavesThese (entering x number quote next o)
+  unfolding listingAfter exchangeAfter
+  leaves-these next =
+      record {
+        own-queue = ap (own (o .sell)) (left-listing next) ∙ same-own (o .sell);
+        opposite-queue = ap (opposite (o .sell)) (left-listing next) ∙ same-opposite (o .sell);
+        recorded = refl;
+      }
+    where
+      same-own : (sell : Bool) → own sell (listingAfter l sell (enteredOf x number quote o)) ≡ enteredOf x number quote o .own
+      same-own true = refl
+      same-own false = refl
+
+      same-opposite : (sell : Bool) → opposite sell (listingAfter l sell (enteredOf x number quote o)) ≡ enteredOf x number quote o .opposite
+      same-opposite true = refl
+      same-opposite false = refl
+
   -- EVERY ORDER ENTERED ON A WELL-FORMED STATE IS ENTERED FAIRLY
   pub fairly-entered : (next : ℕ) → FairlyEntered (entering x number quote next o)
   unfolding takerOf enter restWhole
   fairly-entered next =
       record {
+        left = leaves-these next;
         priority =
             entered-either x number quote o (λ e. PriceThenTime (not (o .sell)) queue (e .opposite) (e .trades)) (λ a. none-priority (not (o .sell)) queue)
             (λ a. swept-priority t (o .lots) last queue in-order used-once);
-        nothingbetter =
+        nothing-better =
             λ a. by-sweep (λ e. NothingBetterLeft t (o .lots) queue (e .opposite) (e .trades)) a (swept-nothing-better t (o .lots) last queue in-order used-once refl);
         limits =
             entered-either x number quote o (λ e. AtLimitOrBetter t queue (e .trades)) (λ a. none-limits t queue)

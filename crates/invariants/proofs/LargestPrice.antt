@@ -155,8 +155,8 @@ module _ (last : ℕ) (buys sells : List Order) where
       record {
         largest = largest-of-all last buys sells;
         rests = chosen-rests last buys sells;
-        surplusleast = λ price h v. step-least (surplus buys sells price) (surplus buys sells chosen) _ (after-volume price h v);
+        least-surplus = λ price h v. step-least (surplus buys sells price) (surplus buys sells chosen) _ (after-volume price h v);
         nearest = λ price h v s. step-least (apart price last) (apart chosen last) _ (after-surplus price h v s);
         highest = λ price h v s a. ltb-false chosen price (step-next (apart price last) (apart chosen last) _ (after-surplus price h v s) a);
-        anyorder = chosen-of-any last buys sells;
+        any-order = chosen-of-any last buys sells;
       }

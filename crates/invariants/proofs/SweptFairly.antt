@@ -123,7 +123,7 @@ module _ (t : Taker) where
   swept-nothing-better lots last queue s u e =
       record {
         complete = none-left lots last queue s (rw e (best-first side queue s));
-        nothrough =
+        not-through =
             front-behind side queue (sweep t lots last queue .rest) (sweep t lots last queue .trades) s u (swept-accounted lots last queue .each) (swept-front lots last queue);
       }
 

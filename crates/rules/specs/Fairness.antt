@@ -1,7 +1,7 @@
 -- FAIR AND COMPLETE MATCHING, AND THE AUCTION: what follows from the rules, as a trader may quote it. A sentence, then the record that says
 -- it. Proved of every command in invariants (proofs/FairCommands); worked cases in FairnessExamples. Assumes nothing.
 use mathlib.Core.Bool.{Bool, true, false, not, _&&_, _||_}
-use mathlib.Core.List.{List, [], _∷_}
+use mathlib.Core.List.{List, [], _∷_, _++_}
 use mathlib.Core.Path.{_≡_}
 use Prim.Native.Nat.{ℕ, _+_, _<_, _≤_, min}
 use lib.Dec.{eqb}
@@ -13,7 +13,7 @@ use Rattle.rules.specs.Auction.{Matched, apart, auctionMatch, bestOf, be
 use Rattle.rules.specs.Bounds.{inAuction}
 use Rattle.rules.specs.Change.{arriving, asked, gone, losesPlace}
 use Rattle.rules.specs.Command.{isSettle}
-use Rattle.rules.specs.Exchange.{Exchange, bestPrice, contractAt, listingAt, lotsWhere, noOrder, noTrade, placeOf, worse}
+use Rattle.rules.specs.Exchange.{Exchange, bestPrice, contractAt, listingAt, lotsWhere, noOrder, noTrade, own, placeOf, worse}
 use Rattle.rules.specs.Kinds.{codeOf}
 use Rattle.rules.specs.Matching.{Entered, counterpart, fillable, tradedLots}
 use Rattle.rules.specs.Quote.{buyOf, offered, sellOf, withBuy, withoutQuote}
@@ -76,7 +76,7 @@ pub record NothingBetterLeft (t : Taker) (lots : ℕ) (before after : List Order
   -- lots are left: no order that is left is a counterpart
   pub complete : tradedLots trades < lots → allOf (λ o. not (counterpart t o)) after ≡ true
   -- no order that is left has a better price than one that has traded
-  pub nothrough : (i : ℕ) → i < length before → 0 < lotsTraded (not (t .sell)) (orderAt before i .number) trades
+  pub not-through : (i : ℕ) → i < length before → 0 < lotsTraded (not (t .sell)) (orderAt before i .number) trades
       → allOf (λ o. not (worse (not (t .sell)) (orderAt before i .price) (o .price))) after ≡ true
 
 -- ---- 10. EACH TRADES AT ITS LIMIT OR BETTER, both sides, by every method; market and best at the resting price, best at one price alone.
@@ -139,7 +139,7 @@ pub record LargestVolume (last : ℕ) (buys sells : List Order) : Type 0 where
   -- it is a resting price, wherever an order rests
   pub rests : 0 < length (restingPrices buys sells) → oneOf (restingPrices buys sells) (chosenPrice last buys sells) ≡ true
   -- "then smallest surplus": of the resting prices of that volume none has a smaller one
-  pub surplusleast : (price : ℕ) → oneOf (restingPrices buys sells) price ≡ true → volume buys sells price ≡ volume buys sells (chosenPrice last buys sells)
+  pub least-surplus : (price : ℕ) → oneOf (restingPrices buys sells) price ≡ true → volume buys sells price ≡ volume buys sells (chosenPrice last buys sells)
       → surplus buys sells (chosenPrice last buys sells) ≤ surplus buys sells price
   -- "then nearest to the last price": of those of that surplus none is nearer
   pub nearest : (price : ℕ) → oneOf (restingPrices buys sells) price ≡ true → volume buys sells price ≡ volume buys sells (chosenPrice last buys sells)
@@ -150,7 +150,7 @@ pub record LargestVolume (last : ℕ) (buys sells : List Order) : Type 0 where
       → surplus buys sells price ≡ surplus buys sells (chosenPrice last buys sells)
       → apart price last ≡ apart (chosenPrice last buys sells) last → price ≤ chosenPrice last buys sells
   -- the steps choose it out of any list of the same prices, in whatever order
-  pub anyorder : (ps : List ℕ) → ((price : ℕ) → oneOf ps price ≡ oneOf (restingPrices buys sells) price)
+  pub any-order : (ps : List ℕ) → ((price : ℕ) → oneOf ps price ≡ oneOf (restingPrices buys sells) price)
       → bestOf (better last buys sells) ps ≡ chosenPrice last buys sells
 
 -- ---- 13. NO SET OF TRADES AT ONE PRICE THAT RESPECTS LIMITS AND LOTS TRADES MORE THAN THE AUCTION DOES (maximum), all are at one price
@@ -231,11 +231,18 @@ inAuctionFor a = inAuction (listingOf (a .state) (a .order) .contract)
 abbrev pub queueMet : Entering → List Order
 queueMet a = oppositeQueue (a .state) (a .order)
 
+-- what it leaves in the book and records is what the laws below speak of
+pub record LeavesThese (a : Entering) : Type 0 where
+  pub own-queue : ownQueue (leftBy a) (a .order) ≡ enteredBy a .own
+  pub opposite-queue : oppositeQueue (leftBy a) (a .order) ≡ enteredBy a .opposite
+  pub recorded : leftBy a .trades ≡ a .state .trades ++ enteredBy a .trades
+
 -- laws 8 to 11 of one order
 pub record FairlyEntered (a : Entering) : Type 0 where
+  pub left : LeavesThese a
   pub priority : PriceThenTime (not (a .order .sell)) (queueMet a) (enteredBy a .opposite) (enteredBy a .trades)
   -- in auction an order rests without matching
-  pub nothingbetter : inAuctionFor a ≡ false → NothingBetterLeft (takerBy a) (a .order .lots) (queueMet a) (enteredBy a .opposite) (enteredBy a .trades)
+  pub nothing-better : inAuctionFor a ≡ false → NothingBetterLeft (takerBy a) (a .order .lots) (queueMet a) (enteredBy a .opposite) (enteredBy a .trades)
   pub limits : AtLimitOrBetter (takerBy a) (queueMet a) (enteredBy a .trades)
   pub accounted : LotsAccounted (not (a .order .sell)) (queueMet a) (enteredBy a .opposite) (enteredBy a .trades)
   pub order : OrderAccounted (takerBy a) (inAuctionFor a) (a .order) (ownQueue (a .state) (a .order)) (queueMet a) (enteredBy a)
@@ -275,12 +282,16 @@ pub record FairMatching (x : Exchange) (command : Command) (y : Exchange) : Type
 abbrev pub auctionAt : Exchange → ℕ → Matched
 auctionAt x c = auctionMatch c (contractAt x c .last) (listingAt x c .buys) (listingAt x c .sells)
 
--- LAWS 12 AND 13 OF A COMMAND: a change of state that is accepted and leaves auction
-pub record FairAuction (x : Exchange) (command : Command) (y : Exchange) : Type 0 where
-  pub price : (contract phase : ℕ) → command ≡ Phase contract phase → codeOf x command ≡ 0 → inAuction (contractAt x (placeOf contract)) ≡ true
-      → LargestVolume (contractAt x (placeOf contract) .last) (listingAt x (placeOf contract) .buys) (listingAt x (placeOf contract) .sells)
-  pub trades : (contract phase : ℕ) → command ≡ Phase contract phase → codeOf x command ≡ 0 → inAuction (contractAt x (placeOf contract)) ≡ true
-      → BestAuction (contractAt x (placeOf contract) .last) (listingAt x (placeOf contract) .buys) (listingAt x (placeOf contract) .sells) (auctionAt x (placeOf contract))
+-- laws 12 and 13 of the contract at place c, which goes from auction to another state
+pub record AuctionHeld (x : Exchange) (c phase : ℕ) (y : Exchange) : Type 0 where
+  pub price : LargestVolume (contractAt x c .last) (listingAt x c .buys) (listingAt x c .sells)
+  pub trades : BestAuction (contractAt x c .last) (listingAt x c .buys) (listingAt x c .sells) (auctionAt x c)
   -- what it leaves is that match
-  pub leaves : (contract phase : ℕ) → command ≡ Phase contract phase → codeOf x command ≡ 0 → inAuction (contractAt x (placeOf contract)) ≡ true
-      → y ≡ exchangeMatched x (placeOf contract) phase (auctionAt x (placeOf contract))
+  pub leaves : y ≡ exchangeMatched x c phase (auctionAt x c)
+  pub queues : (sell : Bool) → own sell (listingAt y c) ≡ leftOn sell (auctionAt x c)
+  pub recorded : y .trades ≡ x .trades ++ auctionAt x c .trades
+
+-- LAWS 12 AND 13 OF A COMMAND on x that leaves y: a change of state that is accepted and leaves auction
+pub record FairAuction (x : Exchange) (command : Command) (y : Exchange) : Type 0 where
+  pub held : (contract phase : ℕ) → command ≡ Phase contract phase → codeOf x command ≡ 0 → inAuction (contractAt x (placeOf contract)) ≡ true
+      → AuctionHeld x (placeOf contract) phase y
