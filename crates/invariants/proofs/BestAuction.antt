@@ -1,4 +1,4 @@
--- Law 13 (rules, specs/Fairness): THE AUCTION TRADES THE MOST THAT CAN TRADE AT ONE PRICE. Trades that respect limits and lots trade at most the
+-- Law 13 (rules, specs/AuctionFairness): THE AUCTION TRADES THE MOST THAT CAN TRADE AT ONE PRICE. Trades that respect limits and lots trade at most the
 -- volume of their price, and of that the auction has the largest; and both queues are taken from their fronts. Assumes nothing.
 use mathlib.Core.Bool.{Bool, true, false, _&&_}
 use mathlib.Core.List.{List, [], _∷_}
@@ -12,7 +12,8 @@ use Rattle.laws.specs.Choice.{allOf, pick}
 use Rattle.laws.specs.Sums.{sumOf, sumOf-ext}
 use Rattle.rules.specs.Auction.{Matched, afterMatch, auctionMatch, chosenPrice, lessFirst, lotsReaching, matchAt, paired, reaches, tradeAt, unmatched, volume}
 use Rattle.rules.specs.Exchange.{lotsWhere}
-use Rattle.rules.specs.Fairness.{RespectsLimits, BestAuction, LotsAccounted, leftOn, lotsAllowed, lotsIn, lotsOf, lotsTraded, orderAt, orderOn}
+use Rattle.rules.specs.AuctionFairness.{RespectsLimits, BestAuction, leftOn, lotsAllowed}
+use Rattle.rules.specs.Fairness.{LotsAccounted, lotsIn, lotsOf, lotsTraded, orderAt, orderOn}
 use Rattle.rules.specs.Matching.{tradedLots, withLots}
 use Rattle.rules.specs.WellFormed.{numbers, sorted, usedOnce}
 use Rattle.rules.specs.declared.Order.{Order}

@@ -1,4 +1,4 @@
--- LAWS 8 TO 13 (rules, specs/Fairness) OF EVERY COMMAND on a well-formed state: an insert, both orders of a quote, a change that loses its place,
+-- LAWS 8 TO 13 (rules, specs/FairCommands) OF EVERY COMMAND on a well-formed state: an insert, both orders of a quote, a change that loses its place,
 -- and a change of state that leaves auction; throughout a run, and of the memory that a call leaves. Assumes nothing.
 use mathlib.Core.Bool.{Bool, true, false, not, true≢false}
 use mathlib.Core.List.{List, [], _∷_, _++_}
@@ -16,7 +16,8 @@ use Rattle.rules.specs.Change.{Asked, arriving, asked, gone, losesPlace, placeK
 use Rattle.rules.specs.Command.{isSettle}
 use Rattle.rules.specs.Condition3.{run}
 use Rattle.rules.specs.Exchange.{Exchange, contractAt, listingAt, noListing, own, placeOf}
-use Rattle.rules.specs.Fairness.{AuctionHeld, EachEntering, EndsIn, Entering, FairAuction, FairMatching, FairlyEntered, auctionAt, entering, leavesAuction, leftOn, ordersEntered}
+use Rattle.rules.specs.AuctionFairness.{leftOn}
+use Rattle.rules.specs.FairCommands.{AuctionHeld, EachEntering, EndsIn, Entering, FairAuction, FairMatching, FairlyEntered, auctionAt, entering, leavesAuction, ordersEntered}
 use Rattle.rules.specs.Kinds.{codeOf, kindOf, lastOf, step}
 use Rattle.rules.specs.Memory.{Memory, exchangeOf, respond, wellFormedMemory}
 use Rattle.rules.specs.Quote.{Offered, offered, quoted, withBuy, withSell}

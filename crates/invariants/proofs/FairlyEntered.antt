@@ -12,7 +12,8 @@ use Rattle.laws.specs.Sums.{sumOf}
 use Rattle.rules.specs.Answers.{fillableLots, isFillOrKill, isGoodForDay, listingOf, takerOf}
 use Rattle.rules.specs.Bounds.{inAuction, onTick}
 use Rattle.rules.specs.Exchange.{Exchange, Listing, listingAt, lotsWhere, noListing, opposite, own, placeOf}
-use Rattle.rules.specs.Fairness.{AtLimitOrBetter, FairlyEntered, LeavesThese, LotsAccounted, NothingBetterLeft, PriceThenTime, entering, lotsOf}
+use Rattle.rules.specs.FairCommands.{FairlyEntered, LeftInBook, entering}
+use Rattle.rules.specs.Fairness.{AtLimitOrBetter, LotsAccounted, NothingBetterLeft, PriceThenTime, lotsOf, lotsTraded}
 use Rattle.rules.specs.Matching.{Entered, enter, fillable, remainder, restLots, restWhole, restedLots, sweep, tradedLots}
 use Rattle.rules.specs.Step.{enteredOf, exchangeAfter, limitOf, listingAfter}
 use Rattle.rules.specs.WellFormed.{allListed, allNumbers, listed, numbers, orderInRange, sorted, usedOnce}
@@ -28,7 +29,7 @@ use Rattle.rules.proofs.Terms.{contract-terms}
 use Rattle.invariants.proofs.Clauses.{ListingOk, WellFormed, order-ok}
 use Rattle.invariants.proofs.InsertAccepted.{Passes}
 use Rattle.invariants.proofs.Sorting.{restIn-sum}
-use Rattle.invariants.proofs.SweptFairly.{nothing-traded, swept-accounted, swept-limits, swept-nothing-better, swept-priority}
+use Rattle.invariants.proofs.SweptFairly.{nothing-traded, swept-accounted, swept-its, swept-limits, swept-nothing-better, swept-priority}
 
 -- ---- numbers used once over all queues are used once in each
 
@@ -52,8 +53,9 @@ none-limits : (t : Taker) (os : List Order) → AtLimitOrBetter t os []
 unfolding allOf
 none-limits t os =
     record {
-      limited = λ limit c. record { met = λ i h. absurd (omega arith); each = λ i h. absurd (omega arith) };
-      met = λ i h. absurd (omega arith);
+      turns = record { order = λ i h. absurd (omega arith); account = λ i h. absurd (omega arith) };
+      limited =
+          λ limit c. record { turns = record { order = λ i h. absurd (omega arith); account = λ i h. absurd (omega arith) }; each = λ i h. absurd (omega arith) };
       resting = λ c i h. absurd (omega arith);
       single = λ c. refl;
     }
@@ -110,6 +112,12 @@ module _ (x : Exchange) (k : WellFormed x) (number quote : ℕ) (o : NewOrder) (
 
   -- ---- 11, of the order
 
+  its-lots : lotsTraded (t .sell) number (enteredOf x number quote o .trades) ≡ tradedLots (enteredOf x number quote o .trades)
+  unfolding enter restWhole takerOf sumOf tradedLots
+  its-lots =
+      entered-either x number quote o (λ e. lotsTraded (t .sell) number (e .trades) ≡ tradedLots (e .trades)) (λ a. refl)
+      (λ a. swept-its t (o .lots) last queue)
+
   most-traded : inAuction (l .contract) ≡ false → tradedLots (enteredOf x number quote o .trades) ≡ min (o .lots) (fillable t queue)
   unfolding enter
   most-traded a = by-sweep (λ e. tradedLots (e .trades) ≡ min (o .lots) (fillable t queue)) a sweep-most
@@ -157,7 +165,7 @@ module _ (x : Exchange) (k : WellFormed x) (number quote : ℕ) (o : NewOrder) (
   unfolding listingOf listingAt exchangeAfter
   left-listing next = getD-set-same (x .listings) (placeOf (o .contract)) (listingAfter l (o .sell) (enteredOf x number quote o)) noListing (p .contract)
 
-  leaves-these : (next : ℕ) → LeavesThese (entering x number quote next o)
+  leaves-these : (next : ℕ) → LeftInBook (entering x number quote next o)
   unfolding listingAfter exchangeAfter
   leaves-these next =
       record {
@@ -192,5 +200,5 @@ module _ (x : Exchange) (k : WellFormed x) (number quote : ℕ) (o : NewOrder) (
         accounted =
             entered-either x number quote o (λ e. LotsAccounted (not (o .sell)) queue (e .opposite) (e .trades)) (λ a. nothing-traded (not (o .sell)) queue)
             (λ a. swept-accounted t (o .lots) last queue);
-        order = record { most = most-traded; whole = whole-traded; rests = rests-whole; vanishes = none-rests; added = own-added };
+        order = record { its = its-lots; most = most-traded; whole = whole-traded; rests = rests-whole; vanishes = none-rests; added = own-added };
       }

@@ -1,4 +1,4 @@
--- Law 12 (rules, specs/Fairness): NO PRICE AT ALL, resting or not, has a larger volume than the chosen one, since the lowest price of a buy
+-- Law 12 (rules, specs/AuctionFairness): NO PRICE AT ALL, resting or not, has a larger volume than the chosen one, since the lowest price of a buy
 -- that reaches a price is a resting price, as many buys' lots reach it, and no fewer sells' lots; and the ticket's steps choose it among the
 -- resting ones. Assumes nothing.
 use mathlib.Core.Bool.{Bool, true, false, not}
@@ -11,7 +11,7 @@ use borrow.Author.Tests.{eq-eqb, eqb-true, leb-true, leb-false, ltb-true, ltb-fa
 use lib.Dec.{leb, ltb, eqb}
 use Rattle.laws.specs.Choice.{allOf, allOf-append, both-true, either-true, pick, pick-true, true-either}
 use Rattle.rules.specs.Auction.{apart, better, chosenPrice, lotsReaching, prices, reaches, restingPrices, smaller, surplus, volume}
-use Rattle.rules.specs.Fairness.{LargestVolume, oneOf}
+use Rattle.rules.specs.AuctionFairness.{LargestVolume, oneOf}
 use Rattle.rules.specs.declared.Order.{Order}
 use Rattle.rules.proofs.AuctionPrice.{chosen-largest, chosen-of-any, chosen-rests, chosen-unbeaten, one-passes}
 use Rattle.rules.proofs.AuctionTaken.{behind-reaches, reaching-met, reaching-nil, reaching-unmet}

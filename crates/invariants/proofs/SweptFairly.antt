@@ -5,19 +5,21 @@ use mathlib.Core.Logic.{⊎-elim}
 use mathlib.Core.Path.{_≡_, refl, ap, _∙_}
 use Prim.Native.Nat.{ℕ, _+_, _-_, _<_, _≤_, min}
 use native.Mathlib.Omega.{arith}
+use borrow.Author.Tests.{eq-eqb}
 use lib.Dec.{eqb}
 use Rattle.laws.specs.Choice.{allOf, pick, true-both}
 use Rattle.laws.specs.Sums.{sumOf}
 use Rattle.rules.specs.Answers.{isLimit}
 use Rattle.rules.specs.Bounds.{onTick}
 use Rattle.rules.specs.Exchange.{bestPrice, lotsWhere}
-use Rattle.rules.specs.Fairness.{AtLimitOrBetter, LotsAccounted, NothingBetterLeft, PriceThenTime, lotsOf, lotsTraded}
+use Rattle.rules.specs.Fairness.{AtLimitOrBetter, LotsAccounted, NothingBetterLeft, PriceThenTime, lotsOf, lotsTraded, orderOn}
 use Rattle.rules.specs.Matching.{Swept, counterpart, meets, sweep, tradePrice, tradeWith, tradedLots, withLots}
 use Rattle.rules.specs.WellFormed.{numbers, sorted, usedOnce}
 use Rattle.rules.specs.declared.Order.{Order}
 use Rattle.rules.specs.declared.PriceCondition.{PriceCondition}
 use Rattle.rules.specs.declared.PriceCondition.the-variants.{Limit, Market, Best}
 use Rattle.rules.specs.declared.Taker.{Taker}
+use Rattle.rules.specs.declared.Trade.{Trade}
 use Rattle.rules.proofs.Between.{every-order, resting-number, swept-between, swept-in-turn, swept-pairs}
 use Rattle.rules.proofs.Fillable.{traded-cons, traded-nil, unmet-behind}
 use Rattle.rules.proofs.Prices.{RoundsTo}
@@ -85,6 +87,26 @@ module _ (t : Taker) where
         together = omega (arith, ih .together, traded-cons (tradeWith t o left last) (s .trades), trade-lots t o left last);
       })
 
+  -- all lots that are traded are the arriving order's
+  its-number : (o : Order) (left last : ℕ) → orderOn (t .sell) (tradeWith t o left last) ≡ t .number
+  unfolding tradeWith
+  its-number o left last = by-side (t .sell)
+    where
+      by-side : (sell : Bool) → pick sell (pick sell (t .number) (o .number)) (pick sell (o .number) (t .number)) ≡ t .number
+      by-side true = refl
+      by-side false = refl
+
+  one-its : (o : Order) (left last : ℕ) (ts : List Trade) → lotsTraded (t .sell) (t .number) ts ≡ tradedLots ts
+      → lotsTraded (t .sell) (t .number) (tradeWith t o left last ∷ ts) ≡ tradedLots (tradeWith t o left last ∷ ts)
+  unfolding sumOf tradedLots
+  one-its o left last ts e = rw (its-number o left last, eq-eqb (t .number) (t .number) refl) (omega (arith, e))
+
+  pub swept-its : (lots last : ℕ) (queue : List Order) → lotsTraded (t .sell) (t .number) (sweep t lots last queue .trades) ≡ tradedLots (sweep t lots last queue .trades)
+  unfolding sumOf tradedLots
+  swept-its =
+      sweep-ind t (λ left last os s. lotsTraded (t .sell) (t .number) (s .trades) ≡ tradedLots (s .trades))
+      (λ left last os w. refl) (λ left last o os some m short. one-its o left last [] refl) (λ left last o os s some m long ih. one-its o left last (s .trades) ih)
+
   -- ---- 8. price then time
 
   pub swept-priority : (lots last : ℕ) (queue : List Order) → sorted side queue ≡ true → usedOnce (numbers queue) ≡ true
@@ -149,8 +171,8 @@ module _ (t : Taker) where
       → AtLimitOrBetter t queue (sweep t lots last queue .trades)
   swept-limits tick some rounds on lots last queue h e =
       record {
+        turns = swept-in-turn t lots last queue;
         limited = λ limit c. swept-between tick some t rounds limit c (on limit c) lots last queue h;
-        met = swept-in-turn t lots last queue;
         resting =
             λ c. swept-pairs (λ o trade. trade .price ≡ o .price) t (λ o. true) (λ o left last m f. unlimited-price o left last c) lots last queue (every-order queue);
         single =

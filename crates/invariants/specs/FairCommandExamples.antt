@@ -12,7 +12,8 @@ use Rattle.rules.specs.Bounds.{continuous}
 use Rattle.rules.specs.Change.{arriving, gone, isSell, losesPlace, oldOrder}
 use Rattle.rules.specs.Examples.{Row, _gives_, allRight}
 use Rattle.rules.specs.Exchange.{Exchange, accountAt, bestPrice, holdingAt, listingAt, lotsWhere, noHolding}
-use Rattle.rules.specs.Fairness.{Entering, enteredBy, enteringNext, lotsOf, lotsTraded, ordersEntered, queueMet}
+use Rattle.rules.specs.FairCommands.{Entering, enteredBy, enteringNext, ordersEntered, queueMet}
+use Rattle.rules.specs.Fairness.{lotsOf, lotsTraded}
 use Rattle.rules.specs.Holdings.{afterLeg, bookLeg, bookTrade, bookTrades}
 use Rattle.rules.specs.Matching.{enter, lastPrice, meets, methodOf, middle, pairedPrice, remainder, restIn, restLots, restedLots, stays, sweep, tradePrice, tradeWith, tradedLots}
 use Rattle.rules.specs.Quote.{half, withBuy, withoutQuote}

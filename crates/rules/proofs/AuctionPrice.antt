@@ -12,7 +12,7 @@ use lib.ListN.{length}
 use Rattle.laws.specs.Choice.{pick, pick-true, pick-false, allOf, allOf-imp, both-true, true-both, either-true, true-either}
 use Rattle.rules.specs.declared.Order.{Order}
 use Rattle.rules.specs.Auction.{apart, bestFrom, bestOf, better, chosenPrice, restingPrices, smaller, surplus, volume}
-use Rattle.rules.specs.Fairness.{oneOf}
+use Rattle.rules.specs.AuctionFairness.{oneOf}
 
 -- ---- a price is one of a list
 

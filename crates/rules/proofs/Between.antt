@@ -8,7 +8,7 @@ use native.Mathlib.Omega.{arith}
 use lib.ListN.{length}
 use Rattle.laws.specs.Choice.{allOf, both-true, pick}
 use Rattle.rules.specs.Bounds.{onTick}
-use Rattle.rules.specs.Fairness.{AllBetween, BetweenSellAndBuy, TradesInTurn, orderAt, orderOn, tradeOf}
+use Rattle.rules.specs.Fairness.{AllBetween, BetweenSellAndBuy, TradedInTurn, accountOn, orderAt, orderOn, tradeOf}
 use Rattle.rules.specs.Matching.{counterpart, meets, sweep, tradeWith}
 use Rattle.rules.specs.declared.Order.{Order}
 use Rattle.rules.specs.declared.PriceCondition.the-variants.{Limit}
@@ -44,14 +44,18 @@ module _ (P : Order → Trade → Type 0) where
       let q = both-true (fit o) (allOf fit os) h in
       one-paired o os (tradeWith t o left last) (s .trades) (each o left last met (q .0)) (ih (q .1)))
 
--- the resting order of a trade
+-- the resting order of a trade, and its account
+mine-and-others : (sell : Bool) (mine other : ℕ) → pick (not sell) (pick sell mine other) (pick sell other mine) ≡ other
+mine-and-others true mine other = refl
+mine-and-others false mine other = refl
+
 pub resting-number : (t : Taker) (o : Order) (left last : ℕ) → orderOn (not (t .sell)) (tradeWith t o left last) ≡ o .number
 unfolding tradeWith
-resting-number t o left last = by-side (t .sell)
-  where
-    by-side : (sell : Bool) → pick (not sell) (pick sell (t .number) (o .number)) (pick sell (o .number) (t .number)) ≡ o .number
-    by-side true = refl
-    by-side false = refl
+resting-number t o left last = mine-and-others (t .sell) (t .number) (o .number)
+
+resting-account : (t : Taker) (o : Order) (left last : ℕ) → accountOn (not (t .sell)) (tradeWith t o left last) ≡ o .account
+unfolding tradeWith
+resting-account t o left last = mine-and-others (t .sell) (t .account) (o .account)
 
 pub every-order : (os : List Order) → allOf (λ o. true) os ≡ true
 unfolding allOf
@@ -59,10 +63,16 @@ every-order [] = refl
 every-order (o ∷ os) = every-order os
 
 -- TRADE i OF A SWEEP IS WITH ORDER i
-pub swept-in-turn : (t : Taker) (left last : ℕ) (os : List Order) → TradesInTurn (t .sell) os (sweep t left last os .trades)
+pub swept-in-turn : (t : Taker) (left last : ℕ) (os : List Order) → TradedInTurn (t .sell) os (sweep t left last os .trades)
 swept-in-turn t left last os =
-    swept-pairs (λ o trade. orderOn (not (t .sell)) trade ≡ o .number) t (λ o. true) (λ o left last met fit. resting-number t o left last) left last os
-    (every-order os)
+    record {
+      order =
+          swept-pairs (λ o trade. orderOn (not (t .sell)) trade ≡ o .number) t (λ o. true) (λ o left last met fit. resting-number t o left last) left last os
+          (every-order os);
+      account =
+          swept-pairs (λ o trade. accountOn (not (t .sell)) trade ≡ o .account) t (λ o. true) (λ o left last met fit. resting-account t o left last) left last os
+          (every-order os);
+    }
 
 -- EVERY TRADE OF A LIMIT ORDER'S SWEEP LIES BETWEEN SELL AND BUY, by any pairing method, where limit and resting prices are tick multiples
 module _ (tick : ℕ) (some : 1 ≤ tick) (t : Taker) (rounds : RoundsTo tick (t .method)) (limit : ℕ) (limited : t .condition ≡ Limit limit) (on : onTick tick limit ≡ true) where
@@ -76,6 +86,6 @@ module _ (tick : ℕ) (some : 1 ≤ tick) (t : Taker) (rounds : RoundsTo tick (t
   pub swept-between : (left last : ℕ) (os : List Order) → allOf (λ o. onTick tick (o .price)) os ≡ true → AllBetween (t .sell) limit os (sweep t left last os .trades)
   swept-between left last os h =
       record {
-        met = swept-in-turn t left last os;
+        turns = swept-in-turn t left last os;
         each = swept-pairs (λ o trade. BetweenSellAndBuy (t .sell) limit (o .price) (trade .price)) t (λ o. onTick tick (o .price)) trade-between left last os h;
       }

@@ -1,26 +1,17 @@
--- FAIR AND COMPLETE MATCHING, AND THE AUCTION: what follows from the rules, as a trader may quote it. A sentence, then the record that says
--- it. Proved of every command in invariants (proofs/FairCommands); worked cases in FairnessExamples. Assumes nothing.
-use mathlib.Core.Bool.{Bool, true, false, not, _&&_, _||_}
-use mathlib.Core.List.{List, [], _∷_, _++_}
+-- FAIR AND COMPLETE MATCHING: laws 8 to 11, which follow from the rules and which a trader may quote. A sentence, then the record that says it:
+-- here of an order that meets a queue, in FairCommands of every command. Worked cases in FairnessExamples. Assumes nothing.
+use mathlib.Core.Bool.{Bool, true, false, not}
+use mathlib.Core.List.{List}
 use mathlib.Core.Path.{_≡_}
 use Prim.Native.Nat.{ℕ, _+_, _<_, _≤_, min}
 use lib.Dec.{eqb}
 use lib.ListN.{length, getD}
 use Rattle.laws.specs.Choice.{pick, allOf}
 use Rattle.laws.specs.Sums.{sumOf}
-use Rattle.rules.specs.Answers.{isGoodForDay, isLimit, listingOf, oppositeQueue, ownQueue, takerOf}
-use Rattle.rules.specs.Auction.{Matched, apart, auctionMatch, bestOf, better, chosenPrice, reaches, restingPrices, surplus, volume}
-use Rattle.rules.specs.Bounds.{inAuction}
-use Rattle.rules.specs.Change.{arriving, asked, gone, losesPlace}
-use Rattle.rules.specs.Command.{isSettle}
-use Rattle.rules.specs.Exchange.{Exchange, bestPrice, contractAt, listingAt, lotsWhere, noOrder, noTrade, own, placeOf, worse}
-use Rattle.rules.specs.Kinds.{codeOf}
+use Rattle.rules.specs.Answers.{isGoodForDay, isLimit}
+use Rattle.rules.specs.Exchange.{bestPrice, lotsWhere, noOrder, noTrade, worse}
 use Rattle.rules.specs.Matching.{Entered, counterpart, fillable, tradedLots}
-use Rattle.rules.specs.Quote.{buyOf, offered, sellOf, withBuy, withoutQuote}
-use Rattle.rules.specs.Step.{enteredOf, exchangeAfter, exchangeMatched}
 use Rattle.rules.specs.WellFormed.{ahead}
-use Rattle.rules.specs.declared.Command.{Command}
-use Rattle.rules.specs.declared.Command.the-variants.{Malformed, Deposit, Withdraw, Insert, Cancel, Pull, Phase, Settle, Quote, Change}
 use Rattle.rules.specs.declared.NewOrder.{NewOrder}
 use Rattle.rules.specs.declared.Order.{Order}
 use Rattle.rules.specs.declared.PriceCondition.the-variants.{Limit, Best}
@@ -87,22 +78,24 @@ pub record BetweenSellAndBuy (sell : Bool) (limit resting price : ℕ) : Type 0 
   pub sell-price : pick sell limit resting ≤ price
   pub buy-price : price ≤ pick sell resting limit
 
--- trade i is with order i
-abbrev pub TradesInTurn : Bool → List Order → List Trade → Type 0
-TradesInTurn sell os ts = (i : ℕ) → i < length ts → orderOn (not sell) (tradeOf ts i) ≡ orderAt os i .number
+-- trade i is with order i: it has that order's number and account
+pub record TradedInTurn (sell : Bool) (os : List Order) (ts : List Trade) : Type 0 where
+  pub order : (i : ℕ) → i < length ts → orderOn (not sell) (tradeOf ts i) ≡ orderAt os i .number
+  pub account : (i : ℕ) → i < length ts → accountOn (not sell) (tradeOf ts i) ≡ orderAt os i .account
 
 -- trade i of a limit order is with order i, at a price between that order's and the limit
 pub record AllBetween (sell : Bool) (limit : ℕ) (os : List Order) (ts : List Trade) : Type 0 where
-  pub met : TradesInTurn sell os ts
+  pub turns : TradedInTurn sell os ts
   pub each : (i : ℕ) → i < length ts → BetweenSellAndBuy sell limit (orderAt os i .price) (tradeOf ts i .price)
 
 pub record AtLimitOrBetter (t : Taker) (queue : List Order) (trades : List Trade) : Type 0 where
-  -- a limit order: between its limit and the resting order's, so at the limit or better for both
+  -- trade i is with order i
+  pub turns : TradedInTurn (t .sell) queue trades
+  -- a limit order trades between its limit and the resting order's: at the limit or better for both
   pub limited : (limit : ℕ) → t .condition ≡ Limit limit → AllBetween (t .sell) limit queue trades
-  -- market and best: trade i is with order i, at that order's price
-  pub met : TradesInTurn (t .sell) queue trades
+  -- market and best trade at the resting order's price
   pub resting : isLimit (t .condition) ≡ false → (i : ℕ) → i < length trades → tradeOf trades i .price ≡ orderAt queue i .price
-  -- best: every trade at the best price standing on arrival
+  -- best makes all its trades at the best price standing on arrival
   pub single : t .condition ≡ Best → allOf (λ trade. eqb (trade .price) (bestPrice queue)) trades ≡ true
 
 -- ---- 11. EVERY LOT IS ACCOUNTED FOR: traded and left together are what was there, order by order and in all.
@@ -113,185 +106,17 @@ pub record LotsAccounted (sell : Bool) (before after : List Order) (trades : Lis
   -- and in all
   pub together : tradedLots trades + lotsIn after ≡ lotsIn before
 
--- Of the order that arrives: traded lots are the smaller of lots and fillable lots; fill or kill trades all or is refused; immediate or
--- cancel never rests; what rests is good for day. In auction an order rests without matching.
+-- The order that arrives, in its own words
 pub record OrderAccounted (t : Taker) (auctioned : Bool) (o : NewOrder) (own opposite : List Order) (e : Entered) : Type 0 where
+  -- all lots that are traded are its own
+  pub its : lotsTraded (t .sell) (t .number) (e .trades) ≡ tradedLots (e .trades)
+  -- it trades the smaller of its lots and its fillable lots; in auction it rests without matching
   pub most : auctioned ≡ false → tradedLots (e .trades) ≡ min (o .lots) (fillable t opposite)
+  -- fill or kill, where it is not refused, trades all
   pub whole : o .time ≡ FillOrKill → tradedLots (e .trades) ≡ o .lots
   -- good for day: what it has traded and what rests of it are its lots
   pub rests : isGoodForDay (o .time) ≡ true → tradedLots (e .trades) + e .rested ≡ o .lots
-  -- not good for day: nothing rests, and its own queue is what it was
+  -- not good for day, so immediate or cancel too: nothing rests, and its own queue is what it was
   pub vanishes : isGoodForDay (o .time) ≡ false → (e .rested ≡ 0) × (e .own ≡ own)
   -- in its own queue what rests of it is added, and no other order's lots change
   pub added : (number : ℕ) → lotsOf number (e .own) ≡ pick (eqb (t .number) number) (e .rested) 0 + lotsOf number own
-
--- ---- 12. THE PRICE HAS THE LARGEST VOLUME OF ALL PRICES THERE ARE, resting or not; among the resting ones of that volume the ticket's steps
--- choose one, whichever order they are looked at.
-
--- a price is one of a list
-unfoldable pub oneOf : List ℕ → ℕ → Bool
-oneOf [] price = false
-oneOf (p ∷ ps) price = eqb p price || oneOf ps price
-
-pub record LargestVolume (last : ℕ) (buys sells : List Order) : Type 0 where
-  -- no price at all has a larger volume
-  pub largest : (price : ℕ) → volume buys sells price ≤ volume buys sells (chosenPrice last buys sells)
-  -- it is a resting price, wherever an order rests
-  pub rests : 0 < length (restingPrices buys sells) → oneOf (restingPrices buys sells) (chosenPrice last buys sells) ≡ true
-  -- "then smallest surplus": of the resting prices of that volume none has a smaller one
-  pub least-surplus : (price : ℕ) → oneOf (restingPrices buys sells) price ≡ true → volume buys sells price ≡ volume buys sells (chosenPrice last buys sells)
-      → surplus buys sells (chosenPrice last buys sells) ≤ surplus buys sells price
-  -- "then nearest to the last price": of those of that surplus none is nearer
-  pub nearest : (price : ℕ) → oneOf (restingPrices buys sells) price ≡ true → volume buys sells price ≡ volume buys sells (chosenPrice last buys sells)
-      → surplus buys sells price ≡ surplus buys sells (chosenPrice last buys sells)
-      → apart (chosenPrice last buys sells) last ≤ apart price last
-  -- "then the higher": of those as near none is higher
-  pub highest : (price : ℕ) → oneOf (restingPrices buys sells) price ≡ true → volume buys sells price ≡ volume buys sells (chosenPrice last buys sells)
-      → surplus buys sells price ≡ surplus buys sells (chosenPrice last buys sells)
-      → apart price last ≡ apart (chosenPrice last buys sells) last → price ≤ chosenPrice last buys sells
-  -- the steps choose it out of any list of the same prices, in whatever order
-  pub any-order : (ps : List ℕ) → ((price : ℕ) → oneOf ps price ≡ oneOf (restingPrices buys sells) price)
-      → bestOf (better last buys sells) ps ≡ chosenPrice last buys sells
-
--- ---- 13. NO SET OF TRADES AT ONE PRICE THAT RESPECTS LIMITS AND LOTS TRADES MORE THAN THE AUCTION DOES (maximum), all are at one price
--- (uniform), each within both limits (individually rational), and on each side price then time holds (fair).
-
--- the lots that the order with this number may trade at a price: none, if it does not reach the price
-abbrev pub lotsAllowed : Bool → ℕ → ℕ → List Order → ℕ
-lotsAllowed sell price number queue = lotsWhere (λ o. eqb (o .number) number && reaches sell price o) queue
-
--- trades at one price that respect limits and lots: a buyer's order is at or above the price, a seller's at or below it, and no order trades
--- more than it has
-pub record RespectsLimits (price : ℕ) (buys sells : List Order) (trades : List Trade) : Type 0 where
-  pub uniform : allOf (λ trade. eqb (trade .price) price) trades ≡ true
-  pub within : (sell : Bool) (number : ℕ) → lotsTraded sell number trades ≤ lotsAllowed sell price number (pick sell sells buys)
-
--- the queue of a side that a match leaves
-abbrev pub leftOn : Bool → Matched → List Order
-leftOn sell m = pick sell (m .sells) (m .buys)
-
-pub record BestAuction (last : ℕ) (buys sells : List Order) (m : Matched) : Type 0 where
-  -- its trades are such, at its one price
-  pub allowed : RespectsLimits (chosenPrice last buys sells) buys sells (m .trades)
-  -- each within both limits: an order that has traded reaches the price
-  pub rational : (sell : Bool) (i : ℕ) → i < length (pick sell sells buys) → 0 < lotsTraded sell (orderAt (pick sell sells buys) i .number) (m .trades)
-      → reaches sell (chosenPrice last buys sells) (orderAt (pick sell sells buys) i) ≡ true
-  -- no such trades, at whatever price, trade more lots
-  pub maximum : (price : ℕ) (trades : List Trade) → RespectsLimits price buys sells trades → tradedLots trades ≤ tradedLots (m .trades)
-  pub fair : (sell : Bool) → PriceThenTime sell (pick sell sells buys) (leftOn sell m) (m .trades)
-  pub accounted : (sell : Bool) → LotsAccounted sell (pick sell sells buys) (leftOn sell m) (m .trades)
-
--- ---- of a command. It enters orders: an insert one, a quote its buy and then its sell, a change that loses its place the order anew.
-
--- an order as it is entered: the state that it meets, its number and quote mark, and the next order number after it
-pub record Entering : Type 0 where
-  pub state : Exchange
-  pub number : ℕ
-  pub quote : ℕ
-  pub next : ℕ
-  pub order : NewOrder
-
-abbrev pub entering : Exchange → ℕ → ℕ → ℕ → NewOrder → Entering
-entering x number quote next o = record { state = x; number = number; quote = quote; next = next; order = o }
-
--- an order that gets the next number
-abbrev pub enteringNext : Exchange → ℕ → NewOrder → Entering
-enteringNext x quote o = entering x (x .next) quote (x .next + 1) o
-
-abbrev pub ordersEntered : Exchange → Command → List Entering
-ordersEntered x Malformed = []
-ordersEntered x (Deposit account amount) = []
-ordersEntered x (Withdraw account amount) = []
-ordersEntered x (Insert o) = enteringNext x 0 o ∷ []
-ordersEntered x (Cancel account contract operator number) = []
-ordersEntered x (Pull account contract operator) = []
-ordersEntered x (Phase contract phase) = []
-ordersEntered x Settle = []
-ordersEntered x (Quote account contract lots buy sell) =
-    let q = offered account contract lots buy sell in
-    enteringNext (withoutQuote x q) 1 (buyOf q) ∷ enteringNext (withBuy x q) 1 (sellOf q) ∷ []
-ordersEntered x (Change account contract number lots price) =
-    let k = asked account contract number lots price in
-    pick (losesPlace x k) (entering (gone x k) number 0 (x .next) (arriving x k) ∷ []) []
-
--- what comes of it, and the state that it leaves
-abbrev pub enteredBy : Entering → Entered
-enteredBy a = enteredOf (a .state) (a .number) (a .quote) (a .order)
-
-abbrev pub leftBy : Entering → Exchange
-leftBy a = exchangeAfter (a .state) (a .order) (enteredBy a) (a .next)
-
-abbrev pub takerBy : Entering → Taker
-takerBy a = takerOf (a .state) (a .number) (a .quote) (a .order)
-
-abbrev pub inAuctionFor : Entering → Bool
-inAuctionFor a = inAuction (listingOf (a .state) (a .order) .contract)
-
--- the queue that it trades with
-abbrev pub queueMet : Entering → List Order
-queueMet a = oppositeQueue (a .state) (a .order)
-
--- what it leaves in the book and records is what the laws below speak of
-pub record LeavesThese (a : Entering) : Type 0 where
-  pub own-queue : ownQueue (leftBy a) (a .order) ≡ enteredBy a .own
-  pub opposite-queue : oppositeQueue (leftBy a) (a .order) ≡ enteredBy a .opposite
-  pub recorded : leftBy a .trades ≡ a .state .trades ++ enteredBy a .trades
-
--- laws 8 to 11 of one order
-pub record FairlyEntered (a : Entering) : Type 0 where
-  pub left : LeavesThese a
-  pub priority : PriceThenTime (not (a .order .sell)) (queueMet a) (enteredBy a .opposite) (enteredBy a .trades)
-  -- in auction an order rests without matching
-  pub nothing-better : inAuctionFor a ≡ false → NothingBetterLeft (takerBy a) (a .order .lots) (queueMet a) (enteredBy a .opposite) (enteredBy a .trades)
-  pub limits : AtLimitOrBetter (takerBy a) (queueMet a) (enteredBy a .trades)
-  pub accounted : LotsAccounted (not (a .order .sell)) (queueMet a) (enteredBy a .opposite) (enteredBy a .trades)
-  pub order : OrderAccounted (takerBy a) (inAuctionFor a) (a .order) (ownQueue (a .state) (a .order)) (queueMet a) (enteredBy a)
-
-abbrev pub EachEntering : (Entering → Type 0) → List Entering → Type 0
-EachEntering P [] = Unit {0}
-EachEntering P (a ∷ as′) = P a × EachEntering P as′
-
--- each meets the state that the one before left, and the last leaves y
-abbrev pub EndsIn : Exchange → List Entering → Type 0
-EndsIn y [] = Unit {0}
-EndsIn y (a ∷ []) = y ≡ leftBy a
-EndsIn y (a ∷ b ∷ as′) = (b .state ≡ leftBy a) × EndsIn y (b ∷ as′)
-
--- it changes the state of a contract in auction
-abbrev pub leavesAuction : Exchange → Command → Bool
-leavesAuction x Malformed = false
-leavesAuction x (Deposit account amount) = false
-leavesAuction x (Withdraw account amount) = false
-leavesAuction x (Insert o) = false
-leavesAuction x (Cancel account contract operator number) = false
-leavesAuction x (Pull account contract operator) = false
-leavesAuction x (Phase contract phase) = inAuction (contractAt x (placeOf contract))
-leavesAuction x Settle = false
-leavesAuction x (Quote account contract lots buy sell) = false
-leavesAuction x (Change account contract number lots price) = false
-
--- LAWS 8 TO 11 OF A COMMAND on x that leaves y
-pub record FairMatching (x : Exchange) (command : Command) (y : Exchange) : Type 0 where
-  -- where it is accepted: each order that it enters
-  pub each : codeOf x command ≡ 0 → EachEntering FairlyEntered (ordersEntered x command)
-  pub leaves : codeOf x command ≡ 0 → EndsIn y (ordersEntered x command)
-  -- and no other command makes a trade but one that leaves auction, of which laws 12 and 13 speak; a settlement ends the day
-  pub only : ordersEntered x command ≡ [] → leavesAuction x command ≡ false → isSettle command ≡ false → y .trades ≡ x .trades
-
--- the auction of the contract at a place
-abbrev pub auctionAt : Exchange → ℕ → Matched
-auctionAt x c = auctionMatch c (contractAt x c .last) (listingAt x c .buys) (listingAt x c .sells)
-
--- laws 12 and 13 of the contract at place c, which goes from auction to another state
-pub record AuctionHeld (x : Exchange) (c phase : ℕ) (y : Exchange) : Type 0 where
-  pub price : LargestVolume (contractAt x c .last) (listingAt x c .buys) (listingAt x c .sells)
-  pub trades : BestAuction (contractAt x c .last) (listingAt x c .buys) (listingAt x c .sells) (auctionAt x c)
-  -- what it leaves is that match
-  pub leaves : y ≡ exchangeMatched x c phase (auctionAt x c)
-  pub queues : (sell : Bool) → own sell (listingAt y c) ≡ leftOn sell (auctionAt x c)
-  pub recorded : y .trades ≡ x .trades ++ auctionAt x c .trades
-
--- LAWS 12 AND 13 OF A COMMAND on x that leaves y: a change of state that is accepted and leaves auction
-pub record FairAuction (x : Exchange) (command : Command) (y : Exchange) : Type 0 where
-  pub held : (contract phase : ℕ) → command ≡ Phase contract phase → codeOf x command ≡ 0 → inAuction (contractAt x (placeOf contract)) ≡ true
-      → AuctionHeld x (placeOf contract) phase y

@@ -1,4 +1,4 @@
--- A case for each of laws 8 to 13 (Fairness.antt) in which it bites. One table, one statement, as in Examples.antt. Assumes nothing.
+-- A case for each of laws 8 to 13 (Fairness.antt, AuctionFairness.antt) in which it bites. One table, one statement, as in Examples.antt. Assumes nothing.
 use mathlib.Core.Bool.{Bool, true, false}
 use mathlib.Core.List.{List, [], _∷_}
 use mathlib.Core.Path.{_≡_, refl}

@@ -15,6 +15,8 @@ pub mod Change
 pub mod Quote
 pub mod Kinds
 pub mod Fairness
+pub mod AuctionFairness
+pub mod FairCommands
 pub mod Memory
 pub mod Side
 pub mod Condition3
