@@ -212,7 +212,7 @@ module _ (x : Exchange) (w : WellFormed x) (k : Asked) (e : firstOf (changeRefus
   abbrev left : Listing
   left = listingWithout (hasNumber number) listing
 
-  gone-keeps : WellFormed (gone x k)
+  pub gone-keeps : WellFormed (gone x k)
   unfolding gone removed
   gone-keeps = removed-keeps (hasNumber number) x place there number w
 
@@ -273,7 +273,7 @@ module _ (x : Exchange) (w : WellFormed x) (k : Asked) (e : firstOf (changeRefus
     its-price : allowedToday (listingOf (gone x k) (arriving x k) .contract) (k .price) ≡ true
     its-price = rw gone-listing (price-allowed some)
 
-    passes : Counted x → Passes (gone x k) number (arriving x k)
+    pub passes : Counted x → Passes (gone x k) number (arriving x k)
     unfolding gone arriving tradesRefused
     passes n =
         record {
@@ -287,6 +287,7 @@ module _ (x : Exchange) (w : WellFormed x) (k : Asked) (e : firstOf (changeRefus
           opens = open-lots (gone x k) (arriving x k) (reentry-passed .0);
           closes = close-lots (gone x k) (arriving x k) (reentry-passed .0);
           stamp = stamps-left;
+          kill = λ h. absurd (false≢true h);
           trades = ltb-false _ _ (reentry-passed .1 .1 .1 .0);
           room = λ g full. absurd (omega (arith, has-room n, full));
         }
