@@ -79,14 +79,14 @@ module _ (x : Exchange) (k : WellFormed x) (c : ℕ) (there : c < length (x .lis
     pub ranges : (y : Exchange) → c < length (y .listings) → length (y .accounts) ≡ length (x .accounts) → x .next ≤ y .next →
         Allows (before .contract) (listingAt y c .contract) → allOf (tradeInRange y) (m .trades) ≡ true
     pub here : allOf (ofContract c) (m .trades) ≡ true
-    pub holdings : MatchKept (length (x .accounts)) (before .contract .limit) c (x .accounts) m
+    pub holdings : (limit : ℕ → ℕ) → Kept (length (x .accounts)) limit c (x .accounts) (before .buys) (before .sells) → MatchKept (length (x .accounts)) limit c (x .accounts) m
     pub shorter : (sell : Bool) → length (left sell m) ≤ length (own sell before)
     pub marks : (sell : Bool) → MarksOk (x .accounts) (left sell m)
 
   ok : ListingOk (length (x .accounts)) (x .next) (x .nextstamp) before
   ok = k .listing c there
 
-  kept-now : Kept (length (x .accounts)) (before .contract .limit) c (x .accounts) (before .buys) (before .sells)
+  kept-now : Kept (length (x .accounts)) (λ a. before .contract .limit) c (x .accounts) (before .buys) (before .sells)
   kept-now a l =
       let q = k .holding a c l there in
       record { buy-opens = q .opens false; sell-opens = q .opens true; buy-closes = q .closes false; sell-closes = q .closes true }
@@ -103,7 +103,7 @@ module _ (x : Exchange) (k : WellFormed x) (c : ℕ) (there : c < length (x .lis
         values = λ field kept n. le-refl _;
         ranges = λ y t s l a. refl;
         here = refl;
-        holdings = unmatched-kept (length (x .accounts)) (before .contract .limit) c (x .accounts) (before .buys) (before .sells) kept-now;
+        holdings = λ limit. unmatched-kept (length (x .accounts)) limit c (x .accounts) (before .buys) (before .sells);
         shorter = λ sell. le-refl _;
         marks = k .marks c there;
       }
@@ -169,11 +169,11 @@ module _ (x : Exchange) (k : WellFormed x) (c : ℕ) (there : c < length (x .lis
             auction-either c (before .contract .last) (before .buys) (before .sells) (λ m. allOf (ofContract c) (m .trades) ≡ true) (λ z. refl)
             (λ some. match-contract c price (before .buys) (before .sells));
         holdings =
-            auction-either c (before .contract .last) (before .buys) (before .sells)
-            (λ m. MatchKept (length (x .accounts)) (before .contract .limit) c (x .accounts) m)
-            (λ z. unmatched-kept (length (x .accounts)) (before .contract .limit) c (x .accounts) (before .buys) (before .sells) kept-now)
-            (λ some. match-kept (length (x .accounts)) (before .contract .limit) (x .next) (x .nextstamp) (before .contract) c price (before .buys) (before .sells) (x .accounts)
-            (ok .orders false) (ok .orders true) kept-now);
+            λ limit kept. auction-either c (before .contract .last) (before .buys) (before .sells)
+            (λ m. MatchKept (length (x .accounts)) limit c (x .accounts) m)
+            (λ z. unmatched-kept (length (x .accounts)) limit c (x .accounts) (before .buys) (before .sells) kept)
+            (λ some. match-kept (length (x .accounts)) limit (x .next) (x .nextstamp) (before .contract) c price (before .buys) (before .sells) (x .accounts)
+            (ok .orders false) (ok .orders true) kept);
         shorter = λ sell. taken sell .1 .shorter;
         marks =
             λ sell. marks-left (x .accounts) (left sell matched) (k .marks c there sell)
@@ -206,7 +206,7 @@ module _ (x : Exchange) (k : WellFormed x) (c : ℕ) (there : c < length (x .lis
     holding-after a h =
         let s = booked-start-holding (x .accounts) (matchOf x c .trades) a c in
         let q = k .holding a c h there in
-        let r = match-ok .holdings .kept a h in
+        let r = match-ok .holdings (λ a. before .contract .limit) kept-now .kept a h in
         record {
           startlong = rw (ap (λ (h : Holding). h .startlong) s) (q .startlong);
           startshort = rw (ap (λ (h : Holding). h .startshort) s) (q .startshort);
@@ -243,7 +243,7 @@ module _ (x : Exchange) (k : WellFormed x) (c : ℕ) (there : c < length (x .lis
               (traded-accounts x c after (matchOf x c .trades) (x .next) (x .nextstamp)) (le-refl (x .next))
               (traded-allows x c after (matchOf x c .trades) (x .next) (x .nextstamp) there allows-here c);
           here = match-ok .here;
-          never = match-ok .holdings .never;
+          never = match-ok .holdings (λ a. before .contract .limit) kept-now .never;
           holding = holding-after;
           marks = marks-after;
         }
