@@ -121,22 +121,22 @@ one-more used value once unused n = by-value (eqb n value) refl
 
 module _ (x : Exchange) (k : WellFormed x) (number quote next : ℕ) (g : Given x number next) (o : NewOrder) (p : Passes x number o)
     (z : Marks x quote o) where
-  abbrev lots-swept : Swept
+  abbrev pub lots-swept : Swept
   lots-swept = swept x k number quote next g o p z
 
-  abbrev arrived : Order
+  abbrev pub arrived : Order
   arrived = remainder (takerOf x number quote o) (limitOf (o .condition)) (o .lots)
 
-  abbrev account : ℕ
+  abbrev pub account : ℕ
   account = placeOf (o .account)
 
-  abbrev place : ℕ
+  abbrev pub place : ℕ
   place = placeOf (o .contract)
 
-  abbrev mine : List Order
+  abbrev pub mine : List Order
   mine = own (o .sell) (listingOf x o)
 
-  abbrev others : List Order
+  abbrev pub others : List Order
   others = opposite (o .sell) (listingOf x o)
 
   holding-before : (a : ℕ) → a < length (x .accounts) → HoldingOk (listingOf x o) a (holdingAt (x .accounts) a place)
@@ -161,13 +161,13 @@ module _ (x : Exchange) (k : WellFormed x) (number quote next : ℕ) (g : Given 
       (λ e q. rw (← eqb-true account a e) (p .closes q)))
 
   -- each account's lots, the arriving ones included, are within a bound of its own
-  abbrev Before : (ℕ → ℕ) → Type 0
+  abbrev pub Before : (ℕ → ℕ) → Type 0
   Before limit = KeptBy (o .sell) (length (x .accounts)) limit place (x .accounts) (arrived ∷ mine) others
 
-  abbrev contractLimit : ℕ → ℕ
+  abbrev pub contractLimit : ℕ → ℕ
   contractLimit a = contractOf x k number quote next g o p z .limit
 
-  kept-before : Before contractLimit
+  pub kept-before : Before contractLimit
   kept-before a l = kept-by (o .sell) (listingOf x o) place (x .accounts) a arrived (holding-before a l) (opens-start a l) (closes-start a l)
 
   -- so the order entered keeps them, and its trades close nothing that is not held
@@ -184,17 +184,17 @@ module _ (x : Exchange) (k : WellFormed x) (number quote next : ℕ) (g : Given 
 
   -- ---- the parts of the state after it
 
-  abbrev after : Listing
+  abbrev pub after : Listing
   after = listingAfter (listingOf x o) (o .sell) (enteredOf x number quote o)
 
-  abbrev accountsAfter : List Account
+  abbrev pub accountsAfter : List Account
   accountsAfter = bookTrades (x .accounts) (lots-swept .trades)
 
-  mineAfter : List Order
+  abbrev pub mineAfter : List Order
   mineAfter = restLots (takerOf x number quote o) (limitOf (o .condition)) (rested x k number quote next g o p z) mine
 
-  kept-after : (limit : ℕ → ℕ) → Before limit → KeptBy (o .sell) (length (x .accounts)) limit place accountsAfter mineAfter (lots-swept .rest)
-  unfolding mineAfter takerOf
+  pub kept-after : (limit : ℕ → ℕ) → Before limit → KeptBy (o .sell) (length (x .accounts)) limit place accountsAfter mineAfter (lots-swept .rest)
+  unfolding takerOf
   kept-after limit kept =
       fewer-by (o .sell) (length (x .accounts)) limit place accountsAfter
       (remainder (takerOf x number quote o) (limitOf (o .condition)) (o .lots - tradedLots (lots-swept .trades)) ∷ mine) mineAfter (lots-swept .rest) (lots-swept .rest)
@@ -202,7 +202,7 @@ module _ (x : Exchange) (k : WellFormed x) (number quote next : ℕ) (g : Given 
       (rested-left x k number quote next g o p z)) (λ close b. omega arith) (swept-holdings limit kept .kept)
 
   holding-after : (a : ℕ) → a < length (x .accounts) → HoldingOk after a (holdingAt accountsAfter a place)
-  unfolding listingAfter mineAfter
+  unfolding listingAfter
   holding-after a l =
       let s = booked-start-holding (x .accounts) (lots-swept .trades) a place in
       let q = holding-before a l in
@@ -294,7 +294,7 @@ module _ (x : Exchange) (k : WellFormed x) (number quote next : ℕ) (g : Given 
       (o .lots) (contractOf x k number quote next g o p z .last) others (last-on-tick x k number quote next g o p z)
       (subst (λ (n : ℕ). allOf (orderInRange n (x .next) (x .nextstamp) (contractOf x k number quote next g o p z)) others ≡ true) (sym accounts) (sides x k number quote next g o p z .others-orders)) others-numbers)
 
-  its-trades : allOf (ofContract place) (lots-swept .trades) ≡ true
+  pub its-trades : allOf (ofContract place) (lots-swept .trades) ≡ true
   unfolding takerOf restWhole enter allOf
   its-trades =
       entered-either x number quote o (λ e. allOf (ofContract place) (e .trades) ≡ true) (λ e. refl)

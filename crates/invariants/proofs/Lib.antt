@@ -19,6 +19,7 @@ pub mod InsertAccepted
 pub mod InsertQueues
 pub mod InsertListing
 pub mod Insert
+pub mod Charged
 pub mod MatchedHoldings
 pub mod MatchedTrades
 pub mod Phases
@@ -28,6 +29,7 @@ pub mod Singly
 pub mod QuoteAsOrders
 pub mod Makers
 pub mod Stamps
+pub mod MarginWithin
 pub mod EachKind
 pub mod MemoryRoom
 pub mod MemoryLaws
@@ -38,3 +40,4 @@ pub mod ToldWhole
 pub mod Opening
 pub mod Condition3
 pub mod SameInUse
+pub mod AccountLaws

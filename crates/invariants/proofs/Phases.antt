@@ -59,18 +59,18 @@ contract-phase c phase l h =
 -- ---- the match
 
 -- the queue of a side
-abbrev left : Bool → Matched → List Order
+abbrev pub left : Bool → Matched → List Order
 left sell m = pick sell (m .sells) (m .buys)
 
 module _ (x : Exchange) (k : WellFormed x) (c : ℕ) (there : c < length (x .listings)) where
-  abbrev before : Listing
+  abbrev pub before : Listing
   before = listingAt x c
 
-  abbrev inRange : Order → Bool
+  abbrev pub inRange : Order → Bool
   inRange = orderInRange (length (x .accounts)) (x .next) (x .nextstamp) (before .contract)
 
   -- what a match leaves of a listing in range, and what it trades
-  record MatchOk (m : Matched) : Type 0 where
+  pub record MatchOk (m : Matched) : Type 0 where
     pub order : (sell : Bool) → sorted sell (left sell m) ≡ true
     pub apart : uncrossed (m .buys) (m .sells) ≡ true
     pub orders : (sell : Bool) → allOf inRange (left sell m) ≡ true
@@ -86,7 +86,7 @@ module _ (x : Exchange) (k : WellFormed x) (c : ℕ) (there : c < length (x .lis
   ok : ListingOk (length (x .accounts)) (x .next) (x .nextstamp) before
   ok = k .listing c there
 
-  kept-now : Kept (length (x .accounts)) (λ a. before .contract .limit) c (x .accounts) (before .buys) (before .sells)
+  pub kept-now : Kept (length (x .accounts)) (λ a. before .contract .limit) c (x .accounts) (before .buys) (before .sells)
   kept-now a l =
       let q = k .holding a c l there in
       record { buy-opens = q .opens false; sell-opens = q .opens true; buy-closes = q .closes false; sell-closes = q .closes true }
@@ -180,7 +180,7 @@ module _ (x : Exchange) (k : WellFormed x) (c : ℕ) (there : c < length (x .lis
             (taken sell .1 .kept (markAllowed (x .accounts)) (allowed-fewer (x .accounts))) (λ a. taken sell .1 .atmost (markOf a) (mark-fewer a));
       }
 
-  match-ok : MatchOk (matchOf x c)
+  pub match-ok : MatchOk (matchOf x c)
   match-ok = match-either x c MatchOk (λ e. matched-ok) unmatched-ok
 
   -- ---- the state after it
@@ -263,7 +263,7 @@ module _ (x : Exchange) (k : WellFormed x) (c : ℕ) (there : c < length (x .lis
 -- ---- an accepted change
 
 module _ (x : Exchange) (contract phase : ℕ) (e : firstOf ((1 when not (phaseKnown phase)) ∷ phaseRefusals x contract phase) ≡ 0) (k : WellFormed x) where
-  passes : (placeOf contract < length (x .listings)) × ((phase ≤ maxPhase) × (length (x .trades) + length (matchOf x (placeOf contract) .trades) ≤ maxTrades))
+  pub passes : (placeOf contract < length (x .listings)) × ((phase ≤ maxPhase) × (length (x .trades) + length (matchOf x (placeOf contract) .trades) ≤ maxTrades))
   unfolding phaseRefusals
   passes =
       let f = failed ((1 when not (phaseKnown phase)) ∷ phaseRefusals x contract phase) (omega arith) e in

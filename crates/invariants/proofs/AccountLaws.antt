@@ -1,0 +1,107 @@
+-- WHAT AN ACCOUNT MAY RELY ON: the theorems of specs/Accounts, of one command by the rules, and of the memory that a call or a run of
+-- commands leaves. Assumes nothing.
+use mathlib.Core.Bool.{Bool, true, false, not, true≢false, false≢true}
+use mathlib.Core.List.{List, [], _∷_, _++_}
+use mathlib.Core.Path.{_≡_, refl, sym, subst⁻¹, _∙_}
+use Prim.Native.Nat.{ℕ, _<_}
+use borrow.Author.Tests.{not-true}
+use lib.ListN.{length}
+use Rattle.laws.specs.Choice.{allOf, both-true}
+use Rattle.rules.specs.Change.{asked}
+use Rattle.rules.specs.Command.{isSettle}
+use Rattle.rules.specs.Condition3.{accountsOf, contractsOf, run, Loaded, Opening, TotalsEqual}
+use Rattle.rules.specs.Exchange.{Exchange, placeOf}
+use Rattle.rules.specs.Kinds.{codeOf, kindOf, lastOf, step}
+use Rattle.rules.specs.Memory.{Memory, WellFormedState, Declared, exchangeOf, respond, wellFormedMemory}
+use Rattle.rules.specs.Quote.{offered}
+use Rattle.rules.specs.Step.{cancelled, hasNumber, isOf, pulled}
+use Rattle.rules.specs.declared.Command.{Command}
+use Rattle.rules.specs.declared.Command.the-variants.{Malformed, Deposit, Withdraw, Insert, Cancel, Pull, Phase, Settle, Quote, Change}
+use Rattle.rules.proofs.Stages.{decided}
+use Rattle.accounting.specs.Shape.{Shaped}
+use Rattle.accounting.proofs.Condition3.{opening-loaded}
+use Rattle.accounting.proofs.Declared.{declared-kept, declared-shaped}
+use Rattle.accounting.proofs.Runs.{end-declared, end-shape, run-last}
+use Rattle.accounting.proofs.Totals.{totals-stay}
+use Rattle.invariants.specs.Accounts.{LongIsShort, MarginWithinBalance, RestingAllowed, WithinBalance, accountNamed, entersOpen}
+use Rattle.invariants.proofs.Clauses.{Sound, WellFormed}
+use Rattle.invariants.proofs.MarginWithin.{Keeps, change-opened, change-within, deposit-within, insert-within, phase-within, quote-within, removal-keeps, withdrawal-keeps, withdrawal-within}
+use Rattle.invariants.proofs.MemoryKeeps.{memory-keeps, read-back, run-keeps, sound}
+use Rattle.invariants.proofs.Removal.{cancel-there, pull-there}
+
+-- ---- 14. IN EACH CONTRACT ALL LONG LOTS EQUAL ALL SHORT LOTS
+
+pub long-is-short : (m : Memory) → Declared (m .state) → (cs : List Command) → LongIsShort m (run m cs)
+long-is-short m d cs = record {
+  equal = totals-stay memory-keeps read-back m d cs;
+  from-opening = λ o. totals-stay memory-keeps read-back m d cs (opening-loaded m o .totals);
+  from-loaded = λ o. totals-stay memory-keeps read-back m d cs (o .totals);
+}
+
+-- of the memory that is left, where it is that of the run
+pub long-is-short-left : (m : Memory) → Declared (m .state) → (cs : List Command) (m′ : Memory) → m′ ≡ run m cs → LongIsShort m m′
+long-is-short-left m d cs m′ e = subst⁻¹ (LongIsShort m) e (long-is-short m d cs)
+
+-- RESTING ORDERS NEVER HOLD MORE THAN LIMITS AND HOLDINGS ALLOW, in a well-formed memory
+resting-now : (m : Memory) → wellFormedMemory m ≡ true → RestingAllowed (accountsOf m) (contractsOf m) m
+resting-now m w =
+    let k = sound m w .contents in
+    record {
+      opens = λ a c l h sell. k .holding a c l h .opens sell;
+      closes = λ a c l h sell. elim sell [ false ↦ k .holding a c l h .closes false | true ↦ k .holding a c l h .closes true ];
+    }
+
+-- .. and so in every memory that a run from one leaves
+pub resting-allowed : (m : Memory) → wellFormedMemory m ≡ true → (cs : List Command) → RestingAllowed (accountsOf (run m cs)) (contractsOf (run m cs)) (run m cs)
+resting-allowed m w cs = resting-now (run m cs) (run-keeps m cs w)
+
+-- ---- 15. ALL CHARGED MARGIN IS WITHIN THE BALANCE
+
+module _ (x : Exchange) (k : Sound x) (shaped : Shaped x) where
+  abbrev after : Command → Exchange
+  after command = lastOf x (kindOf x command .effect .stages)
+
+  kind-opened : (command : Command) → codeOf x command ≡ 0 → entersOpen x command ≡ true → WithinBalance (after command) (placeOf (accountNamed command))
+  unfolding codeOf kindOf
+  kind-opened Malformed e o = absurd (false≢true o)
+  kind-opened (Deposit account amount) e o = absurd (false≢true o)
+  kind-opened (Withdraw account amount) e o = absurd (false≢true o)
+  kind-opened (Insert order) e o = insert-within x (k .contents) shaped order e .0 (not-true (order .close) o)
+  kind-opened (Cancel account contract operator number) e o = absurd (false≢true o)
+  kind-opened (Pull account contract operator) e o = absurd (false≢true o)
+  kind-opened (Phase contract phase) e o = absurd (false≢true o)
+  kind-opened Settle e o = absurd (false≢true o)
+  kind-opened (Quote account contract lots buy sell) e o = quote-within x (k .contents) shaped (offered account contract lots buy sell) e .0
+  kind-opened (Change account contract number lots price) e o =
+      let q = both-true _ _ o in
+      change-opened x (k .contents) shaped (asked account contract number lots price) e (k .counts) (q .0) (q .1)
+
+  kind-within : (command : Command) → codeOf x command ≡ 0 → isSettle command ≡ false → (a : ℕ) → a < length (x .accounts) → Keeps x (after command) a
+  unfolding codeOf kindOf cancelled pulled
+  kind-within Malformed e n a l = λ w. w
+  kind-within (Deposit account amount) e n a l = deposit-within x account amount e a
+  kind-within (Withdraw account amount) e n a l = withdrawal-keeps x account amount e a
+  kind-within (Insert order) e n a l = insert-within x (k .contents) shaped order e .1 a l
+  kind-within (Cancel account contract operator number) e n a l =
+      removal-keeps x (placeOf contract) (cancel-there x account contract operator number e) a (hasNumber number) number
+  kind-within (Pull account contract operator) e n a l =
+      removal-keeps x (placeOf contract) (pull-there x account contract operator e) a (isOf (placeOf account)) 0
+  kind-within (Phase contract phase) e n a l = phase-within x (k .contents) contract phase e a l
+  kind-within Settle e n a l = absurd (true≢false n)
+  kind-within (Quote account contract lots buy sell) e n a l = quote-within x (k .contents) shaped (offered account contract lots buy sell) e .1 a l
+  kind-within (Change account contract number lots price) e n a l = change-within x (k .contents) shaped (asked account contract number lots price) e (k .counts) a l
+
+  kind-withdrawn : (command : Command) (account amount : ℕ) → command ≡ Withdraw account amount → codeOf x command ≡ 0 → WithinBalance (after command) (placeOf account)
+  unfolding codeOf kindOf
+  kind-withdrawn command account amount q e = rw q (withdrawal-within x account amount (rw q at e))
+
+  pub margin-within-balance : (command : Command) → MarginWithinBalance x command (step x command)
+  unfolding step
+  margin-within-balance command = record {
+    opened = λ o e. accepted e (placeOf (accountNamed command)) (kind-opened command e o);
+    withdrawn = λ account amount q e. accepted e (placeOf account) (kind-withdrawn command account amount q e);
+    stays = λ n a l w. decided (λ d. WithinBalance (lastOf x (d .stages)) a) x command (λ e. kind-within command e n a l w) (λ e. w);
+  }
+    where
+      accepted : codeOf x command ≡ 0 → (a : ℕ) → WithinBalance (after command) a → WithinBalance (step x command) a
+      accepted e a w = unfold step in decided (λ d. WithinBalance (lastOf x (d .stages)) a) x command (λ q. w) (λ q. absurd (q e))
