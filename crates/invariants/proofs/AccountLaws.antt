@@ -1,18 +1,18 @@
 -- WHAT AN ACCOUNT MAY RELY ON: the theorems of specs/Accounts, of one command by the rules, and of the memory that a call or a run of
 -- commands leaves. Assumes nothing.
 use mathlib.Core.Bool.{Bool, true, false, not, true≢false, false≢true}
-use mathlib.Core.List.{List, [], _∷_, _++_}
-use mathlib.Core.Path.{_≡_, refl, sym, subst⁻¹, _∙_}
+use mathlib.Core.List.{List, [], _∷_}
+use mathlib.Core.Path.{_≡_, refl, sym, ap, subst⁻¹, _∙_}
 use Prim.Native.Nat.{ℕ, _<_}
 use borrow.Author.Tests.{not-true}
 use lib.ListN.{length}
 use Rattle.laws.specs.Choice.{allOf, both-true}
 use Rattle.rules.specs.Change.{asked}
 use Rattle.rules.specs.Command.{isSettle}
-use Rattle.rules.specs.Condition3.{accountsOf, contractsOf, run, Loaded, Opening, TotalsEqual}
+use Rattle.rules.specs.Condition3.{accountsOf, contractsOf, run}
 use Rattle.rules.specs.Exchange.{Exchange, placeOf}
-use Rattle.rules.specs.Kinds.{codeOf, kindOf, lastOf, step}
-use Rattle.rules.specs.Memory.{Memory, WellFormedState, Declared, exchangeOf, respond, wellFormedMemory}
+use Rattle.rules.specs.Kinds.{codeOf, decide, kindOf, lastOf, step}
+use Rattle.rules.specs.Memory.{Memory, Declared, exchangeOf, respond, stepIn, wellFormedMemory}
 use Rattle.rules.specs.Quote.{offered}
 use Rattle.rules.specs.Step.{cancelled, hasNumber, isOf, pulled}
 use Rattle.rules.specs.declared.Command.{Command}
@@ -21,13 +21,16 @@ use Rattle.rules.proofs.Stages.{decided}
 use Rattle.accounting.specs.Shape.{Shaped}
 use Rattle.accounting.proofs.Condition3.{opening-loaded}
 use Rattle.accounting.proofs.Declared.{declared-kept, declared-shaped}
-use Rattle.accounting.proofs.Runs.{end-declared, end-shape, run-last}
+use Rattle.accounting.proofs.Runs.{end-shape}
 use Rattle.accounting.proofs.Totals.{totals-stay}
-use Rattle.invariants.specs.Accounts.{LongIsShort, MarginWithinBalance, RestingAllowed, WithinBalance, accountNamed, entersOpen}
+use Rattle.invariants.specs.Accounts.{AlikeBut, BalancesPrivate, LongIsShort, MarginWithinBalance, RestingAllowed, WithinBalance, accountNamed, entersOpen, isFrom, stateSeen}
+use Rattle.invariants.specs.Throughout.{Throughout}
 use Rattle.invariants.proofs.Clauses.{Sound, WellFormed}
 use Rattle.invariants.proofs.MarginWithin.{Keeps, change-opened, change-within, deposit-within, insert-within, phase-within, quote-within, removal-keeps, withdrawal-keeps, withdrawal-within}
 use Rattle.invariants.proofs.MemoryKeeps.{memory-keeps, read-back, run-keeps, sound}
 use Rattle.invariants.proofs.Removal.{cancel-there, pull-there}
+use Rattle.invariants.proofs.SeenBalances.{decided-alike}
+use Rattle.invariants.proofs.Throughout.{of-call}
 
 -- ---- 14. IN EACH CONTRACT ALL LONG LOTS EQUAL ALL SHORT LOTS
 
@@ -105,3 +108,55 @@ module _ (x : Exchange) (k : Sound x) (shaped : Shaped x) where
     where
       accepted : codeOf x command ≡ 0 → (a : ℕ) → WithinBalance (after command) a → WithinBalance (step x command) a
       accepted e a w = unfold step in decided (λ d. WithinBalance (lastOf x (d .stages)) a) x command (λ q. w) (λ q. absurd (q e))
+
+-- .. and so of the memory that a call leaves, where it is the rules'
+pub margin-left : (m : Memory) → Declared (m .state) → wellFormedMemory m ≡ true → (c : Command) (m′ : Memory) → m′ ≡ respond m c .memory →
+    MarginWithinBalance (exchangeOf m) c (exchangeOf m′)
+margin-left m d w c m′ e =
+    of-call (λ x command y. Shaped x → MarginWithinBalance x command y) (λ x command k h. margin-within-balance x k h command) m w c m′ e (declared-shaped m d w)
+
+-- .. and of each command of a run
+pub margin-throughout : (m : Memory) → Declared (m .state) → wellFormedMemory m ≡ true → (cs : List Command) → Throughout MarginWithinBalance m cs
+margin-throughout m d w [] = tt
+margin-throughout m d w (c ∷ cs) =
+    (margin-left m d w c (respond m c .memory) refl, margin-throughout (respond m c .memory) (declared-kept m c d) (memory-keeps m c w) cs)
+
+-- ONCE WITHIN ITS BALANCE AN ACCOUNT STAYS SO UNTIL A SETTLEMENT, whatever the commands are
+pub within-until-settlement : (m : Memory) → Declared (m .state) → wellFormedMemory m ≡ true → (cs : List Command) → allOf (λ c. not (isSettle c)) cs ≡ true →
+    (a : ℕ) → a < accountsOf m → WithinBalance (exchangeOf m) a → WithinBalance (exchangeOf (run m cs)) a
+unfolding run allOf
+within-until-settlement m d w [] n a l h = h
+within-until-settlement m d w (c ∷ cs) n a l h =
+    let p = both-true (not (isSettle c)) (allOf (λ c. not (isSettle c)) cs) n in
+    within-until-settlement (respond m c .memory) (declared-kept m c d) (memory-keeps m c w) cs (p .1) a (rw (one-more) l)
+    (margin-left m d w c (respond m c .memory) refl .stays (not-true (isSettle c) (p .0)) a l h)
+  where
+    one-more : accountsOf (respond m c .memory) ≡ accountsOf m
+    one-more = unfold run in end-shape memory-keeps read-back m (c ∷ []) d .accounts
+
+-- ---- 16. BALANCES ARE PRIVATE
+
+module _ (seen : ℕ → Bool) where
+  pub balances-private : (m n : Memory) → wellFormedMemory m ≡ true → wellFormedMemory n ≡ true → AlikeBut seen (exchangeOf m) (exchangeOf n) →
+      (command : Command) → isFrom seen command ≡ true → BalancesPrivate seen m n command
+  balances-private m n w v alike command e = record {
+    answer = sym (answered m w) ∙ p .0 ∙ answered n v;
+    after = ap (stateSeen seen) (read-back m command w) ∙ p .1 ∙ sym (ap (stateSeen seen) (read-back n command v));
+  }
+    where
+      p : (decide (exchangeOf m) command .answer ≡ decide (exchangeOf n) command .answer) × AlikeBut seen (step (exchangeOf m) command) (step (exchangeOf n) command)
+      p = decided-alike seen (exchangeOf m) (exchangeOf n) alike command e
+
+      answered : (k : Memory) → wellFormedMemory k ≡ true → decide (exchangeOf k) command .answer ≡ respond k command .answer
+      answered k w = unfold respond stepIn in (rw w refl)
+
+  -- .. throughout a list of such commands: whatever came before, the next one gets the same answer
+  pub private-throughout : (m n : Memory) → wellFormedMemory m ≡ true → wellFormedMemory n ≡ true → AlikeBut seen (exchangeOf m) (exchangeOf n) →
+      (before : List Command) → allOf (isFrom seen) before ≡ true → (command : Command) → isFrom seen command ≡ true →
+      BalancesPrivate seen (run m before) (run n before) command
+  unfolding run allOf
+  private-throughout m n w v alike [] all command e = balances-private m n w v alike command e
+  private-throughout m n w v alike (c ∷ cs) all command e =
+      let p = both-true (isFrom seen c) (allOf (isFrom seen) cs) all in
+      private-throughout (respond m c .memory) (respond n c .memory) (memory-keeps m c w) (memory-keeps n c v)
+      (balances-private m n w v alike c (p .0) .after) cs (p .1) command e

@@ -40,4 +40,6 @@ pub mod ToldWhole
 pub mod Opening
 pub mod Condition3
 pub mod SameInUse
+pub mod Throughout
+pub mod SeenBalances
 pub mod AccountLaws

@@ -1,6 +1,6 @@
 -- WHAT AN ACCOUNT MAY RELY ON: the words of laws 14 to 16 (docs/RULES.md, "What follows from the rules"), a record each. Their theorems
 -- stand in proofs/AccountLaws. Assumes nothing.
-use mathlib.Core.Bool.{Bool, true, false, not, _&&_}
+use mathlib.Core.Bool.{Bool, true, false, not, _&&_, _||_}
 use mathlib.Core.List.{List, [], _∷_}
 use mathlib.Core.Path.{_≡_}
 use Prim.Native.Nat.{ℕ, suc, _+_, _<_, _≤_}
@@ -15,10 +15,9 @@ use Rattle.rules.specs.Condition3.{accountsOf, contractsOf, holdingIn, Loaded, 
 use Rattle.rules.specs.Exchange.{Exchange, contractAt, holderAt, listingAt, own, placeOf, restingCloses, restingOpens}
 use Rattle.rules.specs.Kinds.{codeOf}
 use Rattle.rules.specs.Margin.{charged}
-use Rattle.rules.specs.Memory.{Memory, exchangeOf}
+use Rattle.rules.specs.Memory.{Memory, exchangeOf, respond}
 use Rattle.rules.specs.Step.{withBalance}
 use Rattle.rules.specs.declared.Account.{Account}
-use Rattle.rules.specs.declared.Answer.{Answer}
 use Rattle.rules.specs.declared.Command.{Command}
 use Rattle.rules.specs.declared.Command.the-variants.{Malformed, Deposit, Withdraw, Insert, Cancel, Pull, Phase, Settle, Quote, Change}
 
@@ -34,6 +33,19 @@ accountNamed (Phase contract phase) = 0
 accountNamed Settle = 0
 accountNamed (Quote account contract lots buy sell) = account
 accountNamed (Change account contract number lots price) = account
+
+-- it has such a field
+abbrev pub namesAccount : Command → Bool
+namesAccount Malformed = false
+namesAccount (Deposit account amount) = true
+namesAccount (Withdraw account amount) = true
+namesAccount (Insert o) = true
+namesAccount (Cancel account contract operator number) = true
+namesAccount (Pull account contract operator) = true
+namesAccount (Phase contract phase) = false
+namesAccount Settle = false
+namesAccount (Quote account contract lots buy sell) = true
+namesAccount (Change account contract number lots price) = true
 
 -- ---- 14. LONG LOTS ARE SHORT LOTS, AND WHAT RESTS IS ALLOWED: m is the memory before some commands, m′ the one they leave
 
@@ -82,3 +94,36 @@ pub record MarginWithinBalance (x : Exchange) (command : Command) (y : Exchange)
   pub withdrawn : (account amount : ℕ) → command ≡ Withdraw account amount → codeOf x command ≡ 0 → WithinBalance y (placeOf account)
   -- Once within its balance an account stays so, whatever anybody does, until a settlement.
   pub stays : isSettle command ≡ false → (a : ℕ) → a < length (x .accounts) → WithinBalance x a → WithinBalance y a
+
+-- ---- 16. BALANCES ARE PRIVATE
+
+-- accounts with every balance that is not seen blotted out: 0 stands in its place
+unfoldable pub accountsSeen : (ℕ → Bool) → List Account → List Account
+accountsSeen seen [] = []
+accountsSeen seen (a ∷ as′) = pick (seen 0) a (withBalance a (pos 0)) ∷ accountsSeen (λ i. seen (suc i)) as′
+
+unfoldable pub stateSeen : (ℕ → Bool) → Exchange → Exchange
+stateSeen seen x =
+    record {
+      listings = x .listings;
+      accounts = accountsSeen seen (x .accounts);
+      trades = x .trades;
+      next = x .next;
+      nextstamp = x .nextstamp;
+      settlements = x .settlements;
+    }
+
+-- two states that differ in balances not seen, and in nothing else
+abbrev pub AlikeBut : (ℕ → Bool) → Exchange → Exchange → Type 0
+AlikeBut seen x y = stateSeen seen x ≡ stateSeen seen y
+
+-- the command is of an account whose balance is seen, or names none
+abbrev pub isFrom : (ℕ → Bool) → Command → Bool
+isFrom seen command = not (namesAccount command) || seen (placeOf (accountNamed command))
+
+-- m and n are well formed and differ in balances not seen alone: of one account, λ a. eqb a account sees its own
+pub record BalancesPrivate (seen : ℕ → Bool) (m n : Memory) (command : Command) : Type 0 where
+  -- The answer to a command depends on its own account's balance alone.
+  pub answer : respond m command .answer ≡ respond n command .answer
+  -- Afterwards the two states differ in the same balances alone, after a settlement too.
+  pub after : AlikeBut seen (exchangeOf (respond m command .memory)) (exchangeOf (respond n command .memory))
