@@ -3,14 +3,14 @@
 -- start of the day, and these no move changes. It rests on the two facts that Runs.antt rests on. Assumes nothing else.
 use mathlib.Core.Bool.{Bool, true, false}
 use mathlib.Core.List.{List}
-use mathlib.Core.Path.{_≡_, refl, sym, ap, ap₂, subst, _∙_}
+use mathlib.Core.Path.{_≡_, refl, sym, ap, _∙_}
 use Prim.Native.Nat.{ℕ, _<_}
 use native.Mathlib.Omega.{arith}
 use lib.IntN.{ℤ, pos, _+ℤ_, _-ℤ_, +ℤ-idr}
 use lib.ListN.{length}
 use Rattle.laws.specs.Ring.{split, d-eq, ring}
 use Rattle.laws.specs.Sums.{sumTo, sumTo-ext, sumTo-add}
-use Rattle.rules.specs.Condition3.{run, accountsOf, contractsOf, holdingIn, netHolding, netIn, TotalsEqual}
+use Rattle.rules.specs.Condition3.{run, accountsOf, contractsOf, holdingIn, netHolding, TotalsEqual}
 use Rattle.rules.specs.Exchange.{Exchange}
 use Rattle.rules.specs.Kinds.{step}
 use Rattle.rules.specs.Memory.{Memory, Declared, exchangeOf, respond, wellFormedMemory}

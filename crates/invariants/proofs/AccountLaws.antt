@@ -25,7 +25,7 @@ use Rattle.accounting.proofs.Runs.{end-shape}
 use Rattle.accounting.proofs.Totals.{totals-stay}
 use Rattle.invariants.specs.Accounts.{AlikeBut, BalancesPrivate, LongIsShort, MarginWithinBalance, RestingAllowed, WithinBalance, accountNamed, entersOpen, isFrom, stateSeen}
 use Rattle.invariants.specs.Throughout.{Throughout}
-use Rattle.invariants.proofs.Clauses.{Sound, WellFormed}
+use Rattle.invariants.proofs.Clauses.{Sound}
 use Rattle.invariants.proofs.MarginWithin.{Keeps, change-opened, change-within, deposit-within, insert-within, phase-within, quote-within, removal-keeps, withdrawal-keeps, withdrawal-within}
 use Rattle.invariants.proofs.MemoryKeeps.{memory-keeps, read-back, run-keeps, sound}
 use Rattle.invariants.proofs.Removal.{cancel-there, pull-there}

@@ -1,6 +1,6 @@
 -- WHAT AN ACCOUNT IS CHARGED AFTER A STEP in one contract: no more than before, the lots of an open of its own included. A trade moves
 -- a resting open into the holding, or takes off what it closes; orders that go are charged no longer. Assumes nothing.
-use mathlib.Core.Bool.{Bool, true, false, not}
+use mathlib.Core.Bool.{Bool, true, false}
 use mathlib.Core.List.{List, [], _∷_}
 use mathlib.Core.Path.{_≡_, refl, sym, ap, ap₂, subst⁻¹, _∙_}
 use Prim.Native.Nat.{ℕ, zero, suc, _+_, _*_, _<_, _≤_}
@@ -16,7 +16,7 @@ use Rattle.rules.specs.Exchange.{Exchange, Listing, contractAt, holdingAt, list
 use Rattle.rules.specs.Holdings.{bookTrades}
 use Rattle.rules.specs.Margin.{charge, charged, chargedLots, chargedLotsWith, chargedTo, includedTo}
 use Rattle.rules.specs.Matching.{remainder}
-use Rattle.rules.specs.Step.{enteredOf, exchangeAfter, listingAfter, withListing}
+use Rattle.rules.specs.Step.{enteredOf, exchangeAfter, listingAfter}
 use Rattle.rules.specs.declared.Account.{Account}
 use Rattle.rules.specs.declared.Contract.{Contract}
 use Rattle.rules.specs.declared.NewOrder.{NewOrder}

@@ -2,20 +2,20 @@
 -- an account out of it. What is charged after an open is at most what it was tested with (Charged.antt); what others do raises nobody's
 -- charge. Assumes nothing.
 use mathlib.Core.Bool.{Bool, true, false, not, _&&_, false≢true, true≢false}
-use mathlib.Core.List.{List, [], _∷_}
+use mathlib.Core.List.{[], _∷_}
 use mathlib.Core.Logic.{_≢_}
 use mathlib.Core.Path.{_≡_, refl, sym, ap, ap₂, subst, _∙_}
 use Prim.Native.Nat.{ℕ, zero, suc, _+_, _*_, _<_, _≤_}
 use native.Mathlib.Omega.{arith}
 use borrow.Author.Tests.{eq-eqb, eqb-true, eqb-false, leb-true, le-leb, not-true}
-use lib.Dec.{eqb, leb}
+use lib.Dec.{eqb}
 use lib.IntN.{ℤ, pos, negsuc, _+ℤ_, _-ℤ_}
-use lib.ListN.{length, getD, set}
-use lib.Signed.{leZ, ltZ}
-use Rattle.laws.specs.Choice.{pick, allOf, both-true}
+use lib.ListN.{length, getD}
+use lib.Signed.{leZ}
+use Rattle.laws.specs.Choice.{allOf}
 use Rattle.laws.specs.Lists.{at-set, kept-at}
 use Rattle.laws.specs.Ring.{leZ-ltZ}
-use Rattle.rules.specs.Answers.{_when_, firstOf, phaseRefusals, cancelRefusals, depositRefusals, insertRefusals, leavesTooLittle, listingOf, mark, moneyRefused, orderRefusals, pullRefusals, withdrawRefusals}
+use Rattle.rules.specs.Answers.{_when_, firstOf, phaseRefusals, depositRefusals, insertRefusals, leavesTooLittle, mark, moneyRefused, orderRefusals, withdrawRefusals}
 use Rattle.rules.specs.Auction.{matchOf}
 use Rattle.rules.specs.Bounds.{phaseKnown}
 use Rattle.rules.specs.Change.{Asked, arriving, changed, changeRefusals, gone, losesPlace, oldOrder, placeKept, placeLost, reentered, unchanged}
@@ -24,7 +24,7 @@ use Rattle.rules.specs.Holdings.{bookTrades}
 use Rattle.rules.specs.Kinds.{lastOf}
 use Rattle.rules.specs.Margin.{charge, charged, chargedLots, chargedTo, includedTo}
 use Rattle.rules.specs.Quote.{Offered, buyOf, half, quoted, quoteRefusals, sellOf, withBuy, withSell, withoutQuote}
-use Rattle.rules.specs.Step.{cancelled, deposited, enteredOf, exchangeAfter, exchangeMatched, hasNumber, inserted, isOf, listingMatched, listingWithout, paid, phaseChanged, pulled, removed, withBalance, withListing, withdrawn}
+use Rattle.rules.specs.Step.{cancelled, deposited, enteredOf, exchangeAfter, exchangeMatched, hasNumber, inserted, listingMatched, listingWithout, paid, phaseChanged, removed, withListing, withdrawn}
 use Rattle.rules.specs.declared.Account.{Account}
 use Rattle.rules.specs.declared.NewOrder.{NewOrder}
 use Rattle.rules.specs.declared.Order.{Order}

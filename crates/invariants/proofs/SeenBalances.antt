@@ -10,22 +10,21 @@ use lib.IntN.{ℤ, pos, _+ℤ_, _-ℤ_, _*ℤ_}
 use lib.ListN.{length, getD, set}
 use lib.Signed.{ltZ}
 use Rattle.laws.specs.Choice.{pick, pick-same}
-use Rattle.laws.specs.Sums.{sumTo, sumTo-ext}
+use Rattle.laws.specs.Sums.{sumTo-ext}
 use Rattle.laws.specs.Tabulate.{tabulate}
 use Rattle.rules.specs.Answers.{Refusal, _when_, amountRefused, notContinuous, removalRefused, stampsUsedUp, takesOrders, bookRefusals, cancelRefusals, conditionsRefused, depositRefusals, fieldsRefusals, fillableLots, firstOf, holdingRefused, insertRefusals, leavesTooLittle, liftsTooHigh, listingOf, lotsRefused, mark, moneyRefused, namedRefusals, orderRefusals, ownQueue, ownerRefusals, restingOrder, phaseRefusals, pullRefusals, settleRefusals, takerOf, tradesNeeded, tradesRefused, withdrawRefusals}
 use Rattle.rules.specs.Auction.{matchOf}
-use Rattle.rules.specs.Bounds.{maxBalance, phaseKnown}
+use Rattle.rules.specs.Bounds.{maxBalance}
 use Rattle.rules.specs.Change.{Asked, arriving, asked, changeRefusals, changed, gone, isSell, losesPlace, newFieldsRefusals, oldOrder, placeKept, placeLost, reentered, reentryRefusals, unchanged}
 use Rattle.rules.specs.Exchange.{Exchange, Listing, absent, accountAt, contractAt, holderAt, holdingAt, isAbsent, listingAt, listingNamed, noAccount, noHolding, placeOf, resting}
 use Rattle.rules.specs.Holdings.{afterLeg, bookBuyer, bookLeg, bookTrade, bookTrades, withHolding}
-use Rattle.rules.specs.Kinds.{Decision, codeOf, decide, done, kindOf, lastOf, refused, step}
+use Rattle.rules.specs.Kinds.{codeOf, decide, done, kindOf, lastOf, refused, step}
 use Rattle.rules.specs.Margin.{charge, charged, chargedLots, chargedTo, chargedWith, withOpen}
 use Rattle.rules.specs.Matching.{Entered, tradedLots}
 use Rattle.rules.specs.Quote.{Offered, afterMarked, buyOf, enteredMarked, half, offered, quoteRefusals, quoted, sellOf, withBuy, withSell, withoutQuote}
 use Rattle.rules.specs.Settlement.{Day, afterLegs, carriedHolding, closingProfit, dayOf, dayStart, holdingGain, holdingProfit, legs, settled, settledAccount, settledListing, settlementPrice}
-use Rattle.rules.specs.Step.{Effect, answerOf, cancelled, deposited, enteredOf, exchangeAfter, exchangeMatched, hasNumber, inserted, isOf, listingAfter, listingMatched, paid, phaseChanged, pulled, removed, settledAll, withBalance, withTrades, withdrawn}
+use Rattle.rules.specs.Step.{Effect, answerOf, cancelled, deposited, enteredOf, exchangeAfter, exchangeMatched, hasNumber, inserted, isOf, listingAfter, paid, phaseChanged, pulled, removed, settledAll, withBalance, withTrades, withdrawn}
 use Rattle.rules.specs.declared.Account.{Account}
-use Rattle.rules.specs.declared.Answer.{Answer}
 use Rattle.rules.specs.declared.Command.{Command}
 use Rattle.rules.specs.declared.Command.the-variants.{Malformed, Deposit, Withdraw, Insert, Cancel, Pull, Phase, Settle, Quote, Change}
 use Rattle.rules.specs.declared.Contract.{Contract}

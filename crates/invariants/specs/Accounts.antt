@@ -11,7 +11,7 @@ use lib.Signed.{leZ}
 use Rattle.laws.specs.Choice.{pick}
 use Rattle.rules.specs.Change.{asked, losesPlace, oldOrder}
 use Rattle.rules.specs.Command.{isSettle}
-use Rattle.rules.specs.Condition3.{accountsOf, contractsOf, holdingIn, Loaded, Opening, TotalsEqual}
+use Rattle.rules.specs.Condition3.{contractsOf, holdingIn, Loaded, Opening, TotalsEqual}
 use Rattle.rules.specs.Exchange.{Exchange, contractAt, holderAt, listingAt, own, placeOf, restingCloses, restingOpens}
 use Rattle.rules.specs.Kinds.{codeOf}
 use Rattle.rules.specs.Margin.{charged}

@@ -3,3 +3,4 @@ pub mod InUse
 pub mod ByPlace
 pub mod Throughout
 pub mod Accounts
+pub mod AccountsExamples
