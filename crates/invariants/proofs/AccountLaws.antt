@@ -2,19 +2,21 @@
 -- commands leaves. Assumes nothing.
 use mathlib.Core.Bool.{Bool, true, false, not, true≢false, false≢true}
 use mathlib.Core.List.{List, [], _∷_}
-use mathlib.Core.Path.{_≡_, refl, sym, ap, subst⁻¹, _∙_}
-use Prim.Native.Nat.{ℕ, _<_}
-use borrow.Author.Tests.{not-true}
+use mathlib.Core.Path.{_≡_, refl, sym, ap, subst, subst⁻¹, _∙_}
+use Prim.Native.Nat.{ℕ, _+_, _<_}
+use native.Mathlib.Omega.{arith}
+use borrow.Author.Tests.{eqb-true, not-true}
 use lib.ListN.{length}
 use Rattle.laws.specs.Choice.{allOf, both-true}
 use Rattle.rules.specs.Change.{asked}
-use Rattle.rules.specs.Command.{isSettle}
+use Rattle.rules.specs.Command.{Field, unused, holds, accountField, isSettle}
 use Rattle.rules.specs.Condition3.{accountsOf, contractsOf, run}
 use Rattle.rules.specs.Exchange.{Exchange, placeOf}
 use Rattle.rules.specs.Kinds.{codeOf, decide, kindOf, lastOf, step}
 use Rattle.rules.specs.Memory.{Memory, Declared, exchangeOf, respond, stepIn, wellFormedMemory}
 use Rattle.rules.specs.Quote.{offered}
 use Rattle.rules.specs.Step.{cancelled, hasNumber, isOf, pulled}
+use Rattle.rules.specs.Touches.{names}
 use Rattle.rules.specs.declared.Command.{Command}
 use Rattle.rules.specs.declared.Command.the-variants.{Malformed, Deposit, Withdraw, Insert, Cancel, Pull, Phase, Settle, Quote, Change}
 use Rattle.rules.proofs.Stages.{decided}
@@ -23,7 +25,7 @@ use Rattle.accounting.proofs.Condition3.{opening-loaded}
 use Rattle.accounting.proofs.Declared.{declared-kept, declared-shaped}
 use Rattle.accounting.proofs.Runs.{end-shape}
 use Rattle.accounting.proofs.Totals.{totals-stay}
-use Rattle.invariants.specs.Accounts.{AlikeBut, BalancesPrivate, LongIsShort, MarginWithinBalance, RestingAllowed, WithinBalance, accountNamed, entersOpen, isFrom, stateSeen}
+use Rattle.invariants.specs.Accounts.{AlikeBut, BalancesPrivate, LongIsShort, MarginWithinBalance, RestingAllowed, WithinBalance, entersOpen, isFrom, stateSeen}
 use Rattle.invariants.specs.Throughout.{Throughout}
 use Rattle.invariants.proofs.Clauses.{Sound}
 use Rattle.invariants.proofs.MarginWithin.{Keeps, change-opened, change-within, deposit-within, insert-within, phase-within, quote-within, removal-keeps, withdrawal-keeps, withdrawal-within}
@@ -64,7 +66,12 @@ module _ (x : Exchange) (k : Sound x) (shaped : Shaped x) where
   abbrev after : Command → Exchange
   after command = lastOf x (kindOf x command .effect .stages)
 
-  kind-opened : (command : Command) → codeOf x command ≡ 0 → entersOpen x command ≡ true → WithinBalance (after command) (placeOf (accountNamed command))
+  -- an accepted open's account, by the place that its number has
+  abbrev Opened : Command → Field → Type 0
+  Opened command unused = Unit {0}
+  Opened command (holds account) = WithinBalance (after command) (placeOf account)
+
+  kind-opened : (command : Command) → codeOf x command ≡ 0 → entersOpen x command ≡ true → Opened command (accountField command)
   unfolding codeOf kindOf
   kind-opened Malformed e o = absurd (false≢true o)
   kind-opened (Deposit account amount) e o = absurd (false≢true o)
@@ -101,11 +108,17 @@ module _ (x : Exchange) (k : Sound x) (shaped : Shaped x) where
   pub margin-within-balance : (command : Command) → MarginWithinBalance x command (step x command)
   unfolding step
   margin-within-balance command = record {
-    opened = λ o e. accepted e (placeOf (accountNamed command)) (kind-opened command e o);
+    opened = λ o e a n. accepted e a (named (accountField command) (kind-opened command e o) a n);
     withdrawn = λ account amount q e. accepted e (placeOf account) (kind-withdrawn command account amount q e);
     stays = λ n a l w. decided (λ d. WithinBalance (lastOf x (d .stages)) a) x command (λ e. kind-within command e n a l w) (λ e. w);
   }
     where
+      named : (f : Field) → Opened command f → (a : ℕ) → names f a ≡ true → WithinBalance (after command) a
+      named unused w a n = absurd (false≢true n)
+      named (holds account) w a n =
+          let e : placeOf account ≡ a = omega (arith, eqb-true account (a + 1) n) in
+          subst (WithinBalance (after command)) e w
+
       accepted : codeOf x command ≡ 0 → (a : ℕ) → WithinBalance (after command) a → WithinBalance (step x command) a
       accepted e a w = unfold step in decided (λ d. WithinBalance (lastOf x (d .stages)) a) x command (λ q. w) (λ q. absurd (q e))
 
@@ -138,7 +151,7 @@ within-until-settlement m d w (c ∷ cs) n a l h =
 
 module _ (seen : ℕ → Bool) where
   pub balances-private : (m n : Memory) → wellFormedMemory m ≡ true → wellFormedMemory n ≡ true → AlikeBut seen (exchangeOf m) (exchangeOf n) →
-      (command : Command) → isFrom seen command ≡ true → BalancesPrivate seen m n command
+      (command : Command) → isFrom seen (accountField command) ≡ true → BalancesPrivate seen m n command
   balances-private m n w v alike command e = record {
     answer = sym (answered m w) ∙ p .0 ∙ answered n v;
     after = ap (stateSeen seen) (read-back m command w) ∙ p .1 ∙ sym (ap (stateSeen seen) (read-back n command v));
@@ -152,11 +165,11 @@ module _ (seen : ℕ → Bool) where
 
   -- .. throughout a list of such commands: whatever came before, the next one gets the same answer
   pub private-throughout : (m n : Memory) → wellFormedMemory m ≡ true → wellFormedMemory n ≡ true → AlikeBut seen (exchangeOf m) (exchangeOf n) →
-      (before : List Command) → allOf (isFrom seen) before ≡ true → (command : Command) → isFrom seen command ≡ true →
+      (before : List Command) → allOf (λ c. isFrom seen (accountField c)) before ≡ true → (command : Command) → isFrom seen (accountField command) ≡ true →
       BalancesPrivate seen (run m before) (run n before) command
   unfolding run allOf
   private-throughout m n w v alike [] all command e = balances-private m n w v alike command e
   private-throughout m n w v alike (c ∷ cs) all command e =
-      let p = both-true (isFrom seen c) (allOf (isFrom seen) cs) all in
+      let p = both-true (isFrom seen (accountField c)) (allOf (λ c. isFrom seen (accountField c)) cs) all in
       private-throughout (respond m c .memory) (respond n c .memory) (memory-keeps m c w) (memory-keeps n c v)
       (balances-private m n w v alike c (p .0) .after) cs (p .1) command e

@@ -22,7 +22,9 @@ use Rattle.rules.specs.declared.Contract.{Contract}
 use Rattle.rules.specs.declared.NewOrder.{NewOrder}
 use Rattle.rules.specs.declared.Order.{Order}
 use Rattle.rules.specs.declared.Trade.{Trade}
+use Rattle.rules.proofs.Holdings.{other-holding}
 use Rattle.rules.proofs.LotsIncluded.{more-lots, no-lots}
+use Rattle.rules.proofs.Sweep.{ofContract}
 use Rattle.invariants.proofs.Clauses.{WellFormed}
 use Rattle.invariants.proofs.Insert.{account, accountsAfter, after, arrived, contractLimit, its-trades, kept-after, kept-before, lots-swept, mine, mineAfter, others, place, Before}
 use Rattle.invariants.proofs.InsertAccepted.{Given, Passes}
@@ -30,7 +32,6 @@ use Rattle.invariants.proofs.InsertListing.{contractAfter, own-is}
 use Rattle.invariants.proofs.Legs.{KeptAt, opensFor, resting-cons}
 use Rattle.invariants.proofs.Marks.{Marks}
 use Rattle.invariants.proofs.SweptHoldings.{Fewer}
-use Rattle.invariants.proofs.SweptTrades.{ofContract, other-holding}
 
 -- ---- a step in one contract: its listing is replaced, and trades in it are booked
 

@@ -40,6 +40,9 @@ pub mod ToldWhole
 pub mod Opening
 pub mod Condition3
 pub mod SameInUse
+pub mod OneOrder
+pub mod RestingOrders
+pub mod RunTouches
 pub mod Throughout
 pub mod SeenBalances
 pub mod AccountLaws

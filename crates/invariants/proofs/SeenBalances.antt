@@ -16,6 +16,7 @@ use Rattle.rules.specs.Answers.{Refusal, _when_, amountRefused, notContinuous, 
 use Rattle.rules.specs.Auction.{matchOf}
 use Rattle.rules.specs.Bounds.{maxBalance}
 use Rattle.rules.specs.Change.{Asked, arriving, asked, changeRefusals, changed, gone, isSell, losesPlace, newFieldsRefusals, oldOrder, placeKept, placeLost, reentered, reentryRefusals, unchanged}
+use Rattle.rules.specs.Command.{accountField}
 use Rattle.rules.specs.Exchange.{Exchange, Listing, absent, accountAt, contractAt, holderAt, holdingAt, isAbsent, listingAt, listingNamed, noAccount, noHolding, placeOf, resting}
 use Rattle.rules.specs.Holdings.{afterLeg, bookBuyer, bookLeg, bookTrade, bookTrades, withHolding}
 use Rattle.rules.specs.Kinds.{codeOf, decide, done, kindOf, lastOf, refused, step}
@@ -440,7 +441,7 @@ module _ (seen : ℕ → Bool) where
 
   -- ---- every kind
 
-  same-seen : (x : Exchange) (command : Command) → isFrom seen command ≡ true → SameSeen seen x command
+  same-seen : (x : Exchange) (command : Command) → isFrom seen (accountField command) ≡ true → SameSeen seen x command
   unfolding kindOf
   same-seen x Malformed e = record { refusals = refl; answer = refl; left = state-twice seen x }
   same-seen x (Deposit account amount) e = same-deposit x account amount e
@@ -458,7 +459,7 @@ module _ (seen : ℕ → Bool) where
       record { refusals = change-refusals x k e; answer = change-same x k e .0; left = change-same x k e .1 }
 
   -- A COMMAND ANSWERS THE SAME where balances not its own account's are blotted out, AND LEAVES THE SAME, those aside
-  module _ (x : Exchange) (command : Command) (e : isFrom seen command ≡ true) where
+  module _ (x : Exchange) (command : Command) (e : isFrom seen (accountField command) ≡ true) where
     abbrev Decided : Bool → ℕ → Type 0
     Decided accepted code =
         (pick accepted (done (kindOf (stateSeen seen x) command .effect)) (refused code) .answer ≡ pick accepted (done (kindOf x command .effect)) (refused code) .answer)
@@ -475,7 +476,7 @@ module _ (seen : ℕ → Bool) where
         by-acceptance false code = (refl, state-twice seen x)
 
   -- so it is in two states that differ in such balances alone
-  pub decided-alike : (x y : Exchange) → AlikeBut seen x y → (command : Command) → isFrom seen command ≡ true →
+  pub decided-alike : (x y : Exchange) → AlikeBut seen x y → (command : Command) → isFrom seen (accountField command) ≡ true →
       (decide x command .answer ≡ decide y command .answer) × AlikeBut seen (step x command) (step y command)
   decided-alike x y alike command e =
       let p = decided-seen x command e in

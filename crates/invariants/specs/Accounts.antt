@@ -1,6 +1,6 @@
 -- WHAT AN ACCOUNT MAY RELY ON: the words of laws 14 to 16 (docs/RULES.md, "What follows from the rules"), a record each. Their theorems
 -- stand in proofs/AccountLaws. Assumes nothing.
-use mathlib.Core.Bool.{Bool, true, false, not, _&&_, _||_}
+use mathlib.Core.Bool.{Bool, true, false, not, _&&_}
 use mathlib.Core.List.{List, [], _∷_}
 use mathlib.Core.Path.{_≡_}
 use Prim.Native.Nat.{ℕ, suc, _+_, _<_, _≤_}
@@ -10,42 +10,17 @@ use lib.ListN.{length}
 use lib.Signed.{leZ}
 use Rattle.laws.specs.Choice.{pick}
 use Rattle.rules.specs.Change.{asked, losesPlace, oldOrder}
-use Rattle.rules.specs.Command.{isSettle}
+use Rattle.rules.specs.Command.{Field, unused, holds, accountField, isSettle}
 use Rattle.rules.specs.Condition3.{contractsOf, holdingIn, Loaded, Opening, TotalsEqual}
 use Rattle.rules.specs.Exchange.{Exchange, contractAt, holderAt, listingAt, own, placeOf, restingCloses, restingOpens}
 use Rattle.rules.specs.Kinds.{codeOf}
 use Rattle.rules.specs.Margin.{charged}
 use Rattle.rules.specs.Memory.{Memory, exchangeOf, respond}
 use Rattle.rules.specs.Step.{withBalance}
+use Rattle.rules.specs.Touches.{names}
 use Rattle.rules.specs.declared.Account.{Account}
 use Rattle.rules.specs.declared.Command.{Command}
 use Rattle.rules.specs.declared.Command.the-variants.{Malformed, Deposit, Withdraw, Insert, Cancel, Pull, Phase, Settle, Quote, Change}
-
--- the number in a command's account field, 0 where it has none
-abbrev pub accountNamed : Command → ℕ
-accountNamed Malformed = 0
-accountNamed (Deposit account amount) = account
-accountNamed (Withdraw account amount) = account
-accountNamed (Insert o) = o .account
-accountNamed (Cancel account contract operator number) = account
-accountNamed (Pull account contract operator) = account
-accountNamed (Phase contract phase) = 0
-accountNamed Settle = 0
-accountNamed (Quote account contract lots buy sell) = account
-accountNamed (Change account contract number lots price) = account
-
--- it has such a field
-abbrev pub namesAccount : Command → Bool
-namesAccount Malformed = false
-namesAccount (Deposit account amount) = true
-namesAccount (Withdraw account amount) = true
-namesAccount (Insert o) = true
-namesAccount (Cancel account contract operator number) = true
-namesAccount (Pull account contract operator) = true
-namesAccount (Phase contract phase) = false
-namesAccount Settle = false
-namesAccount (Quote account contract lots buy sell) = true
-namesAccount (Change account contract number lots price) = true
 
 -- ---- 14. LONG LOTS ARE SHORT LOTS, AND WHAT RESTS IS ALLOWED: m is the memory before some commands, m′ the one they leave
 
@@ -89,7 +64,7 @@ entersOpen x (Change account contract number lots price) =
 -- y is the state that the command leaves of x
 pub record MarginWithinBalance (x : Exchange) (command : Command) (y : Exchange) : Type 0 where
   -- After an accepted open all charged margin of its account is within its balance: an insert's, a quote's, a changed order's.
-  pub opened : entersOpen x command ≡ true → codeOf x command ≡ 0 → WithinBalance y (placeOf (accountNamed command))
+  pub opened : entersOpen x command ≡ true → codeOf x command ≡ 0 → (a : ℕ) → names (accountField command) a ≡ true → WithinBalance y a
   -- A withdrawal never brings the balance below what is charged.
   pub withdrawn : (account amount : ℕ) → command ≡ Withdraw account amount → codeOf x command ≡ 0 → WithinBalance y (placeOf account)
   -- Once within its balance an account stays so, whatever anybody does, until a settlement.
@@ -117,9 +92,10 @@ stateSeen seen x =
 abbrev pub AlikeBut : (ℕ → Bool) → Exchange → Exchange → Type 0
 AlikeBut seen x y = stateSeen seen x ≡ stateSeen seen y
 
--- the command is of an account whose balance is seen, or names none
-abbrev pub isFrom : (ℕ → Bool) → Command → Bool
-isFrom seen command = not (namesAccount command) || seen (placeOf (accountNamed command))
+-- the command is of an account whose balance is seen, or of none
+abbrev pub isFrom : (ℕ → Bool) → Field → Bool
+isFrom seen unused = true
+isFrom seen (holds number) = seen (placeOf number)
 
 -- m and n are well formed and differ in balances not seen alone: of one account, λ a. eqb a account sees its own
 pub record BalancesPrivate (seen : ℕ → Bool) (m n : Memory) (command : Command) : Type 0 where
