@@ -1,37 +1,35 @@
 -- WHAT AN ACCOUNT MAY RELY ON: the theorems of specs/Accounts, of one command by the rules, and of the memory that a call or a run of
 -- commands leaves. Assumes nothing.
-use mathlib.Core.Bool.{Bool, true, false, not, true≢false, false≢true}
+use mathlib.Core.Bool.{Bool, true, false, not, false≢true}
 use mathlib.Core.List.{List, [], _∷_}
 use mathlib.Core.Path.{_≡_, refl, sym, ap, subst, subst⁻¹, _∙_}
 use Prim.Native.Nat.{ℕ, _+_, _<_}
 use native.Mathlib.Omega.{arith}
 use borrow.Author.Tests.{eqb-true, not-true}
-use lib.ListN.{length}
-use Rattle.laws.specs.Choice.{allOf, both-true}
-use Rattle.rules.specs.Change.{asked}
+use lib.Dec.{eqb}
+use Rattle.laws.specs.Choice.{pick, allOf, both-true}
 use Rattle.rules.specs.Command.{Field, unused, holds, accountField, isSettle}
 use Rattle.rules.specs.Condition3.{accountsOf, contractsOf, run}
 use Rattle.rules.specs.Exchange.{Exchange, placeOf}
-use Rattle.rules.specs.Kinds.{codeOf, decide, kindOf, lastOf, step}
+use Rattle.rules.specs.Answers.{firstOf}
+use Rattle.rules.specs.Kinds.{codeOf, decide, done, kindOf, lastOf, refused, step}
 use Rattle.rules.specs.Memory.{Memory, Declared, exchangeOf, respond, stepIn, wellFormedMemory}
-use Rattle.rules.specs.Quote.{offered}
-use Rattle.rules.specs.Step.{cancelled, hasNumber, isOf, pulled}
 use Rattle.rules.specs.Touches.{names}
 use Rattle.rules.specs.declared.Command.{Command}
-use Rattle.rules.specs.declared.Command.the-variants.{Malformed, Deposit, Withdraw, Insert, Cancel, Pull, Phase, Settle, Quote, Change}
+use Rattle.rules.specs.declared.Command.the-variants.{Withdraw}
 use Rattle.rules.proofs.Stages.{decided}
 use Rattle.accounting.specs.Shape.{Shaped}
 use Rattle.accounting.proofs.Condition3.{opening-loaded}
 use Rattle.accounting.proofs.Declared.{declared-kept, declared-shaped}
 use Rattle.accounting.proofs.Runs.{end-shape}
 use Rattle.accounting.proofs.Totals.{totals-stay}
-use Rattle.invariants.specs.Accounts.{AlikeBut, BalancesPrivate, LongIsShort, MarginWithinBalance, RestingAllowed, WithinBalance, entersOpen, isFrom, stateSeen}
+use Rattle.invariants.specs.Accounts.{AlikeBut, BalancesPrivate, LongIsShort, MarginWithinBalance, RestingAllowed, WithinBalance, isFrom, stateSeen}
 use Rattle.invariants.specs.Throughout.{Throughout}
 use Rattle.invariants.proofs.Clauses.{Sound}
-use Rattle.invariants.proofs.MarginWithin.{Keeps, change-opened, change-within, deposit-within, insert-within, phase-within, quote-within, removal-keeps, withdrawal-keeps, withdrawal-within}
+use Rattle.invariants.proofs.EachKind.{Opened, kind-opened, kind-within, leftBy, same-seen}
+use Rattle.invariants.proofs.MarginWithin.{withdrawal-within}
 use Rattle.invariants.proofs.MemoryKeeps.{memory-keeps, read-back, run-keeps, sound}
-use Rattle.invariants.proofs.Removal.{cancel-there, pull-there}
-use Rattle.invariants.proofs.SeenBalances.{decided-alike}
+use Rattle.invariants.proofs.SeenBalances.{state-twice}
 use Rattle.invariants.proofs.Throughout.{of-call}
 
 -- ---- 14. IN EACH CONTRACT ALL LONG LOTS EQUAL ALL SHORT LOTS
@@ -63,63 +61,25 @@ resting-allowed m w cs = resting-now (run m cs) (run-keeps m cs w)
 -- ---- 15. ALL CHARGED MARGIN IS WITHIN THE BALANCE
 
 module _ (x : Exchange) (k : Sound x) (shaped : Shaped x) where
-  abbrev after : Command → Exchange
-  after command = lastOf x (kindOf x command .effect .stages)
-
-  -- an accepted open's account, by the place that its number has
-  abbrev Opened : Command → Field → Type 0
-  Opened command unused = Unit {0}
-  Opened command (holds account) = WithinBalance (after command) (placeOf account)
-
-  kind-opened : (command : Command) → codeOf x command ≡ 0 → entersOpen x command ≡ true → Opened command (accountField command)
-  unfolding codeOf kindOf
-  kind-opened Malformed e o = absurd (false≢true o)
-  kind-opened (Deposit account amount) e o = absurd (false≢true o)
-  kind-opened (Withdraw account amount) e o = absurd (false≢true o)
-  kind-opened (Insert order) e o = insert-within x (k .contents) shaped order e .0 (not-true (order .close) o)
-  kind-opened (Cancel account contract operator number) e o = absurd (false≢true o)
-  kind-opened (Pull account contract operator) e o = absurd (false≢true o)
-  kind-opened (Phase contract phase) e o = absurd (false≢true o)
-  kind-opened Settle e o = absurd (false≢true o)
-  kind-opened (Quote account contract lots buy sell) e o = quote-within x (k .contents) shaped (offered account contract lots buy sell) e .0
-  kind-opened (Change account contract number lots price) e o =
-      let q = both-true _ _ o in
-      change-opened x (k .contents) shaped (asked account contract number lots price) e (k .counts) (q .0) (q .1)
-
-  kind-within : (command : Command) → codeOf x command ≡ 0 → isSettle command ≡ false → (a : ℕ) → a < length (x .accounts) → Keeps x (after command) a
-  unfolding codeOf kindOf cancelled pulled
-  kind-within Malformed e n a l = λ w. w
-  kind-within (Deposit account amount) e n a l = deposit-within x account amount e a
-  kind-within (Withdraw account amount) e n a l = withdrawal-keeps x account amount e a
-  kind-within (Insert order) e n a l = insert-within x (k .contents) shaped order e .1 a l
-  kind-within (Cancel account contract operator number) e n a l =
-      removal-keeps x (placeOf contract) (cancel-there x account contract operator number e) a (hasNumber number) number
-  kind-within (Pull account contract operator) e n a l =
-      removal-keeps x (placeOf contract) (pull-there x account contract operator e) a (isOf (placeOf account)) 0
-  kind-within (Phase contract phase) e n a l = phase-within x (k .contents) contract phase e a l
-  kind-within Settle e n a l = absurd (true≢false n)
-  kind-within (Quote account contract lots buy sell) e n a l = quote-within x (k .contents) shaped (offered account contract lots buy sell) e .1 a l
-  kind-within (Change account contract number lots price) e n a l = change-within x (k .contents) shaped (asked account contract number lots price) e (k .counts) a l
-
-  kind-withdrawn : (command : Command) (account amount : ℕ) → command ≡ Withdraw account amount → codeOf x command ≡ 0 → WithinBalance (after command) (placeOf account)
+  kind-withdrawn : (command : Command) (account amount : ℕ) → command ≡ Withdraw account amount → codeOf x command ≡ 0 → WithinBalance (leftBy x command) (placeOf account)
   unfolding codeOf kindOf
   kind-withdrawn command account amount q e = rw q (withdrawal-within x account amount (rw q at e))
 
   pub margin-within-balance : (command : Command) → MarginWithinBalance x command (step x command)
   unfolding step
   margin-within-balance command = record {
-    opened = λ o e a n. accepted e a (named (accountField command) (kind-opened command e o) a n);
+    opened = λ o e a n. accepted e a (named (accountField command) (kind-opened x k shaped command e o) a n);
     withdrawn = λ account amount q e. accepted e (placeOf account) (kind-withdrawn command account amount q e);
-    stays = λ n a l w. decided (λ d. WithinBalance (lastOf x (d .stages)) a) x command (λ e. kind-within command e n a l w) (λ e. w);
+    stays = λ n a l w. decided (λ d. WithinBalance (lastOf x (d .stages)) a) x command (λ e. kind-within x k shaped command e n a l w) (λ e. w);
   }
     where
-      named : (f : Field) → Opened command f → (a : ℕ) → names f a ≡ true → WithinBalance (after command) a
+      named : (f : Field) → Opened x k shaped command f → (a : ℕ) → names f a ≡ true → WithinBalance (leftBy x command) a
       named unused w a n = absurd (false≢true n)
       named (holds account) w a n =
           let e : placeOf account ≡ a = omega (arith, eqb-true account (a + 1) n) in
-          subst (WithinBalance (after command)) e w
+          subst (WithinBalance (leftBy x command)) e w
 
-      accepted : codeOf x command ≡ 0 → (a : ℕ) → WithinBalance (after command) a → WithinBalance (step x command) a
+      accepted : codeOf x command ≡ 0 → (a : ℕ) → WithinBalance (leftBy x command) a → WithinBalance (step x command) a
       accepted e a w = unfold step in decided (λ d. WithinBalance (lastOf x (d .stages)) a) x command (λ q. w) (λ q. absurd (q e))
 
 -- .. and so of the memory that a call leaves, where it is the rules'
@@ -150,6 +110,33 @@ within-until-settlement m d w (c ∷ cs) n a l h =
 -- ---- 16. BALANCES ARE PRIVATE
 
 module _ (seen : ℕ → Bool) where
+  -- A COMMAND ANSWERS THE SAME where balances not its own account's are blotted out, AND LEAVES THE SAME, those aside
+  module _ (x : Exchange) (command : Command) (e : isFrom seen (accountField command) ≡ true) where
+    abbrev Decided : Bool → ℕ → Type 0
+    Decided accepted code =
+        (pick accepted (done (kindOf (stateSeen seen x) command .effect)) (refused code) .answer ≡ pick accepted (done (kindOf x command .effect)) (refused code) .answer)
+        × (stateSeen seen (lastOf (stateSeen seen x) (pick accepted (done (kindOf (stateSeen seen x) command .effect)) (refused code) .stages))
+        ≡ stateSeen seen (lastOf x (pick accepted (done (kindOf x command .effect)) (refused code) .stages)))
+
+    decided-seen : (decide (stateSeen seen x) command .answer ≡ decide x command .answer) × (stateSeen seen (step (stateSeen seen x) command) ≡ stateSeen seen (step x command))
+    unfolding step decide codeOf
+    decided-seen =
+        rw (same-seen seen x command e .refusals) (by-acceptance (eqb (firstOf (kindOf x command .refusals)) 0) (firstOf (kindOf x command .refusals)))
+      where
+        by-acceptance : (accepted : Bool) (code : ℕ) → Decided accepted code
+        by-acceptance true code = (same-seen seen x command e .answer, same-seen seen x command e .left)
+        by-acceptance false code = (refl, state-twice seen x)
+
+  -- so it is in two states that differ in such balances alone
+  decided-alike : (x y : Exchange) → AlikeBut seen x y → (command : Command) → isFrom seen (accountField command) ≡ true →
+      (decide x command .answer ≡ decide y command .answer) × AlikeBut seen (step x command) (step y command)
+  decided-alike x y alike command e =
+      let p = decided-seen x command e in
+      let q = decided-seen y command e in (
+        sym (p .0) ∙ ap (λ (z : Exchange). decide z command .answer) alike ∙ q .0,
+        sym (p .1) ∙ ap (λ (z : Exchange). stateSeen seen (step z command)) alike ∙ q .1,
+      )
+
   pub balances-private : (m n : Memory) → wellFormedMemory m ≡ true → wellFormedMemory n ≡ true → AlikeBut seen (exchangeOf m) (exchangeOf n) →
       (command : Command) → isFrom seen (accountField command) ≡ true → BalancesPrivate seen m n command
   balances-private m n w v alike command e = record {
@@ -158,7 +145,7 @@ module _ (seen : ℕ → Bool) where
   }
     where
       p : (decide (exchangeOf m) command .answer ≡ decide (exchangeOf n) command .answer) × AlikeBut seen (step (exchangeOf m) command) (step (exchangeOf n) command)
-      p = decided-alike seen (exchangeOf m) (exchangeOf n) alike command e
+      p = decided-alike (exchangeOf m) (exchangeOf n) alike command e
 
       answered : (k : Memory) → wellFormedMemory k ≡ true → decide (exchangeOf k) command .answer ≡ respond k command .answer
       answered k w = unfold respond stepIn in (rw w refl)

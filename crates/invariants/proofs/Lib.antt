@@ -30,6 +30,7 @@ pub mod QuoteAsOrders
 pub mod Makers
 pub mod Stamps
 pub mod MarginWithin
+pub mod SeenBalances
 pub mod EachKind
 pub mod MemoryRoom
 pub mod MemoryLaws
@@ -44,5 +45,4 @@ pub mod OneOrder
 pub mod RestingOrders
 pub mod RunTouches
 pub mod Throughout
-pub mod SeenBalances
 pub mod AccountLaws

@@ -283,16 +283,18 @@ module _ (x : Exchange) (k : WellFormed x) (shaped : Shaped x) (q : Offered) (e 
       let g = quote.sell-given x k q here listed maker (codes .0) (codes .1) in
       let p = quote.sell-passes x k q here listed maker (codes .0) (codes .1) in
       let z = quote.sell-marks x k q here listed maker (codes .0) (codes .1) in
-      let money = paid-for buys (sellOf q) (codes .1) in
-      (entered-within buys k′ buys-shaped (buys .next) 1 (buys .next + 1) g (sellOf q) p z money,
-      open-within buys k′ buys-shaped (buys .next) 1 (buys .next + 1) g (sellOf q) p z money refl)
+      let money = paid-for buys (sellOf q) (codes .1) in (
+        entered-within buys k′ buys-shaped (buys .next) 1 (buys .next + 1) g (sellOf q) p z money,
+        open-within buys k′ buys-shaped (buys .next) 1 (buys .next + 1) g (sellOf q) p z money refl,
+      )
 
   pub quote-within : WithinBalance (lastOf x (quoted x q .stages)) (placeOf (q .account)) × ((a : ℕ) → a < length (x .accounts) → Keeps x (lastOf x (quoted x q .stages)) a)
   unfolding quoted
-  quote-within =
-      (sell-keeps .1,
-      λ a l w. sell-keeps .0 a (rw (quote.buy-accounts x k q here listed maker (codes .0)) l)
-      (buy-keeps a (rw (quote.gone-accounts x k q here listed) l) (empty-keeps a w)))
+  quote-within = (
+    sell-keeps .1,
+    λ a l w. sell-keeps .0 a (rw (quote.buy-accounts x k q here listed maker (codes .0)) l)
+        (buy-keeps a (rw (quote.gone-accounts x k q here listed) l) (empty-keeps a w)),
+  )
 
 -- ---- a change of a resting order
 
@@ -317,9 +319,10 @@ module _ (x : Exchange) (k : WellFormed x) (shaped : Shaped x) (c : Asked) (e : 
         let g = change.given x k c e in
         let p = change.passes x k c e lost n in
         let z = change.no-mark-left x k c e lost n in
-        let money = change.reentry-passed x k c e lost .1 .0 in
-        (λ o. open-within (gone x c) k′ gone-shaped (c .number) 0 (x .next) g (arriving x c) p z money (not-true _ o),
-        λ a l w. entered-within (gone x c) k′ gone-shaped (c .number) 0 (x .next) g (arriving x c) p z money a l (gone-within a w))
+        let money = change.reentry-passed x k c e lost .1 .0 in (
+          λ o. open-within (gone x c) k′ gone-shaped (c .number) 0 (x .next) g (arriving x c) p z money (not-true _ o),
+          λ a l w. entered-within (gone x c) k′ gone-shaped (c .number) 0 (x .next) g (arriving x c) p z money a l (gone-within a w),
+        )
 
   pub change-opened : losesPlace x c ≡ true → not (eqb (oldOrder x c .close) 1) ≡ true → WithinBalance (lastOf x (changed x c .stages)) (placeOf (c .account))
   change-opened lost o =

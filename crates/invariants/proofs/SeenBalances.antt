@@ -12,28 +12,27 @@ use lib.Signed.{ltZ}
 use Rattle.laws.specs.Choice.{pick, pick-same}
 use Rattle.laws.specs.Sums.{sumTo-ext}
 use Rattle.laws.specs.Tabulate.{tabulate}
-use Rattle.rules.specs.Answers.{Refusal, _when_, amountRefused, notContinuous, removalRefused, stampsUsedUp, takesOrders, bookRefusals, cancelRefusals, conditionsRefused, depositRefusals, fieldsRefusals, fillableLots, firstOf, holdingRefused, insertRefusals, leavesTooLittle, liftsTooHigh, listingOf, lotsRefused, mark, moneyRefused, namedRefusals, orderRefusals, ownQueue, ownerRefusals, restingOrder, phaseRefusals, pullRefusals, settleRefusals, takerOf, tradesNeeded, tradesRefused, withdrawRefusals}
+use Rattle.rules.specs.Answers.{Refusal, _when_, amountRefused, notContinuous, removalRefused, stampsUsedUp, takesOrders, bookRefusals, cancelRefusals, conditionsRefused, depositRefusals, fieldsRefusals, fillableLots, holdingRefused, insertRefusals, leavesTooLittle, liftsTooHigh, listingOf, lotsRefused, mark, moneyRefused, namedRefusals, orderRefusals, ownQueue, ownerRefusals, restingOrder, phaseRefusals, pullRefusals, settleRefusals, takerOf, tradesNeeded, tradesRefused, withdrawRefusals}
 use Rattle.rules.specs.Auction.{matchOf}
 use Rattle.rules.specs.Bounds.{maxBalance}
-use Rattle.rules.specs.Change.{Asked, arriving, asked, changeRefusals, changed, gone, isSell, losesPlace, newFieldsRefusals, oldOrder, placeKept, placeLost, reentered, reentryRefusals, unchanged}
-use Rattle.rules.specs.Command.{accountField}
+use Rattle.rules.specs.Change.{Asked, arriving, changeRefusals, changed, gone, isSell, losesPlace, newFieldsRefusals, oldOrder, placeKept, placeLost, reentered, reentryRefusals, unchanged}
 use Rattle.rules.specs.Exchange.{Exchange, Listing, absent, accountAt, contractAt, holderAt, holdingAt, isAbsent, listingAt, listingNamed, noAccount, noHolding, placeOf, resting}
 use Rattle.rules.specs.Holdings.{afterLeg, bookBuyer, bookLeg, bookTrade, bookTrades, withHolding}
-use Rattle.rules.specs.Kinds.{codeOf, decide, done, kindOf, lastOf, refused, step}
+use Rattle.rules.specs.Kinds.{done, kindOf, lastOf}
 use Rattle.rules.specs.Margin.{charge, charged, chargedLots, chargedTo, chargedWith, withOpen}
 use Rattle.rules.specs.Matching.{Entered, tradedLots}
-use Rattle.rules.specs.Quote.{Offered, afterMarked, buyOf, enteredMarked, half, offered, quoteRefusals, quoted, sellOf, withBuy, withSell, withoutQuote}
+use Rattle.rules.specs.Quote.{Offered, afterMarked, buyOf, enteredMarked, half, quoteRefusals, quoted, sellOf, withBuy, withSell, withoutQuote}
 use Rattle.rules.specs.Settlement.{Day, afterLegs, carriedHolding, closingProfit, dayOf, dayStart, holdingGain, holdingProfit, legs, settled, settledAccount, settledListing, settlementPrice}
 use Rattle.rules.specs.Step.{Effect, answerOf, cancelled, deposited, enteredOf, exchangeAfter, exchangeMatched, hasNumber, inserted, isOf, listingAfter, paid, phaseChanged, pulled, removed, settledAll, withBalance, withTrades, withdrawn}
 use Rattle.rules.specs.declared.Account.{Account}
 use Rattle.rules.specs.declared.Command.{Command}
-use Rattle.rules.specs.declared.Command.the-variants.{Malformed, Deposit, Withdraw, Insert, Cancel, Pull, Phase, Settle, Quote, Change}
+use Rattle.rules.specs.declared.Command.the-variants.{Deposit, Withdraw, Insert, Cancel, Pull, Phase, Settle}
 use Rattle.rules.specs.declared.Contract.{Contract}
 use Rattle.rules.specs.declared.Holding.{Holding}
 use Rattle.rules.specs.declared.NewOrder.{NewOrder}
 use Rattle.rules.specs.declared.Order.{Order}
 use Rattle.rules.specs.declared.Trade.{Trade}
-use Rattle.invariants.specs.Accounts.{AlikeBut, accountsSeen, isFrom, stateSeen}
+use Rattle.invariants.specs.Accounts.{accountsSeen, stateSeen}
 
 -- ---- accounts
 
@@ -118,7 +117,7 @@ abbrev withAccounts : Exchange → List Account → Exchange
 withAccounts x l = record { listings = x .listings; accounts = l; trades = x .trades; next = x .next; nextstamp = x .nextstamp; settlements = x .settlements }
 
 module _ (seen : ℕ → Bool) where
-  state-twice : (x : Exchange) → stateSeen seen (stateSeen seen x) ≡ stateSeen seen x
+  pub state-twice : (x : Exchange) → stateSeen seen (stateSeen seen x) ≡ stateSeen seen x
   unfolding stateSeen
   state-twice x = rw (seen-twice seen (x .accounts)) refl
 
@@ -224,10 +223,10 @@ tabulated seen (suc n) f g e = ap₂ (λ (a : Account) (l : List Account). a ∷
 -- ---- what each kind answers and leaves
 
 -- a kind's refusals and answer are the same, and so is the state that it leaves, balances not seen aside
-record SameSeen (seen : ℕ → Bool) (x : Exchange) (command : Command) : Type 0 where
-  refusals : kindOf (stateSeen seen x) command .refusals ≡ kindOf x command .refusals
-  answer : done (kindOf (stateSeen seen x) command .effect) .answer ≡ done (kindOf x command .effect) .answer
-  left : stateSeen seen (lastOf (stateSeen seen x) (kindOf (stateSeen seen x) command .effect .stages)) ≡ stateSeen seen (lastOf x (kindOf x command .effect .stages))
+pub record SameSeen (seen : ℕ → Bool) (x : Exchange) (command : Command) : Type 0 where
+  pub refusals : kindOf (stateSeen seen x) command .refusals ≡ kindOf x command .refusals
+  pub answer : done (kindOf (stateSeen seen x) command .effect) .answer ≡ done (kindOf x command .effect) .answer
+  pub left : stateSeen seen (lastOf (stateSeen seen x) (kindOf (stateSeen seen x) command .effect .stages)) ≡ stateSeen seen (lastOf x (kindOf x command .effect .stages))
 
 module _ (seen : ℕ → Bool) where
   -- a state that is the other as it is seen
@@ -248,7 +247,7 @@ module _ (seen : ℕ → Bool) where
     unfolding stateSeen
     seen-balance account e = ap (λ (k : Account). k .balance) (seen-own seen (x .accounts) (placeOf account) e)
 
-    same-deposit : (account amount : ℕ) → seen (placeOf account) ≡ true → SameSeen seen x (Deposit account amount)
+    pub same-deposit : (account amount : ℕ) → seen (placeOf account) ≡ true → SameSeen seen x (Deposit account amount)
     unfolding kindOf deposited depositRefusals liftsTooHigh
     same-deposit account amount e = record {
       refusals =
@@ -259,7 +258,7 @@ module _ (seen : ℕ → Bool) where
           (ap (λ (b : ℤ). paid (stateSeen seen x) (placeOf account) (b +ℤ pos amount)) (seen-balance account e) ∙ seen-paid seen x (placeOf account) _ e);
     }
 
-    same-withdraw : (account amount : ℕ) → seen (placeOf account) ≡ true → SameSeen seen x (Withdraw account amount)
+    pub same-withdraw : (account amount : ℕ) → seen (placeOf account) ≡ true → SameSeen seen x (Withdraw account amount)
     unfolding kindOf withdrawn withdrawRefusals leavesTooLittle
     same-withdraw account amount e = record {
       refusals =
@@ -274,7 +273,7 @@ module _ (seen : ℕ → Bool) where
         all-charged : (a : ℕ) → charged (stateSeen seen x) a ≡ charged x a
         all-charged a = unfold stateSeen in seen-charged seen x a (length (x .listings))
 
-    same-insert : (o : NewOrder) → seen (placeOf (o .account)) ≡ true → SameSeen seen x (Insert o)
+    pub same-insert : (o : NewOrder) → seen (placeOf (o .account)) ≡ true → SameSeen seen x (Insert o)
     unfolding kindOf inserted insertRefusals stateSeen enteredOf takerOf listingOf listingAt
     same-insert o e = record {
       refusals = ap₂ (λ (rs ss : List Refusal). rs ++ ss) (seen-named (λ c. not (takesOrders c)) (o .account) (o .contract)) (seen-order seen x o e);
@@ -288,7 +287,7 @@ module _ (seen : ℕ → Bool) where
     unfolding removed stateSeen listingAt
     same-removal c test number = (refl, state-twice seen (lastOf x (removed x c test number .stages)))
 
-    same-cancel : (account contract : ℕ) (operator : Bool) (number : ℕ) → SameSeen seen x (Cancel account contract operator number)
+    pub same-cancel : (account contract : ℕ) (operator : Bool) (number : ℕ) → SameSeen seen x (Cancel account contract operator number)
     unfolding kindOf cancelled cancelRefusals stateSeen listingAt
     same-cancel account contract operator number = record {
       refusals =
@@ -297,7 +296,7 @@ module _ (seen : ℕ → Bool) where
       left = same-removal (placeOf contract) (hasNumber number) number .1;
     }
 
-    same-pull : (account contract : ℕ) (operator : Bool) → SameSeen seen x (Pull account contract operator)
+    pub same-pull : (account contract : ℕ) (operator : Bool) → SameSeen seen x (Pull account contract operator)
     unfolding kindOf pulled pullRefusals
     same-pull account contract operator = record {
       refusals = seen-named (λ c. removalRefused c operator) account contract;
@@ -305,7 +304,7 @@ module _ (seen : ℕ → Bool) where
       left = same-removal (placeOf contract) (isOf (placeOf account)) 0 .1;
     }
 
-    same-phase : (contract phase : ℕ) → SameSeen seen x (Phase contract phase)
+    pub same-phase : (contract phase : ℕ) → SameSeen seen x (Phase contract phase)
     unfolding kindOf phaseChanged phaseRefusals exchangeMatched matchOf stateSeen listingAt
     same-phase contract phase = record {
       refusals = refl;
@@ -313,7 +312,7 @@ module _ (seen : ℕ → Bool) where
       left = as-left (exchangeMatched x (placeOf contract) phase (matchOf x (placeOf contract))) _ (seen-traded seen x (placeOf contract) _ _ (x .next) (x .nextstamp));
     }
 
-    same-settle : SameSeen seen x Settle
+    pub same-settle : SameSeen seen x Settle
     unfolding kindOf settledAll settleRefusals settled stateSeen settledListing settlementPrice listingAt
     same-settle = record {
       refusals = refl;
@@ -352,7 +351,7 @@ module _ (seen : ℕ → Bool) where
     unfolding stateSeen enteredOf takerOf listingOf listingAt
     entered-as y z same o = ap (λ (u : Exchange). enteredMarked u o) same
 
-    quote-refusals : quoteRefusals (stateSeen seen x) q ≡ quoteRefusals x q
+    pub quote-refusals : quoteRefusals (stateSeen seen x) q ≡ quoteRefusals x q
     unfolding quoteRefusals
     quote-refusals =
         ap₂ (λ (rs : List Refusal) (m : ℕ). parts rs m (orderRefusals (withoutQuote (stateSeen seen x) q) (buyOf q)) (orderRefusals (withBuy (stateSeen seen x) q) (sellOf q)))
@@ -366,20 +365,20 @@ module _ (seen : ℕ → Bool) where
         maker : holderAt (stateSeen seen x) (placeOf (q .account)) .maker ≡ holderAt x (placeOf (q .account)) .maker
         maker = unfold stateSeen in seen-kept seen (x .accounts) (λ m hs. m) (placeOf (q .account))
 
-    quote-answer : done (quoted (stateSeen seen x) q) .answer ≡ done (quoted x q) .answer
+    pub quote-answer : done (quoted (stateSeen seen x) q) .answer ≡ done (quoted x q) .answer
     unfolding quoted stateSeen
     quote-answer =
         ap₂ (λ (b s : Entered). answerOf 0 (x .next) (tradedLots (b .trades) + tradedLots (s .trades)) (b .rested + s .rested))
         (entered-as (withoutQuote (stateSeen seen x) q) (withoutQuote x q) empty-seen (buyOf q)) (entered-as (withBuy (stateSeen seen x) q) (withBuy x q) buy-seen (sellOf q))
 
-    quote-left : stateSeen seen (lastOf (stateSeen seen x) (quoted (stateSeen seen x) q .stages)) ≡ stateSeen seen (lastOf x (quoted x q .stages))
+    pub quote-left : stateSeen seen (lastOf (stateSeen seen x) (quoted (stateSeen seen x) q .stages)) ≡ stateSeen seen (lastOf x (quoted x q .stages))
     unfolding quoted
     quote-left = as-left (withSell x q) (withSell (stateSeen seen x) q) sell-seen
 
   -- ---- a change
 
   module _ (x : Exchange) (k : Asked) (e : seen (placeOf (k .account)) ≡ true) where
-    abbrev shown : Exchange
+    abbrev pub shown : Exchange
     shown = stateSeen seen x
 
     gone-seen : gone shown k ≡ stateSeen seen (gone x k)
@@ -403,7 +402,7 @@ module _ (seen : ℕ → Bool) where
     reentry-seen y o own =
         ap₂ (λ (h m : Bool). ((8 when h) ∷ (9 when m) ∷ []) ++ ((10 when stampsUsedUp y) ∷ (12 when tradesRefused y (k .number) o) ∷ [])) (seen-held seen y o) (seen-money seen y o own)
 
-    change-refusals : changeRefusals shown k ≡ changeRefusals x k
+    pub change-refusals : changeRefusals shown k ≡ changeRefusals x k
     unfolding changeRefusals losesPlace oldOrder gone arriving isSell stateSeen listingAt
     change-refusals =
         ap₂ (λ (rs ss : List Refusal).
@@ -415,14 +414,15 @@ module _ (seen : ℕ → Bool) where
     either y zeroed lost equal =
         pick zeroed (cancelled y (placeOf (k .contract)) (k .number)) (pick lost (placeLost y k) (pick equal (unchanged y k) (placeKept y k)))
 
-    abbrev SameEffect : Effect → Effect → Type 0
+    abbrev pub SameEffect : Effect → Effect → Type 0
     SameEffect f g = (done f .answer ≡ done g .answer) × (stateSeen seen (lastOf shown (f .stages)) ≡ stateSeen seen (lastOf x (g .stages)))
 
     lost-same : SameEffect (placeLost shown k) (placeLost x k)
     unfolding placeLost reentered enteredOf takerOf listingOf listingAt gone arriving isSell oldOrder stateSeen
-    lost-same =
-        (refl,
-        as-left (exchangeAfter (gone x k) (arriving x k) (reentered x k) (x .next)) _ (seen-after seen (gone x k) (arriving x k) (reentered x k) (x .next)))
+    lost-same = (
+      refl,
+      as-left (exchangeAfter (gone x k) (arriving x k) (reentered x k) (x .next)) _ (seen-after seen (gone x k) (arriving x k) (reentered x k) (x .next)),
+    )
 
     kept-same : SameEffect (placeKept shown k) (placeKept x k)
     unfolding placeKept stateSeen listingAt
@@ -435,51 +435,6 @@ module _ (seen : ℕ → Bool) where
     either-same false false true = (refl, state-twice seen x)
     either-same false false false = kept-same
 
-    change-same : SameEffect (changed shown k) (changed x k)
+    pub change-same : SameEffect (changed shown k) (changed x k)
     unfolding changed losesPlace oldOrder stateSeen listingAt
     change-same = either-same (eqb (k .lots) 0) (losesPlace x k) (eqb (k .lots) (oldOrder x k .lots))
-
-  -- ---- every kind
-
-  same-seen : (x : Exchange) (command : Command) → isFrom seen (accountField command) ≡ true → SameSeen seen x command
-  unfolding kindOf
-  same-seen x Malformed e = record { refusals = refl; answer = refl; left = state-twice seen x }
-  same-seen x (Deposit account amount) e = same-deposit x account amount e
-  same-seen x (Withdraw account amount) e = same-withdraw x account amount e
-  same-seen x (Insert o) e = same-insert x o e
-  same-seen x (Cancel account contract operator number) e = same-cancel x account contract operator number
-  same-seen x (Pull account contract operator) e = same-pull x account contract operator
-  same-seen x (Phase contract phase) e = same-phase x contract phase
-  same-seen x Settle e = same-settle x
-  same-seen x (Quote account contract lots buy sell) e =
-      let q = offered account contract lots buy sell in
-      record { refusals = quote-refusals x q e; answer = quote-answer x q e; left = quote-left x q e }
-  same-seen x (Change account contract number lots price) e =
-      let k = asked account contract number lots price in
-      record { refusals = change-refusals x k e; answer = change-same x k e .0; left = change-same x k e .1 }
-
-  -- A COMMAND ANSWERS THE SAME where balances not its own account's are blotted out, AND LEAVES THE SAME, those aside
-  module _ (x : Exchange) (command : Command) (e : isFrom seen (accountField command) ≡ true) where
-    abbrev Decided : Bool → ℕ → Type 0
-    Decided accepted code =
-        (pick accepted (done (kindOf (stateSeen seen x) command .effect)) (refused code) .answer ≡ pick accepted (done (kindOf x command .effect)) (refused code) .answer)
-        × (stateSeen seen (lastOf (stateSeen seen x) (pick accepted (done (kindOf (stateSeen seen x) command .effect)) (refused code) .stages))
-        ≡ stateSeen seen (lastOf x (pick accepted (done (kindOf x command .effect)) (refused code) .stages)))
-
-    pub decided-seen : (decide (stateSeen seen x) command .answer ≡ decide x command .answer) × (stateSeen seen (step (stateSeen seen x) command) ≡ stateSeen seen (step x command))
-    unfolding step decide codeOf
-    decided-seen =
-        rw (same-seen x command e .refusals) (by-acceptance (eqb (firstOf (kindOf x command .refusals)) 0) (firstOf (kindOf x command .refusals)))
-      where
-        by-acceptance : (accepted : Bool) (code : ℕ) → Decided accepted code
-        by-acceptance true code = (same-seen x command e .answer, same-seen x command e .left)
-        by-acceptance false code = (refl, state-twice seen x)
-
-  -- so it is in two states that differ in such balances alone
-  pub decided-alike : (x y : Exchange) → AlikeBut seen x y → (command : Command) → isFrom seen (accountField command) ≡ true →
-      (decide x command .answer ≡ decide y command .answer) × AlikeBut seen (step x command) (step y command)
-  decided-alike x y alike command e =
-      let p = decided-seen x command e in
-      let q = decided-seen y command e in
-      (sym (p .0) ∙ ap (λ (z : Exchange). decide z command .answer) alike ∙ q .0,
-      sym (p .1) ∙ ap (λ (z : Exchange). stateSeen seen (step z command)) alike ∙ q .1)
