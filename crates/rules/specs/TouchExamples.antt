@@ -1,5 +1,5 @@
--- What a command may touch, worked out by hand: for each law of Touches.antt (and for "nobody removes another's order" and "numbers are
--- never given twice", whose words stand in the crate invariants) a command that it concerns. One table, one statement. Assumes nothing.
+-- What a command may touch, worked out by hand: for each law, by its number in docs/RULES.md, a command that it concerns. One table, one
+-- statement. Assumes nothing.
 use mathlib.Core.Bool.{Bool, true, false}
 use mathlib.Core.List.{List, [], _∷_}
 use mathlib.Core.Path.{_≡_, refl}
