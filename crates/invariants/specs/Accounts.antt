@@ -1,4 +1,4 @@
--- WHAT AN ACCOUNT MAY RELY ON: the words of laws 14 to 16 (docs/RULES.md, "What follows from the rules"), a record each. Their theorems
+-- WHAT AN ACCOUNT MAY RELY ON: the words of laws 14 to 16 of docs/RULES.md, a record each. Their theorems
 -- stand in proofs/AccountLaws. Assumes nothing.
 use mathlib.Core.Bool.{Bool, true, false, not, _&&_}
 use mathlib.Core.List.{List, [], _∷_}
