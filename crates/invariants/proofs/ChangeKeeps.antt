@@ -287,6 +287,7 @@ module _ (x : Exchange) (w : WellFormed x) (k : Asked) (e : firstOf (changeRefus
           opens = open-lots (gone x k) (arriving x k) (reentry-passed .0);
           closes = close-lots (gone x k) (arriving x k) (reentry-passed .0);
           stamp = stamps-left;
+          kill = λ h. absurd (false≢true h);
           trades = ltb-false _ _ (reentry-passed .1 .1 .1 .0);
           room = λ g full. absurd (omega (arith, has-room n, full));
         }

@@ -44,5 +44,12 @@ pub mod SameInUse
 pub mod OneOrder
 pub mod RestingOrders
 pub mod RunTouches
+pub mod QueueFronts
+pub mod SweptFairly
+pub mod LargestPrice
+pub mod SumsByKey
+pub mod BestAuction
+pub mod FairlyEntered
 pub mod Throughout
+pub mod FairCommands
 pub mod AccountLaws
