@@ -14,6 +14,7 @@ use Rattle.rules.specs.Auction.{Matched, lessFirst, matchAt, paired, reaches, t
 use Rattle.rules.specs.Bounds.{onTick}
 use Rattle.rules.specs.Change.{lessened, unmarked}
 use Rattle.rules.specs.Exchange.{lotsWhere, worse}
+use Rattle.rules.specs.Fairness.{accountOn, orderOn}
 use Rattle.rules.specs.Matching.{counterpart, meets, pairedPrice, remainder, restIn, restLots, sweep, tradePrice, tradeWith, withLots}
 use Rattle.rules.specs.Step.{hasNumber, isOf}
 use Rattle.rules.specs.Touches.{ordersOf}
@@ -32,7 +33,7 @@ use Rattle.rules.proofs.Sweep.{sweep-ind}
 use Rattle.rules.proofs.Touches.{of-its, of-other}
 use Rattle.invariants.proofs.Numbers.{uses}
 use Rattle.invariants.proofs.OneOrder.{lots-none, none-has, uses-met, uses-unmet}
-use Rattle.invariants.specs.RestingOrders.{Kept, accountIn, atItsLimit, isOfAccount, lotsTradedBy, orderIn, someOrder, withinLimit}
+use Rattle.invariants.specs.RestingOrders.{Kept, atItsLimit, isOfAccount, isOfOrder, lotsTradedBy, someOrder, withinLimit}
 
 -- the second list is the first, in its order, but that orders may have fewer lots or be gone
 abbrev pub Fewer : List Order → List Order → Type 0
@@ -176,7 +177,7 @@ module _ (traded : ℕ → ℕ) where
 
 module _ (c : ℕ) (sell : Bool) (a : ℕ) where
   traded-cons : (n : ℕ) (t : Trade) (ts : List Trade) →
-      lotsTradedBy c sell a n (t ∷ ts) ≡ pick (isOfAccount c sell a t && eqb (orderIn sell t) n) (t .lots) 0 + lotsTradedBy c sell a n ts
+      lotsTradedBy c sell a n (t ∷ ts) ≡ pick (isOfOrder c sell a n t) (t .lots) 0 + lotsTradedBy c sell a n ts
   unfolding lotsTradedBy sumOf
   traded-cons n t ts = refl
 
@@ -229,16 +230,20 @@ module _ (c : ℕ) (sell : Bool) (a : ℕ) where
 
   -- ---- a trade with the first order of a queue, at its limit or better
 
-  module _ (o : Order) (os : List Order) (t : Trade) (low : t .lots ≤ o .lots) (here : t .contract ≡ c) (its : accountIn sell t ≡ o .account) (numbered : orderIn sell t ≡ o .number)
+  module _ (o : Order) (os : List Order) (t : Trade) (low : t .lots ≤ o .lots) (here : t .contract ≡ c) (its : accountOn sell t ≡ o .account) (numbered : orderOn sell t ≡ o .number)
       (limit : reaches sell (t .price) o ≡ true) where
     of-account : isOfAccount c sell a t ≡ isOf a o
     of-account = rw (here, eq-eqb c c refl, its) refl
 
+    of-order : (n : ℕ) → isOf a o ≡ true → isOfOrder c sell a n t ≡ hasNumber n o
+    of-order n b = rw (of-account, b) (ap (λ (k : ℕ). eqb k n) numbered)
+
     one-traded : (n : ℕ) → isOf a o ≡ true → lotsTradedBy c sell a n (t ∷ []) ≡ pick (hasNumber n o) (t .lots) 0
-    one-traded n b = traded-cons n t [] ∙ rw (of-account, b, numbered, none-traded [] (unfold allOf in refl) n) (omega arith)
+    one-traded n b =
+        traded-cons n t [] ∙ ap (λ (m : Bool). pick m (t .lots) 0 + lotsTradedBy c sell a n []) (of-order n b) ∙ rw (none-traded [] (unfold allOf in refl) n) (omega arith)
 
     its-limit : withinLimit sell t o ≡ true
-    its-limit = true-both (hasNumber (orderIn sell t) o) (reaches sell (t .price) o) (eq-eqb (o .number) (orderIn sell t) (sym numbered)) limit
+    its-limit = true-both (hasNumber (orderOn sell t) o) (reaches sell (t .price) o) (eq-eqb (o .number) (orderOn sell t) (sym numbered)) limit
 
     met : (q : List Order) → allOf (atItsLimit c sell a (o ∷ q)) (t ∷ []) ≡ true
     unfolding allOf someOrder
@@ -352,22 +357,22 @@ theirs true m n = refl
 theirs false m n = refl
 
 -- the taker's side of each trade is the taker's
-swept-by : (t : Taker) (left last : ℕ) (os : List Order) → allOf (λ tr. eqb (accountIn (t .sell) tr) (t .account)) (sweep t left last os .trades) ≡ true
+swept-by : (t : Taker) (left last : ℕ) (os : List Order) → allOf (λ tr. eqb (accountOn (t .sell) tr) (t .account)) (sweep t left last os .trades) ≡ true
 unfolding allOf
 swept-by t =
-    sweep-ind t (λ left last os s. allOf (λ tr. eqb (accountIn (t .sell) tr) (t .account)) (s .trades) ≡ true) (λ left last os w. refl)
-    (λ left last o os some met short. true-both (eqb (accountIn (t .sell) (tradeWith t o left last)) (t .account)) true (by-taker o left last) refl)
-    (λ left last o os s some met enough ih. true-both (eqb (accountIn (t .sell) (tradeWith t o left last)) (t .account)) _ (by-taker o left last) ih)
+    sweep-ind t (λ left last os s. allOf (λ tr. eqb (accountOn (t .sell) tr) (t .account)) (s .trades) ≡ true) (λ left last os w. refl)
+    (λ left last o os some met short. true-both (eqb (accountOn (t .sell) (tradeWith t o left last)) (t .account)) true (by-taker o left last) refl)
+    (λ left last o os s some met enough ih. true-both (eqb (accountOn (t .sell) (tradeWith t o left last)) (t .account)) _ (by-taker o left last) ih)
   where
-    by-taker : (o : Order) (left last : ℕ) → eqb (accountIn (t .sell) (tradeWith t o left last)) (t .account) ≡ true
+    by-taker : (o : Order) (left last : ℕ) → eqb (accountOn (t .sell) (tradeWith t o left last)) (t .account) ≡ true
     by-taker o left last = eq-eqb _ (t .account) (unfold tradeWith in mine (t .sell) (t .account) (o .account))
 
 module _ (t : Taker) (a : ℕ) where
   -- where it is another account's, the trades are not this one's there
   pub swept-none : eqb (t .account) a ≡ false → (left last : ℕ) (os : List Order) → noneOf (t .contract) (t .sell) a (sweep t left last os .trades) ≡ true
   swept-none other left last os =
-      allOf-imp (λ tr. eqb (accountIn (t .sell) tr) (t .account)) (λ tr. not (isOfAccount (t .contract) (t .sell) a tr)) (sweep t left last os .trades)
-      (λ tr h. rw (eqb-true (accountIn (t .sell) tr) (t .account) h, other) (ap not (both-false (eqb (tr .contract) (t .contract)) false refl))) (swept-by t left last os)
+      allOf-imp (λ tr. eqb (accountOn (t .sell) tr) (t .account)) (λ tr. not (isOfAccount (t .contract) (t .sell) a tr)) (sweep t left last os .trades)
+      (λ tr h. rw (eqb-true (accountOn (t .sell) tr) (t .account) h, other) (ap not (both-false (eqb (tr .contract) (t .contract)) false refl))) (swept-by t left last os)
 
   module _ (tick : ℕ) (some : 1 ≤ tick) (rounds : RoundsTo tick (t .method)) where
     abbrev Met : List Order → List Trade → List Order → Type 0

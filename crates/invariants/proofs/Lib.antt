@@ -19,6 +19,7 @@ pub mod InsertAccepted
 pub mod InsertQueues
 pub mod InsertListing
 pub mod Insert
+pub mod Charged
 pub mod MatchedHoldings
 pub mod MatchedTrades
 pub mod Phases
@@ -31,6 +32,8 @@ pub mod Stamps
 pub mod OneOrder
 pub mod Fates
 pub mod OthersOrders
+pub mod MarginWithin
+pub mod SeenBalances
 pub mod EachKind
 pub mod MemoryRoom
 pub mod MemoryLaws
@@ -43,3 +46,12 @@ pub mod Condition3
 pub mod SameInUse
 pub mod RestingOrders
 pub mod RunTouches
+pub mod QueueFronts
+pub mod SweptFairly
+pub mod LargestPrice
+pub mod SumsByKey
+pub mod BestAuction
+pub mod FairlyEntered
+pub mod Throughout
+pub mod FairCommands
+pub mod AccountLaws

@@ -10,6 +10,7 @@ use Rattle.laws.specs.Choice.{allOf, pick}
 use Rattle.laws.specs.Sums.{sumOf}
 use Rattle.rules.specs.Auction.{reaches}
 use Rattle.rules.specs.Exchange.{Exchange, listingAt, listingNamed, own, placeOf}
+use Rattle.rules.specs.Fairness.{accountOn, orderOn}
 use Rattle.rules.specs.Matching.{withLots}
 use Rattle.rules.specs.Step.{hasNumber, isOf}
 use Rattle.rules.specs.Touches.{QueuesAlone, ordersOf}
@@ -39,19 +40,16 @@ pub record CancelTakesOne (x : Exchange) (account contract number : ℕ) (y : Ex
 -- as it did, or has lost exactly the lots that it traded in this command, at its limit or better for it. It stays ahead of every later order
 -- at its price.
 
--- a trade's account and order on a side
-abbrev pub accountIn : Bool → Trade → ℕ
-accountIn sell t = pick sell (t .seller) (t .buyer)
-
-abbrev pub orderIn : Bool → Trade → ℕ
-orderIn sell t = pick sell (t .sellorder) (t .buyorder)
-
 -- it is a trade of the account at place a, on this side of the contract at place c; and with its order of this number
 abbrev pub isOfAccount : ℕ → Bool → ℕ → Trade → Bool
-isOfAccount c sell a t = eqb (t .contract) c && eqb (accountIn sell t) a
+isOfAccount c sell a t = eqb (t .contract) c && eqb (accountOn sell t) a
 
+abbrev pub isOfOrder : ℕ → Bool → ℕ → ℕ → Trade → Bool
+isOfOrder c sell a number t = isOfAccount c sell a t && eqb (orderOn sell t) number
+
+-- the lots that the order has traded
 unfoldable pub lotsTradedBy : ℕ → Bool → ℕ → ℕ → List Trade → ℕ
-lotsTradedBy c sell a number ts = sumOf (λ t. pick (isOfAccount c sell a t && eqb (orderIn sell t) number) (t .lots) 0) ts
+lotsTradedBy c sell a number ts = sumOf (λ t. pick (isOfOrder c sell a number t) (t .lots) 0) ts
 
 -- An account's orders before and after some trades, one by one in their order: an order is filled and gone, or rests with the lots that were
 -- not traded, at least one, and is otherwise what it was: price, number, account, open or close, time stamp, quote mark. None is new.
@@ -68,7 +66,7 @@ someOrder test (o ∷ os) = test o || someOrder test os
 
 -- a trade is with this order, at its limit or better for it
 abbrev pub withinLimit : Bool → Trade → Order → Bool
-withinLimit sell t o = hasNumber (orderIn sell t) o && reaches sell (t .price) o
+withinLimit sell t o = hasNumber (orderOn sell t) o && reaches sell (t .price) o
 
 -- .. or, where it is one of the account, with one of these
 abbrev pub atItsLimit : ℕ → Bool → ℕ → List Order → Trade → Bool
