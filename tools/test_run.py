@@ -504,8 +504,8 @@ class AtOnce(RunTest):
 
     def test_silence_is_broken(self):
         """A run that proves and one that waits tell what is at work and how much is left."""
-        text = (self.top / "run").read_text().replace("\nQUIET=15\n", "\nQUIET=1\n")
-        (self.top / "run").write_text(text)
+        text = (self.top / "run").read_text()
+        (self.top / "run").write_text(text.replace('/tools/proving.sh"\n', '/tools/proving.sh"\nQUIET=1\n'))
         proves, _ = self.started(4)
         waits = self.start(EXAMPLE)
         (proving, waiting) = (run.communicate()[1].decode() for run in (proves, waits))

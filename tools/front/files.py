@@ -6,7 +6,6 @@ from pathlib import Path
 from front import TOP
 from front.statuses import BROKEN, DONE, NOT_AS_EXPECTED, NOT_USABLE, Ended
 
-import continued
 import dayfile
 import daytext
 import engine
