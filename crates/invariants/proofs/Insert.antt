@@ -30,6 +30,7 @@ use Rattle.rules.proofs.Fillable.{swept-fillable}
 use Rattle.rules.proofs.Holdings.{booked-start-holding}
 use Rattle.rules.proofs.Prices.{method-rounds}
 use Rattle.rules.proofs.Rest.{rest-sum, length-rest}
+use Rattle.rules.proofs.Sweep.{ofContract, swept-contract}
 use Rattle.invariants.proofs.Carry.{Allows}
 use Rattle.invariants.proofs.Clauses.{held, HoldingOk, MarksOk, WellFormed, Counted}
 use Rattle.invariants.proofs.InsertAccepted.{Given, Passes, next-given, numbered, passes}
@@ -39,7 +40,7 @@ use Rattle.invariants.proofs.Legs.{resting-cons, KeptAt}
 use Rattle.invariants.proofs.Marks.{Marks, no-mark, rested-marks, swept-marks}
 use Rattle.invariants.proofs.Numbers.{KeptByLots, occurs, uses, usesIn, all-uses, once-count, given-unused}
 use Rattle.invariants.proofs.SweptHoldings.{SweptKept, swept-kept, untouched-kept, fewer-by}
-use Rattle.invariants.proofs.SweptTrades.{ofContract, swept-in-range, swept-contract}
+use Rattle.invariants.proofs.SweptTrades.{swept-in-range}
 use Rattle.invariants.proofs.Traded.{TradesOk, traded-listings, traded-accounts, traded-allows, traded-counted, traded-keeps}
 
 -- ---- limits and coverage with the arriving lots in front of the own side's queue

@@ -38,3 +38,6 @@ pub mod ToldWhole
 pub mod Opening
 pub mod Condition3
 pub mod SameInUse
+pub mod OneOrder
+pub mod RestingOrders
+pub mod RunTouches

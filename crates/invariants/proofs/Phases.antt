@@ -31,6 +31,7 @@ use Rattle.rules.proofs.AuctionTrades.{match-contract, match-prices}
 use Rattle.rules.proofs.AuctionUncrossed.{hasLots}
 use Rattle.rules.proofs.Holdings.{booked-start-holding}
 use Rattle.rules.proofs.Refusals.{failed, present}
+use Rattle.rules.proofs.Sweep.{ofContract}
 use Rattle.invariants.proofs.Carry.{Allows, orders-carried}
 use Rattle.invariants.proofs.Clauses.{order-ok, ListingOk, HoldingOk, MarksOk, WellFormed, Counted}
 use Rattle.invariants.proofs.InsertListing.{contract-traded}
@@ -40,7 +41,6 @@ use Rattle.invariants.proofs.Marks.{allowed-fewer, markOf, mark-fewer, 
 use Rattle.invariants.proofs.MatchedHoldings.{MatchKept, match-kept, unmatched-kept}
 use Rattle.invariants.proofs.MatchedTrades.{matched-in-range}
 use Rattle.invariants.proofs.Numbers.{KeptByLots, all-uses, once-count, uses, usesIn}
-use Rattle.invariants.proofs.SweptTrades.{ofContract}
 use Rattle.invariants.proofs.Traded.{TradesOk, traded-accounts, traded-allows, traded-counted, traded-keeps, traded-listings}
 
 -- ---- the contract

@@ -18,6 +18,7 @@ pub mod Kinds
 pub mod Memory
 pub mod Side
 pub mod Condition3
+pub mod Touches
 pub mod DayFile
 pub mod Lines
 pub mod Examples
@@ -35,4 +36,5 @@ pub mod ProfitExamples
 pub mod QuoteExamples
 pub mod SideExamples
 pub mod StepExamples
+pub mod TouchExamples
 pub mod WellFormedExamples
