@@ -12,7 +12,6 @@ an index by code, by kind and by word. It is made from docs/RULES.md and the sou
 
 import argparse
 import html
-import json
 import os
 import re
 import sys
@@ -31,6 +30,8 @@ TOP = Path(__file__).resolve().parents[1]
 PARTS = Path(book.__file__).parent
 # Groups of worked cases that are shown with a sentence; a table has all of them.
 MOST_GROUPS = 2
+# Words of a sentence that are enough to find it among the words that leave a question open.
+LEAST_QUOTED = 12
 # Lessons and commands that are shown with a code.
 MOST_COMMANDS = 3
 
@@ -167,8 +168,9 @@ class Book:
         """Those that the row names, and those of the index whose words the sentence has."""
         named = [int(identity.split("-")[1]) for identity in row.named("decision")]
         sentence = check_docs.plain(row.sentence)
+        quoted = [words for words in check_docs.quotations(row.sentence) if len(words) >= LEAST_QUOTED]
         for words, numbers in self.sources.open_words:
-            if check_docs.spans(words, sentence):
+            if check_docs.spans(words, sentence) or any(check_docs.spans(part, words) for part in quoted):
                 named += numbers
         return [number for number in dict.fromkeys(named) if number in self.sources.decisions]
 
@@ -329,7 +331,9 @@ def papers_text(book, folder):
     for heading, key, words in parts:
         identity = "document-01" if key is None else section_id(heading)
         out.append(f'<section class="rules"><h2 id="{identity}">{escaped(heading)}</h2>{text.part(key, words)}</section>')
-    left = [row for row in book.rows if row.id not in text.done]
+    own = [section for section in book.sections if not any(check_docs.quotations(row.sentence) for row in section.rows)]
+    out += map(running_text, own)
+    left = [row for row in book.rows if row.id not in text.done and not any(row in section.rows for section in own)]
     out.append('<section class="rules"><h2 id="beside">Beside the papers</h2><p>Rows of docs/RULES.md that quote no sentence of their own.</p>')
     out += [f'<p class="line">{sentence_span([row], sentence_words(row))}</p>' for row in left]
     return "".join([*out, "</section>"])
@@ -380,9 +384,12 @@ def case_focus(book, row, identity):
         score = 3 * sum(bool(re.search(rf"(?<![\w-]){re.escape(name)}(?![\w-])", text)) for name in names)
         score += 4 * any(re.search(rf"\bgives {code}\)", text) for code in codes)
         score += len(words & {word.lower() for word in re.findall(r"[A-Za-z]{4,}", group.comment)})
+        number = re.match(r"(\d+)\. ", row.sentence)
+        score += 9 * bool(number and re.match(rf"(?:law )?{number[1]}\b", group.comment))
         if score:
             scored.append((-score, place, group))
-    best = [group for _, _, group in sorted(scored, key=lambda one: one[:2])[:MOST_GROUPS]]
+    scored.sort(key=lambda one: one[:2])
+    best = [group for score, _, group in scored[:MOST_GROUPS] if 2 * score <= scored[0][0]]
     return "".join(group_html(group) for group in best)
 
 
@@ -561,7 +568,6 @@ def how_to_read():
 
 def page(book):
     rules = papers_text(book, book.papers) if book.papers else "".join(map(running_text, book.sections))
-    counts = {"sentences": len(book.rows), "definitions": len(book.sources.plain_words)}
     parts = {
         "STYLE": part("rulebook.css"),
         "SCRIPT": part("rulebook.js"),
@@ -577,7 +583,6 @@ def page(book):
         "EDITS": articles(book, ("edit",)),
         "DECISIONS": decision_articles(book),
         "LESSONS": lesson_articles(book),
-        "COUNTS": json.dumps(counts),
     }
     return re.sub("@@([A-Z]+)@@", lambda place: parts[place[1]], part("rulebook.html")) + "\n"
 

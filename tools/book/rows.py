@@ -85,8 +85,17 @@ def read_section(number, heading, body, sources, lessons):
             references = {name: references_in(cell, sources, lessons, crate) for name, cell in cells.items()}
             rows.append(Row(f"{identity}-{count}", f"{number}.{count}", heading, cells, references))
         above = re.split(r"(?m)^\|", words)[0].strip() if subheading else ""
+        add_cases(rows, above, sources)
         parts.append((subheading.strip(), above, rows))
     return Section(identity, number, heading, intro, parts)
+
+
+def add_cases(rows, above, sources):
+    """A table of worked cases that is named above a table of rows is that of every row."""
+    cases = [sources.cases[name].id for name in re.findall("`(\\w+)`", above) if name in sources.cases]
+    for row in rows:
+        if not row.named("case"):
+            row.references["above"] = [Reference(0, 0, identity, "case") for identity in cases]
 
 
 def section_id(heading):
@@ -121,7 +130,10 @@ def references_in(cell, sources, lessons, crate):
                 found.append(Reference(*match.span(), sources.edits[name].id, "edit"))
         else:
             name = match["quoted"]
-            if "::" in name:
+            source = re.fullmatch(r"crates/(\w+)/src/(\w+)\.rt", name)
+            if source:
+                module = source[1] if source[2] == "lib" else f"{source[1]}::{source[2]}"
+            elif "::" in name:
                 module = name.rsplit("::", 1)[0]
             one = quoted(name, file, module, crate, sources, lessons)
             if name == "src/lib.rt":
@@ -161,7 +173,7 @@ def quoted(name, file, module, crate, sources, lessons):
         return sources.cases[name].id, "case"
     if file == "src/lib.rt" and f"rules::{word.split('.')[0]}" in sources.promises:
         return sources.promises[f"rules::{word.split('.')[0]}"].id, "promise"
-    for candidate in (name, f"{module}::{name}", f"{crate}::{name}"):
+    for candidate in (name, f"{module}::{name}", f"{crate}::{name}", f"rules::{name}"):
         if candidate in sources.promises and (not file or "::" in name):
             return sources.promises[candidate].id, "promise"
     item = sources.find(word, file, "") if file else sources.find(word, "", crate) or sources.find(word)
