@@ -22,7 +22,7 @@ TOP = TOOL.parents[1]
 
 @cache
 def book():
-    return rulebook.Book()
+    return rulebook.Book(TOP)
 
 
 @cache
@@ -169,7 +169,7 @@ class WithPapers(unittest.TestCase):
     def test_running_text(self):
         with tempfile.TemporaryDirectory() as folder:
             write_papers(folder)
-            text = rulebook.page(rulebook.Book(papers=folder))
+            text = rulebook.page(rulebook.Book(TOP, folder))
         for row in book().rows:
             self.assertEqual(text.count(f' id="{row.id}"'), 1, row.id)
         self.assertIn("Ticket", words(text))
@@ -178,7 +178,7 @@ class WithPapers(unittest.TestCase):
 
     @unittest.skipUnless(os.environ.get("PAPERS"), "no papers at hand (PAPERS)")
     def test_the_papers(self):
-        text = rulebook.page(rulebook.Book(papers=os.environ["PAPERS"]))
+        text = rulebook.page(rulebook.Book(TOP, os.environ["PAPERS"]))
         for row in book().rows:
             self.assertEqual(text.count(f' id="{row.id}"'), 1, row.id)
 
