@@ -53,6 +53,7 @@ for postings in ((2, 1, 3, 2), (2, 1, 3, 1)):
     out = zelvorm.room(4096)
     words = (ctypes.c_uint32 * 4)(*postings)
     told = library.zelvorm_client_statement(state, *areas, 2, 2, *lent(starts), *lent(words), *lent(out))
-    print(f"statement: code {told.code}, {told.length} bytes")
     if told.code == zelvorm.CODE_ACCEPTED:
         print_statement(bytes(out[: told.length]), state.contractcount)
+    else:
+        print(f"statement refused, code {told.code}: {zelvorm.CODE_WORDS[told.code]}")
