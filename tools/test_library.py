@@ -247,7 +247,7 @@ class Examples(unittest.TestCase):
 
     def test_python(self):
         for name in WANTED:
-            self.assert_prints(name, sys.executable, EXAMPLES / "python" / f"{name}.py", LIBRARY / "libzelvorm.so", DAY)
+            self.assert_prints(name, sys.executable, EXAMPLES / "python" / f"{name}.py", DAY)
 
     # A day file of another day, a broken one among them, prints what the runner prints for it.
     @needs("cc")

@@ -75,19 +75,9 @@ class Crate(unittest.TestCase):
     # More of them: tools/model/compare_wrapper.py rust.
     def test_the_model_through_it(self):
         command = compare_wrapper.programs(BUILT)["rust"]()
-        opened = []
-
-        def opener(path):
-            opened.append(compare_wrapper.Wrapper(path))
-            return opened[0]
-
-        cases = compare_library.random_cases("test", 120)
-        reached, difference = compare_library.compare(
-            command, cases, lambda number: None, opener, compare_wrapper.WrapperComparison
-        )
-        self.assertIsNone(difference)
+        reached, difference, status = compare_wrapper.compared(command, compare_library.random_cases("test", 120))
+        self.assertEqual((difference, status), (None, 0))
         self.assertEqual(sum(reached.cases.values()), 120)
-        self.assertEqual(opened[0].close(), 0)
 
 
 if __name__ == "__main__":

@@ -176,6 +176,13 @@ class WrapperComparison(Comparison):
         return super().read(file)
 
 
+def compared(command, cases):
+    """What was reached, the first difference or None, and the status of the program that calls the wrapper."""
+    wrapper = Wrapper(command)
+    reached, difference = compare_library.compare(command, cases, lambda number: None, lambda path: wrapper, WrapperComparison)
+    return reached, difference, wrapper.close()
+
+
 def programs(folder):
     """The command that makes calls through each wrapper; the Rust one is built first, into a folder."""
     environment = {**os.environ, "CARGO_TARGET_DIR": str(folder)}
