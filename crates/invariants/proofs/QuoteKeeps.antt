@@ -166,7 +166,7 @@ pub record QuoteStages (x : Exchange) (q : Offered) : Type 0 where
   pub bought-there : placeOf (q .contract) < length (withBuy x q .listings)
 
 module _ (x : Exchange) (w : WellFormed x) (q : Offered) (e : firstOf (quoteRefusals x q) ≡ 0) where
-  tests : Failed (quoteRefusals x q)
+  pub tests : Failed (quoteRefusals x q)
   unfolding quoteRefusals orderRefusals
   tests = failed (quoteRefusals x q) (omega arith) e
 
