@@ -5,7 +5,6 @@ pub mod Holdings
 pub mod WellFormed
 pub mod Command
 pub mod Matching
-pub mod Between
 pub mod Auction
 pub mod Margin
 pub mod Settlement
@@ -15,6 +14,9 @@ pub mod Step
 pub mod Change
 pub mod Quote
 pub mod Kinds
+pub mod Fairness
+pub mod AuctionFairness
+pub mod FairCommands
 pub mod Memory
 pub mod Side
 pub mod Condition3
@@ -28,6 +30,7 @@ pub mod ChangeExamples
 pub mod CodeExamples
 pub mod Condition3Examples
 pub mod DayFileExamples
+pub mod FairnessExamples
 pub mod FillOrKillExamples
 pub mod MarginExamples
 pub mod MatchingExamples
