@@ -53,3 +53,4 @@ pub mod FairlyEntered
 pub mod Throughout
 pub mod FairCommands
 pub mod AccountLaws
+pub mod QuoteTrades

@@ -7,4 +7,5 @@ pub mod RunTouches
 pub mod Throughout
 pub mod Accounts
 pub mod AccountsExamples
+pub mod QuoteTrades
 pub mod FairCommandExamples
