@@ -4,20 +4,23 @@
     examples/host/faults.py --kills 10000 --disk 1
 
 Builds both hosts and the disk of disk.c. `--kills` is the number of runs that are killed at random moments. `--disk 1` tries every
-fault of the disk and every place where a write can be torn, `--disk 20` every twentieth of them. `--seed` chooses the days. Ends
-with the figures, or at the first difference with status 1.
+fault of the disk and every place where a write can be torn, `--disk 20` every twentieth of them. `--seed` chooses the days, and
+`--times` tells how long a recovery takes. Ends with the figures, or at the first difference with status 1.
 """
 
 import argparse
 import os
 import random
+import re
 import select
 import shutil
 import signal
+import struct
 import subprocess
 import sys
 import tempfile
 import time
+import zlib
 from collections import Counter
 from errno import EIO, ENOSPC, EROFS
 from pathlib import Path
@@ -25,12 +28,15 @@ from pathlib import Path
 HERE = Path(__file__).resolve().parent
 TOP = HERE.parents[1]
 LIBRARY = TOP / "target" / "library"
-sys.path.insert(0, str(TOP / "tools" / "model"))
+sys.path[:0] = [str(TOP / "tools" / "model"), str(TOP / "include")]
 
 import dayfile  # noqa: E402
 import generate  # noqa: E402
 import model  # noqa: E402
 import saved  # noqa: E402
+import zelvorm  # noqa: E402
+
+COMMAND = dayfile.COMMAND
 
 PATIENCE = 60  # seconds
 
@@ -55,7 +61,7 @@ class Script:
     def __init__(self, file):
         day = dayfile.read(file)
         self.opening = dayfile.write(day._replace(commands=[]))
-        self.commands = [dayfile.COMMAND.pack(*command) for command in day.commands]
+        self.commands = [COMMAND.pack(*command) for command in day.commands]
         self.answers = [b""]
         state = model.opening_state(day)
         self.states = [state_lines(state)]
@@ -110,13 +116,13 @@ def state_lines(state):
     return "".join(" ".join(map(str, line)) + "\n" for line in lines).encode()
 
 
-def random_script(rng, least=1, most=200):
-    """A script of a length within bounds, with a settlement in it."""
+def random_script(rng, least=1, most=200, days=1):
+    """A script of a length within bounds, with so many settlements in it or more."""
     while True:
         file = rng.choice((generate.quiet_file, generate.trading_file, generate.changes_file, generate.quotes_file, generate.auction_file))(rng)
-        if least <= (len(file) - 8) // dayfile.COMMAND.size <= 2 * most:
+        if least <= (len(file) - 8) // COMMAND.size <= 2 * most:
             script = Script(file)
-            if least <= len(script) <= most and script.days:
+            if least <= len(script) <= most and len(script.days) >= days:
                 return script
 
 
@@ -190,20 +196,16 @@ class Client:
 
     def read(self, output):
         """Holds a host's output to the script, wherever it was cut; the host was asked for the answers from the first that is
-        not whole. Gives the number that the host went on with, or None."""
+        not whole."""
         told = self.whole + 1
-        going_on = None
-        cut = output.find(b"N ")
-        if cut >= 0 and b"\n" in output[cut:]:
-            going_on = int(output[cut + 2 :].split(b"\n")[0])
+        going_on = going_on_in(output)
+        expected = b"".join(self.script.answers[told:])
+        if going_on is not None:
             expected = self.script.told(told, going_on - 1) + self.script.served(going_on)
-        else:
-            expected = b"".join(self.script.answers[told:])
         hold("the answers", expected[: len(output)], output)
         lines = output.split(b"\n")[:-1]
         self.seen = max([self.seen] + [int(line.split()[1]) for line in lines if line.startswith(b"C ")])
         self.whole = max([self.whole] + [int(line.split()[1]) - 1 for line in lines if line.startswith(b"N ")])
-        return going_on
 
     def check_state(self, host, folder):
         """Nothing answered is lost, and at most one command more is there."""
@@ -227,8 +229,9 @@ class Client:
 
     def check_end(self, host, folder):
         """The files that the days leave."""
-        for day, (last, state) in enumerate(self.script.days, 1):
-            hold(f"what is saved of day {day}", state, (folder / f"day-{day:03}.saved").read_bytes())
+        for day, (_, state) in enumerate(self.script.days, 1):
+            file = folder / f"day-{day:03}.saved"
+            hold(f"what is saved of day {day}", state, file.read_bytes() if file.exists() else None)
         first_day = self.script.commands[: self.script.days[0][0]]
         file = self.script.opening[:-4] + dayfile.COUNT.pack(len(first_day)) + b"".join(first_day)
         shown = run(host, "dayfile", folder)
@@ -236,36 +239,76 @@ class Client:
 
 
 # =====================================================================================================================
+# A journal, as README.md says that it lies
+# =====================================================================================================================
+
+
+def checksum(before, content):
+    return zlib.crc32(content, before) | 1 << 31
+
+
+def journal(identity, origin, beginning, commands, day=1, first=1):
+    """The bytes of a journal."""
+    texts = b"".join(dayfile.COUNT.pack(len(text)) + text for text in (identity, beginning))
+    length = -(-(24 + len(texts) + 4) // 32) * 32
+    head = (b"ZJOURN01" + struct.pack("<IIII", length, day, first, origin) + texts).ljust(length - 4, b"\0")
+    parts = [head, dayfile.COUNT.pack(checksum(0, head))]
+    last = checksum(0, head)
+    for number, command in enumerate(commands, first):
+        record = dayfile.COUNT.pack(number) + command
+        last = checksum(last, record)
+        parts += [record, dayfile.COUNT.pack(last)]
+    return b"".join(parts)
+
+
+def with_long_text(content):
+    """A journal without commands whose first text is longer than its head, with the right checksum."""
+    head = content[:24] + b"\xf0\xff\xff\xff" + content[28:-4]
+    return head + dayfile.COUNT.pack(checksum(0, head))
+
+
+def identity():
+    """The identity of the built engine, as a journal has it."""
+    engine = zelvorm.load(str(LIBRARY / "libzelvorm.so")).zelvorm_engine()
+    return b"zelvorm %b kit %b sources %b" % (engine.version, engine.kit, engine.sources)
+
+
+# =====================================================================================================================
 # Killed at random moments
 # =====================================================================================================================
 
 
-def run_and_kill(host, folder, client, seconds):
-    """Runs a host that is killed after some time, and gives what it had given, whether it was killed, and where it went on."""
-    process = subprocess.Popen(
-        [host, "serve", folder, str(client.whole + 1)], stdin=subprocess.PIPE, stdout=subprocess.PIPE, stderr=subprocess.PIPE, bufsize=0
-    )
+def talk(host, folder, client, seconds=PATIENCE, environment=None):
+    """Starts a host, sends the rest of the script when it says where it is, and kills it after some time. Gives its status and its
+    messages; the client has read the answers, and knows where the host went on, or None."""
+    words = [host, "serve", folder, str(client.whole + 1)]
+    pipe = subprocess.PIPE
+    process = subprocess.Popen(words, stdin=pipe, stdout=pipe, stderr=pipe, bufsize=0, env=environment)
     end = time.perf_counter() + seconds
     output, sent = b"", False
-    while (left := end - time.perf_counter()) > 0:
-        if not select.select([process.stdout], [], [], left)[0]:
-            break
+    while (left := end - time.perf_counter()) > 0 and select.select([process.stdout], [], [], left)[0]:
         part = os.read(process.stdout.fileno(), 1 << 16)
+        output += part
+        going_on = going_on_in(output)
         if not part:
             break
-        output += part
-        at = output.find(b"N ")
-        if not sent and at >= 0 and output.endswith(b"\n"):
-            going_on = int(output[at + 2 :].split()[0])
+        if not sent and going_on is not None:
             send(process, b"".join(client.script.commands[going_on - 1 :]))
             sent = True
-    process.kill()
+    else:
+        process.kill()
     output += process.stdout.read()
     messages = process.stderr.read()
-    process.stdin.close(), process.stdout.close(), process.stderr.close()
-    status = process.wait(PATIENCE)
-    hold("a killed host's messages", b"", messages)
-    return output, status == -signal.SIGKILL
+    for end in (process.stdin, process.stdout, process.stderr):
+        end.close()
+    client.read(output)
+    return process.wait(PATIENCE), messages, going_on_in(output)
+
+
+def going_on_in(output):
+    """The number of the first N line that is whole, or None."""
+    found = re.search(rb"^N (\d+)\n", output, re.MULTILINE)
+    return int(found[1]) if found else None
 
 
 def send(process, commands):
@@ -288,11 +331,11 @@ def kill_runs(hosts, count, rng, room):
         longest = rng.choice((0.002, 0.004, 0.008))
         while client.whole < len(script) and figures["killed"] < count:
             before = client.seen
-            output, was_killed = run_and_kill(rng.choice(hosts), folder, client, rng.uniform(0, longest))
-            going_on = client.read(output)
+            status, messages, going_on = talk(rng.choice(hosts), folder, client, rng.uniform(0, longest))
+            hold("a killed host's messages", b"", messages)
             if going_on is not None and not before <= going_on - 1 <= before + 1:
                 raise Differs(f"{before} commands were answered, and the host went on with {going_on}")
-            figures["killed"] += was_killed
+            figures["killed"] += status == -signal.SIGKILL
             last = client.check_state(rng.choice(hosts), folder)
             figures["durable and not yet answered"] += last == client.seen + 1
             figures["answers"] += client.seen - before
@@ -448,8 +491,8 @@ class DiskRuns:
 
     def failures(self):
         """Each create, write, sync and rename fails in turn, or the host is killed before it. Where it fails the host says so and
-        ends. Then the power is lost at once; or the host starts again on the same machine, and the power is lost before one of its
-        calls, or at the end."""
+        ends. Then the power is lost at once; or the host starts again on the same machine, and one of its calls meets a fault, or
+        none, before the power is lost."""
         for host in self.hosts:
             for at, call in enumerate(counted_calls(self.layer, self.room, host, self.script), 1):
                 for fault in FAULTS[call]:
@@ -464,15 +507,15 @@ class DiskRuns:
         status, messages = serve_on(disk, host, client, at, fault)
         hold(f"call {at} meets {fault}", expected, (status, messages[:6]))
         if not starts_again:
-            self.lose_power(disk, client)
+            self.lose_power(disk, client, self.with_tears)
         if fault != "crash" or starts_again:
             self.start_again(disk, host, client)
         disk.remove()
 
-    def lose_power(self, disk, client):
+    def lose_power(self, disk, client, with_tears):
         """What is recovered after the machine has lost its power now."""
         tried = set()
-        for kept, contents in disk.after_power_loss(self.with_tears):
+        for kept, contents in disk.after_power_loss(with_tears):
             found = tuple(sorted(contents.items()))
             if found in tried or not self.chosen():
                 continue
@@ -487,16 +530,18 @@ class DiskRuns:
             shutil.rmtree(folder)
 
     def start_again(self, disk, host, client):
-        """The host starts again while the machine goes on, and the power is lost before one of its calls, or at the end."""
+        """The host starts again while the machine goes on, and meets a fault again. Then the power is lost."""
         status, at = None, 0
         while status != 0:
             at += 1
             if not self.chosen():
                 continue
             machine, again = disk.copy(), copy_of_client(client)
-            status = serve_again(machine, host, again, at)
+            fault = self.rng.choice(("crash", EIO, ENOSPC))
+            status, messages, _ = talk(host, machine.folder, again, environment=machine.environment(at, fault))
+            hold("a host that starts again", {0: b"", -signal.SIGKILL: b"", 1: b"host: "}.get(status), messages[:6])
             self.figures["starts on the same machine"] += 1
-            self.lose_power(machine, again)
+            self.lose_power(machine, again, with_tears=False)
             machine.remove()
 
 
@@ -506,30 +551,6 @@ FAULTS = {
     "sync": (EIO, ENOSPC),
     "rename": (ENOSPC, EIO),
 }
-
-
-def serve_again(disk, host, client, at):
-    """The host starts again after a failure; the power is lost before call `at`. Gives the host's status."""
-    told = client.whole + 1
-    process = subprocess.Popen(
-        [host, "serve", disk.folder, str(told)],
-        stdin=subprocess.PIPE, stdout=subprocess.PIPE, stderr=subprocess.PIPE, bufsize=0, env=disk.environment(at),
-    )
-    output = b""
-    while not (b"N " in output and output.endswith(b"\n")):
-        part = os.read(process.stdout.fileno(), 1 << 16)
-        if not part:
-            break
-        output += part
-    else:
-        send(process, b"".join(client.script.commands[int(output[output.find(b"N ") + 2 :].split()[0]) - 1 :]))
-    output += process.stdout.read()
-    messages = process.stderr.read()
-    process.stdin.close(), process.stdout.close(), process.stderr.close()
-    client.read(output)
-    status = process.wait(PATIENCE)
-    hold("a host that starts again", (True, b""), (status in (0, -signal.SIGKILL), messages))
-    return status
 
 
 # =====================================================================================================================
@@ -555,6 +576,7 @@ def main():
     parser.add_argument("--kills", type=int, default=500)
     parser.add_argument("--disk", type=int, default=20)
     parser.add_argument("--seed", type=int, default=1)
+    parser.add_argument("--times", action="store_true")
     arguments = parser.parse_args()
     rng = random.Random(arguments.seed)
     with Room() as room:
@@ -564,6 +586,35 @@ def main():
         show("killed at random moments", lambda: kill_runs(hosts, arguments.kills, rng, room))
         show("the power is lost before each call", runs[0].crashes)
         show("each call fails", runs[1].failures)
+        if arguments.times:
+            show("a recovery", lambda: recovery_times(hosts, rng, room))
+
+
+def recovery_times(hosts, rng, room):
+    """The seconds from a host's start to its first N line, by the number of commands in the journal: orders come and go in a book of
+    20 on each side."""
+    times = {}
+    for count in (0, 1_000, 10_000, 100_000, 1_000_000):
+        folder = put(room.fresh(), {"day-001.journal": journal(identity(), 1, *busy_day(count))})
+        for host in hosts:
+            start = time.perf_counter()
+            served = run(host, "serve", folder)
+            hold("a recovery", (0, b"N %d\n" % (count + 1)), (served.returncode, served.stdout))
+            times[f"{count:9,} commands, {host.name}"] = time.perf_counter() - start
+        shutil.rmtree(folder)
+    return times
+
+
+def busy_day(count):
+    """An opening with two accounts, and that many commands of a busy day."""
+    opening = dayfile.DayFile([dayfile.ContractRecord(10, 1, 500, 400, 100_000, 1_000)], [10**15] * 2, [])
+    commands = [dayfile.state(1, "continuous")]
+    commands += [dayfile.insert(1, 1, "buy", "open", "limit", 480 + k, 5, "day") for k in range(20)]
+    commands += [dayfile.insert(2, 1, "sell", "open", "limit", 501 + k, 5, "day") for k in range(20)]
+    for number in range(41, 41 + count // 2):
+        commands.append(dayfile.insert(1, 1, "buy", "open", "limit", 480 + number % 20, 3, "day"))
+        commands.append(dayfile.cancel(1, 1, number))
+    return dayfile.write(opening), [COMMAND.pack(*command) for command in commands[:count]]
 
 
 def show(name, runs):
@@ -571,7 +622,7 @@ def show(name, runs):
     figures = runs()
     print(f"{name} ({time.perf_counter() - start:.0f} s):")
     for what, count in figures.items():
-        print(f"  {count:7,} {what}")
+        print(f"  {count:7,} {what}" if isinstance(count, int) else f"  {count:9.4f} s {what}")
 
 
 if __name__ == "__main__":

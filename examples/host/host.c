@@ -35,7 +35,7 @@ enum { RECORD_WIDTH = 32, COMMAND_AT = 4, CHECKSUM_AT = 28 };
  * engine's identity, and the file that the day began with. Zeros follow up to a multiple of 32; the head's last four
  * bytes are its checksum. */
 enum { LENGTH_AT = 8, DAY_AT = 12, FIRST_AT = 16, ORIGIN_AT = 20, TEXTS_AT = 24 };
-enum { MAX_IDENTITY = 512, MAX_BEGINNING = 2048, MAX_HEAD = 4096 };
+enum { MAX_IDENTITY = 512, MAX_HEAD = 4096 };
 enum { FROM_DAY_FILE = 1, FROM_SAVED_STATE = 2 };
 static const char FORM[] = "ZJOURN01";
 
@@ -44,12 +44,6 @@ static const char FORM[] = "ZJOURN01";
 
 /* How many commands are read and played at a time. */
 enum { BLOCK = 1000 };
-
-/* The longest day file: all counts, contracts, accounts and commands. */
-enum {
-    MAX_DAY_FILE = 3 * ZELVORM_COUNT_WIDTH + ZELVORM_MAX_CONTRACTS * ZELVORM_CONTRACT_WIDTH +
-                   ZELVORM_MAX_ACCOUNTS * ZELVORM_ACCOUNT_WIDTH + ZELVORM_MAX_COMMANDS * ZELVORM_COMMAND_WIDTH
-};
 
 /* The exchange: what the engine is lent. */
 static zelvorm_state state;
@@ -379,7 +373,8 @@ static void begin_day(journal *j) {
         zelvorm_loaded loaded = zelvorm_read(j->beginning, j->beginning_bytes, state, AREAS);
         code = loaded.code, state = loaded.state;
     }
-    if (code != ZELVORM_CODE_ACCEPTED) stop("%s begins with a file that is refused, code %u", j->name, code);
+    if (code != ZELVORM_CODE_ACCEPTED)
+        stop("%s begins with a file that is refused, code %u: %s", j->name, code, zelvorm_code_words(code));
     j->settled = state.settlements;
 }
 
@@ -422,9 +417,10 @@ static void tell_earlier_days(int folder, const journal *last, uint32_t told) {
 /* After its settlement a day is saved, and the next day's journal begins with what was saved. */
 static void begin_next_day(journal *j, int folder) {
     char name[32];
-    uint8_t file[MAX_BEGINNING];
+    uint8_t file[ZELVORM_SAVED_BYTES];
     zelvorm_saved saved = zelvorm_write(state, AREAS, file, sizeof file);
-    if (saved.code != ZELVORM_CODE_ACCEPTED) stop("the state after day %u cannot be saved, code %u", j->day, saved.code);
+    if (saved.code != ZELVORM_CODE_ACCEPTED)
+        stop("day %u cannot be saved, code %u: %s", j->day, saved.code, zelvorm_code_words(saved.code));
     snprintf(name, sizeof name, "day-%03u.saved", j->day);
     put_in_place(folder, name, file, saved.length);
     put_journal(folder, j->day + 1, j->first + j->commands, FROM_SAVED_STATE, file, saved.length);
@@ -445,7 +441,7 @@ static size_t read_file(const char *path, uint8_t *bytes, size_t most) {
 }
 
 static int begin(const char *path, const char *file_path) {
-    static uint8_t file[MAX_DAY_FILE + 1];
+    static uint8_t file[ZELVORM_DAY_FILE_BYTES + 1];
     size_t count = read_file(file_path, file, sizeof file);
     uint32_t origin = FROM_DAY_FILE;
     zelvorm_opened opened = zelvorm_open(file, count);
@@ -455,7 +451,8 @@ static int begin(const char *path, const char *file_path) {
     } else {
         origin = FROM_SAVED_STATE;
         uint32_t code = zelvorm_read(file, count, state, AREAS).code;
-        if (code != ZELVORM_CODE_ACCEPTED) stop("%s is neither a sound day file nor a saved state, code %u", file_path, code);
+        if (code != ZELVORM_CODE_ACCEPTED)
+            stop("%s is neither a day file nor a saved state, code %u: %s", file_path, code, zelvorm_code_words(code));
     }
     if (mkdir(path, 0777) != 0 && errno != EEXIST) stop("%s cannot be made: %s", path, strerror(errno));
     int folder = open_folder(path);

@@ -43,9 +43,6 @@ const MAX_HEAD: usize = 4096;
 const FROM_DAY_FILE: u32 = 1;
 const FROM_SAVED_STATE: u32 = 2;
 
-/// Longer than any saved state.
-const MAX_SAVED: usize = 2048;
-
 /// No command has this number: where answers from it on are told again, none are.
 const NOTHING_TOLD: u32 = u32::MAX;
 
@@ -433,7 +430,8 @@ impl Exchange {
             (loaded.code, loaded.state)
         };
         if code != zelvorm::CODE_ACCEPTED {
-            return stop(format!("{} begins with a file that is refused, code {code}", journal.name));
+            let words = zelvorm::code_words(code);
+            return stop(format!("{} begins with a file that is refused, code {code}: {words}", journal.name));
         }
         self.state = state;
         journal.settled = state.settlements;
@@ -492,10 +490,11 @@ impl Exchange {
 
     /// After its settlement a day is saved, and the next day's journal begins with what was saved.
     fn begin_next_day(&mut self, folder: &Folder, journal: Journal) -> Done<Journal> {
-        let mut file = [0; MAX_SAVED];
+        let mut file = [0; zelvorm::SAVED_BYTES];
         let saved = zelvorm::write(self.state, &self.buys, &self.sells, &self.trades, &mut file);
         if saved.code != zelvorm::CODE_ACCEPTED {
-            return stop(format!("the state after day {} cannot be saved, code {}", journal.day, saved.code));
+            let words = zelvorm::code_words(saved.code);
+            return stop(format!("day {} cannot be saved, code {}: {words}", journal.day, saved.code));
         }
         let file = &file[..saved.length];
         folder.put_in_place(&format!("day-{:03}.saved", journal.day), file)?;
@@ -559,7 +558,8 @@ fn begin(path: &Path, file_path: &Path) -> Done<()> {
         origin = FROM_SAVED_STATE;
         let code = zelvorm::read(&file, exchange.state, &exchange.buys, &exchange.sells, &exchange.trades).code;
         if code != zelvorm::CODE_ACCEPTED {
-            return stop(format!("{} is neither a sound day file nor a saved state, code {code}", file_path.display()));
+            let words = zelvorm::code_words(code);
+            return stop(format!("{} is neither a day file nor a saved state, code {code}: {words}", file_path.display()));
         }
     }
     match std::fs::create_dir(path) {
