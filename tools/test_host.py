@@ -140,6 +140,22 @@ class Answers(HostTest):
             self.assertEqual((ran.returncode, ran.stdout), (0, expected))
             self.assert_stops(run(host, "dayfile", folder), "began with a saved state")
 
+    # An answer is given before the next command is there.
+    def test_one_by_one(self):
+        script = Script(PAPER.read_bytes())
+        for host in hosts.values():
+            pipe = subprocess.PIPE
+            with subprocess.Popen([host, "serve", self.begun(host, script)], stdin=pipe, stdout=pipe, bufsize=0) as process:
+                self.assertEqual(process.stdout.read(4), b"N 1\n")
+                for number, command in enumerate(script.commands, 1):
+                    process.stdin.write(command)
+                    answer = script.answers[number] + b"N %d\n" % (number + 1)
+                    found = b""
+                    while len(found) < len(answer):
+                        found += process.stdout.read(len(answer) - len(found))
+                    self.assertEqual(found, answer)
+                process.stdin.close()
+
     # The day file's bound of 2,000 commands is not the journal's.
     def test_long_day(self):
         opening, commands = faults.busy_day(2_001)
@@ -229,7 +245,7 @@ class Refusals(HostTest):
                 ("day-001.journal", faults.journal(faults.identity(), 1, script.opening[:-1], []), "code 20"),
                 ("day-001.journal", faults.journal(faults.identity(), 2, script.opening, []), "code 20"),
                 ("day-001.journal", b"", "is not a journal"),
-                ("day-001.journal", faults.with_long_text(faults.journal(faults.identity(), 1, script.opening, [])), "nobody wrote"),
+                ("day-001.journal", faults.with_long_text(faults.journal(faults.identity(), 1, script.opening, [])), "does not hold together"),
             ):
                 folder = faults.put(room.fresh(), {name: journal})
                 self.unchanged(folder)
@@ -323,7 +339,7 @@ class Faults(HostTest):
 
 # Hosts that lose something, each with the text that is put for another in host.c.
 CARELESS = {
-    "a command is not made durable": ("if (fdatasync(j->file) != 0)\n", "if (false)\n"),
+    "a command is not made durable": ("place_of(j, j->commands)) || fdatasync(j->file) != 0)", "place_of(j, j->commands)))"),
     "the answer comes first": ("        append(&j, command);\n        carry_out(next, command);", "        carry_out(next, command);\n        append(&j, command);"),
     "the last record is believed": ("    make_last_durable(j);\n", "    if (false) make_last_durable(j);\n"),
     "the last record is not written again": ("if (!write_at(j->file, record, RECORD_WIDTH, place) || fdatasync", "if (fdatasync"),
@@ -332,7 +348,7 @@ CARELESS = {
     "a file is written under its name": ('"%s.new", name', '"%s", name'),
     "a torn record is damage": ("record[RECORD_WIDTH - 1] == 0) return;", "false) return;"),
     "a torn record is a command": ("number_at(record + CHECKSUM_AT) == checksum(j->checksum, record, CHECKSUM_AT)", "record[CHECKSUM_AT - 1] == 0"),
-    "a torn record stays": ("place_of(j, j->commands)))\n        stop(", "lseek(j->file, 0, SEEK_END)))\n        stop("),
+    "a torn record stays": ("place_of(j, j->commands)) || fdatasync", "lseek(j->file, 0, SEEK_END)) || fdatasync"),
     "a settlement is not saved": ("    put_in_place(folder, name, file, saved.length);\n", ""),
 }
 

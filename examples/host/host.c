@@ -215,7 +215,7 @@ static size_t read_text(const journal *j, size_t at, const uint8_t **text, size_
 
 static void read_head(journal *j) {
     size_t there = read_at(j->file, j->name, j->head, sizeof j->head, 0);
-    if (there < TEXTS_AT || memcmp(j->head, FORM, 8) != 0) stop("%s is not a journal", j->name);
+    if (there < TEXTS_AT || memcmp(j->head, FORM, 8) != 0) stop("%s is not a journal; nothing was changed", j->name);
     j->length = number_at(j->head + LENGTH_AT);
     if (j->length < RECORD_WIDTH || j->length % RECORD_WIDTH != 0 || j->length > there ||
         checksum(0, j->head, j->length - 4) != number_at(j->head + j->length - 4))
@@ -224,7 +224,8 @@ static void read_head(journal *j) {
     j->first = number_at(j->head + FIRST_AT);
     j->origin = number_at(j->head + ORIGIN_AT);
     size_t at = read_text(j, TEXTS_AT, &j->identity, &j->identity_bytes);
-    if (read_text(j, at, &j->beginning, &j->beginning_bytes) == 0) stop("%s has a head that nobody wrote", j->name);
+    if (read_text(j, at, &j->beginning, &j->beginning_bytes) == 0)
+        stop("%s is damaged: its head does not hold together; nothing was changed", j->name);
     if (number_at(j->head + DAY_AT) != j->day)
         stop("%s is the journal of day %" PRIu32 "; nothing was changed", j->name, number_at(j->head + DAY_AT));
 }
@@ -307,12 +308,9 @@ static void append(journal *j, const uint8_t *command) {
     put_number(record, number);
     memcpy(record + COMMAND_AT, command, ZELVORM_COMMAND_WIDTH);
     put_number(record + CHECKSUM_AT, checksum(j->checksum, record, CHECKSUM_AT));
-    if (!write_at(j->file, record, RECORD_WIDTH, place_of(j, j->commands)))
-        stop("%s cannot be written: %s; command %" PRIu32 " is not carried out, and all answers given stand", j->name,
-             strerror(errno), number);
-    if (fdatasync(j->file) != 0)
-        stop("%s cannot be made durable: %s; the next start tells whether command %" PRIu32
-             " is carried out, and all answers given stand", j->name, strerror(errno), number);
+    if (!write_at(j->file, record, RECORD_WIDTH, place_of(j, j->commands)) || fdatasync(j->file) != 0)
+        stop("%s cannot be written: %s; all answers given stand, and the next start tells whether command %" PRIu32
+             " is carried out", j->name, strerror(errno), number);
     j->checksum = number_at(record + CHECKSUM_AT);
     j->commands++;
 }
@@ -388,7 +386,7 @@ static void play(journal *j, uint32_t told) {
     for (size_t from = 0; from < silent; from += BLOCK) {
         size_t count = silent - from < BLOCK ? silent - from : BLOCK;
         read_commands(j, from, count, commands);
-        state = zelvorm_run(state, AREAS, commands, count * ZELVORM_COMMAND_WIDTH, answers, BLOCK * ZELVORM_ANSWER_STRIDE).state;
+        state = zelvorm_run(state, AREAS, commands, count * ZELVORM_COMMAND_WIDTH, answers, sizeof answers / 4).state;
     }
     for (size_t k = silent; k < j->commands; k++) {
         read_commands(j, k, 1, commands);
@@ -477,8 +475,8 @@ static int serve(const char *path, uint32_t told) {
     int folder = open_folder(path);
     open_last_journal(&j, folder, path);
     if (told > j.first + j.commands && told != NOTHING_TOLD)
-        stop("%s ends with command %" PRIu32 ", and answers from %" PRIu32 " on are asked for: something answered is not here; "
-             "nothing was changed", j.name, j.first + j.commands - 1, told);
+        stop("%s ends with command %" PRIu32 ", and answers from %" PRIu32 " on are asked for: something answered is not "
+             "here; nothing was changed", j.name, j.first + j.commands - 1, told);
     tell_earlier_days(folder, &j, told);
     play(&j, told);
     for (;;) {
@@ -544,8 +542,7 @@ static int show_day_file(const char *path) {
     if (j.origin != FROM_DAY_FILE) stop("%s began with a saved state, so that it is no day file", j.name);
     if (j.commands > ZELVORM_MAX_COMMANDS)
         stop("%s has %" PRIu32 " commands, and a day file has at most %u", j.name, j.commands, ZELVORM_MAX_COMMANDS);
-    for (size_t from = 0; from < j.commands; from += BLOCK)
-        read_commands(&j, from, j.commands - from < BLOCK ? j.commands - from : BLOCK, commands + from * ZELVORM_COMMAND_WIDTH);
+    for (size_t k = 0; k < j.commands; k++) read_commands(&j, k, 1, commands + k * ZELVORM_COMMAND_WIDTH);
     put_number(count, j.commands);
     fwrite(j.beginning, j.beginning_bytes - ZELVORM_COUNT_WIDTH, 1, stdout);
     fwrite(count, sizeof count, 1, stdout);

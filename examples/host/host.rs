@@ -254,7 +254,7 @@ impl Journal {
         let mut head = vec![0; MAX_HEAD];
         let there = read_at(&file, &name, &mut head, 0)?;
         if there < TEXTS_AT || !head.starts_with(FORM) {
-            return stop(format!("{name} is not a journal"));
+            return stop(format!("{name} is not a journal; nothing was changed"));
         }
         let length = number_at(&head, LENGTH_AT) as usize;
         let is_whole = length >= RECORD_WIDTH && length % RECORD_WIDTH == 0 && length <= there;
@@ -262,7 +262,9 @@ impl Journal {
             return stop(format!("{name} is damaged: the checksum of its head fails; nothing was changed"));
         }
         let texts = read_text(&head[TEXTS_AT..length - 4]).and_then(|(identity, rest)| Some((identity, read_text(rest)?.0)));
-        let Some((identity, beginning)) = texts else { return stop(format!("{name} has a head that nobody wrote")) };
+        let Some((identity, beginning)) = texts else {
+            return stop(format!("{name} is damaged: its head does not hold together; nothing was changed"));
+        };
         if number_at(&head, DAY_AT) != day {
             return stop(format!("{name} is the journal of day {}; nothing was changed", number_at(&head, DAY_AT)));
         }
@@ -360,14 +362,11 @@ impl Journal {
         record[COMMAND_AT..CHECKSUM_AT].copy_from_slice(command);
         let sum = checksum(self.checksum, &record[..CHECKSUM_AT]);
         put_number(&mut record, CHECKSUM_AT, sum);
-        let written = self.file.write_all_at(&record, self.place_of(self.commands));
+        let written = self.file.write_all_at(&record, self.place_of(self.commands)).and_then(|()| self.file.sync_data());
         written.told(|e| {
-            format!("{} cannot be written: {e}; command {number} is not carried out, and all answers given stand", self.name)
-        })?;
-        self.file.sync_data().told(|e| {
             format!(
-                "{} cannot be made durable: {e}; the next start tells whether command {number} is carried out, and all \
-                 answers given stand",
+                "{} cannot be written: {e}; all answers given stand, and the next start tells whether command {number} is \
+                 carried out",
                 self.name
             )
         })?;
