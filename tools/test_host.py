@@ -337,19 +337,19 @@ class Faults(HostTest):
         self.assertEqual(first.count("rename"), 2)
 
 
-# Hosts that lose something, each with the text that is put for another in host.c.
+# Hosts that lose something: the faults that show it, and the text that is put for another in host.c.
 CARELESS = {
-    "a command is not made durable": ("place_of(j, j->commands)) || fdatasync(j->file) != 0)", "place_of(j, j->commands)))"),
-    "the answer comes first": ("        append(&j, command);\n        carry_out(next, command);", "        carry_out(next, command);\n        append(&j, command);"),
-    "the last record is believed": ("    make_last_durable(j);\n", "    if (false) make_last_durable(j);\n"),
-    "the last record is not written again": ("if (!write_at(j->file, record, RECORD_WIDTH, place) || fdatasync", "if (fdatasync"),
-    "names are not made durable": ("    make_names_durable(folder);\n}\n\n/* ---- The journal", "}\n\n/* ---- The journal"),
-    "a file has its name before its bytes": ("|| fsync(file) != 0 || close", "|| close"),
-    "a file is written under its name": ('"%s.new", name', '"%s", name'),
-    "a torn record is damage": ("record[RECORD_WIDTH - 1] == 0) return;", "false) return;"),
-    "a torn record is a command": ("number_at(record + CHECKSUM_AT) == checksum(j->checksum, record, CHECKSUM_AT)", "record[CHECKSUM_AT - 1] == 0"),
-    "a torn record stays": ("place_of(j, j->commands)) || fdatasync", "lseek(j->file, 0, SEEK_END)) || fdatasync"),
-    "a settlement is not saved": ("    put_in_place(folder, name, file, saved.length);\n", ""),
+    "a command is not made durable": (DiskRuns.crashes, "place_of(j, j->commands)) || fdatasync(j->file) != 0)", "place_of(j, j->commands)))"),
+    "the answer comes first": (DiskRuns.crashes, "        append(&j, command);\n        carry_out(next, command);", "        carry_out(next, command);\n        append(&j, command);"),
+    "the last record is believed": (DiskRuns.failures, "    make_last_durable(j);\n", "    if (false) make_last_durable(j);\n"),
+    "the last record is not written again": (DiskRuns.failures, "if (!write_at(j->file, record, RECORD_WIDTH, place) || fdatasync", "if (fdatasync"),
+    "names are not made durable": (DiskRuns.crashes, "    make_names_durable(folder);\n}\n\n/* ---- The journal", "}\n\n/* ---- The journal"),
+    "a file has its name before its bytes": (DiskRuns.crashes, "|| fsync(file) != 0 || close", "|| close"),
+    "a file is written under its name": (DiskRuns.crashes, '"%s.new", name', '"%s", name'),
+    "a torn record is damage": (DiskRuns.crashes, "record[RECORD_WIDTH - 1] == 0) return;", "false) return;"),
+    "a torn record is a command": (DiskRuns.crashes, "number_at(record + CHECKSUM_AT) == checksum(j->checksum, record, CHECKSUM_AT)", "record[CHECKSUM_AT - 1] == 0"),
+    "a torn record stays": (DiskRuns.crashes, "place_of(j, j->commands)) || fdatasync", "lseek(j->file, 0, SEEK_END)) || fdatasync"),
+    "a settlement is not saved": (DiskRuns.crashes, "    put_in_place(folder, name, file, saved.length);\n", ""),
 }
 
 
@@ -360,15 +360,13 @@ class Careless(HostTest):
         rng = random.Random(6)
         script = faults.short_script(rng)
         text = (TOP / "examples" / "host" / "host.c").read_text()
-        for name, (careful, careless) in CARELESS.items():
+        for name, (faults_of, careful, careless) in CARELESS.items():
             self.assertEqual(text.count(careful), 1, name)
             source = room.path / "careless.c"
             source.write_text(text.replace(careful, careless))
             host = faults.build_c(room.path / "careless", source, "-O0", "-Wno-unused")
-            runs = DiskRuns(layer, [host], script, rng, room, 1, with_tears="torn" in name)
             with self.assertRaises(Differs, msg=name):
-                runs.crashes()
-                runs.failures()
+                faults_of(DiskRuns(layer, [host], script, rng, room, 1, with_tears="torn" in name))
 
 
 class Sanitized(HostTest):

@@ -328,7 +328,7 @@ def kill_runs(hosts, count, rng, room):
         folder, client = room.fresh(), Client(script)
         begin(rng.choice(hosts), folder, script)
         figures["scripts"] += 1
-        longest = rng.choice((0.002, 0.004, 0.008))
+        longest = rng.choice((0.001, 0.003, 0.006))
         while client.whole < len(script) and figures["killed"] < count:
             before = client.seen
             status, messages, going_on = talk(rng.choice(hosts), folder, client, rng.uniform(0, longest))
