@@ -5,13 +5,14 @@ import shutil
 import subprocess
 import sys
 import unittest
+from collections import Counter
 from pathlib import Path
 
 TOP = Path(__file__).resolve().parent.parent
 sys.path.insert(0, str(TOP / "examples" / "host"))
 
 import faults  # noqa: E402
-from faults import COMMAND, Client, Differs, DiskRuns, Room, Script, dayfile, hold, model, run, saved  # noqa: E402
+from faults import COMMAND, Client, Differs, DiskRuns, Room, Script, dayfile, model, run, saved  # noqa: E402
 
 SAMPLES = TOP / "samples"
 PAPER = SAMPLES / "paper-example.day"
@@ -25,20 +26,20 @@ def missing():
     """What these tests need and is not here."""
     if subprocess.run([TOP / "tools" / "build_library", "current"]).returncode != 0:
         return "target/library is not built for these sources: tools/build_library builds it"
-    return next((f"no {tool} here" for tool in ("cc", "rustc") if not shutil.which(tool)), None)
+    return None if shutil.which("cc") else "no cc here"
 
 
-MISSING = missing()
-room = hosts = layer = None
+room = Room()
+layer = hosts = None
 
 
 def setUpModule():
-    global room, hosts, layer
-    if MISSING:
-        raise unittest.SkipTest(MISSING)
-    room = unittest.enterModuleContext(Room())
-    hosts = {"C": faults.build_c(room.path / "host_c"), "Rust": faults.build_rust(room.path / "host_rust")}
-    layer = faults.build_disk(room.path / "disk.so")
+    global layer, hosts
+    if missing():
+        raise unittest.SkipTest(missing())
+    room.__enter__()
+    unittest.addModuleCleanup(room.__exit__)
+    layer, hosts = faults.build_all(room)
 
 
 def mounts():
@@ -76,43 +77,48 @@ def contents(folder):
     return {path.name: path.read_bytes() for path in folder.iterdir()}
 
 
+class Languages(HostTest):
+    def test_rust(self):
+        if not faults.rust_is_here():
+            self.skipTest("no rustc 1.89 or newer here: the host in Rust is not tested")
+        self.assertEqual([host.name for host in hosts], ["host_c", "host_rust"])
+
+
 class Answers(HostTest):
     # Without the N lines a host gives what the day runner prints, over as many days as there are settlements.
     def test_samples(self):
-        for language, host in hosts.items():
+        for host in hosts:
             for day in sorted(SAMPLES.glob("*.day")):
                 folder = room.fresh()
                 head = dayfile.sections(day.read_bytes())
                 self.assertEqual(run(host, "begin", folder, day).returncode, 0)
                 ran = run(host, "serve", folder, input=b"".join(COMMAND.pack(*command) for command in head.commands))
                 lines = [line for line in ran.stdout.splitlines(True) if not line.startswith(b"N ")]
-                self.assertEqual((ran.returncode, b"".join(lines)), (0, day.with_suffix(".out").read_bytes()), (language, day.name))
+                self.assertEqual((ran.returncode, b"".join(lines)), (0, day.with_suffix(".out").read_bytes()), (host.name, day.name))
                 shutil.rmtree(folder)
 
-    # Both languages leave the same files, byte for byte.
-    def test_same_files(self):
-        script = Script(PAPER.read_bytes())
-        first, second = [contents(self.served(host, script)) for host in hosts.values()]
-        self.assertEqual(first, second)
-        self.assertEqual(sorted(first), ["day-001.journal", "day-001.saved", "day-002.journal"])
-
-    # The journal lies in its file as README says.
+    # The journals lie in their files as README says.
     def test_form(self):
         script = Script(PAPER.read_bytes())
-        found = contents(self.served(hosts["C"], script))
-        self.assertEqual(found["day-001.journal"], faults.journal(faults.identity(), 1, script.opening, script.commands))
-        self.assertEqual(found["day-002.journal"], faults.journal(faults.identity(), 2, found["day-001.saved"], [], day=2, first=9))
+        state = script.days[0][1]
+        expected = {
+            "day-001.journal": faults.journal(faults.identity(), 1, script.opening, script.commands),
+            "day-001.saved": state,
+            "day-002.journal": faults.journal(faults.identity(), 2, state, [], day=2, first=9),
+        }
+        for host in hosts:
+            self.assertEqual(contents(self.served(host, script)), expected)
 
     def test_day_file(self):
-        for host in hosts.values():
+        for host in hosts:
             shown = run(host, "dayfile", self.served(host, Script(PAPER.read_bytes())))
             self.assertEqual((shown.returncode, shown.stdout), (0, PAPER.read_bytes()))
 
     # Answers from any number on are given once more, over the days.
     def test_told_again(self):
         script = faults.random_script(random.Random(9), 30, 80, days=3)
-        folder = self.served(hosts["C"], script)
-        for host in hosts.values():
+        folder = self.served(hosts[0], script)
+        for host in hosts:
             for told in range(1, len(script) + 2):
                 ran = run(host, "serve", folder, told)
                 self.assertEqual((ran.returncode, ran.stdout), (0, script.told(told, len(script))), told)
@@ -120,7 +126,7 @@ class Answers(HostTest):
     # An answer that the journal does not have was never given by this journal.
     def test_told_beyond_the_end(self):
         script = Script(PAPER.read_bytes())
-        for host in hosts.values():
+        for host in hosts:
             folder = self.served(host, script, 5)
             self.unchanged(folder)
             self.assert_stops(run(host, "serve", folder, 7), "ends with command 5", "from 7 on")
@@ -128,7 +134,7 @@ class Answers(HostTest):
     # A day that began with a saved state goes on from it, and is no day file.
     def test_from_saved_state(self):
         script = Script(PAPER.read_bytes())
-        for host in hosts.values():
+        for host in hosts:
             folder = room.fresh()
             file = room.path / "saved"
             file.write_bytes(script.days[0][1])
@@ -143,7 +149,7 @@ class Answers(HostTest):
     # An answer is given before the next command is there.
     def test_one_by_one(self):
         script = Script(PAPER.read_bytes())
-        for host in hosts.values():
+        for host in hosts:
             pipe = subprocess.PIPE
             with subprocess.Popen([host, "serve", self.begun(host, script)], stdin=pipe, stdout=pipe, bufsize=0) as process:
                 self.assertEqual(process.stdout.read(4), b"N 1\n")
@@ -159,7 +165,7 @@ class Answers(HostTest):
     # The day file's bound of 2,000 commands is not the journal's.
     def test_long_day(self):
         opening, commands = faults.busy_day(2_001)
-        for host in hosts.values():
+        for host in hosts:
             folder = faults.put(room.fresh(), {"day-001.journal": faults.journal(faults.identity(), 1, opening, commands)})
             self.assertEqual(run(host, "serve", folder).stdout, b"N 2002\n")
             self.assert_stops(run(host, "dayfile", folder), "2001 commands", "at most 2000")
@@ -169,14 +175,14 @@ class Refusals(HostTest):
     """A clear message, and nothing overwritten."""
 
     def test_usage(self):
-        for host in hosts.values():
+        for host in hosts:
             for words in ((), ("serve",), ("serve", "x", "0"), ("serve", "x", "-1"), ("serve", "x", "4294967295"), ("serve", "x", "5x"), ("begin", "x"), ("other", "x")):
                 ran = run(host, *words)
                 self.assertEqual((ran.returncode, ran.stderr[:6]), (2, b"usage:"), words)
 
     def test_begin(self):
         script = Script(PAPER.read_bytes())
-        for host in hosts.values():
+        for host in hosts:
             folder = self.served(host, script, 3)
             self.unchanged(folder)
             self.assert_stops(run(host, "begin", folder, PAPER), "has a journal already")
@@ -189,7 +195,7 @@ class Refusals(HostTest):
 
     def test_another_engine(self):
         script = Script(PAPER.read_bytes())
-        for host in hosts.values():
+        for host in hosts:
             for other in (b"zelvorm 0.9", faults.identity() + b"0", b""):
                 folder = faults.put(room.fresh(), {"day-001.journal": faults.journal(other, 1, script.opening, script.commands[:4])})
                 self.unchanged(folder)
@@ -200,8 +206,8 @@ class Refusals(HostTest):
 
     def test_two_hosts(self):
         script = Script(PAPER.read_bytes())
-        for one in hosts.values():
-            for other in hosts.values():
+        for one in hosts:
+            for other in hosts:
                 folder = self.served(one, script, 5)
                 self.unchanged(folder)
                 with subprocess.Popen([one, "serve", folder], stdin=subprocess.PIPE, stdout=subprocess.PIPE) as first:
@@ -216,7 +222,7 @@ class Refusals(HostTest):
     def test_damage(self):
         script = Script(PAPER.read_bytes())
         whole = faults.journal(faults.identity(), 1, script.opening, script.commands[:5])
-        for host in hosts.values():
+        for host in hosts:
             for at in range(len(whole)):
                 damaged = whole[:at] + bytes([whole[at] ^ 1]) + whole[at + 1 :]
                 folder = faults.put(room.fresh(), {"day-001.journal": damaged})
@@ -231,7 +237,7 @@ class Refusals(HostTest):
         whole = faults.journal(faults.identity(), 1, script.opening, script.commands[:5])
         head, records = whole[:-160], [whole[len(whole) - 160 + 32 * k :][:32] for k in range(5)]
         other = faults.journal(faults.identity(), 1, script.opening, script.commands[1:6])[-160:]
-        for host in hosts.values():
+        for host in hosts:
             for moved in (records[1:], records[:2] + records[3:], records[:1] + records, records[:2] + [other[64:96]] + records[3:], [*records, bytes(32), bytes(32)]):
                 folder = faults.put(room.fresh(), {"day-001.journal": head + b"".join(moved)})
                 self.unchanged(folder)
@@ -239,7 +245,7 @@ class Refusals(HostTest):
 
     def test_wrong_heads(self):
         script = Script(PAPER.read_bytes())
-        for host in hosts.values():
+        for host in hosts:
             for name, journal, words in (
                 ("day-002.journal", faults.journal(faults.identity(), 1, script.opening, []), "is the journal of day 1"),
                 ("day-001.journal", faults.journal(faults.identity(), 1, script.opening[:-1], []), "code 20"),
@@ -253,7 +259,7 @@ class Refusals(HostTest):
 
     def test_numbers_used_up(self):
         script = Script(PAPER.read_bytes())
-        for host in hosts.values():
+        for host in hosts:
             last = 2**32 - 2
             folder = faults.put(room.fresh(), {"day-001.journal": faults.journal(faults.identity(), 1, script.opening, [], first=last)})
             ran = run(host, "serve", folder, input=b"".join(script.commands[:2]))
@@ -262,7 +268,7 @@ class Refusals(HostTest):
 
     def test_part_of_a_command(self):
         script = Script(PAPER.read_bytes())
-        for host in hosts.values():
+        for host in hosts:
             folder = self.begun(host, script)
             ran = run(host, "serve", folder, input=script.commands[0] + script.commands[1][:11])
             self.assertEqual(ran.stdout, script.told(1, 0) + script.answers[1] + b"N 2\n")
@@ -272,7 +278,7 @@ class Refusals(HostTest):
     # The command is carried out, its answer lost: the next start gives it.
     def test_answer_that_cannot_be_given(self):
         script = Script(PAPER.read_bytes())
-        for host in hosts.values():
+        for host in hosts:
             folder = self.begun(host, script)
             with subprocess.Popen([host, "serve", folder], stdin=subprocess.PIPE, stdout=subprocess.PIPE, stderr=subprocess.PIPE) as process:
                 self.assertEqual(process.stdout.readline(), b"N 1\n")
@@ -286,7 +292,7 @@ class Refusals(HostTest):
     @unittest.skipUnless(mounts(), "no folder can be mounted here")
     def test_read_only_disk(self):
         script = Script(PAPER.read_bytes())
-        for host in hosts.values():
+        for host in hosts:
             folder = self.served(host, script, 5)
             self.unchanged(folder)
             for words in (f"serve {folder}", f"state {folder}", f"begin {folder}/new {PAPER}"):
@@ -296,7 +302,7 @@ class Refusals(HostTest):
     @unittest.skipUnless(mounts(), "no folder can be mounted here")
     def test_full_disk(self):
         script = faults.random_script(random.Random(7), 150)
-        for host in hosts.values():
+        for host in hosts:
             disk, kept = room.fresh(), room.fresh()
             (kept / "opening").write_bytes(script.opening)
             commands = f"mount -t tmpfs -o size=12k none {disk} && {host} begin {disk}/x {kept}/opening && {{ {host} serve {disk}/x; status=$?; cp -r {disk}/x {kept}; exit $status; }}"
@@ -311,12 +317,12 @@ class Refusals(HostTest):
 
 class Faults(HostTest):
     def test_killed(self):
-        figures = faults.kill_runs(list(hosts.values()), KILLS, random.Random(1), room)
+        figures = faults.kill_runs(hosts, KILLS, random.Random(1), room)
         self.assertEqual(figures["killed"], KILLS)
 
     def runs(self, seed):
         rng = random.Random(seed)
-        return DiskRuns(layer, list(hosts.values()), faults.short_script(rng), rng, room, STEP)
+        return DiskRuns(layer, hosts, faults.short_script(rng), rng, room, STEP)
 
     def test_power_is_lost(self):
         figures = self.runs(2).crashes()
@@ -331,10 +337,11 @@ class Faults(HostTest):
     # The layer meets what both languages call: neither goes past it.
     def test_layer_sees_all_calls(self):
         script = faults.short_script(random.Random(4))
-        first, second = [faults.counted_calls(layer, room, host, script) for host in hosts.values()]
-        self.assertEqual(first, second)
-        self.assertEqual(first.count("write"), len(script) + 2)
-        self.assertEqual(first.count("rename"), 2)
+        for host in hosts:
+            counted = Counter(faults.counted_calls(layer, room, host, script))
+            # A write and a sync for each command; at the start a sync of the folder, and two files after the settlement, each with
+            # a sync of the folder.
+            self.assertEqual(counted, {"create": 2, "write": len(script) + 2, "sync": len(script) + 5, "rename": 2})
 
 
 # Hosts that lose something: the faults that show it, and the text that is put for another in host.c.
@@ -362,9 +369,9 @@ class Careless(HostTest):
         text = (TOP / "examples" / "host" / "host.c").read_text()
         for name, (faults_of, careful, careless) in CARELESS.items():
             self.assertEqual(text.count(careful), 1, name)
-            source = room.path / "careless.c"
+            source = room.programs / "careless.c"
             source.write_text(text.replace(careful, careless))
-            host = faults.build_c(room.path / "careless", source, "-O0", "-Wno-unused")
+            host = faults.build_c(room.programs / "careless", source, "-O0", "-Wno-unused")
             with self.assertRaises(Differs, msg=name):
                 faults_of(DiskRuns(layer, [host], script, rng, room, 1, with_tears="torn" in name))
 
@@ -375,7 +382,7 @@ class Sanitized(HostTest):
     def test_sanitized(self):
         flags = ("-fsanitize=address,undefined", "-fno-sanitize-recover=all", "-g")
         try:
-            host = faults.build_c(room.path / "host_tested", TOP / "examples" / "host" / "host.c", *flags)
+            host = faults.build_c(room.programs / "host_tested", TOP / "examples" / "host" / "host.c", *flags)
         except Differs as differs:
             self.skipTest(f"this compiler has no sanitizers: {differs}")
         script = faults.random_script(random.Random(8), 60)

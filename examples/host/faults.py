@@ -3,7 +3,7 @@
 
     examples/host/faults.py --kills 10000 --disk 1
 
-Builds both hosts and the disk of disk.c. `--kills` is the number of runs that are killed at random moments. `--disk 1` tries every
+Builds the hosts and the disk of disk.c. `--kills` is the number of runs that are killed at random moments. `--disk 1` tries every
 fault of the disk and every place where a write can be torn, `--disk 20` every twentieth of them. `--seed` chooses the days, and
 `--times` tells how long a recovery takes. Ends with the figures, or at the first difference with status 1.
 """
@@ -158,18 +158,35 @@ def build_disk(program):
     return program
 
 
+def rust_is_here():
+    """Whether there is a Rust that knows all that host.rs uses."""
+    if not shutil.which("rustc"):
+        return False
+    version = re.search(rb"rustc (\d+)\.(\d+)", run("rustc", "--version").stdout)
+    return bool(version) and (int(version[1]), int(version[2])) >= (1, 89)
+
+
+def build_all(room):
+    """The disk, and the hosts in the languages that are here."""
+    hosts = [build_c(room.programs / "host_c")]
+    if rust_is_here():
+        hosts.append(build_rust(room.programs / "host_rust"))
+    return build_disk(room.programs / "disk.so"), hosts
+
+
 class Room:
-    """A folder for the files of the tests, in memory where there is such a place."""
+    """A folder for the files of the tests, in memory where there is such a place, and one for programs."""
 
     def __enter__(self):
         memory = Path("/dev/shm")
-        self.folder = tempfile.TemporaryDirectory(dir=memory if os.access(memory, os.W_OK) else None)
-        self.path = Path(self.folder.name)
+        self.folders = [tempfile.TemporaryDirectory(dir=memory if os.access(memory, os.W_OK) else None), tempfile.TemporaryDirectory()]
+        self.path, self.programs = [Path(folder.name) for folder in self.folders]
         self.count = 0
         return self
 
     def __exit__(self, *_):
-        self.folder.cleanup()
+        for folder in self.folders:
+            folder.cleanup()
 
     def fresh(self):
         """A new empty folder."""
@@ -580,8 +597,7 @@ def main():
     arguments = parser.parse_args()
     rng = random.Random(arguments.seed)
     with Room() as room:
-        layer = build_disk(room.path / "disk.so")
-        hosts = [build_c(room.path / "host_c"), build_rust(room.path / "host_rust")]
+        layer, hosts = build_all(room)
         runs = [DiskRuns(layer, hosts, short_script(rng), rng, room, arguments.disk) for _ in range(2)]
         show("killed at random moments", lambda: kill_runs(hosts, arguments.kills, rng, room))
         show("the power is lost before each call", runs[0].crashes)

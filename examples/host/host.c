@@ -66,7 +66,7 @@ typedef struct {
     uint8_t head[MAX_HEAD];
 } journal;
 
-static _Noreturn void stop(const char *form, ...) {
+__attribute__((format(printf, 1, 2))) static _Noreturn void stop(const char *form, ...) {
     va_list words;
     va_start(words, form);
     fputs("host: ", stderr);

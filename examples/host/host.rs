@@ -257,7 +257,7 @@ impl Journal {
             return stop(format!("{name} is not a journal; nothing was changed"));
         }
         let length = number_at(&head, LENGTH_AT) as usize;
-        let is_whole = length >= RECORD_WIDTH && length % RECORD_WIDTH == 0 && length <= there;
+        let is_whole = length >= RECORD_WIDTH && length.is_multiple_of(RECORD_WIDTH) && length <= there;
         if !is_whole || checksum(0, &head[..length - 4]) != number_at(&head, length - 4) {
             return stop(format!("{name} is damaged: the checksum of its head fails; nothing was changed"));
         }
