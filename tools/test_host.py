@@ -139,7 +139,8 @@ class Answers(HostTest):
             file = room.path / "saved"
             file.write_bytes(script.days[0][1])
             self.assertEqual(run(host, "begin", folder, file).returncode, 0)
-            commands = [dayfile.deposit(1, 7), dayfile.state(1, "continuous"), dayfile.insert(2, 1, "sell", "close", "limit", 102, 1, "day")]
+            sell = dayfile.insert(2, 1, "sell", "close", "limit", 102, 1, "day")
+            commands = [dayfile.deposit(1, 7), dayfile.state(1, "continuous"), sell]
             ran = run(host, "serve", folder, input=b"".join(COMMAND.pack(*command) for command in commands))
             printed = model.run_from(saved.state_in(file.read_bytes()), commands).splitlines(True)
             expected = b"N 1\n" + b"".join(b"%bN %d\n" % (line, k) for k, line in enumerate(printed, 2))
@@ -176,8 +177,8 @@ class Refusals(HostTest):
 
     def test_usage(self):
         for host in hosts:
-            for words in ((), ("serve",), ("serve", "x", "0"), ("serve", "x", "-1"), ("serve", "x", "4294967295"), ("serve", "x", "5x"), ("begin", "x"), ("other", "x")):
-                ran = run(host, *words)
+            for words in ("", "serve", "serve x 0", "serve x -1", "serve x 4294967295", "serve x 5x", "begin x", "other x"):
+                ran = run(host, *words.split())
                 self.assertEqual((ran.returncode, ran.stderr[:6]), (2, b"usage:"), words)
 
     def test_begin(self):
@@ -237,21 +238,28 @@ class Refusals(HostTest):
         whole = faults.journal(faults.identity(), 1, script.opening, script.commands[:5])
         head, records = whole[:-160], [whole[len(whole) - 160 + 32 * k :][:32] for k in range(5)]
         other = faults.journal(faults.identity(), 1, script.opening, script.commands[1:6])[-160:]
+        wrong = (
+            records[1:],
+            records[:2] + records[3:],
+            records[:1] + records,
+            [*records[:2], other[64:96], *records[3:]],
+            [*records, bytes(32), bytes(32)],
+        )
         for host in hosts:
-            for moved in (records[1:], records[:2] + records[3:], records[:1] + records, records[:2] + [other[64:96]] + records[3:], [*records, bytes(32), bytes(32)]):
+            for moved in wrong:
                 folder = faults.put(room.fresh(), {"day-001.journal": head + b"".join(moved)})
                 self.unchanged(folder)
                 self.assert_stops(run(host, "serve", folder), "is damaged: the checksum of command", "nothing was changed")
 
     def test_wrong_heads(self):
-        script = Script(PAPER.read_bytes())
+        opening, own = Script(PAPER.read_bytes()).opening, faults.identity()
         for host in hosts:
             for name, journal, words in (
-                ("day-002.journal", faults.journal(faults.identity(), 1, script.opening, []), "is the journal of day 1"),
-                ("day-001.journal", faults.journal(faults.identity(), 1, script.opening[:-1], []), "code 20"),
-                ("day-001.journal", faults.journal(faults.identity(), 2, script.opening, []), "code 20"),
+                ("day-002.journal", faults.journal(own, 1, opening, []), "is the journal of day 1"),
+                ("day-001.journal", faults.journal(own, 1, opening[:-1], []), "code 20"),
+                ("day-001.journal", faults.journal(own, 2, opening, []), "code 20"),
                 ("day-001.journal", b"", "is not a journal"),
-                ("day-001.journal", faults.with_long_text(faults.journal(faults.identity(), 1, script.opening, [])), "does not hold together"),
+                ("day-001.journal", faults.with_long_text(faults.journal(own, 1, opening, [])), "does not hold together"),
             ):
                 folder = faults.put(room.fresh(), {name: journal})
                 self.unchanged(folder)
@@ -280,7 +288,8 @@ class Refusals(HostTest):
         script = Script(PAPER.read_bytes())
         for host in hosts:
             folder = self.begun(host, script)
-            with subprocess.Popen([host, "serve", folder], stdin=subprocess.PIPE, stdout=subprocess.PIPE, stderr=subprocess.PIPE) as process:
+            pipe = subprocess.PIPE
+            with subprocess.Popen([host, "serve", folder], stdin=pipe, stdout=pipe, stderr=pipe) as process:
                 self.assertEqual(process.stdout.readline(), b"N 1\n")
                 process.stdout.close()
                 process.stdin.write(script.commands[0])
@@ -305,8 +314,9 @@ class Refusals(HostTest):
         for host in hosts:
             disk, kept = room.fresh(), room.fresh()
             (kept / "opening").write_bytes(script.opening)
-            commands = f"mount -t tmpfs -o size=12k none {disk} && {host} begin {disk}/x {kept}/opening && {{ {host} serve {disk}/x; status=$?; cp -r {disk}/x {kept}; exit $status; }}"
-            ran = run("unshare", "-rm", "sh", "-c", commands, input=b"".join(script.commands))
+            mounted = f"mount -t tmpfs -o size=12k none {disk} && {host} begin {disk}/x {kept}/opening || exit"
+            served = f"{host} serve {disk}/x; status=$?; cp -r {disk}/x {kept}; exit $status"
+            ran = run("unshare", "-rm", "sh", "-c", f"{mounted}; {served}", input=b"".join(script.commands))
             self.assert_stops(ran, "No space left on device", "all answers given stand")
             client = Client(script)
             client.read(ran.stdout)
@@ -346,16 +356,44 @@ class Faults(HostTest):
 
 # Hosts that lose something: the faults that show it, and the text that is put for another in host.c.
 CARELESS = {
-    "a command is not made durable": (DiskRuns.crashes, "place_of(j, j->commands)) || fdatasync(j->file) != 0)", "place_of(j, j->commands)))"),
-    "the answer comes first": (DiskRuns.crashes, "        append(&j, command);\n        carry_out(next, command);", "        carry_out(next, command);\n        append(&j, command);"),
-    "the last record is believed": (DiskRuns.failures, "    make_last_durable(j);\n", "    if (false) make_last_durable(j);\n"),
-    "the last record is not written again": (DiskRuns.failures, "if (!write_at(j->file, record, RECORD_WIDTH, place) || fdatasync", "if (fdatasync"),
-    "names are not made durable": (DiskRuns.crashes, "    make_names_durable(folder);\n}\n\n/* ---- The journal", "}\n\n/* ---- The journal"),
+    "a command is not made durable": (
+        DiskRuns.crashes,
+        "place_of(j, j->commands)) || fdatasync(j->file) != 0)",
+        "place_of(j, j->commands)))",
+    ),
+    "the answer comes first": (
+        DiskRuns.crashes,
+        "        append(&j, command);\n        carry_out(next, command);\n",
+        "        carry_out(next, command);\n        append(&j, command);\n",
+    ),
+    "the last record is believed": (
+        DiskRuns.failures,
+        "    make_last_durable(j);\n",
+        "    if (false) make_last_durable(j);\n",
+    ),
+    "the last record is not written again": (
+        DiskRuns.failures,
+        "if (!write_at(j->file, record, RECORD_WIDTH, place) || fdatasync",
+        "if (fdatasync",
+    ),
+    "names are not made durable": (
+        DiskRuns.crashes,
+        "    make_names_durable(folder);\n}\n\n/* ---- The journal",
+        "}\n\n/* ---- The journal",
+    ),
     "a file has its name before its bytes": (DiskRuns.crashes, "|| fsync(file) != 0 || close", "|| close"),
     "a file is written under its name": (DiskRuns.crashes, '"%s.new", name', '"%s", name'),
     "a torn record is damage": (DiskRuns.crashes, "record[RECORD_WIDTH - 1] == 0) return;", "false) return;"),
-    "a torn record is a command": (DiskRuns.crashes, "number_at(record + CHECKSUM_AT) == checksum(j->checksum, record, CHECKSUM_AT)", "record[CHECKSUM_AT - 1] == 0"),
-    "a torn record stays": (DiskRuns.crashes, "place_of(j, j->commands)) || fdatasync", "lseek(j->file, 0, SEEK_END)) || fdatasync"),
+    "a torn record is a command": (
+        DiskRuns.crashes,
+        "number_at(record + CHECKSUM_AT) == checksum(j->checksum, record, CHECKSUM_AT)",
+        "record[CHECKSUM_AT - 1] == 0",
+    ),
+    "a torn record stays": (
+        DiskRuns.crashes,
+        "place_of(j, j->commands)) || fdatasync",
+        "lseek(j->file, 0, SEEK_END)) || fdatasync",
+    ),
     "a settlement is not saved": (DiskRuns.crashes, "    put_in_place(folder, name, file, saved.length);\n", ""),
 }
 

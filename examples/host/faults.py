@@ -1,11 +1,11 @@
 #!/usr/bin/env python3
 """faults.py: hosts that are killed, cut off from power and failed by their disk, and what they recover, held to the model.
 
-    examples/host/faults.py --kills 10000 --disk 1
+    examples/host/faults.py --kills 10000 --disk 1 --times
 
-Builds the hosts and the disk of disk.c. `--kills` is the number of runs that are killed at random moments. `--disk 1` tries every
-fault of the disk and every place where a write can be torn, `--disk 20` every twentieth of them. `--seed` chooses the days, and
-`--times` tells how long a recovery takes. Ends with the figures, or at the first difference with status 1.
+Builds the hosts and the disk of disk.c. `--kills` is the number of runs that are killed at random moments. `--disk 1` tries every fault
+of the disk and every place where a write can be torn, `--disk 20` every twentieth of them; 0 means none of either. `--times` tells how
+long a recovery takes, and `--seed` chooses the days. Ends with the figures, or at the first difference with status 1.
 """
 
 import argparse
@@ -118,8 +118,9 @@ def state_lines(state):
 
 def random_script(rng, least=1, most=200, days=1):
     """A script of a length within bounds, with so many settlements in it or more."""
+    kinds = (generate.quiet_file, generate.trading_file, generate.changes_file, generate.quotes_file, generate.auction_file)
     while True:
-        file = rng.choice((generate.quiet_file, generate.trading_file, generate.changes_file, generate.quotes_file, generate.auction_file))(rng)
+        file = rng.choice(kinds)(rng)
         if least <= (len(file) - 8) // COMMAND.size <= 2 * most:
             script = Script(file)
             if least <= len(script) <= most and len(script.days) >= days:
@@ -348,11 +349,13 @@ def kill_runs(hosts, count, rng, room):
         longest = rng.choice((0.001, 0.003, 0.006))
         while client.whole < len(script) and figures["killed"] < count:
             before = client.seen
-            status, messages, going_on = talk(rng.choice(hosts), folder, client, rng.uniform(0, longest))
+            host = rng.choice(hosts)
+            status, messages, going_on = talk(host, folder, client, rng.uniform(0, longest))
             hold("a killed host's messages", b"", messages)
             if going_on is not None and not before <= going_on - 1 <= before + 1:
                 raise Differs(f"{before} commands were answered, and the host went on with {going_on}")
             figures["killed"] += status == -signal.SIGKILL
+            figures[f"of them {host.name}"] += status == -signal.SIGKILL
             last = client.check_state(rng.choice(hosts), folder)
             figures["durable and not yet answered"] += last == client.seen + 1
             figures["answers"] += client.seen - before
@@ -598,31 +601,56 @@ def main():
     rng = random.Random(arguments.seed)
     with Room() as room:
         layer, hosts = build_all(room)
-        runs = [DiskRuns(layer, hosts, short_script(rng), rng, room, arguments.disk) for _ in range(2)]
-        show("killed at random moments", lambda: kill_runs(hosts, arguments.kills, rng, room))
-        show("the power is lost before each call", runs[0].crashes)
-        show("each call fails", runs[1].failures)
+        runs = [DiskRuns(layer, hosts, short_script(rng), rng, room, max(arguments.disk, 1)) for _ in range(2)]
+        if arguments.kills:
+            show("killed at random moments", lambda: kill_runs(hosts, arguments.kills, rng, room))
+        if arguments.disk:
+            show("the power is lost before each call", runs[0].crashes)
+            show("each call fails", runs[1].failures)
         if arguments.times:
-            show("a recovery", lambda: recovery_times(hosts, rng, room))
+            show("a recovery", lambda: recovery_times(hosts, room))
+            show("answers", lambda: rates(hosts, room))
 
 
-def recovery_times(hosts, rng, room):
-    """The seconds from a host's start to its first N line, by the number of commands in the journal: orders come and go in a book of
-    20 on each side."""
+def recovery_times(hosts, room):
+    """The milliseconds of a host's start and recovery, by the number of commands in the journal: the best of five."""
     times = {}
     for count in (0, 1_000, 10_000, 100_000, 1_000_000):
         folder = put(room.fresh(), {"day-001.journal": journal(identity(), 1, *busy_day(count))})
         for host in hosts:
-            start = time.perf_counter()
-            served = run(host, "serve", folder)
-            hold("a recovery", (0, b"N %d\n" % (count + 1)), (served.returncode, served.stdout))
-            times[f"{count:9,} commands, {host.name}"] = time.perf_counter() - start
+            times[f"ms for {count:9,} commands, {host.name}"] = 1_000 * min(recovery_time(host, folder, count) for _ in range(5))
         shutil.rmtree(folder)
     return times
 
 
+def recovery_time(host, folder, count):
+    start = time.perf_counter()
+    served = run(host, "serve", folder)
+    hold("a recovery", (0, b"N %d\n" % (count + 1)), (served.returncode, served.stdout))
+    return time.perf_counter() - start
+
+
+def rates(hosts, room):
+    """Commands answered in a second, sent all at once: the best of three, on a disk and in memory."""
+    found = {}
+    opening, commands = busy_day(2_000)
+    (room.path / "opening").write_bytes(opening)
+    for where, above in (("on the disk of temporary files", room.programs), ("in memory", room.path)):
+        for host in hosts:
+            times = []
+            for _ in range(3):
+                folder = Path(tempfile.mkdtemp(dir=above))
+                run(host, "begin", folder, room.path / "opening")
+                start = time.perf_counter()
+                served = run(host, "serve", folder, input=b"".join(commands))
+                hold("a busy day", (0, b"N 2001\n"), (served.returncode, served.stdout[-7:]))
+                times.append(time.perf_counter() - start)
+            found[f"commands a second {where}, {host.name}"] = len(commands) / min(times)
+    return found
+
+
 def busy_day(count):
-    """An opening with two accounts, and that many commands of a busy day."""
+    """An opening with two accounts, and that many commands of a busy day: orders come and go in a book of 20 on each side."""
     opening = dayfile.DayFile([dayfile.ContractRecord(10, 1, 500, 400, 100_000, 1_000)], [10**15] * 2, [])
     commands = [dayfile.state(1, "continuous")]
     commands += [dayfile.insert(1, 1, "buy", "open", "limit", 480 + k, 5, "day") for k in range(20)]
@@ -638,7 +666,7 @@ def show(name, runs):
     figures = runs()
     print(f"{name} ({time.perf_counter() - start:.0f} s):")
     for what, count in figures.items():
-        print(f"  {count:7,} {what}" if isinstance(count, int) else f"  {count:9.4f} s {what}")
+        print(f"  {count:9,} {what}" if isinstance(count, int) else f"  {count:9,.1f} {what}")
 
 
 if __name__ == "__main__":
