@@ -344,6 +344,9 @@ class Faults(HostTest):
             self.assertGreater(figures[f"a {call} that fails"], 4)
         self.assertGreater(figures["starts on the same machine"], 50)
 
+    def test_beginning_fails(self):
+        self.assertGreater(self.runs(4).beginnings()["beginnings"], 5)
+
     # The layer meets what both languages call: neither goes past it.
     def test_layer_sees_all_calls(self):
         script = faults.short_script(random.Random(4))

@@ -521,6 +521,30 @@ class DiskRuns:
                 self.meet(host, at, "crash", (-signal.SIGKILL, b""), starts_again=True)
         return self.figures
 
+    def beginnings(self):
+        """A folder's beginning meets each of these faults. Then it has a whole journal without commands, or can begin once more."""
+        for host in self.hosts:
+            for at, call in enumerate(begun(self.layer, self.room, host, self.script).calls(), 1):
+                for fault in ("crash", *FAULTS[call]):
+                    disk = Disk(self.layer, self.room)
+                    began = run(host, "begin", disk.folder, self.room.path / "opening", env=disk.environment(at, fault))
+                    expected = (-signal.SIGKILL, b"") if fault == "crash" else (1, b"host: ")
+                    hold(f"begin, call {at} meets {fault}", expected, (began.returncode, began.stderr[:6]))
+                    self.begin_again(disk)
+                    disk.remove()
+        return self.figures
+
+    def begin_again(self, disk):
+        for _, contents in disk.after_power_loss(self.with_tears):
+            if not self.chosen():
+                continue
+            folder, client, host = put(self.room.fresh(), contents), Client(self.script), self.rng.choice(self.hosts)
+            if "day-001.journal" not in contents:
+                begin(host, folder, self.script)
+            client.check_rest(host, folder, client.check_state(host, folder))
+            self.figures["beginnings"] += 1
+            shutil.rmtree(folder)
+
     def meet(self, host, at, fault, expected, starts_again=False):
         """A fault, and how the host ends: its status and the beginning of its message."""
         disk, client = begun(self.layer, self.room, host, self.script), Client(self.script)
@@ -601,12 +625,13 @@ def main():
     rng = random.Random(arguments.seed)
     with Room() as room:
         layer, hosts = build_all(room)
-        runs = [DiskRuns(layer, hosts, short_script(rng), rng, room, max(arguments.disk, 1)) for _ in range(2)]
+        runs = [DiskRuns(layer, hosts, short_script(rng), rng, room, max(arguments.disk, 1)) for _ in range(3)]
         if arguments.kills:
             show("killed at random moments", lambda: kill_runs(hosts, arguments.kills, rng, room))
         if arguments.disk:
             show("the power is lost before each call", runs[0].crashes)
             show("each call fails", runs[1].failures)
+            show("a beginning fails", runs[2].beginnings)
         if arguments.times:
             show("a recovery", lambda: recovery_times(hosts, room))
             show("answers", lambda: rates(hosts, room))
