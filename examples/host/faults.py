@@ -493,6 +493,11 @@ def copy_of_client(client):
     return made
 
 
+def ending(fault):
+    """How a host ends that meets a fault: its status and the beginning of its message."""
+    return (-signal.SIGKILL, b"") if fault == "crash" else (1, b"host: ")
+
+
 class DiskRuns:
     """Runs of a script on the disk of disk.c. Of all that can go wrong every `step`-th is tried."""
 
@@ -506,7 +511,7 @@ class DiskRuns:
         """The power is lost before each call in turn."""
         for host in self.hosts:
             for at in range(1, len(counted_calls(self.layer, self.room, host, self.script)) + 1):
-                self.meet(host, at, "crash", (-signal.SIGKILL, b""))
+                self.meet(host, at, "crash", self.lose_power)
         return self.figures
 
     def failures(self):
@@ -516,9 +521,9 @@ class DiskRuns:
         for host in self.hosts:
             for at, call in enumerate(counted_calls(self.layer, self.room, host, self.script), 1):
                 for fault in FAULTS[call]:
-                    self.meet(host, at, fault, (1, b"host: "))
+                    self.meet(host, at, fault, self.lose_power, self.start_again)
                     self.figures[f"a {call} that fails"] += 1
-                self.meet(host, at, "crash", (-signal.SIGKILL, b""), starts_again=True)
+                self.meet(host, at, "crash", self.start_again)
         return self.figures
 
     def beginnings(self):
@@ -528,8 +533,7 @@ class DiskRuns:
                 for fault in ("crash", *FAULTS[call]):
                     disk = Disk(self.layer, self.room)
                     began = run(host, "begin", disk.folder, self.room.path / "opening", env=disk.environment(at, fault))
-                    expected = (-signal.SIGKILL, b"") if fault == "crash" else (1, b"host: ")
-                    hold(f"begin, call {at} meets {fault}", expected, (began.returncode, began.stderr[:6]))
+                    hold(f"begin, call {at} meets {fault}", ending(fault), (began.returncode, began.stderr[:6]))
                     self.begin_again(disk)
                     disk.remove()
         return self.figures
@@ -545,21 +549,19 @@ class DiskRuns:
             self.figures["beginnings"] += 1
             shutil.rmtree(folder)
 
-    def meet(self, host, at, fault, expected, starts_again=False):
-        """A fault, and how the host ends: its status and the beginning of its message."""
+    def meet(self, host, at, fault, *then):
+        """A fault, and what happens then."""
         disk, client = begun(self.layer, self.room, host, self.script), Client(self.script)
         status, messages = serve_on(disk, host, client, at, fault)
-        hold(f"call {at} meets {fault}", expected, (status, messages[:6]))
-        if not starts_again:
-            self.lose_power(disk, client, self.with_tears)
-        if fault != "crash" or starts_again:
-            self.start_again(disk, host, client)
+        hold(f"call {at} meets {fault}", ending(fault), (status, messages[:6]))
+        for happens in then:
+            happens(disk, host, client)
         disk.remove()
 
-    def lose_power(self, disk, client, with_tears):
-        """What is recovered after the machine has lost its power now."""
+    def lose_power(self, disk, host, client, with_tears=True):
+        """What is recovered after the machine has lost its power now, in either language."""
         tried = set()
-        for kept, contents in disk.after_power_loss(with_tears):
+        for kept, contents in disk.after_power_loss(with_tears and self.with_tears):
             found = tuple(sorted(contents.items()))
             if found in tried or not self.chosen():
                 continue
@@ -583,9 +585,10 @@ class DiskRuns:
             machine, again = disk.copy(), copy_of_client(client)
             fault = self.rng.choice(("crash", EIO, ENOSPC))
             status, messages, _ = talk(host, machine.folder, again, environment=machine.environment(at, fault))
-            hold("a host that starts again", {0: b"", -signal.SIGKILL: b"", 1: b"host: "}.get(status), messages[:6])
+            if status != 0:
+                hold(f"after a start call {at} meets {fault}", ending(fault), (status, messages[:6]))
             self.figures["starts on the same machine"] += 1
-            self.lose_power(machine, again, with_tears=False)
+            self.lose_power(machine, host, again, with_tears=False)
             machine.remove()
 
 
