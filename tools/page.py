@@ -22,7 +22,7 @@ from lessons import explanation
 from lessons.lesson import play
 from lessons.making import playable, write_made
 from lessons.margins import charged_by_contract
-from lessons.wording import STATE_WORDS, contract_terms, figure
+from lessons.wording import STATE_WORDS, contract_terms, figure, holdings_words
 
 import model
 
@@ -59,17 +59,6 @@ def account_data(state, account):
         "value": state.balances[account],
         "charged": figure(charged),
     }
-
-
-def holdings_words(state, account):
-    """3 long, or with several contracts a line for each: 1: 3 long, 2 short"""
-    words = []
-    for contract in state.contracts:
-        held = [(state.holdings[account, contract, side], side) for side in ("long", "short")]
-        sides = ", ".join(f"{lots:,} {side}" for lots, side in held if lots)
-        if sides:
-            words.append(f"{contract}: {sides}" if len(state.contracts) > 1 else sides)
-    return "\n".join(words) or "none"
 
 
 def state_data(state):

@@ -23,7 +23,7 @@ import lessons
 from lessons import explanation
 from lessons.lesson import play
 from lessons.making import playable, write_made
-from lessons.wording import contract_terms, figure, numbers_from_1
+from lessons.wording import contract_terms, figure, holdings_words, numbers_from_1
 
 import dayfile
 import lines
@@ -75,6 +75,10 @@ def opening(lesson, state):
     if len(set(state.balances.values())) == 1 and not state.makers and len(balances) > 1:
         balances = [f"{numbers_from_1('account', len(balances))}: {figure(state.balances[1])} each"]
     blocks.append(text("p", sentence(f"Opening balances: {', '.join(balances)}")))
+    held = [(account, holdings_words(state, account).replace("\n", "; ")) for account in state.balances]
+    held = [f"account {account} ({words})" for account, words in held if words != "none"]
+    if held:
+        blocks.append(text("p", sentence(f"Held at the start: {', '.join(held)}")))
     return "".join(blocks)
 
 
