@@ -9,7 +9,7 @@ is not in scope, a type that does not fit) is told apart and not counted.
 
     tools/model/drop_clauses.py                      all crates below
     tools/model/drop_clauses.py rules                one crate, or several
-    tools/model/drop_clauses.py rules --only TEXT    the edits whose file or definition contains TEXT
+    tools/model/drop_clauses.py rules --only TEXT    the edits that are told with TEXT: a file, a definition, a word; any number of times
     tools/model/drop_clauses.py rules --list         the edits, and nothing is checked
 
 It is no part of the gate: a crate takes minutes to an hour. What it rests on must be proved already (`rt check`): the folder target/ of
@@ -290,14 +290,14 @@ def checked(name, folder):
 def main():
     words = argparse.ArgumentParser(description=__doc__.split("\n")[0])
     words.add_argument("crates", nargs="*", metavar="CRATE")
-    words.add_argument("--only", default="", metavar="TEXT")
+    words.add_argument("--only", action="append", default=[], metavar="TEXT")
     words.add_argument("--list", action="store_true")
     words.add_argument("--from", dest="first", type=int, default=0, metavar="N", help="begin with the edit of this number")
     told = words.parse_args()
     unnoticed = 0
     for name in told.crates or CRATES:
         found = [e for p in sorted((TOP / "crates" / name / "specs").glob("*.antt")) if not WORKED_CASES.fullmatch(p.name) and p.name not in ("Lib.antt", *THEOREMS) for e in edits_of(p)]
-        found = [e for e in found if told.only in str(e)]
+        found = [e for e in found if not told.only or any(text in str(e) for text in told.only)]
         if told.list:
             print(*(f"{i} {e}" for i, e in enumerate(found)), sep="\n")
             continue
