@@ -4,8 +4,8 @@
 Each clause of each definition of a crate's `specs/` (a part of a condition, a refusal, a comparison, a choice, a bound) is in turn
 dropped or turned round, and the worked cases of the same crate are computed again: its files `*Examples.antt`, and `PaperDay.antt`. The
 crate is copied to a folder of its own without its proofs and without its functions, so that only definitions are checked. An edit that
-no worked case notices is printed: then a crate above, a proof or a vector has to. An edit that is no definition any more (a name that
-is not in scope, a type that does not fit) is told apart and not counted.
+no worked case notices is printed: then a crate above, a proof or a vector has to, and the list ABOVE says which. An edit that is no
+definition any more (a name that is not in scope, a type that does not fit) is told apart.
 
     tools/model/drop_clauses.py                      all crates below
     tools/model/drop_clauses.py rules                one crate, or several
@@ -13,7 +13,7 @@ is not in scope, a type that does not fit) is told apart and not counted.
     tools/model/drop_clauses.py rules --list         the edits, and nothing is checked
 
 It is no part of the gate: a crate takes minutes to an hour. What it rests on must be proved already (`rt check`): the folder target/ of
-the repository is copied. Ends with 1 where an edit is unnoticed that is not in the list of those known, below."""
+the repository is copied. Ends with 1 where an edit is unnoticed that neither list below has."""
 
 import argparse
 import os
@@ -34,8 +34,14 @@ THEOREMS = ("Fairness.antt", "Touches.antt")
 # Where the words stand that an edit may bring in.
 HOMES = {"leb": "lib.Dec", "ltb": "lib.Dec", "min": "Prim.Native.Nat", "max": "Prim.Native.Nat", "leZ": "lib.Signed", "ltZ": "lib.Signed"}
 
-# Edits that change no value on any input, by the words of the edit, with the reason. They are told and not counted.
+# Edits that change no value on any input, by the words of the edit, with the reason.
 NO_DIFFERENCE = ()
+
+# Edits that no worked case notices, by the words of the edit, with what does.
+ABOVE = (
+    ("sound: dropped: && leb (commandsIn file) maxCommands", "dayfile::file::sound; a file of 2,001 commands is too long for a worked case"),
+    ("sound: the end of the range: leb (commandsIn file) maxCommands", "dayfile::file::sound; a file of 2,000 commands is too long for a worked case"),
+)
 
 
 # ---- the edits of a file
@@ -306,7 +312,7 @@ def main():
 
 
 def held(name, found, first):
-    counts = {"noticed": 0, "unnoticed": 0, "no definition": 0, "no difference": 0}
+    counts = {"noticed": 0, "unnoticed": 0, "noticed above": 0, "no definition": 0, "no difference": 0}
     with tempfile.TemporaryDirectory() as folder:
         crate = made_ready(name, Path(folder))
         refused = checked(name, folder)
@@ -323,15 +329,15 @@ def held(name, found, first):
             cases = [f for f in refused if WORKED_CASES.fullmatch(f)]
             if any(words in str(e) for words, _ in NO_DIFFERENCE):
                 verdict = "no difference"
+            elif not refused and any(words in str(e) for words, _ in ABOVE):
+                verdict = "noticed above"
             elif [f for f in refused if f not in cases]:
                 verdict = "no definition"
             else:
                 verdict = "noticed" if cases else "unnoticed"
             counts[verdict] += 1
-            if verdict == "unnoticed":
-                print(f"unnoticed: {i} {e}", flush=True)
-            elif verdict == "no definition":
-                print(f"no definition: {i} {e}", flush=True)
+            if verdict != "noticed":
+                print(f"{verdict}: {i} {e}", flush=True)
     print(f"{name}: {len(found)} edits, " + ", ".join(f"{n} {v}" for v, n in counts.items()), flush=True)
     return counts["unnoticed"]
 

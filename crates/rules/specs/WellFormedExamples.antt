@@ -17,6 +17,7 @@ use Rattle.rules.specs.Memory.{Memory, memory, countsInRange, hasRoom}
 use Rattle.rules.specs.WellFormed.{ahead, aheadOfFirst, allListed, balanceInRange, contractInRange, countersInRange, heldInRange, holdingInRange, holdingsInRange, listed, listingQuoted, markAllowed, markInRange, orderInRange, ordersInRange, queueQuoted, queuesSorted, quotes, rangesKept, replays, restingInRange, sorted, tradeInRange, uncrossed, usedOnce, wellFormedContents}
 use Rattle.rules.specs.declared.Account.{Account}
 use Rattle.rules.specs.declared.Contract.{Contract}
+use Rattle.rules.specs.declared.Holding.{Holding}
 use Rattle.rules.specs.declared.Order.{Order}
 use Rattle.rules.specs.declared.State.{State}
 use Rattle.rules.specs.declared.Trade.{Trade}
@@ -189,6 +190,34 @@ replayed lots =
       settlements = 0;
     }
 
+-- account 1 starts with 3 long and 2 short and buys so many to close, then so many more; account 2 sells them to open
+closing : ℕ → ℕ → Exchange
+closing lots more =
+    record {
+      listings = record { contract = contract continuous 110; buys = []; sells = [] } ∷ [];
+      accounts = account (pos 0) 3 0 3 2 ∷ account (pos 0) 0 (lots + more) 0 0 ∷ [];
+      trades = back lots ∷ back more ∷ [];
+      next = 3;
+      nextstamp = 3;
+      settlements = 0;
+    }
+  where
+    back : ℕ → Trade
+    back lots = record { contract = 0; price = 110; lots = lots; buyorder = 1; sellorder = 2; buyer = 0; seller = 1; buyclose = 1; sellclose = 0 }
+
+-- what two accounts hold, the second long in two contracts: 1 where another pair of accounts holds the same lots
+same : ℕ → ℕ → ℕ → ℕ → ℕ
+same long short second other = mark (sameHoldings (pair 1 2 3 4) (pair long short second other))
+  where
+    lots : ℕ → ℕ → Holding
+    lots long short = record { long = long; short = short; startlong = 0; startshort = 0 }
+
+    pair : ℕ → ℕ → ℕ → ℕ → List Account
+    pair long short second other =
+        record { balance = pos 0; maker = 0; holdings = lots long short ∷ [] }
+        ∷ record { balance = pos 0; maker = 0; holdings = lots second 0 ∷ lots other 0 ∷ [] }
+        ∷ []
+
 -- an order that is in range but for its time stamp and its quote mark
 marked : ℕ → ℕ → Order
 marked stamp quote = record { price = 110; number = 1; account = 0; lots = 1; close = 0; stamp = stamp; quote = quote }
@@ -271,6 +300,15 @@ laid =
     -- a close of what is held, and of one lot more: the short lots do not cover it
     ∷ (mark (replays (replayed 2)) gives 1)
     ∷ (mark (replays (replayed 3)) gives 0)
+    ∷ (mark (replays (closing 1 1)) gives 1)
+    ∷ (mark (replays (closing 3 0)) gives 0)
+    ∷ (mark (replays (closing 1 2)) gives 0)
+    -- the same lots, long and short, of each account and in each contract
+    ∷ (same 1 2 3 4 gives 1)
+    ∷ (same 0 2 3 4 gives 0)
+    ∷ (same 1 0 3 4 gives 0)
+    ∷ (same 1 2 0 4 gives 0)
+    ∷ (same 1 2 3 0 gives 0)
     -- a time stamp from 1 and below the next one, whatever the next number; a quote mark is 0 or 1
     ∷ (mark (orderInRange 2 9 8 (contract continuous 110) (marked 7 0)) gives 1)
     ∷ (mark (orderInRange 2 9 8 (contract continuous 110) (marked 8 0)) gives 0)
@@ -291,7 +329,7 @@ laid =
     ∷ []
 
 pub laid-examples : allRight laid ≡ true
-unfolding allRight laid contract account terms starting across counts lying sides replayed marked numbered counting all allOf sumOf ahead aheadOfFirst allListed balanceInRange contractInRange heldInRange holdingInRange holdingsInRange listed listingAt listingQuoted lotsWhere markAllowed markInRange ordersInRange queueQuoted queuesSorted quotes rangesKept resting restingInRange sorted termsInRange tickMultiple tradeInRange uncrossed usedOnce wellFormedContents accountAt afterLeg allowedToday bookLeg bookTrade bookTrades countersInRange countsInRange dayHigh dayLow hasRoom holdingAt legCovered neverBelowZero onTick orderInRange replays sameHoldings sameLots startOfDay
+unfolding allRight laid contract account terms starting across counts lying sides replayed closing same marked numbered counting all allOf sumOf ahead aheadOfFirst allListed balanceInRange contractInRange heldInRange holdingInRange holdingsInRange listed listingAt listingQuoted lotsWhere markAllowed markInRange ordersInRange queueQuoted queuesSorted quotes rangesKept resting restingInRange sorted termsInRange tickMultiple tradeInRange uncrossed usedOnce wellFormedContents accountAt afterLeg allowedToday bookLeg bookTrade bookTrades countersInRange countsInRange dayHigh dayLow hasRoom holdingAt legCovered neverBelowZero onTick orderInRange replays sameHoldings sameLots startOfDay
 laid-examples = refl
 
 -- ---- quote marks: accounts 1 and 2, each long 2 lots, makers or not
