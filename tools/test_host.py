@@ -80,7 +80,7 @@ def contents(folder):
 class Languages(HostTest):
     def test_rust(self):
         if not faults.rust_is_here():
-            self.skipTest("no rustc 1.89 or newer here: the host in Rust is not tested")
+            self.skipTest("no cargo with rustc 1.89 or newer here: the host in Rust is not tested")
         self.assertEqual([host.name for host in hosts], ["host_c", "host_rust"])
 
 
