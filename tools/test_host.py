@@ -24,6 +24,8 @@ STEP = 60
 
 def missing():
     """What these tests need and is not here."""
+    if sys.platform != "linux":
+        return "a disk can be preloaded under Linux alone"
     if subprocess.run([TOP / "tools" / "build_library", "current"]).returncode != 0:
         return "target/library is not built for these sources: tools/build_library builds it"
     return None if shutil.which("cc") else "no cc here"
