@@ -28,6 +28,7 @@ pub mod Singly
 pub mod QuoteAsOrders
 pub mod Makers
 pub mod Stamps
+pub mod Recorded
 pub mod EachKind
 pub mod MemoryRoom
 pub mod MemoryLaws
