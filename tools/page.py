@@ -20,7 +20,7 @@ from pathlib import Path
 
 import lessons
 from lessons import explanation
-from lessons.lesson import Differs, Unusable, check_broken, find_runner, play, printed_by, read
+from lessons.lesson import Differs, Unusable, check_broken, play, printed_for, read
 from lessons.margins import charged_by_contract
 from lessons.wording import STATE_WORDS, contract_terms, figure
 
@@ -119,7 +119,7 @@ def trade_data(place, trade):
 
 def page_data(lesson, printed):
     """All that the page shows."""
-    state = model.opening_state(lesson.day)
+    state = lesson.opening
     opening = after = state_data(state)
     steps, active = [], set()
     for step in play(lesson, printed):
@@ -163,7 +163,7 @@ def part(name):
 
 def run(arguments):
     lesson = read(arguments.lesson)
-    printed = printed_by(find_runner(arguments.runner), lesson)
+    printed = printed_for(lesson, arguments.runner)
     if lesson.day is None:
         check_broken(lesson, printed)
         faults = "; ".join(lesson.faults)

@@ -21,12 +21,11 @@ from pathlib import Path
 
 import lessons
 from lessons import explanation
-from lessons.lesson import Differs, Unusable, check_broken, find_runner, play, printed_by, read
+from lessons.lesson import Differs, Unusable, check_broken, play, printed_for, read
 from lessons.wording import contract_terms, figure, numbers_from_1
 
 import dayfile
 import lines
-import model
 
 FORM = Path(lessons.__file__).parent / "worksheet.html"
 # More commands than this are many pages: a note says so.
@@ -196,7 +195,7 @@ def workings(step, told):
 
 
 def worksheet(lesson, printed, with_answers):
-    state = model.opening_state(lesson.day)
+    state = lesson.opening
     title = Path(lesson.name).stem.replace("-", " ").capitalize()
     parts, day = [], 0
     for step in play(lesson, printed):
@@ -223,7 +222,7 @@ def footer(with_answers):
 
 def run(arguments):
     lesson = read(arguments.lesson)
-    printed = printed_by(find_runner(arguments.runner), lesson)
+    printed = printed_for(lesson, arguments.runner)
     if lesson.day is None:
         check_broken(lesson, printed)
         faults = "; ".join(lesson.faults)

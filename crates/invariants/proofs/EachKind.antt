@@ -1,15 +1,18 @@
 -- WHAT EACH KIND OWES, one clause a kind, and what then holds of every command: it KEEPS A WELL-FORMED STATE WELL FORMED, and its counts in
 -- range; ORDER NUMBERS STAY, AND TIME STAMPS ARE NEVER GIVEN TWICE IN A DAY (document 02, ticket 8); NO COMMAND CHANGES A MAKER MARK
--- (ticket 7); IT RECORDS THE TRADES THAT IT MAKES. The laws that the clauses cite name no kind. Assumes nothing.
-use mathlib.Core.Bool.{Bool, true, false, true≢false}
+-- (ticket 7); IT RECORDS THE TRADES THAT IT MAKES; WHAT IS CHARGED and WHICH BALANCES ARE READ (specs/Accounts). The laws that the clauses cite
+-- name no kind. Assumes nothing.
+use mathlib.Core.Bool.{Bool, true, false, true≢false, false≢true}
 use mathlib.Core.List.{List, [], _∷_, _++_, append-nil}
 use mathlib.Core.Path.{_≡_, refl, sym, ap}
 use Prim.Native.Nat.{ℕ, _+_, _<_, _≤_}
 use native.Mathlib.Nat.{le-refl}
+use borrow.Author.Tests.{not-true}
 use lib.ListN.{length}
+use Rattle.laws.specs.Choice.{both-true}
 use Rattle.rules.specs.Auction.{matchOf}
 use Rattle.rules.specs.Change.{asked}
-use Rattle.rules.specs.Command.{isChange, isSettle}
+use Rattle.rules.specs.Command.{Field, unused, holds, accountField, isChange, isSettle}
 use Rattle.rules.specs.Condition3.{madeBy}
 use Rattle.rules.specs.Exchange.{Exchange, accountAt, listingAt, placeOf}
 use Rattle.rules.specs.Kinds.{kindOf, codeOf, lastOf, step}
@@ -22,15 +25,19 @@ use Rattle.rules.specs.declared.Command.the-variants.{Malformed, Deposit, Withd
 use Rattle.rules.proofs.EachKind.{settle-is}
 use Rattle.rules.proofs.Holdings.{booked-maker}
 use Rattle.rules.proofs.Stages.{Each, each-last, decided}
+use Rattle.accounting.specs.Shape.{Shaped}
+use Rattle.invariants.specs.Accounts.{WithinBalance, entersOpen, isFrom}
 use Rattle.invariants.proofs.ChangeKeeps.{change-keeps, change-counted}
 use Rattle.invariants.proofs.Clauses.{WellFormed, Counted, Sound, well-formed, well-formed-test}
 use Rattle.invariants.proofs.Insert.{insert-keeps, insert-counted}
 use Rattle.invariants.proofs.Makers.{Stays, paid-stays, settled-stays, changed-stays, quoted-stays}
+use Rattle.invariants.proofs.MarginWithin.{Keeps, change-opened, change-within, deposit-within, insert-within, phase-within, quote-within, removal-keeps, withdrawal-keeps}
 use Rattle.invariants.proofs.Payments.{deposit-keeps, withdraw-keeps, deposit-counted, withdraw-counted}
 use Rattle.invariants.proofs.Phases.{phase-keeps, phase-counted}
 use Rattle.invariants.proofs.QuoteKeeps.{quote-keeps, quote-counted}
 use Rattle.invariants.proofs.Recorded.{changed-records, quoted-records}
-use Rattle.invariants.proofs.Removal.{cancel-keeps, pull-keeps, cancel-counted, pull-counted}
+use Rattle.invariants.proofs.Removal.{cancel-keeps, pull-keeps, cancel-counted, pull-counted, cancel-there, pull-there}
+use Rattle.invariants.proofs.SeenBalances.{SameSeen, change-refusals, change-same, quote-answer, quote-left, quote-refusals, same-cancel, same-deposit, same-insert, same-phase, same-pull, same-settle, same-withdraw, state-twice}
 use Rattle.invariants.proofs.Settle.{settle-keeps, settle-counted}
 use Rattle.invariants.proofs.Stamps.{_stamped_, Alike, Stamped, Follow, Onward, StampsAsNumbers, change-onward, entered-stamped, insert-onward, match-follow, quote-onward, same-follow, settled-stamped, without-follow}
 
@@ -196,3 +203,65 @@ module _ (x : Exchange) where
   unfolding step
   trades-recorded command e n =
       decided (λ d. lastOf x (d .stages) .trades ≡ x .trades ++ madeBy (kindOf x command .moves)) x command (λ q. kind-records command n) (λ r. absurd (r e))
+
+-- ---- charged margin
+
+-- what an accepted command leaves
+abbrev pub leftBy : Exchange → Command → Exchange
+leftBy x command = lastOf x (kindOf x command .effect .stages)
+
+module _ (x : Exchange) (k : Sound x) (shaped : Shaped x) where
+  -- AN ACCEPTED OPEN'S ACCOUNT is charged within its balance: the account, by the place that its number has
+  abbrev pub Opened : Command → Field → Type 0
+  Opened command unused = Unit {0}
+  Opened command (holds account) = WithinBalance (leftBy x command) (placeOf account)
+
+  pub kind-opened : (command : Command) → codeOf x command ≡ 0 → entersOpen x command ≡ true → Opened command (accountField command)
+  unfolding codeOf kindOf
+  kind-opened Malformed e o = absurd (false≢true o)
+  kind-opened (Deposit account amount) e o = absurd (false≢true o)
+  kind-opened (Withdraw account amount) e o = absurd (false≢true o)
+  kind-opened (Insert order) e o = insert-within x (k .contents) shaped order e .0 (not-true (order .close) o)
+  kind-opened (Cancel account contract operator number) e o = absurd (false≢true o)
+  kind-opened (Pull account contract operator) e o = absurd (false≢true o)
+  kind-opened (Phase contract phase) e o = absurd (false≢true o)
+  kind-opened Settle e o = absurd (false≢true o)
+  kind-opened (Quote account contract lots buy sell) e o = quote-within x (k .contents) shaped (offered account contract lots buy sell) e .0
+  kind-opened (Change account contract number lots price) e o =
+      let q = both-true _ _ o in
+      change-opened x (k .contents) shaped (asked account contract number lots price) e (k .counts) (q .0) (q .1)
+
+  pub kind-within : (command : Command) → codeOf x command ≡ 0 → isSettle command ≡ false → (a : ℕ) → a < length (x .accounts) → Keeps x (leftBy x command) a
+  unfolding codeOf kindOf cancelled pulled
+  kind-within Malformed e n a l = λ w. w
+  kind-within (Deposit account amount) e n a l = deposit-within x account amount e a
+  kind-within (Withdraw account amount) e n a l = withdrawal-keeps x account amount e a
+  kind-within (Insert order) e n a l = insert-within x (k .contents) shaped order e .1 a l
+  kind-within (Cancel account contract operator number) e n a l =
+      removal-keeps x (placeOf contract) (cancel-there x account contract operator number e) a (hasNumber number) number
+  kind-within (Pull account contract operator) e n a l =
+      removal-keeps x (placeOf contract) (pull-there x account contract operator e) a (isOf (placeOf account)) 0
+  kind-within (Phase contract phase) e n a l = phase-within x (k .contents) contract phase e a l
+  kind-within Settle e n a l = absurd (true≢false n)
+  kind-within (Quote account contract lots buy sell) e n a l = quote-within x (k .contents) shaped (offered account contract lots buy sell) e .1 a l
+  kind-within (Change account contract number lots price) e n a l = change-within x (k .contents) shaped (asked account contract number lots price) e (k .counts) a l
+
+-- ---- balances that are not seen
+
+module _ (seen : ℕ → Bool) where
+  pub same-seen : (x : Exchange) (command : Command) → isFrom seen (accountField command) ≡ true → SameSeen seen x command
+  unfolding kindOf
+  same-seen x Malformed e = record { refusals = refl; answer = refl; left = state-twice seen x }
+  same-seen x (Deposit account amount) e = same-deposit seen x account amount e
+  same-seen x (Withdraw account amount) e = same-withdraw seen x account amount e
+  same-seen x (Insert o) e = same-insert seen x o e
+  same-seen x (Cancel account contract operator number) e = same-cancel seen x account contract operator number
+  same-seen x (Pull account contract operator) e = same-pull seen x account contract operator
+  same-seen x (Phase contract phase) e = same-phase seen x contract phase
+  same-seen x Settle e = same-settle seen x
+  same-seen x (Quote account contract lots buy sell) e =
+      let q = offered account contract lots buy sell in
+      record { refusals = quote-refusals seen x q e; answer = quote-answer seen x q e; left = quote-left seen x q e }
+  same-seen x (Change account contract number lots price) e =
+      let k = asked account contract number lots price in
+      record { refusals = change-refusals seen x k e; answer = change-same seen x k e .0; left = change-same seen x k e .1 }

@@ -157,7 +157,7 @@ module _ (x : Exchange) (o : NewOrder) (f : Failed (orderRefusals x o)) where
 
 -- an insert
 module _ (x : Exchange) (o : NewOrder) (e : firstOf (insertRefusals x o) ≡ 0) where
-  tests : Failed (insertRefusals x o)
+  pub tests : Failed (insertRefusals x o)
   unfolding insertRefusals orderRefusals
   tests = failed (insertRefusals x o) (omega arith) e
 

@@ -19,6 +19,7 @@ pub mod InsertAccepted
 pub mod InsertQueues
 pub mod InsertListing
 pub mod Insert
+pub mod Charged
 pub mod MatchedHoldings
 pub mod MatchedTrades
 pub mod Phases
@@ -29,6 +30,8 @@ pub mod QuoteAsOrders
 pub mod Makers
 pub mod Stamps
 pub mod Recorded
+pub mod MarginWithin
+pub mod SeenBalances
 pub mod EachKind
 pub mod MemoryRoom
 pub mod MemoryLaws
@@ -50,3 +53,5 @@ pub mod BestAuction
 pub mod FairlyEntered
 pub mod Throughout
 pub mod FairCommands
+pub mod AccountLaws
+pub mod QuoteTrades

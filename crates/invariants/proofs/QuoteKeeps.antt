@@ -158,7 +158,7 @@ module _ (x : Exchange) (w : WellFormed x) (q : Offered) (account-there : placeO
 -- ---- a quote that is refused for nothing
 
 module _ (x : Exchange) (w : WellFormed x) (q : Offered) (e : firstOf (quoteRefusals x q) ≡ 0) where
-  tests : Failed (quoteRefusals x q)
+  pub tests : Failed (quoteRefusals x q)
   unfolding quoteRefusals orderRefusals
   tests = failed (quoteRefusals x q) (omega arith) e
 

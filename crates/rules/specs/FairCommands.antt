@@ -51,8 +51,8 @@ enteringAnew x k = record { state = gone x k; number = k .number; quote = 0; nex
 abbrev pub enteredBy : Entering → Entered
 enteredBy a = enteredOf (a .state) (a .number) (a .quote) (a .order)
 
-abbrev pub leftBy : Entering → Exchange
-leftBy a = exchangeAfter (a .state) (a .order) (enteredBy a) (a .next)
+abbrev pub afterEntering : Entering → Exchange
+afterEntering a = exchangeAfter (a .state) (a .order) (enteredBy a) (a .next)
 
 abbrev pub takerBy : Entering → Taker
 takerBy a = takerOf (a .state) (a .number) (a .quote) (a .order)
@@ -67,7 +67,7 @@ queueMet a = oppositeQueue (a .state) (a .order)
 -- laws 8 to 11 of it, where it leaves y
 pub record FairlyEntered (a : Entering) (y : Exchange) : Type 0 where
   -- what it leaves in the book and records is what the laws speak of
-  pub leaves : y ≡ leftBy a
+  pub leaves : y ≡ afterEntering a
   pub own-queue : ownQueue y (a .order) ≡ enteredBy a .own
   pub opposite-queue : oppositeQueue y (a .order) ≡ enteredBy a .opposite
   pub recorded : y .trades ≡ a .state .trades ++ enteredBy a .trades
