@@ -15,7 +15,7 @@ use Rattle.rules.specs.Change.{Asked, arriving, changed, gone, losesPlace, plac
 use Rattle.rules.specs.Condition3.{run}
 use Rattle.rules.specs.Exchange.{Exchange, contractAt, listingAt, noListing, own, placeOf}
 use Rattle.rules.specs.AuctionFairness.{leftOn}
-use Rattle.rules.specs.FairCommands.{AuctionHeld, FairAuction, FairMatching, FairlyEntered, auctionAt, enteringAnew, enteringBuy, enteringNext, enteringSell}
+use Rattle.rules.specs.FairCommands.{AuctionHeld, FairAuction, FairMatching, FairlyEntered, auctionOf, enteringAnew, enteringBuy, enteringNext, enteringSell}
 use Rattle.rules.specs.Kinds.{codeOf, kindOf, lastOf, step}
 use Rattle.rules.specs.Memory.{Memory, exchangeOf, respond, wellFormedMemory}
 use Rattle.rules.specs.Quote.{Offered, quoted, withBuy, withSell}
@@ -101,21 +101,21 @@ module _ (x : Exchange) (k : Sound x) (contract phase : ℕ) (e : codeOf x (Phas
   unfolding listingAt
   used-once = once-each (x .listings) (k .contents .once) c
 
-  ends-auction : step x (Phase contract phase) ≡ exchangeMatched x c phase (auctionAt x c)
+  ends-auction : step x (Phase contract phase) ≡ exchangeMatched x c phase (auctionOf x c)
   unfolding step kindOf phaseChanged matchOf
   ends-auction =
-      decided (λ d. lastOf x (d .stages) ≡ exchangeMatched x c phase (auctionAt x c)) x (Phase contract phase)
-      (λ q. ap (exchangeMatched x c phase) (pick-true (inAuction (contractAt x c)) (auctionAt x c) _ a)) (λ r. absurd (r e))
+      decided (λ d. lastOf x (d .stages) ≡ exchangeMatched x c phase (auctionOf x c)) x (Phase contract phase)
+      (λ q. ap (exchangeMatched x c phase) (pick-true (inAuction (contractAt x c)) (auctionOf x c) _ a)) (λ r. absurd (r e))
 
-  left-listing : listingAt (exchangeMatched x c phase (auctionAt x c)) c ≡ listingMatched (listingAt x c) phase (auctionAt x c)
+  left-listing : listingAt (exchangeMatched x c phase (auctionOf x c)) c ≡ listingMatched (listingAt x c) phase (auctionOf x c)
   unfolding exchangeMatched listingAt
-  left-listing = getD-set-same (x .listings) c (listingMatched (listingAt x c) phase (auctionAt x c)) noListing there
+  left-listing = getD-set-same (x .listings) c (listingMatched (listingAt x c) phase (auctionOf x c)) noListing there
 
-  left-queues : (sell : Bool) → own sell (listingAt (exchangeMatched x c phase (auctionAt x c)) c) ≡ leftOn sell (auctionAt x c)
+  left-queues : (sell : Bool) → own sell (listingAt (exchangeMatched x c phase (auctionOf x c)) c) ≡ leftOn sell (auctionOf x c)
   unfolding listingMatched
   left-queues sell = ap (own sell) left-listing ∙ by-side sell
     where
-      by-side : (s : Bool) → own s (listingMatched (listingAt x c) phase (auctionAt x c)) ≡ leftOn s (auctionAt x c)
+      by-side : (s : Bool) → own s (listingMatched (listingAt x c) phase (auctionOf x c)) ≡ leftOn s (auctionOf x c)
       by-side true = refl
       by-side false = refl
 

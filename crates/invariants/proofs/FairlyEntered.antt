@@ -13,7 +13,7 @@ use Rattle.rules.specs.Answers.{fillableLots, isFillOrKill, isGoodForDay, listi
 use Rattle.rules.specs.Bounds.{inAuction, onTick}
 use Rattle.rules.specs.Exchange.{Exchange, Listing, listingAt, lotsWhere, noListing, opposite, own, placeOf}
 use Rattle.rules.specs.FairCommands.{Entering, FairlyEntered}
-use Rattle.rules.specs.Fairness.{AtLimitOrBetter, LotsAccounted, NothingBetterLeft, PriceThenTime, lotsOf, lotsTraded}
+use Rattle.rules.specs.Fairness.{AtLimitOrBetter, LotsAccounted, NothingBetterLeft, PriceThenTime, lotsNumbered, lotsTraded}
 use Rattle.rules.specs.Matching.{Entered, enter, fillable, remainder, restLots, restWhole, restedLots, sweep, tradedLots}
 use Rattle.rules.specs.Step.{enteredOf, exchangeAfter, limitOf, listingAfter}
 use Rattle.rules.specs.WellFormed.{allListed, allNumbers, listed, numbers, orderInRange, sorted, usedOnce}
@@ -143,20 +143,20 @@ module _ (x : Exchange) (k : WellFormed x) (number quote : ℕ) (o : NewOrder) (
   unfolding enter restedLots restLots
   none-rests g = by-sweep (λ e. (e .rested ≡ 0) × (e .own ≡ own (o .sell) l)) (not-auctioned g) (rw g (refl, refl))
 
-  rest-added : (number′ n : ℕ) → lotsOf number′ (restLots t (limitOf (o .condition)) n (own (o .sell) l)) ≡ pick (eqb number number′) n 0 + lotsOf number′ (own (o .sell) l)
+  rest-added : (number′ n : ℕ) → lotsNumbered number′ (restLots t (limitOf (o .condition)) n (own (o .sell) l)) ≡ pick (eqb number number′) n 0 + lotsNumbered number′ (own (o .sell) l)
   unfolding restLots remainder takerOf lotsWhere
   rest-added number′ zero = by-number (eqb number number′)
     where
-      by-number : (same : Bool) → lotsOf number′ (own (o .sell) l) ≡ pick same 0 0 + lotsOf number′ (own (o .sell) l)
+      by-number : (same : Bool) → lotsNumbered number′ (own (o .sell) l) ≡ pick same 0 0 + lotsNumbered number′ (own (o .sell) l)
       by-number true = omega arith
       by-number false = omega arith
   rest-added number′ (suc n) =
       restIn-sum (λ p. pick (eqb (p .number) number′) (p .lots) 0) (t .sell) (remainder t (limitOf (o .condition)) (suc n)) (own (o .sell) l)
 
-  own-added : (number′ : ℕ) → lotsOf number′ (enteredOf x number quote o .own) ≡ pick (eqb number number′) (enteredOf x number quote o .rested) 0 + lotsOf number′ (own (o .sell) l)
+  own-added : (number′ : ℕ) → lotsNumbered number′ (enteredOf x number quote o .own) ≡ pick (eqb number number′) (enteredOf x number quote o .rested) 0 + lotsNumbered number′ (own (o .sell) l)
   unfolding enter restWhole
   own-added number′ =
-      entered-either x number quote o (λ e. lotsOf number′ (e .own) ≡ pick (eqb number number′) (e .rested) 0 + lotsOf number′ (own (o .sell) l))
+      entered-either x number quote o (λ e. lotsNumbered number′ (e .own) ≡ pick (eqb number number′) (e .rested) 0 + lotsNumbered number′ (own (o .sell) l))
       (λ a. rest-added number′ (o .lots)) (λ a. rest-added number′ _)
 
   -- ---- what it leaves

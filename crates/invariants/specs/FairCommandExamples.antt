@@ -12,8 +12,8 @@ use Rattle.rules.specs.Bounds.{continuous}
 use Rattle.rules.specs.Change.{Asked, arriving, asked, gone, isSell, losesPlace, oldOrder}
 use Rattle.rules.specs.Examples.{Row, _gives_, allRight}
 use Rattle.rules.specs.Exchange.{Exchange, accountAt, bestPrice, holdingAt, listingAt, lotsWhere, noHolding}
-use Rattle.rules.specs.FairCommands.{Entering, enteredBy, enteringAnew, enteringBuy, enteringNext, enteringSell, queueMet}
-use Rattle.rules.specs.Fairness.{lotsOf, lotsTraded}
+use Rattle.rules.specs.FairCommands.{Entering, enteredFrom, enteringAnew, enteringBuy, enteringNext, enteringSell, queueMet}
+use Rattle.rules.specs.Fairness.{lotsNumbered, lotsTraded}
 use Rattle.rules.specs.Holdings.{afterLeg, bookLeg, bookTrade, bookTrades}
 use Rattle.rules.specs.Matching.{enter, lastPrice, meets, methodOf, middle, pairedPrice, remainder, restIn, restLots, restedLots, stays, sweep, tradePrice, tradeWith, tradedLots}
 use Rattle.rules.specs.Quote.{Offered, half, offered, withBuy, withoutQuote}
@@ -52,19 +52,19 @@ raise = asked 2 1 1 4 105
 pub table : List Row
 table =
     -- an insert: 5 trade, 2 rest
-    (tradedLots (enteredBy buy .trades) gives 5)
-    ∷ (enteredBy buy .rested gives 2)
+    (tradedLots (enteredFrom buy .trades) gives 5)
+    ∷ (enteredFrom buy .rested gives 2)
     -- a quote: the buy rests; the sell meets the state that it left, fills the bid for 4, which is first, and takes 1 of the bid for 2
-    ∷ (enteredBy (enteringBuy book quote) .rested gives 5)
+    ∷ (enteredFrom (enteringBuy book quote) .rested gives 5)
     ∷ (length (queueMet (enteringSell book quote)) gives 3)
-    ∷ (lotsTraded false 1 (enteredBy (enteringSell book quote) .trades) gives 4)
-    ∷ (lotsTraded false 2 (enteredBy (enteringSell book quote) .trades) gives 1)
-    ∷ (lotsOf 2 (enteredBy (enteringSell book quote) .opposite) gives 1)
+    ∷ (lotsTraded false 1 (enteredFrom (enteringSell book quote) .trades) gives 4)
+    ∷ (lotsTraded false 2 (enteredFrom (enteringSell book quote) .trades) gives 1)
+    ∷ (lotsNumbered 2 (enteredFrom (enteringSell book quote) .opposite) gives 1)
     -- a change that loses its place arrives with its number, and trades with the account's own offer
     ∷ (pick (losesPlace book raise) 1 0 gives 1)
-    ∷ (lotsTraded false 1 (enteredBy (enteringAnew book raise) .trades) gives 4)
-    ∷ (lotsTraded true 3 (enteredBy (enteringAnew book raise) .trades) gives 4)
-    ∷ (lotsOf 3 (enteredBy (enteringAnew book raise) .opposite) gives 1)
+    ∷ (lotsTraded false 1 (enteredFrom (enteringAnew book raise) .trades) gives 4)
+    ∷ (lotsTraded true 3 (enteredFrom (enteringAnew book raise) .trades) gives 4)
+    ∷ (lotsNumbered 3 (enteredFrom (enteringAnew book raise) .opposite) gives 1)
     -- one that keeps it enters nothing
     ∷ (pick (losesPlace book (asked 2 1 1 3 100)) 1 0 gives 0)
     ∷ []

@@ -48,11 +48,11 @@ abbrev pub enteringAnew : Exchange → Asked → Entering
 enteringAnew x k = record { state = gone x k; number = k .number; quote = 0; next = x .next; order = arriving x k }
 
 -- what comes of it, and the state that it leaves
-abbrev pub enteredBy : Entering → Entered
-enteredBy a = enteredOf (a .state) (a .number) (a .quote) (a .order)
+abbrev pub enteredFrom : Entering → Entered
+enteredFrom a = enteredOf (a .state) (a .number) (a .quote) (a .order)
 
 abbrev pub afterEntering : Entering → Exchange
-afterEntering a = exchangeAfter (a .state) (a .order) (enteredBy a) (a .next)
+afterEntering a = exchangeAfter (a .state) (a .order) (enteredFrom a) (a .next)
 
 abbrev pub takerBy : Entering → Taker
 takerBy a = takerOf (a .state) (a .number) (a .quote) (a .order)
@@ -68,18 +68,18 @@ queueMet a = oppositeQueue (a .state) (a .order)
 pub record FairlyEntered (a : Entering) (y : Exchange) : Type 0 where
   -- what it leaves in the book and records is what the laws speak of
   pub leaves : y ≡ afterEntering a
-  pub own-queue : ownQueue y (a .order) ≡ enteredBy a .own
-  pub opposite-queue : oppositeQueue y (a .order) ≡ enteredBy a .opposite
-  pub recorded : y .trades ≡ a .state .trades ++ enteredBy a .trades
+  pub own-queue : ownQueue y (a .order) ≡ enteredFrom a .own
+  pub opposite-queue : oppositeQueue y (a .order) ≡ enteredFrom a .opposite
+  pub recorded : y .trades ≡ a .state .trades ++ enteredFrom a .trades
   -- 8. price then time
-  pub priority : PriceThenTime (not (a .order .sell)) (queueMet a) (enteredBy a .opposite) (enteredBy a .trades)
+  pub priority : PriceThenTime (not (a .order .sell)) (queueMet a) (enteredFrom a .opposite) (enteredFrom a .trades)
   -- 9. nothing better is left; in auction an order rests without matching
-  pub nothing-better : inAuctionFor a ≡ false → NothingBetterLeft (takerBy a) (a .order .lots) (queueMet a) (enteredBy a .opposite) (enteredBy a .trades)
+  pub nothing-better : inAuctionFor a ≡ false → NothingBetterLeft (takerBy a) (a .order .lots) (queueMet a) (enteredFrom a .opposite) (enteredFrom a .trades)
   -- 10. each trades at its limit or better
-  pub limits : AtLimitOrBetter (takerBy a) (queueMet a) (enteredBy a .trades)
+  pub limits : AtLimitOrBetter (takerBy a) (queueMet a) (enteredFrom a .trades)
   -- 11. every lot is accounted for, of the queue and of the order
-  pub accounted : LotsAccounted (not (a .order .sell)) (queueMet a) (enteredBy a .opposite) (enteredBy a .trades)
-  pub order : OrderAccounted (takerBy a) (inAuctionFor a) (a .order) (ownQueue (a .state) (a .order)) (queueMet a) (enteredBy a)
+  pub accounted : LotsAccounted (not (a .order .sell)) (queueMet a) (enteredFrom a .opposite) (enteredFrom a .trades)
+  pub order : OrderAccounted (takerBy a) (inAuctionFor a) (a .order) (ownQueue (a .state) (a .order)) (queueMet a) (enteredFrom a)
 
 -- LAWS 8 TO 11 OF A COMMAND on x that leaves y
 pub record FairMatching (x : Exchange) (command : Command) (y : Exchange) : Type 0 where
@@ -95,19 +95,19 @@ pub record FairMatching (x : Exchange) (command : Command) (y : Exchange) : Type
   pub recorded : codeOf x command ≡ 0 → isSettle command ≡ false → y .trades ≡ x .trades ++ madeBy (kindOf x command .moves)
 
 -- the auction of the contract at a place
-abbrev pub auctionAt : Exchange → ℕ → Matched
-auctionAt x c = auctionMatch c (contractAt x c .last) (listingAt x c .buys) (listingAt x c .sells)
+abbrev pub auctionOf : Exchange → ℕ → Matched
+auctionOf x c = auctionMatch c (contractAt x c .last) (listingAt x c .buys) (listingAt x c .sells)
 
 -- laws 12 and 13 of the contract at place c, which goes from auction to another state
 pub record AuctionHeld (x : Exchange) (c phase : ℕ) (y : Exchange) : Type 0 where
   -- 12
   pub price : LargestVolume (contractAt x c .last) (listingAt x c .buys) (listingAt x c .sells)
   -- 13
-  pub trades : BestAuction (contractAt x c .last) (listingAt x c .buys) (listingAt x c .sells) (auctionAt x c)
+  pub trades : BestAuction (contractAt x c .last) (listingAt x c .buys) (listingAt x c .sells) (auctionOf x c)
   -- what it leaves in the book and records is that match
-  pub leaves : y ≡ exchangeMatched x c phase (auctionAt x c)
-  pub queues : (sell : Bool) → own sell (listingAt y c) ≡ leftOn sell (auctionAt x c)
-  pub recorded : y .trades ≡ x .trades ++ auctionAt x c .trades
+  pub leaves : y ≡ exchangeMatched x c phase (auctionOf x c)
+  pub queues : (sell : Bool) → own sell (listingAt y c) ≡ leftOn sell (auctionOf x c)
+  pub recorded : y .trades ≡ x .trades ++ auctionOf x c .trades
 
 -- LAWS 12 AND 13 OF A COMMAND on x that leaves y: a change of state that is accepted and leaves auction
 pub record FairAuction (x : Exchange) (command : Command) (y : Exchange) : Type 0 where
