@@ -1,30 +1,33 @@
 -- WHAT EACH KIND OWES, one clause a kind, and what then holds of every command: it KEEPS A WELL-FORMED STATE WELL FORMED, and its counts in
--- range; ORDER NUMBERS STAY, AND TIME STAMPS ARE NEVER GIVEN TWICE IN A DAY (document 02, ticket 8); NO COMMAND CHANGES A MAKER MARK
--- (ticket 7); IT RECORDS THE TRADES THAT IT MAKES; WHAT IS CHARGED and WHICH BALANCES ARE READ (specs/Accounts). The laws that the clauses cite
--- name no kind. Assumes nothing.
+-- range; ORDER NUMBERS STAY, AND TIME STAMPS ARE NEVER GIVEN TWICE IN A DAY (document 02, ticket 8); what becomes of the orders of an
+-- account that it does not name; NO COMMAND CHANGES A MAKER MARK (ticket 7); IT RECORDS THE TRADES THAT IT MAKES; WHAT IS CHARGED and WHICH
+-- BALANCES ARE READ (specs/Accounts). The laws that the clauses cite name no kind. Assumes nothing.
 use mathlib.Core.Bool.{Bool, true, false, true≢false, false≢true}
 use mathlib.Core.List.{List, [], _∷_, _++_, append-nil}
 use mathlib.Core.Path.{_≡_, refl, sym, ap}
 use Prim.Native.Nat.{ℕ, _+_, _<_, _≤_}
 use native.Mathlib.Nat.{le-refl}
-use borrow.Author.Tests.{not-true}
+use borrow.Author.Tests.{eqb-false, ne-eqb, not-true}
+use lib.Dec.{eqb}
 use lib.ListN.{length}
 use Rattle.laws.specs.Choice.{both-true}
 use Rattle.rules.specs.Auction.{matchOf}
 use Rattle.rules.specs.Change.{asked}
 use Rattle.rules.specs.Command.{Field, unused, holds, accountField, isChange, isSettle}
 use Rattle.rules.specs.Condition3.{madeBy}
-use Rattle.rules.specs.Exchange.{Exchange, accountAt, listingAt, placeOf}
+use Rattle.rules.specs.Exchange.{Exchange, accountAt, listingAt, listingNamed, placeOf}
 use Rattle.rules.specs.Kinds.{kindOf, codeOf, lastOf, step}
 use Rattle.rules.specs.Quote.{offered, quoted, withBuy, withSell, withoutQuote}
 use Rattle.rules.specs.Settlement.{settled}
 use Rattle.rules.specs.Step.{deposited, withdrawn, enteredOf, exchangeAfter, exchangeMatched, hasNumber, inserted, isOf, paid, removed, cancelled, pulled, phaseChanged, settledAll}
+use Rattle.rules.specs.Touches.{names}
 use Rattle.rules.specs.WellFormed.{wellFormedContents}
 use Rattle.rules.specs.declared.Command.{Command}
 use Rattle.rules.specs.declared.Command.the-variants.{Malformed, Deposit, Withdraw, Insert, Cancel, Pull, Phase, Settle, Quote, Change}
 use Rattle.rules.proofs.EachKind.{settle-is}
 use Rattle.rules.proofs.Holdings.{booked-maker}
 use Rattle.rules.proofs.Stages.{Each, each-last, decided}
+use Rattle.rules.proofs.Touches.{account-at, contract-there, isAt, not-its}
 use Rattle.accounting.specs.Shape.{Shaped}
 use Rattle.invariants.specs.Accounts.{WithinBalance, entersOpen, isFrom}
 use Rattle.invariants.proofs.ChangeKeeps.{change-keeps, change-counted}
@@ -32,6 +35,7 @@ use Rattle.invariants.proofs.Clauses.{WellFormed, Counted, Sound, well-
 use Rattle.invariants.proofs.Insert.{insert-keeps, insert-counted}
 use Rattle.invariants.proofs.Makers.{Stays, paid-stays, settled-stays, changed-stays, quoted-stays}
 use Rattle.invariants.proofs.MarginWithin.{Keeps, change-opened, change-within, deposit-within, insert-within, phase-within, quote-within, removal-keeps, withdrawal-keeps}
+use Rattle.invariants.proofs.OthersOrders.{Fated, cancel-spares, changed-fated, entered-fated, matched-fated, paid-fated, quoted-fated, removed-fated, same-fated, spared}
 use Rattle.invariants.proofs.Payments.{deposit-keeps, withdraw-keeps, deposit-counted, withdraw-counted}
 use Rattle.invariants.proofs.Phases.{phase-keeps, phase-counted}
 use Rattle.invariants.proofs.QuoteKeeps.{quote-keeps, quote-counted}
@@ -161,6 +165,35 @@ kind-stamped x command n h = by-settle (isSettle command) refl
 pub stamps-as-numbers : (x : Exchange) (command : Command) → isChange command ≡ false → StampsAsNumbers x → StampsAsNumbers (step x command)
 unfolding step
 stamps-as-numbers x command n h = decided (λ d. StampsAsNumbers (lastOf x (d .stages))) x command (λ e. kind-stamped x command n h) (λ e. h)
+
+-- ---- the orders of an account that a command does not name
+
+module _ (x : Exchange) (w : WellFormed x) (a : ℕ) where
+  other-place : (account : ℕ) → eqb a (placeOf account) ≡ false → eqb (placeOf account) a ≡ false
+  other-place account n = ne-eqb (placeOf account) a (λ e. eqb-false a (placeOf account) n (sym e))
+
+  kind-fated : (command : Command) → isSettle command ≡ false → isAt (accountField command) a ≡ false → codeOf x command ≡ 0 →
+      Fated a x (lastOf x (kindOf x command .effect .stages))
+  unfolding codeOf kindOf deposited withdrawn inserted cancelled pulled removed phaseChanged
+  kind-fated Malformed n f e = same-fated a x
+  kind-fated (Deposit account amount) n f e = paid-fated a x _ _
+  kind-fated (Withdraw account amount) n f e = paid-fated a x _ _
+  kind-fated (Insert o) n f e = entered-fated a x w o (x .next) 0 (contract-there x (Insert o) (o .contract) refl e) (other-place (o .account) f) (x .next + 1)
+  kind-fated (Cancel account contract operator number) n f e =
+      removed-fated a x (placeOf contract) (hasNumber number) (contract-there x (Cancel account contract operator number) contract refl e)
+      (cancel-spares a x w account contract operator number e (other-place account f))
+  kind-fated (Pull account contract operator) n f e =
+      removed-fated a x (placeOf contract) (isOf (placeOf account)) (contract-there x (Pull account contract operator) contract refl e)
+      (spared a (isOf (placeOf account)) (not-its x account contract operator a f) (listingNamed x contract))
+  kind-fated (Phase contract phase) n f e = matched-fated a x (placeOf contract) (contract-there x (Phase contract phase) contract refl e) phase
+  kind-fated Settle n f e = absurd (true≢false n)
+  kind-fated (Quote account contract lots buy sell) n f e = quoted-fated a x w (offered account contract lots buy sell) e (other-place account f)
+  kind-fated (Change account contract number lots price) n f e = changed-fated a x w (asked account contract number lots price) e (other-place account f)
+
+  pub step-fated : (command : Command) → isSettle command ≡ false → names (accountField command) a ≡ false → Fated a x (step x command)
+  unfolding step
+  step-fated command n f =
+      decided (λ d. Fated a x (lastOf x (d .stages))) x command (λ e. kind-fated command n (account-at x command a f e) e) (λ e. same-fated a x)
 
 -- ---- maker marks
 

@@ -29,6 +29,9 @@ pub mod Singly
 pub mod QuoteAsOrders
 pub mod Makers
 pub mod Stamps
+pub mod OneOrder
+pub mod Fates
+pub mod OthersOrders
 pub mod Recorded
 pub mod MarginWithin
 pub mod SeenBalances
@@ -42,7 +45,6 @@ pub mod ToldWhole
 pub mod Opening
 pub mod Condition3
 pub mod SameInUse
-pub mod OneOrder
 pub mod RestingOrders
 pub mod RunTouches
 pub mod QueueFronts

@@ -1,6 +1,6 @@
 -- WHAT COMMANDS MAY TOUCH, of the memory that a call leaves and of a run: the theorems in the words of specs/RunTouches.antt. Assumes nothing.
 use mathlib.Core.Bool.{Bool, true, false, not, _&&_, true≢false, false≢true}
-use mathlib.Core.List.{List, [], _∷_, _++_, append-assoc, append-nil}
+use mathlib.Core.List.{List, [], _∷_, _++_, append-assoc}
 use mathlib.Core.Path.{_≡_, refl, sym, ap, _∙_, subst⁻¹}
 use Prim.Native.Nat.{ℕ}
 use borrow.Author.Tests.{eq-eqb, ne-eqb, not-true}
@@ -22,7 +22,10 @@ use Rattle.rules.proofs.Holdings.{bookTrades-append}
 use Rattle.rules.proofs.Touches.{blank-is-refused, held-same, money-stays, other-contract-stays}
 use Rattle.accounting.proofs.Runs.{accepted-is, never-accepted, run-stays}
 use Rattle.invariants.proofs.Clauses.{Sound}
-use Rattle.invariants.proofs.MemoryKeeps.{memory-keeps, read-back, sound}
+use Rattle.invariants.proofs.EachKind.{step-fated}
+use Rattle.invariants.proofs.MemoryKeeps.{memory-keeps, read-back, run-keeps, sound}
+use Rattle.invariants.proofs.OthersOrders.{Fated, more-fated, same-fated}
+use Rattle.invariants.proofs.RestingOrders.{orders-stay}
 use Rattle.invariants.proofs.RoomBeyond.{refusal-changes-nothing}
 use Rattle.invariants.specs.RunTouches.{BlankLeavesMemory, RefusedLeavesMemory, RunTouches, withinDay}
 
@@ -149,6 +152,11 @@ module _ (m : Memory) (cs : List Command) (day : withinDay cs ≡ true) where
             over-a-run (ContractStays c) (λ x. record { listing = refl; held = λ a. refl }) (contract-more c) (within (λ k. names (contractField k) c))
             (λ x k s e. let p = no-settle (λ k. names (contractField k) c) k e in other-contract-stays x c k (p .0) (not-true (names (contractField k) c) (p .1)))
             m cs (both-tests (λ k. not (isSettle k)) (λ k. not (names (contractField k) c)) cs day h);
+        orders = λ w a h.
+            orders-stay a (exchangeOf m) (exchangeOf (run m cs)) (sound m w .contents) (sound (run m cs) (run-keeps m cs w) .contents)
+            (over-a-run (Fated a) (same-fated a) (more-fated a) (within (λ k. names (accountField k) a))
+            (λ x k s e. let p = no-settle (λ k. names (accountField k) a) k e in step-fated x (s .contents) a k (p .0) (not-true (names (accountField k) a) (p .1)))
+            m cs (both-tests (λ k. not (isSettle k)) (λ k. not (names (accountField k) a)) cs day h));
         balances = λ a h.
             over-a-run (BalanceStays a) (λ x. refl) (λ x y z f g. g ∙ f) (within (λ k. isPayment k && names (accountField k) a))
             (λ x k s e. let p = no-settle (λ k. isPayment k && names (accountField k) a) k e in unpaid x k (p .0) a (p .1))

@@ -8,9 +8,10 @@ use Prim.Native.Nat.{ℕ}
 use Rattle.laws.specs.Choice.{allOf}
 use Rattle.rules.specs.Command.{accountField, contractField, isPayment, isSettle}
 use Rattle.rules.specs.Condition3.{balanceIn, isAccepted, run}
-use Rattle.rules.specs.Memory.{Memory, exchangeOf, respond}
+use Rattle.rules.specs.Memory.{Memory, exchangeOf, respond, wellFormedMemory}
 use Rattle.rules.specs.Touches.{ContractStays, HeldByTrades, isBlank, names}
 use Rattle.rules.specs.declared.Command.{Command}
+use Rattle.invariants.specs.RestingOrders.{OrdersStay}
 
 -- ---- 1. A COMMAND THAT IS REFUSED CHANGES NO WORD OF THE MEMORY; given again at once it gets the same answer; and a run leaves what it would
 -- have left without it.
@@ -45,6 +46,9 @@ noPaymentOf place cs = allOf (λ c. not (isPayment c && names (accountField c) p
 pub record RunTouches (m : Memory) (cs : List Command) (m′ : Memory) : Type 0 where
   -- 3. A contract that none of them names has its queues, its terms, its state and its price, and everybody's holding in it is what it was.
   pub contracts : (c : ℕ) → noneNamesContract c cs ≡ true → ContractStays c (exchangeOf m) (exchangeOf m′)
+  -- 5. From a well-formed state: each order of an account that none of them names rests as it did, or has lost exactly the lots that it traded,
+  -- at its limit or better for it, and stays ahead of every later order at its price.
+  pub orders : wellFormedMemory m ≡ true → (a : ℕ) → noneNamesAccount a cs ≡ true → OrdersStay a (exchangeOf m) (exchangeOf m′)
   -- 6. An account of which none of them is a payment has its balance: orders move no money.
   pub balances : (a : ℕ) → noPaymentOf a cs ≡ true → balanceIn m′ a ≡ balanceIn m a
   -- Holdings have changed by the trades that were made, and by nothing else.

@@ -24,6 +24,7 @@ use Rattle.rules.specs.declared.Command.{Command}
 use Rattle.rules.specs.declared.Command.the-variants.{Malformed, Deposit, Withdraw, Insert, Cancel, Pull, Phase, Settle, Quote, Change}
 use Rattle.rules.specs.declared.NewOrder.{NewOrder}
 use Rattle.rules.specs.declared.Record.{Record}
+use Rattle.rules.specs.declared.Trade.{Trade}
 use Rattle.rules.proofs.Command.{the-type}
 use Rattle.rules.proofs.InContract.{InContract, changed-in, entered-in, matched-in, quoted-in, relisted-in}
 use Rattle.rules.proofs.Refusals.{both-zero, failed}
@@ -111,10 +112,10 @@ accepted-named x (Change account contract number lots price) e = both-there x ac
 
 -- ---- where a command works: in the contract that it names, or on the balance of the account that it names
 
--- in the contract of a field; where there is none, nothing changes
+-- in the contract of a field, with the trades that it makes there; where there is none, nothing changes
 abbrev pub Works : Field → Exchange → Exchange → Type 0
 Works unused x y = y ≡ x
-Works (holds number) x y = InContract (placeOf number) x y
+Works (holds number) x y = (ts : List Trade) × InContract (placeOf number) ts x y
 
 -- a command that is no payment and no settlement
 pub kind-works : (x : Exchange) (command : Command) → isPayment command ≡ false → isSettle command ≡ false →
@@ -123,13 +124,13 @@ unfolding kindOf inserted cancelled pulled removed phaseChanged
 kind-works x Malformed p n = refl
 kind-works x (Deposit account amount) p n = absurd (true≢false p)
 kind-works x (Withdraw account amount) p n = absurd (true≢false p)
-kind-works x (Insert o) p n = entered-in x o (x .next) 0 (x .next + 1)
-kind-works x (Cancel account contract operator number) p n = relisted-in (placeOf contract) x _
-kind-works x (Pull account contract operator) p n = relisted-in (placeOf contract) x _
-kind-works x (Phase contract phase) p n = matched-in x (placeOf contract) phase
+kind-works x (Insert o) p n = (_, entered-in x o (x .next) 0 (x .next + 1))
+kind-works x (Cancel account contract operator number) p n = ([], relisted-in (placeOf contract) x _)
+kind-works x (Pull account contract operator) p n = ([], relisted-in (placeOf contract) x _)
+kind-works x (Phase contract phase) p n = (_, matched-in x (placeOf contract) phase)
 kind-works x Settle p n = absurd (true≢false n)
-kind-works x (Quote account contract lots buy sell) p n = quoted-in x (offered account contract lots buy sell)
-kind-works x (Change account contract number lots price) p n = changed-in x (asked account contract number lots price)
+kind-works x (Quote account contract lots buy sell) p n = (_, quoted-in x (offered account contract lots buy sell))
+kind-works x (Change account contract number lots price) p n = (_, changed-in x (asked account contract number lots price))
 
 -- the account of a field
 abbrev pub Pays : Field → Exchange → Exchange → Type 0

@@ -10,12 +10,12 @@ use lib.Seq.{getD-set-other}
 use Rattle.laws.specs.Choice.{allOf, allOf-append, true-both}
 use Rattle.rules.specs.Answers.{listingOf, takerOf}
 use Rattle.rules.specs.Auction.{matchOf}
-use Rattle.rules.specs.Change.{Asked, arriving, changed, gone, placeKept, placeLost, reentered, unchanged}
+use Rattle.rules.specs.Change.{Asked, arriving, changeTrades, changed, gone, placeKept, placeLost, reentered, unchanged}
 use Rattle.rules.specs.Exchange.{Exchange, Listing, listingAt, noListing, opposite, placeOf}
 use Rattle.rules.specs.Holdings.{bookTrades}
 use Rattle.rules.specs.Kinds.{lastOf}
 use Rattle.rules.specs.Matching.{enter, restWhole}
-use Rattle.rules.specs.Quote.{Offered, buyOf, half, quoted, sellOf, withBuy, withSell, withoutQuote}
+use Rattle.rules.specs.Quote.{Offered, buyOf, half, quoteTrades, quoted, sellOf, withBuy, withSell, withoutQuote}
 use Rattle.rules.specs.Step.{cancelled, enteredOf, exchangeAfter, exchangeMatched, removed, withListing}
 use Rattle.rules.specs.declared.NewOrder.{NewOrder}
 use Rattle.rules.specs.declared.Trade.{Trade}
@@ -26,43 +26,41 @@ use Rattle.rules.proofs.Changes.{changed-either}
 use Rattle.rules.proofs.Holdings.{bookTrades-append}
 use Rattle.rules.proofs.Sweep.{ofContract, swept-contract}
 
--- no other listing changes, and what happens to the accounts is that trades of this contract are booked
-pub record InContract (d : ℕ) (x y : Exchange) : Type 0 where
+-- no other listing changes, and what happens to the accounts is that these trades, of this contract, are booked
+pub record InContract (d : ℕ) (ts : List Trade) (x y : Exchange) : Type 0 where
   pub others : (c : ℕ) → eqb c d ≡ false → listingAt y c ≡ listingAt x c
-  pub made : List Trade
-  pub here : allOf (ofContract d) made ≡ true
-  pub recorded : y .trades ≡ x .trades ++ made
-  pub booked : y .accounts ≡ bookTrades (x .accounts) made
+  pub here : allOf (ofContract d) ts ≡ true
+  pub recorded : y .trades ≡ x .trades ++ ts
+  pub booked : y .accounts ≡ bookTrades (x .accounts) ts
 
 module _ (d : ℕ) where
-  pub same-in : (x : Exchange) → InContract d x x
+  same-in : (x : Exchange) → InContract d [] x x
   unfolding allOf bookTrades
-  same-in x = record { others = λ c n. refl; made = []; here = refl; recorded = sym (append-nil (x .trades)); booked = refl }
+  same-in x = record { others = λ c n. refl; here = refl; recorded = sym (append-nil (x .trades)); booked = refl }
 
-  more-in : {x y z : Exchange} → InContract d x y → InContract d y z → InContract d x z
-  more-in {x} {y} {z} i j =
+  more-in : {ts us : List Trade} {x y z : Exchange} → InContract d ts x y → InContract d us y z → InContract d (ts ++ us) x z
+  more-in {ts} {us} {x} {y} {z} i j =
       record {
         others = λ c n. j .others c n ∙ i .others c n;
-        made = i .made ++ j .made;
-        here = rw (allOf-append (ofContract d) (i .made) (j .made)) (true-both (allOf (ofContract d) (i .made)) (allOf (ofContract d) (j .made)) (i .here) (j .here));
-        recorded = j .recorded ∙ rw (i .recorded) (append-assoc (x .trades) (i .made) (j .made));
-        booked = j .booked ∙ rw (i .booked) (sym (bookTrades-append (x .accounts) (i .made) (j .made)));
+        here = rw (allOf-append (ofContract d) ts us) (true-both (allOf (ofContract d) ts) (allOf (ofContract d) us) (i .here) (j .here));
+        recorded = j .recorded ∙ rw (i .recorded) (append-assoc (x .trades) ts us);
+        booked = j .booked ∙ rw (i .booked) (sym (bookTrades-append (x .accounts) ts us));
       }
 
   elsewhere : (ls : List Listing) (l : Listing) (c : ℕ) → eqb c d ≡ false → getD (set ls d l) c noListing ≡ getD ls c noListing
   elsewhere ls l c n = getD-set-other ls d c l noListing (eqb-false c d n)
 
-  pub relisted-in : (x : Exchange) (l : Listing) → InContract d x (withListing x d l)
+  pub relisted-in : (x : Exchange) (l : Listing) → InContract d [] x (withListing x d l)
   unfolding listingAt allOf bookTrades
-  relisted-in x l = record { others = elsewhere (x .listings) l; made = []; here = refl; recorded = sym (append-nil (x .trades)); booked = refl }
+  relisted-in x l = record { others = elsewhere (x .listings) l; here = refl; recorded = sym (append-nil (x .trades)); booked = refl }
 
 -- an order entered
-pub entered-in : (x : Exchange) (o : NewOrder) (number quote next : ℕ) → InContract (placeOf (o .contract)) x (exchangeAfter x o (enteredOf x number quote o) next)
+pub entered-in : (x : Exchange) (o : NewOrder) (number quote next : ℕ) →
+    InContract (placeOf (o .contract)) (enteredOf x number quote o .trades) x (exchangeAfter x o (enteredOf x number quote o) next)
 unfolding exchangeAfter listingAt
 entered-in x o number quote next =
     record {
       others = elsewhere (placeOf (o .contract)) (x .listings) _;
-      made = enteredOf x number quote o .trades;
       here = entered-either x number quote o (λ e. allOf (ofContract (placeOf (o .contract))) (e .trades) ≡ true) (λ u. unfold allOf restWhole in refl)
           (λ u. unfold enter takerOf in swept-contract (takerOf x number quote o) (o .lots) (listingOf x o .contract .last) (opposite (o .sell) (listingOf x o)));
       recorded = refl;
@@ -70,12 +68,11 @@ entered-in x o number quote next =
     }
 
 -- a change of a contract's state, with a match where there is one
-pub matched-in : (x : Exchange) (d phase : ℕ) → InContract d x (exchangeMatched x d phase (matchOf x d))
+pub matched-in : (x : Exchange) (d phase : ℕ) → InContract d (matchOf x d .trades) x (exchangeMatched x d phase (matchOf x d))
 unfolding exchangeMatched listingAt
 matched-in x d phase =
     record {
       others = elsewhere d (x .listings) _;
-      made = matchOf x d .trades;
       here = match-either x d (λ m. allOf (ofContract d) (m .trades) ≡ true)
           (λ u. auction-either d (listingAt x d .contract .last) (listingAt x d .buys) (listingAt x d .sells) (λ m. allOf (ofContract d) (m .trades) ≡ true)
           (λ z. unfold allOf in refl) (λ z. match-contract d _ (listingAt x d .buys) (listingAt x d .sells)))
@@ -84,17 +81,17 @@ matched-in x d phase =
       booked = refl;
     }
 
-pub changed-in : (x : Exchange) (k : Asked) → InContract (placeOf (k .contract)) x (lastOf x (changed x k .stages))
+pub changed-in : (x : Exchange) (k : Asked) → InContract (placeOf (k .contract)) (changeTrades x k) x (lastOf x (changed x k .stages))
 unfolding cancelled removed placeLost unchanged placeKept gone reentered arriving
 changed-in x k =
-    changed-either x k (λ ts e. InContract (placeOf (k .contract)) x (lastOf x (e .stages)))
+    changed-either x k (λ ts e. InContract (placeOf (k .contract)) ts x (lastOf x (e .stages)))
     (λ e. relisted-in (placeOf (k .contract)) x _)
     (λ e. more-in (placeOf (k .contract)) (relisted-in (placeOf (k .contract)) x _) (entered-in (gone x k) (arriving x k) (k .number) 0 (x .next)))
     (λ e f. same-in (placeOf (k .contract)) x)
     (λ e f g. relisted-in (placeOf (k .contract)) x _)
 
-pub quoted-in : (x : Exchange) (q : Offered) → InContract (placeOf (q .contract)) x (lastOf x (quoted x q .stages))
-unfolding quoted withSell withBuy withoutQuote half
+pub quoted-in : (x : Exchange) (q : Offered) → InContract (placeOf (q .contract)) (quoteTrades x q) x (lastOf x (quoted x q .stages))
+unfolding quoted quoteTrades withSell withBuy withoutQuote half
 quoted-in x q =
     more-in (placeOf (q .contract))
     (more-in (placeOf (q .contract)) (relisted-in (placeOf (q .contract)) x _) (entered-in (withoutQuote x q) (buyOf q) (withoutQuote x q .next) 1 (withoutQuote x q .next + 1)))

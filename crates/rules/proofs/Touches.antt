@@ -23,6 +23,7 @@ use Rattle.rules.specs.declared.Account.{Account}
 use Rattle.rules.specs.declared.Command.{Command}
 use Rattle.rules.specs.declared.Command.the-variants.{Pull}
 use Rattle.rules.specs.declared.Order.{Order}
+use Rattle.rules.specs.declared.Trade.{Trade}
 use Rattle.rules.proofs.EachKind.{Pays, Works, accepted-named, kind-pays, kind-works}
 use Rattle.rules.proofs.InContract.{InContract}
 use Rattle.rules.proofs.Holdings.{booked-balance, other-holding}
@@ -57,7 +58,7 @@ blank-is-refused x command =
 -- ---- what an accepted command names has a number
 
 -- the same by places, where a blank would be the first place's
-abbrev isAt : Field → ℕ → Bool
+abbrev pub isAt : Field → ℕ → Bool
 isAt unused place = false
 isAt (holds number) place = eqb place (placeOf number)
 
@@ -72,8 +73,12 @@ at-place (holds number) places i there n =
 contract-at : (x : Exchange) (command : Command) (c : ℕ) → names (contractField command) c ≡ false → codeOf x command ≡ 0 → isAt (contractField command) c ≡ false
 contract-at x command c n e = at-place (contractField command) (x .listings) c (accepted-named x command e .1) n
 
-account-at : (x : Exchange) (command : Command) (a : ℕ) → names (accountField command) a ≡ false → codeOf x command ≡ 0 → isAt (accountField command) a ≡ false
+pub account-at : (x : Exchange) (command : Command) (a : ℕ) → names (accountField command) a ≡ false → codeOf x command ≡ 0 → isAt (accountField command) a ≡ false
 account-at x command a n e = at-place (accountField command) (x .accounts) a (accepted-named x command e .0) n
+
+pub contract-there : (x : Exchange) (command : Command) (number : ℕ) → contractField command ≡ holds number → codeOf x command ≡ 0 → placeOf number < length (x .listings)
+contract-there x command number f e =
+    present number (x .listings) (ap (λ (k : Field). isBlank k (x .listings)) (sym f) ∙ accepted-named x command e .1)
 
 -- ---- 3. other contracts
 
@@ -85,16 +90,16 @@ paid-holds x b balance a c = ap (λ hs. getD hs c noHolding) (kept-at (λ (k : A
 paid-stays : (x : Exchange) (b : ℕ) (balance : ℤ) (c : ℕ) → ContractStays c x (paid x b balance)
 paid-stays x b balance c = record { listing = unfold paid listingAt in refl; held = λ a. paid-holds x b balance a c }
 
-stays-in : (d : ℕ) (x y : Exchange) → InContract d x y → (c : ℕ) → eqb c d ≡ false → ContractStays c x y
-stays-in d x y i c n =
+stays-in : (d : ℕ) (ts : List Trade) (x y : Exchange) → InContract d ts x y → (c : ℕ) → eqb c d ≡ false → ContractStays c x y
+stays-in d ts x y i c n =
     record {
       listing = i .others c n;
-      held = λ a. ap (λ (as′ : List Account). holdingAt as′ a c) (i .booked) ∙ other-holding d (x .accounts) (i .made) a c (i .here) (eqb-false c d n);
+      held = λ a. ap (λ (as′ : List Account). holdingAt as′ a c) (i .booked) ∙ other-holding d (x .accounts) ts a c (i .here) (eqb-false c d n);
     }
 
 works-stay : (f : Field) (x y : Exchange) → Works f x y → (c : ℕ) → isAt f c ≡ false → ContractStays c x y
 works-stay unused x y e c n = record { listing = ap (λ (z : Exchange). listingAt z c) e; held = λ a. ap (λ (z : Exchange). heldAt z a c) e }
-works-stay (holds number) x y i c n = stays-in (placeOf number) x y i c n
+works-stay (holds number) x y (ts, i) c n = stays-in (placeOf number) ts x y i c n
 
 pays-stay : (f : Field) (x y : Exchange) → Pays f x y → (c : ℕ) → ContractStays c x y
 pays-stay unused x y e c = record { listing = ap (λ (z : Exchange). listingAt z c) e; held = λ a. ap (λ (z : Exchange). heldAt z a c) e }
@@ -190,7 +195,7 @@ module _ (x : Exchange) (account contract : ℕ) (operator : Bool) where
   pull-step e = accepted-step x pulls e
 
   pull-there : codeOf x pulls ≡ 0 → placeOf contract < length (x .listings)
-  pull-there e = present contract (x .listings) (accepted-named x pulls e .1)
+  pull-there e = contract-there x pulls contract refl e
 
   pub pull-takes-own : codeOf x pulls ≡ 0 → PullTakesOwn x account contract (step x pulls)
   pull-takes-own e =
@@ -204,7 +209,7 @@ module _ (x : Exchange) (account contract : ℕ) (operator : Bool) where
     abbrev Spares : Exchange → Type 0
     Spares y = (c : ℕ) (sell : Bool) → ordersOf a (own sell (listingAt y c)) ≡ ordersOf a (own sell (listingAt x c))
 
-    not-its : eqb a (placeOf account) ≡ false → (o : Order) → (isOf (placeOf account) o && isOf a o) ≡ false
+    pub not-its : eqb a (placeOf account) ≡ false → (o : Order) → (isOf (placeOf account) o && isOf a o) ≡ false
     not-its other o = by-account (eqb (o .account) (placeOf account)) refl
       where
         by-account : (b : Bool) → eqb (o .account) (placeOf account) ≡ b → (b && isOf a o) ≡ false
@@ -237,7 +242,7 @@ paid-owns x a b balance n = ap (λ (k : Account). k .balance) (getD-set-other (x
 
 works-owns : (f : Field) (x y : Exchange) → Works f x y → (a : ℕ) → BalanceStays a x y
 works-owns unused x y e a = ap (λ (z : Exchange). holderAt z a .balance) e
-works-owns (holds number) x y i a = ap (λ (as′ : List Account). accountAt as′ a .balance) (i .booked) ∙ booked-balance (x .accounts) (i .made) a
+works-owns (holds number) x y (ts, i) a = ap (λ (as′ : List Account). accountAt as′ a .balance) (i .booked) ∙ booked-balance (x .accounts) ts a
 
 pub held-same : (x : Exchange) → HeldByTrades x x
 unfolding bookTrades
@@ -245,7 +250,7 @@ held-same x = record { made = []; recorded = sym (append-nil (x .trades)); held 
 
 works-held : (f : Field) (x y : Exchange) → Works f x y → HeldByTrades x y
 works-held unused x y e = rw e (held-same x)
-works-held (holds number) x y i = record { made = i .made; recorded = i .recorded; held = ap holdingsOf (i .booked) }
+works-held (holds number) x y (ts, i) = record { made = ts; recorded = i .recorded; held = ap holdingsOf (i .booked) }
 
 paid-holdings : (x : Exchange) (b : ℕ) (balance : ℤ) → holdingsOf (paid x b balance .accounts) ≡ holdingsOf (x .accounts)
 unfolding paid accountAt
