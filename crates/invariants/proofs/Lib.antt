@@ -28,6 +28,7 @@ pub mod QuoteKeeps
 pub mod Singly
 pub mod QuoteAsOrders
 pub mod Makers
+pub mod AllResting
 pub mod Stamps
 pub mod OneOrder
 pub mod Fates
