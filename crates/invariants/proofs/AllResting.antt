@@ -39,20 +39,20 @@ matched-both c price p q k l =
     (λ bs ss a g h. (g, h))
     (λ b bs s ss m f r ih g h. ih (less-kept _ b bs p k g) (less-kept _ s ss q l h))
 
--- the test of an order that rests in a contract on a side
-module _ (test : ℕ → Bool → Order → Bool) (fewer : (c : ℕ) (sell : Bool) → KeptWithFewer (test c sell)) where
-  abbrev pub AllResting : Exchange → Type 0
-  AllResting y = (c : ℕ) (sell : Bool) → allOf (test c sell) (own sell (listingAt y c)) ≡ true
+-- every resting order passes a test, which may go by its contract and its side
+abbrev pub AllResting : (ℕ → Bool → Order → Bool) → Exchange → Type 0
+AllResting test y = (c : ℕ) (sell : Bool) → allOf (test c sell) (own sell (listingAt y c)) ≡ true
 
-  relisted-resting : (y z : Exchange) (d : ℕ) (m : Listing) → z .listings ≡ set (y .listings) d m → AllResting y →
-      ((sell : Bool) → allOf (test d sell) (own sell m) ≡ true) → AllResting z
+module _ (test : ℕ → Bool → Order → Bool) (fewer : (c : ℕ) (sell : Bool) → KeptWithFewer (test c sell)) where
+  relisted-resting : (y z : Exchange) (d : ℕ) (m : Listing) → z .listings ≡ set (y .listings) d m → AllResting test y →
+      ((sell : Bool) → allOf (test d sell) (own sell m) ≡ true) → AllResting test z
   unfolding listingAt
   relisted-resting y z d m e h p c sell =
       rw e (set-all (λ (i : ℕ) (l : Listing). (side : Bool) → allOf (test i side) (own side l) ≡ true) (y .listings) d m h p c sell)
 
   -- ---- orders taken out
 
-  pub without-resting : (y : Exchange) → AllResting y → (d : ℕ) (gone : Order → Bool) → AllResting (withListing y d (listingWithout gone (listingAt y d)))
+  pub without-resting : (y : Exchange) → AllResting test y → (d : ℕ) (gone : Order → Bool) → AllResting test (withListing y d (listingWithout gone (listingAt y d)))
   without-resting y h d gone =
       relisted-resting y (withListing y d (listingWithout gone (listingAt y d))) d (listingWithout gone (listingAt y d)) refl h by-side
     where
@@ -62,7 +62,7 @@ module _ (test : ℕ → Bool → Order → Bool) (fewer : (c : ℕ) (sell : Boo
 
   -- ---- an order entered, which passes the test where it comes to rest
 
-  module _ (y : Exchange) (h : AllResting y) (number quote : ℕ) (o : NewOrder)
+  module _ (y : Exchange) (h : AllResting test y) (number quote : ℕ) (o : NewOrder)
       (passes : (price lots : ℕ) → test (placeOf (o .contract)) (o .sell) (remainder (takerOf y number quote o) price lots) ≡ true) where
     abbrev place : ℕ
     place = placeOf (o .contract)
@@ -86,7 +86,7 @@ module _ (test : ℕ → Bool → Order → Bool) (fewer : (c : ℕ) (sell : Boo
         by-side false p q true = q
         by-side false p q false = p
 
-    pub entered-resting : (next : ℕ) → AllResting (exchangeAfter y o (enteredOf y number quote o) next)
+    pub entered-resting : (next : ℕ) → AllResting test (exchangeAfter y o (enteredOf y number quote o) next)
     unfolding exchangeAfter listingAfter restWhole enter
     entered-resting next =
         relisted-resting y (exchangeAfter y o (enteredOf y number quote o) next) place (listingAfter (listingOf y o) (o .sell) (enteredOf y number quote o)) refl h
@@ -98,7 +98,7 @@ module _ (test : ℕ → Bool → Order → Bool) (fewer : (c : ℕ) (sell : Boo
 
   -- ---- the match of an auction
 
-  pub matched-resting : (x : Exchange) → AllResting x → (d phase : ℕ) → AllResting (exchangeMatched x d phase (matchOf x d))
+  pub matched-resting : (x : Exchange) → AllResting test x → (d phase : ℕ) → AllResting test (exchangeMatched x d phase (matchOf x d))
   unfolding exchangeMatched listingMatched
   matched-resting x h d phase =
       relisted-resting x (exchangeMatched x d phase (matchOf x d)) d (listingMatched (listingAt x d) phase (matchOf x d)) refl h (by-side both-sides)
@@ -119,8 +119,8 @@ module _ (test : ℕ → Bool → Order → Bool) (fewer : (c : ℕ) (sell : Boo
 
   -- ---- an order with fewer lots in its place
 
-  pub lessened-resting : (x : Exchange) → AllResting x → (k : Asked) → ((sell : Bool) (o : Order) → test (placeOf (k .contract)) sell (unmarked (withLots o (k .lots))) ≡ test (placeOf (k .contract)) sell o) →
-      AllResting (lastOf x (placeKept x k .stages))
+  pub lessened-resting : (x : Exchange) → AllResting test x → (k : Asked) → ((sell : Bool) (o : Order) → test (placeOf (k .contract)) sell (unmarked (withLots o (k .lots))) ≡ test (placeOf (k .contract)) sell o) →
+      AllResting test (lastOf x (placeKept x k .stages))
   unfolding placeKept
   lessened-resting x h k same =
       relisted-resting x (lastOf x (placeKept x k .stages)) (placeOf (k .contract)) _ refl h by-side

@@ -29,6 +29,7 @@ pub mod Singly
 pub mod QuoteAsOrders
 pub mod Makers
 pub mod AllResting
+pub mod ForLife
 pub mod Stamps
 pub mod OneOrder
 pub mod Fates
