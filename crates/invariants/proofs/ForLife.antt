@@ -1,30 +1,31 @@
 -- Numbers and time stamps for life, from one state to another: what composes, and one law for each way in which a command changes queues.
 -- What each kind does stands in `EachKind`. Assumes nothing.
-use mathlib.Core.Bool.{Bool, true, false, not, _&&_, _||_, false≢true}
+use mathlib.Core.Bool.{Bool, true, false, _&&_, _||_, true≢false, false≢true}
 use mathlib.Core.List.{List, [], _∷_, _++_}
-use mathlib.Core.Path.{_≡_, refl, sym, ap, _∙_, subst}
-use Prim.Native.Nat.{ℕ, _+_, _<_, _≤_}
+use mathlib.Core.Logic.{_≢_}
+use mathlib.Core.Path.{_≡_, refl, sym, ap, _∙_}
+use Prim.Native.Nat.{ℕ, _+_, _≤_}
 use native.Mathlib.Nat.{le-refl}
 use native.Mathlib.Omega.{arith}
-use borrow.Author.Tests.{eq-eqb, eqb-true, le-leb, leb-true, not-false}
+use borrow.Author.Tests.{eq-eqb, eqb-false, eqb-true, le-leb, leb-true, not-false}
 use lib.Dec.{eqb, leb}
-use lib.ListN.{getD, length}
+use lib.ListN.{getD}
 use Rattle.laws.specs.Choice.{pick, allOf, allOf-imp, both-true, true-both, true-either, either-true}
-use Rattle.rules.specs.Answers.{firstOf, mark, namedRefusals, noSuchOrder, notContinuous, numbered, ofAnother, ownerRefusals, restingOrder, takerOf}
+use Rattle.rules.specs.Answers.{firstOf, mark, noSuchOrder, numbered, ofAnother, restingOrder, takerOf}
 use Rattle.rules.specs.Auction.{matchOf}
 use Rattle.rules.specs.Change.{Asked, arriving, changed, changeRefusals, gone, isSell, oldOrder, placeKept, placeLost, reentered, unchanged}
 use Rattle.rules.specs.Exchange.{Exchange, Listing, listingAt, listingNamed, noOrder, own, placeOf}
 use Rattle.rules.specs.Kinds.{lastOf}
 use Rattle.rules.specs.Matching.{remainder}
-use Rattle.rules.specs.Quote.{Offered, buyOf, half, quoted, sellOf, withBuy, withSell, withoutQuote}
+use Rattle.rules.specs.Quote.{Offered, buyOf, quoted, sellOf, withBuy, withSell, withoutQuote}
 use Rattle.rules.specs.Step.{cancelled, enteredOf, exchangeAfter, exchangeMatched, hasNumber, isOf, listingWithout, removed, withListing}
 use Rattle.rules.specs.WellFormed.{isQuoteOf}
 use Rattle.rules.specs.declared.NewOrder.{NewOrder}
 use Rattle.rules.specs.declared.Order.{Order}
 use Rattle.rules.proofs.AuctionTaken.{KeptWithFewer}
 use Rattle.rules.proofs.Changes.{changed-either}
-use Rattle.rules.proofs.Refusals.{both-zero}
 use Rattle.invariants.proofs.AllResting.{AllResting, entered-resting, lessened-resting, matched-resting, without-resting}
+use Rattle.invariants.proofs.ChangeKeeps.{its-close, owned, rests}
 use Rattle.invariants.proofs.Clauses.{WellFormed}
 use Rattle.invariants.specs.GivenNumbers.{NumbersForLife, isSameOrder, keepsNumber, keepsStamp}
 use Rattle.invariants.specs.RestingOrders.{someOrder}
@@ -60,6 +61,53 @@ some-imp p q f (o ∷ os) h = by-first (λ k. some-imp p q f os k) (p o) refl h
     by-first : (someOrder p os ≡ true → someOrder q os ≡ true) → (b : Bool) → p o ≡ b → (b || someOrder p os) ≡ true → (q o || someOrder q os) ≡ true
     by-first ih true e k = true-either (q o) (someOrder q os) (f o e)
     by-first ih false e k = either-true (q o) (someOrder q os) (ih k)
+
+-- ---- the order with a number
+
+found-in : (n : ℕ) (test : Order → Bool) (q : List Order) → noSuchOrder (numbered n q) ≡ false → test (getD (numbered n q) 0 noOrder) ≡ true → someOrder (λ p. hasNumber n p && test p) q ≡ true
+unfolding noSuchOrder numbered someOrder
+found-in n test [] r h = absurd (true≢false r)
+found-in n test (o ∷ os) r h = by-number (λ r h. found-in n test os r h) (hasNumber n o) refl r h
+  where
+    by-number : (noSuchOrder (numbered n os) ≡ false → test (getD (numbered n os) 0 noOrder) ≡ true → someOrder (λ p. hasNumber n p && test p) os ≡ true) →
+        (m : Bool) → hasNumber n o ≡ m → noSuchOrder (pick m (o ∷ []) (numbered n os)) ≡ false → test (getD (pick m (o ∷ []) (numbered n os)) 0 noOrder) ≡ true →
+        ((hasNumber n o && test o) || someOrder (λ p. hasNumber n p && test p) os) ≡ true
+    by-number ih true m r h = rw m (true-either (true && test o) _ h)
+    by-number ih false m r h = either-true (hasNumber n o && test o) _ (ih r h)
+
+-- it stands among the sells where it is not among the buys
+found-on : (n : ℕ) (test : Order → Bool) (bs ss : List Order) → noSuchOrder (numbered n (bs ++ ss)) ≡ false → test (getD (numbered n (bs ++ ss)) 0 noOrder) ≡ true →
+    someOrder (λ p. hasNumber n p && test p) (pick (noSuchOrder (numbered n bs)) ss bs) ≡ true
+unfolding noSuchOrder numbered someOrder
+found-on n test [] ss r h = found-in n test ss r h
+found-on n test (b ∷ bs) ss r h = by-number (λ r h. found-on n test bs ss r h) (hasNumber n b) refl r h
+  where
+    by-number : (noSuchOrder (numbered n (bs ++ ss)) ≡ false → test (getD (numbered n (bs ++ ss)) 0 noOrder) ≡ true → someOrder (λ p. hasNumber n p && test p) (pick (noSuchOrder (numbered n bs)) ss bs) ≡ true) →
+        (m : Bool) → hasNumber n b ≡ m → noSuchOrder (pick m (b ∷ []) (numbered n (bs ++ ss))) ≡ false → test (getD (pick m (b ∷ []) (numbered n (bs ++ ss))) 0 noOrder) ≡ true →
+        someOrder (λ p. hasNumber n p && test p) (pick (noSuchOrder (pick (hasNumber n b) (b ∷ []) (numbered n bs))) ss (b ∷ bs)) ≡ true
+    by-number ih true m r h = rw m (true-either (hasNumber n b && test b) _ (true-both (hasNumber n b) (test b) m h))
+    by-number ih false m r h = rw m (later (noSuchOrder (numbered n bs)) (ih r h))
+      where
+        later : (t : Bool) → someOrder (λ p. hasNumber n p && test p) (pick t ss bs) ≡ true → someOrder (λ p. hasNumber n p && test p) (pick t ss (b ∷ bs)) ≡ true
+        later true k = k
+        later false k = either-true (hasNumber n b && test b) _ k
+
+of-account : (a : ℕ) (found : List Order) → noSuchOrder found ≡ false → ofAnother a found ≡ false → isOf a (getD found 0 noOrder) ≡ true
+unfolding noSuchOrder ofAnother
+of-account a [] n h = absurd (true≢false n)
+of-account a (o ∷ os) n h = not-false (isOf a o) h
+
+-- a mark read and written again
+mark-again : (close : ℕ) → close ≤ 1 → eqb close (mark (eqb close 1)) ≡ true
+mark-again close low = by-close (eqb close 1) refl
+  where
+    by-close : (b : Bool) → eqb close 1 ≡ b → eqb close (mark b) ≡ true
+    by-close true f = f
+    by-close false f = let n : close ≢ 1 = eqb-false close 1 f in eq-eqb close 0 (omega arith)
+
+regroup : (a b c : Bool) → (a && (b && c)) ≡ true → ((a && b) && c) ≡ true
+regroup true b c h = h
+regroup false b c h = h
 
 -- ---- what an order keeps goes by its number, its account, open or close, and its time stamp alone
 
@@ -184,3 +232,49 @@ module _ (x : Exchange) where
       new-lives (withBuy x q)
       (new-lives (withoutQuote x q) (without-lives (placeOf (q .contract)) (isQuoteOf (placeOf (q .account)))) (x .next) 1 (buyOf q) (le-refl (x .next)) (le-refl (x .nextstamp)) (x .next + 1))
       (x .next + 1) 1 (sellOf q) (omega arith) (omega arith) (x .next + 1 + 1)
+
+  -- ---- a change: the order that it enters is the one that it took out
+
+  module _ (w : WellFormed x) (k : Asked) (e : firstOf (changeRefusals x k) ≡ 0) where
+    abbrev listing : Listing
+    listing = listingNamed x (k .contract)
+
+    -- of its account, to open or close as it was
+    abbrev its : Order → Bool
+    its p = isOf (placeOf (k .account)) p && eqb (p .close) (mark (eqb (oldOrder x k .close) 1))
+
+    old-its : its (oldOrder x k) ≡ true
+    unfolding oldOrder restingOrder
+    old-its =
+        true-both (isOf (placeOf (k .account)) (oldOrder x k)) (eqb (oldOrder x k .close) (mark (eqb (oldOrder x k .close) 1)))
+        (of-account (placeOf (k .account)) (restingOrder listing (k .number)) (rests x w k e) (owned x w k e)) (mark-again (oldOrder x k .close) (its-close x w k e))
+
+    old-there : someOrder (λ p. hasNumber (k .number) p && its p) (own (isSell x k) listing) ≡ true
+    unfolding oldOrder restingOrder isSell
+    old-there = found-on (k .number) its (listing .buys) (listing .sells) (rests x w k e) old-its
+
+    abbrev enters : ℕ → ℕ → Order
+    enters price lots = remainder (takerOf (gone x k) (k .number) 0 (arriving x k)) price lots
+
+    keeps-old : (price lots : ℕ) → keepsNumber (x .next) (own (arriving x k .sell) (listingAt x (placeOf (arriving x k .contract)))) (enters price lots) ≡ true
+    unfolding takerOf remainder arriving
+    keeps-old price lots =
+        either-true (leb (x .next) (k .number)) _
+        (some-imp (λ p. hasNumber (k .number) p && its p) (isSameOrder (enters price lots)) (λ p h. regroup (hasNumber (k .number) p) (isOf (placeOf (k .account)) p) _ h) (own (isSell x k) listing) old-there)
+
+    pub changed-lives : Lives (lastOf x (changed x k .stages))
+    unfolding cancelled removed placeLost unchanged reentered gone
+    changed-lives =
+        changed-either x k (λ ts f. Lives (lastOf x (f .stages)))
+        (λ f. without-lives (placeOf (k .contract)) (hasNumber (k .number)))
+        (λ f. entered-lives (gone x k) (without-lives (placeOf (k .contract)) (hasNumber (k .number))) (k .number) 0 (arriving x k) keeps-old (le-refl (x .nextstamp)) (x .next))
+        (λ f g. same-lives)
+        (λ f g h. lessened-resting lives lives-lots x same-lives k (λ sell o. refl))
+
+-- a change gives no number
+pub changed-next : (x : Exchange) (k : Asked) → lastOf x (changed x k .stages) .next ≡ x .next
+unfolding cancelled removed placeLost unchanged placeKept exchangeAfter
+changed-next x k = changed-either x k (λ ts f. lastOf x (f .stages) .next ≡ x .next) (λ f. refl) (λ f. refl) (λ f g. refl) (λ f g h. refl)
+
+pub same-life : (x : Exchange) → NumbersForLife x x
+same-life x = of-lives x x (le-refl (x .next)) (le-refl (x .nextstamp)) (same-lives x)

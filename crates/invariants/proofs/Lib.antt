@@ -47,6 +47,7 @@ pub mod Opening
 pub mod Condition3
 pub mod SameInUse
 pub mod RestingOrders
+pub mod GivenNumbers
 pub mod RunTouches
 pub mod QueueFronts
 pub mod SweptFairly
