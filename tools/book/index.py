@@ -57,13 +57,9 @@ def code_index(book):
 
 
 def code_meanings(top):
-    """The table of codes, wherever it stands."""
-    for name in ("docs/CODES.md", "README.md"):
-        path = top / name
-        found = re.findall(r"(?m)^\| (\d+) \| (.*) \|$", path.read_text(encoding="utf-8")) if path.exists() else []
-        if found:
-            return {int(code): meaning for code, meaning in found}
-    return {}
+    """The table of codes."""
+    text = (top / "docs" / "CODES.md").read_text(encoding="utf-8")
+    return {int(code): meaning for code, meaning in re.findall(r"(?m)^\| (\d+) \| (.*) \|$", text)}
 
 
 def kind_index(book):
