@@ -139,8 +139,8 @@ class Engine:
         for a in range(self.state.accountcount):
             yield "B", a + 1, report.closing[a], report.holding[a], self.state.accounts[a].balance, report.charged[a]
 
-    def in_use(self):
-        """The state as the model has it, to be compared with the model's own."""
+    def memory(self):
+        """The state with its areas as the model has them."""
         held = memory.Memory()
         model_library.model_state(self.state, held)
         for side, area in (("buy", self.buys), ("sell", self.sells)):
@@ -150,7 +150,11 @@ class Engine:
                     held.orders[side].contents[place] = memory.Order(*record_at(area, zelvorm.Order, place))
         for place in range(self.state.tradecount):
             held.trades.contents[place] = memory.Trade(*record_at(self.trades, zelvorm.Trade, place))
-        return memory.in_use(held)
+        return held
+
+    def in_use(self):
+        """The state as the rules read it, to be compared with the model's own."""
+        return memory.in_use(self.memory())
 
     def ask(self, command):
         """How many lots of an insert would trade now."""

@@ -1,5 +1,6 @@
 """Tests of check_docs.py: what it finds missing, misplaced, misquoted or without a row, and what it passes over."""
 import os
+import re
 import tempfile
 import unittest
 from pathlib import Path
@@ -36,6 +37,15 @@ class Missing(unittest.TestCase):
     def test_the_documents(self):
         """With the quotations where the papers are at hand (PAPERS)."""
         self.assertEqual(check_docs.main(), 0)
+
+
+class Contents(unittest.TestCase):
+    def test_rules_lists_its_sections(self):
+        """Each section of docs/RULES.md is in its contents, in turn, with the address that a heading has."""
+        text = Path(check_docs.RULES).read_text()
+        headings = re.findall(r"(?m)^## (.*)$", text)
+        listed = re.findall(r"\[([^\]]*)\]\(#([^)]*)\)", re.search(r"(?m)^Contents: .*$", text)[0])
+        self.assertEqual(listed, [(heading, re.sub(r"[^\w\- ]", "", heading.lower()).replace(" ", "-")) for heading in headings])
 
 
 class Places(unittest.TestCase):

@@ -422,6 +422,18 @@ class InABrowser(unittest.TestCase):
         self.browser.press("a")
         self.assert_paper_step(3)
 
+    def test_a_second_day(self):
+        """A lesson that begins from a saved state: its days are counted on, and what is held stands at the opening."""
+        text = SAMPLES / "continued" / "second-day.txt"
+        made = lambda: page.page(lesson.read(str(text)), text.with_suffix(".out").read_text())
+        self.open_page("second-day", made)
+        shown = self.shown()
+        self.assertEqual([row[1] for row in shown["accounts"]], ["5 short", "5 long", "none"])
+        self.assertEqual(self.browser.value("document.querySelector('#trades h3').innerText").lower(), "trades of day 2")
+        self.browser.press("End")
+        names = "[...document.querySelectorAll('#balances title')].map((node) => node.textContent.split(':')[0])"
+        self.assertEqual(self.browser.value(names), ["opening", "day 2"] * 3)
+
     def test_a_refusal_and_two_contracts(self):
         self.open("margin-of-three-days", step=12)
         shown = self.shown()

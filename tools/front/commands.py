@@ -59,6 +59,18 @@ COMMANDS = (
         files=LESSONS,
     ),
     Command(
+        "practice",
+        "[FILE]",
+        "an exchange at the keyboard: type lines, see the answers",
+        "The lesson language's own lines, answered one by one: in words, with how each price came about, and the book as a ladder."
+        " Beside them ask, book, account, trades, explain, undo, next, rest, tomorrow, save; help lists them. FILE gives the contracts"
+        " and accounts, or the saved state, to begin with, and next plays its commands. Every answer is the proved engine's (the built"
+        " library; without it the day runner), the words are the model's; where the two differ it says so and stops.\n\nA lesson on"
+        " standard input gives a transcript.",
+        "./zelvorm practice < samples/paper-example.txt",
+        files=LESSONS + ("*.state",),
+    ),
+    Command(
         "check",
         "FILE ..",
         "whether files are right, and what lessons expect",

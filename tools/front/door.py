@@ -29,6 +29,7 @@ import page
 import textfiles
 import words
 from lessons.lesson import Differs, Unusable
+from practice import prompt
 
 
 class Parser(argparse.ArgumentParser):
@@ -55,6 +56,11 @@ def parser_of(command):
 
 def write(line=""):
     print(line)
+
+
+def shown(line):
+    """A line that is seen at once, at a terminal or by who reads the pipe."""
+    print(line, flush=True)
 
 
 def run(arguments):
@@ -143,6 +149,7 @@ DOES = {
     "run": run,
     "explain": explained,
     "page": paged,
+    "practice": lambda arguments: prompt.run(arguments.file, shown),
     "check": lambda arguments: files.check(arguments, write),
     "what": lambda arguments: files.what(arguments, write),
     "pack": lambda arguments: files.pack(arguments, note),

@@ -247,25 +247,38 @@ def printed_for(lesson, command_line=None):
     return exchange.play(lesson.day.commands)
 
 
+class Player:
+    """The model's run from a state, step by step, each held against the engine's lines."""
+
+    def __init__(self, opening):
+        self.state = model.copied(opening)
+        self.after = model.copied(opening)
+        self.books = model.Condition3(opening)
+        self.money = Money(sum(opening.balances.values()))
+        self.number = 0
+
+    def step(self, command, lines, comment=Comment()):
+        """The next command. Raises Differs where the engine's lines for it are not the model's."""
+        self.number += 1
+        before, day = self.after, self.state.settlements + 1
+        answer = model.answer(self.state, command)
+        check_lines(self.number, lines, model_lines(self.state, self.number, answer))
+        self.books.enter(self.state, command, answer)
+        self.money = paid(self.money, command, answer)
+        check_money(self.number, self.books, self.state, answer, self.money)
+        self.after = model.copied(self.state)
+        return Step(self.number, day, command, comment, lines, before, answer, self.after, self.money)
+
+
 def play(lesson, printed):
     """Each step in turn. Raises Differs at the first command whose lines in `printed` are not the model's."""
     groups = lines_by_command(printed)
     if groups[0]:
         raise Differs(f"the runner's output begins with {groups[0][0]}, and the file is sound")
-    state = model.copied(lesson.opening)
-    books = model.Condition3(state)
-    money = Money(sum(state.balances.values()))
-    after = model.copied(state)
+    player = Player(lesson.opening)
     for number, command in enumerate(lesson.day.commands, 1):
-        before, day = after, state.settlements + 1
-        answer = model.answer(state, command)
         lines = groups[number] if number < len(groups) else []
-        check_lines(number, lines, model_lines(state, number, answer))
-        books.enter(state, command, answer)
-        money = paid(money, command, answer)
-        check_money(number, books, state, answer, money)
-        after = model.copied(state)
-        yield Step(number, day, command, lesson.comments["command"][number - 1], lines, before, answer, after, money)
+        yield player.step(command, lines, lesson.comments["command"][number - 1])
     if len(groups) > len(lesson.day.commands) + 1:
         extra = groups[len(lesson.day.commands) + 1][0]
         raise Differs(f"the runner prints a line after the last command's: {extra}")
