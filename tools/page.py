@@ -3,9 +3,10 @@
 
     page.py samples/paper-example.txt > lesson.html
 
-The page steps through the lesson with the keyboard (left, right, Home, End): the command and its answer in words with
-every working, the book as a ladder, trades, holdings and balances beside it, and pictures of prices and of balances by
-day. It fetches nothing, and prints as a hand-out. Its words are those of explain.py.
+The page steps through the lesson with the keyboard (left, right, Page Up, Page Down, Home, End): the command and its
+answer in words with every working, the book as a ladder, trades, holdings and balances beside it, and pictures of
+prices and of balances by day. The key A shows each answer one step after its command, as an exercise's always is. The
+page fetches nothing, and prints as a hand-out. Its words are those of explain.py.
 
 Where the day runner and the model differ no page is made, and the status is 1; it is 2 where there is nothing to show.
 """
@@ -19,7 +20,7 @@ from pathlib import Path
 
 import lessons
 from lessons import explanation
-from lessons.lesson import Differs, Unusable, check_broken, find_runner, play, printed_by, read
+from lessons.lesson import Differs, Unusable, check_broken, play, printed_for, read
 from lessons.margins import charged_by_contract
 from lessons.wording import STATE_WORDS, contract_terms, figure
 
@@ -118,7 +119,7 @@ def trade_data(place, trade):
 
 def page_data(lesson, printed):
     """All that the page shows."""
-    state = model.opening_state(lesson.day)
+    state = lesson.opening
     opening = after = state_data(state)
     steps, active = [], set()
     for step in play(lesson, printed):
@@ -162,7 +163,7 @@ def part(name):
 
 def run(arguments):
     lesson = read(arguments.lesson)
-    printed = printed_by(find_runner(arguments.runner), lesson)
+    printed = printed_for(lesson, arguments.runner)
     if lesson.day is None:
         check_broken(lesson, printed)
         faults = "; ".join(lesson.faults)

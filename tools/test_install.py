@@ -188,7 +188,7 @@ class Built(InRoom):
         self.assertFalse(self.is_current())
 
     def test_takes_the_lock_of_run(self):
-        self.assertIn(".run.lock", (TOP / "run").read_text())
+        self.assertIn("take_lock ", (TOP / "run").read_text())
         holder = subprocess.Popen(["flock", self.top / ".run.lock", "cat"], stdin=subprocess.PIPE, stdout=subprocess.DEVNULL)
         while subprocess.run(["flock", "-n", self.top / ".run.lock", "true"]).returncode == 0:
             pass

@@ -140,7 +140,7 @@ class Source(unittest.TestCase):
 
 
 class CodeWords(unittest.TestCase):
-    """Each language has README's words for each code, and the same sizes."""
+    """Each language has the words of docs/CODES.md for each code, and the same sizes."""
 
     def setUp(self):
         folder = tempfile.TemporaryDirectory()

@@ -19,6 +19,7 @@ pub mod InsertAccepted
 pub mod InsertQueues
 pub mod InsertListing
 pub mod Insert
+pub mod Charged
 pub mod MatchedHoldings
 pub mod MatchedTrades
 pub mod Phases
@@ -28,6 +29,11 @@ pub mod Singly
 pub mod QuoteAsOrders
 pub mod Makers
 pub mod Stamps
+pub mod OneOrder
+pub mod Fates
+pub mod OthersOrders
+pub mod MarginWithin
+pub mod SeenBalances
 pub mod EachKind
 pub mod MemoryRoom
 pub mod MemoryLaws
@@ -38,3 +44,15 @@ pub mod ToldWhole
 pub mod Opening
 pub mod Condition3
 pub mod SameInUse
+pub mod RestingOrders
+pub mod RunTouches
+pub mod QueueFronts
+pub mod SweptFairly
+pub mod LargestPrice
+pub mod SumsByKey
+pub mod BestAuction
+pub mod FairlyEntered
+pub mod Throughout
+pub mod FairCommands
+pub mod AccountLaws
+pub mod QuoteTrades
