@@ -72,36 +72,42 @@ def counted(program, folder, state, call, rounds):
 
 # A second count of more rounds has all that a first one has, and so many rounds more.
 def instructions(program, folder, state, call):
+    seconds(program, folder, state, call, 1)
     few, more = 2, 6
     whole, copies = (counted(program, folder, state, what, more) - counted(program, folder, state, what, few) for what in (call, "none"))
     return (whole - copies) / (COMMANDS * (more - few))
 
 
-def table(title, found, form):
-    print(f"\n| {title} | " + " | ".join(f"{call}, {state}" for call in CALLS for state in STATES) + " |")
-    print("|---|" + "---|" * (len(CALLS) * len(STATES)))
-    for language, row in found.items():
-        print(f"| {language} | " + " | ".join(form(row[call, state]) for call in CALLS for state in STATES) + " |")
+# Each call in each language, by state: commands a second, and beside it instructions a command.
+def table(rates, counts):
+    rows = ["| | " + " | ".join(f"{state} | instructions" for state in STATES) + " |", "|---|" + "---|---|" * len(STATES)]
+    for call in CALLS:
+        for language in counts:
+            cells = []
+            for state in STATES:
+                told = f"{float(f'{rates[language][call, state]:.2g}'):,.0f}" if rates else ""
+                cells += [told, f"{counts[language][call, state]:,.0f}"]
+            rows.append(f"| {call}, {language} | " + " | ".join(cells) + " |")
+    return "\n".join(rows)
 
 
 def main():
     with tempfile.TemporaryDirectory() as room:
         folder = Path(room)
         programs = built(folder)
-        print(ran(sys.executable, HERE / "states.py", folder).strip())
+        print(ran(sys.executable, HERE / "states.py", folder))
         rows = [(call, state) for call in CALLS for state in STATES]
-        if "--instructions" not in sys.argv:
-            rates = {name: {(c, s): rate(program, folder, s, c) for c, s in rows} for name, program in programs.items()}
-            table("Commands a second", rates, lambda value: f"{float(f'{value:.2g}'):,.0f}")
-        for name, program in programs.items():
-            for call, state in rows:
-                seconds(program, folder, state, call, 1)
-        counts = {name: {(c, s): instructions(program, folder, s, c) for c, s in rows} for name, program in programs.items()}
-    table("Instructions a command", counts, lambda value: f"{value:,.0f}")
-    added = {row: 100 * (counts["Rust"][row] / counts["C"][row] - 1) for row in rows}
-    table("More than C, in %", {"Rust": added}, lambda value: f"{value:.1f}")
-    if max(added.values()) > MOST_ADDED:
-        sys.exit(f"the Rust crate adds more than {MOST_ADDED} %")
+
+        def measured(measure):
+            return {name: {(call, state): measure(program, folder, state, call) for call, state in rows} for name, program in programs.items()}
+
+        rates = None if "--instructions" in sys.argv else measured(rate)
+        counts = measured(instructions)
+    print(table(rates, counts))
+    added = max(100 * (counts["Rust"][row] / counts["C"][row] - 1) for row in rows)
+    print(f"\nThe Rust crate adds at most {added:.1f} % to the instructions of C.")
+    if added > MOST_ADDED:
+        sys.exit(f"that is more than {MOST_ADDED} %")
 
 
 if __name__ == "__main__":
