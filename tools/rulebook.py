@@ -13,7 +13,6 @@ an index by code, by kind and by word. It is made from docs/RULES.md and the sou
 import argparse
 import os
 import re
-import sys
 from pathlib import Path
 
 import book
@@ -22,6 +21,8 @@ from book.contents import Book
 from book.index import index_html
 from book.running import papers_text, running_text
 from book.text import inline, link, paragraphs
+from lessons.lesson import Unusable
+from lessons.making import write_made
 
 TOP = Path(__file__).resolve().parents[1]
 PARTS = Path(book.__file__).parent
@@ -62,26 +63,18 @@ def part(name):
     return (PARTS / name).read_text(encoding="utf-8").rstrip("\n")
 
 
+def made(papers):
+    try:
+        return page(Book(TOP, papers))
+    except (OSError, StopIteration) as error:
+        raise Unusable(f"{papers or TOP}: {error or 'no papers there'}") from None
+
+
 def main():
     parser = argparse.ArgumentParser(description=__doc__, formatter_class=argparse.RawDescriptionHelpFormatter)
     parser.add_argument("--papers", metavar="FOLDER", default=os.environ.get("PAPERS"), help="the folder that has the papers")
     arguments = parser.parse_args()
-    try:
-        text = page(Book(TOP, arguments.papers))
-    except (OSError, StopIteration) as error:
-        finish(f"{arguments.papers or TOP}: {error or 'no papers there'}")
-    try:
-        sys.stdout.buffer.write(text.encode())
-        sys.stdout.flush()
-    except OSError as error:
-        # The interpreter would try once more at its end, and complain.
-        sys.stdout = None
-        finish(f"standard output: {error.strerror}")
-
-
-def finish(message):
-    print(f"rulebook: {message}", file=sys.stderr)
-    sys.exit(2)
+    write_made("rulebook", lambda: made(arguments.papers))
 
 
 if __name__ == "__main__":

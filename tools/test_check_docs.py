@@ -1,5 +1,6 @@
 """Tests of check_docs.py: what it finds missing, misplaced, misquoted or without a row, and what it passes over."""
 import os
+import re
 import tempfile
 import unittest
 from pathlib import Path
@@ -27,6 +28,7 @@ class Missing(unittest.TestCase):
 
     def test_what_was(self):
         self.assertEqual(self.missing("`swept` is gone"), [])
+        self.assertEqual(self.missing("*New.* `sweep`. *Gone.* `swept`."), [])
         self.assertEqual(self.missing("## 1. Old\n\nSuperseded by 2.\n\n`swept`\n## 2. New\n`sweep`\n"), [])
         self.assertEqual(self.missing("## 1. Old\n\n`swept`\n"), ["swept"])
 
@@ -36,6 +38,15 @@ class Missing(unittest.TestCase):
     def test_the_documents(self):
         """With the quotations where the papers are at hand (PAPERS)."""
         self.assertEqual(check_docs.main(), 0)
+
+
+class Contents(unittest.TestCase):
+    def test_rules_lists_its_sections(self):
+        """Each section of docs/RULES.md is in its contents, in turn, with the address that a heading has."""
+        text = Path(check_docs.RULES).read_text()
+        headings = re.findall(r"(?m)^## (.*)$", text)
+        listed = re.findall(r"\[([^\]]*)\]\(#([^)]*)\)", re.search(r"(?m)^Contents: .*$", text)[0])
+        self.assertEqual(listed, [(heading, re.sub(r"[^\w\- ]", "", heading.lower()).replace(" ", "-")) for heading in headings])
 
 
 class Places(unittest.TestCase):
