@@ -13,7 +13,7 @@ use lib.ListN.{length, getD, set, length-set}
 use lib.Seq.{getD-set-same}
 use Rattle.laws.specs.Choice.{pick, allOf, allOf-append, both-true, true-both, either-false}
 use Rattle.laws.specs.Sums.{sumOf, sumOf-append, sumOf-at, sumOf-set}
-use Rattle.rules.specs.Answers.{Refusal, firstOf, listingOf, namedRefusals, noSuchOrder, notContinuous, numbered, ownerRefusals, restingOrder, tradesRefused}
+use Rattle.rules.specs.Answers.{firstOf, listingOf, namedRefusals, noSuchOrder, notContinuous, numbered, ofAnother, ownerRefusals, Refusal, restingOrder, tradesRefused}
 use Rattle.rules.specs.Bounds.{allowedToday, maxLots, maxResting, numbersEnd}
 use Rattle.rules.specs.Change.{Asked, arriving, changeRefusals, changed, gone, isSell, lessened, listingLessened, losesPlace, newFieldsRefusals, oldOrder, placeKept, placeLost, reentered, reentryRefusals, unchanged, unmarked}
 use Rattle.rules.specs.Exchange.{Exchange, Listing, listingAt, listingNamed, noListing, noOrder, own, placeOf, lotsWhere, resting}
@@ -156,9 +156,13 @@ module _ (x : Exchange) (w : WellFormed x) (k : Asked) (e : firstOf (changeRefus
   unfolding before-loss
   there = present (k .contract) (x .listings) (passed .0 .1 .0)
 
-  rests : noSuchOrder (numbered number (listing .buys ++ listing .sells)) ≡ false
+  pub rests : noSuchOrder (numbered number (listing .buys ++ listing .sells)) ≡ false
   unfolding before-loss restingOrder
   rests = passed .0 .1 .1 .1 .0
+
+  pub owned : ofAnother (placeOf (k .account)) (restingOrder listing number) ≡ false
+  unfolding before-loss
+  owned = passed .0 .1 .1 .1 .1 .0
 
   lots-high : k .lots ≤ maxLots
   unfolding before-loss
@@ -188,6 +192,12 @@ module _ (x : Exchange) (w : WellFormed x) (k : Asked) (e : firstOf (changeRefus
       let f = found number inRange (listing .buys ++ listing .sells) all-in-range rests in
       let r = order-ok (length (x .accounts)) (x .next) (x .nextstamp) (listing .contract) _ (f .0) in
       (omega (arith, f .1, r .number-low), omega (arith, f .1, r .number-high))
+
+  -- its mark is one of an open or a close
+  pub its-close : oldOrder x k .close ≤ 1
+  unfolding oldOrder restingOrder
+  its-close =
+      order-ok (length (x .accounts)) (x .next) (x .nextstamp) (listing .contract) _ (found number inRange (listing .buys ++ listing .sells) all-in-range rests .0) .close
 
   -- it rests on its side
   mine-used : 1 ≤ uses numberOf number (own (isSell x k) listing)

@@ -1,12 +1,13 @@
 -- WHAT EACH KIND OWES, one clause a kind, and what then holds of every command: it KEEPS A WELL-FORMED STATE WELL FORMED, and its counts in
 -- range; ORDER NUMBERS STAY, AND TIME STAMPS ARE NEVER GIVEN TWICE IN A DAY (document 02, ticket 8); what becomes of the orders of an
--- account that it does not name; NO COMMAND CHANGES A MAKER MARK (ticket 7); WHAT IS CHARGED and WHICH BALANCES ARE READ (specs/Accounts). The
--- laws that the clauses cite name no kind. Assumes nothing.
+-- account that it does not name; NO COMMAND CHANGES A MAKER MARK (ticket 7); IT RECORDS THE TRADES THAT IT MAKES; WHAT IS CHARGED and WHICH
+-- BALANCES ARE READ (specs/Accounts). The laws that the clauses cite name no kind. Assumes nothing.
 use mathlib.Core.Bool.{Bool, true, false, true≢false, false≢true}
-use mathlib.Core.List.{List, [], _∷_}
-use mathlib.Core.Path.{_≡_, refl, sym, ap}
+use mathlib.Core.List.{List, [], _∷_, _++_, append-nil}
+use mathlib.Core.Path.{_≡_, refl, sym, ap, _∙_}
 use Prim.Native.Nat.{ℕ, _+_, _<_, _≤_}
 use native.Mathlib.Nat.{le-refl}
+use native.Mathlib.Omega.{arith}
 use borrow.Author.Tests.{eqb-false, ne-eqb, not-true}
 use lib.Dec.{eqb}
 use lib.ListN.{length}
@@ -14,11 +15,12 @@ use Rattle.laws.specs.Choice.{both-true}
 use Rattle.rules.specs.Auction.{matchOf}
 use Rattle.rules.specs.Change.{asked}
 use Rattle.rules.specs.Command.{Field, unused, holds, accountField, isChange, isSettle}
+use Rattle.rules.specs.Condition3.{madeBy}
 use Rattle.rules.specs.Exchange.{Exchange, accountAt, listingAt, listingNamed, placeOf}
-use Rattle.rules.specs.Kinds.{kindOf, codeOf, lastOf, step}
+use Rattle.rules.specs.Kinds.{kindOf, codeOf, decide, lastOf, step}
 use Rattle.rules.specs.Quote.{offered, quoted, withBuy, withSell, withoutQuote}
 use Rattle.rules.specs.Settlement.{settled}
-use Rattle.rules.specs.Step.{deposited, withdrawn, enteredOf, exchangeAfter, exchangeMatched, hasNumber, inserted, isOf, paid, removed, cancelled, pulled, phaseChanged, settledAll}
+use Rattle.rules.specs.Step.{Effect, deposited, withdrawn, enteredOf, exchangeAfter, exchangeMatched, hasNumber, inserted, isOf, paid, removed, cancelled, pulled, phaseChanged, settledAll}
 use Rattle.rules.specs.Touches.{names}
 use Rattle.rules.specs.WellFormed.{wellFormedContents}
 use Rattle.rules.specs.declared.Command.{Command}
@@ -28,9 +30,11 @@ use Rattle.rules.proofs.Holdings.{booked-maker}
 use Rattle.rules.proofs.Stages.{Each, each-last, decided}
 use Rattle.rules.proofs.Touches.{account-at, contract-there, isAt, not-its}
 use Rattle.accounting.specs.Shape.{Shaped}
+use Rattle.invariants.specs.GivenNumbers.{NumbersForLife, numbersGiven, numbersTaken, upFrom}
 use Rattle.invariants.specs.Accounts.{WithinBalance, entersOpen, isFrom}
 use Rattle.invariants.proofs.ChangeKeeps.{change-keeps, change-counted}
 use Rattle.invariants.proofs.Clauses.{WellFormed, Counted, Sound, well-formed, well-formed-test}
+use Rattle.invariants.proofs.ForLife.{Lives, changed-lives, changed-next, match-lives, new-lives, of-lives, quoted-lives, same-lives, without-lives}
 use Rattle.invariants.proofs.Insert.{insert-keeps, insert-counted}
 use Rattle.invariants.proofs.Makers.{Stays, paid-stays, settled-stays, changed-stays, quoted-stays}
 use Rattle.invariants.proofs.MarginWithin.{Keeps, change-opened, change-within, deposit-within, insert-within, phase-within, quote-within, removal-keeps, withdrawal-keeps}
@@ -38,6 +42,7 @@ use Rattle.invariants.proofs.OthersOrders.{Fated, cancel-spares, change
 use Rattle.invariants.proofs.Payments.{deposit-keeps, withdraw-keeps, deposit-counted, withdraw-counted}
 use Rattle.invariants.proofs.Phases.{phase-keeps, phase-counted}
 use Rattle.invariants.proofs.QuoteKeeps.{quote-keeps, quote-counted}
+use Rattle.invariants.proofs.Recorded.{changed-records, quoted-records}
 use Rattle.invariants.proofs.Removal.{cancel-keeps, pull-keeps, cancel-counted, pull-counted, cancel-there, pull-there}
 use Rattle.invariants.proofs.SeenBalances.{SameSeen, change-refusals, change-same, quote-answer, quote-left, quote-refusals, same-cancel, same-deposit, same-insert, same-phase, same-pull, same-settle, same-withdraw, state-twice}
 use Rattle.invariants.proofs.Settle.{settle-keeps, settle-counted}
@@ -164,6 +169,56 @@ pub stamps-as-numbers : (x : Exchange) (command : Command) → isChange command 
 unfolding step
 stamps-as-numbers x command n h = decided (λ d. StampsAsNumbers (lastOf x (d .stages))) x command (λ e. kind-stamped x command n h) (λ e. h)
 
+-- ---- numbers and time stamps for life, and given once
+
+module _ (x : Exchange) (w : WellFormed x) where
+  -- each order that rests after a command rested before, or has a new number
+  kind-lives : (command : Command) → isSettle command ≡ false → codeOf x command ≡ 0 → Lives x (lastOf x (kindOf x command .effect .stages))
+  unfolding codeOf kindOf deposited withdrawn inserted cancelled pulled removed phaseChanged paid listingAt
+  kind-lives Malformed n e = same-lives x
+  kind-lives (Deposit account amount) n e = same-lives x
+  kind-lives (Withdraw account amount) n e = same-lives x
+  kind-lives (Insert o) n e = new-lives x x (same-lives x) (x .next) 0 o (le-refl (x .next)) (le-refl (x .nextstamp)) (x .next + 1)
+  kind-lives (Cancel account contract operator number) n e = without-lives x (placeOf contract) (hasNumber number)
+  kind-lives (Pull account contract operator) n e = without-lives x (placeOf contract) (isOf (placeOf account))
+  kind-lives (Phase contract phase) n e = match-lives x (placeOf contract) phase
+  kind-lives Settle n e = absurd (true≢false n)
+  kind-lives (Quote account contract lots buy sell) n e = quoted-lives x (offered account contract lots buy sell)
+  kind-lives (Change account contract number lots price) n e = changed-lives x w (asked account contract number lots price) e
+
+-- an accepted command's numbers are the next ones, and the next number rises by as many
+abbrev Takes : Exchange → Command → Effect → Type 0
+Takes x command e = (upFrom (e .number) (numbersTaken command) ≡ upFrom (x .next) (numbersTaken command)) × (lastOf x (e .stages) .next ≡ x .next + numbersTaken command)
+
+kind-takes : (x : Exchange) (command : Command) → isSettle command ≡ false → Takes x command (kindOf x command .effect)
+unfolding kindOf deposited withdrawn inserted cancelled pulled removed phaseChanged paid exchangeAfter exchangeMatched quoted withSell withBuy withoutQuote upFrom
+kind-takes x Malformed n = (refl, omega arith)
+kind-takes x (Deposit account amount) n = (refl, omega arith)
+kind-takes x (Withdraw account amount) n = (refl, omega arith)
+kind-takes x (Insert o) n = (refl, refl)
+kind-takes x (Cancel account contract operator number) n = (refl, omega arith)
+kind-takes x (Pull account contract operator) n = (refl, omega arith)
+kind-takes x (Phase contract phase) n = (refl, omega arith)
+kind-takes x Settle n = absurd (true≢false n)
+kind-takes x (Quote account contract lots buy sell) n = (refl, omega arith)
+kind-takes x (Change account contract number lots price) n = (refl, changed-next x (asked account contract number lots price) ∙ (let e : x .next ≡ x .next + 0 = omega arith in e))
+
+pub step-lives : (x : Exchange) → WellFormed x → (command : Command) → isSettle command ≡ false → NumbersForLife x (step x command)
+unfolding step
+step-lives x w command n =
+    of-lives x (step x command)
+    (decided (λ d. x .next ≤ lastOf x (d .stages) .next) x command (λ e. omega (arith, kind-takes x command n .1)) (λ e. le-refl (x .next)))
+    (stamps-rise x command n)
+    (decided (λ d. Lives x (lastOf x (d .stages))) x command (kind-lives x w command n) (λ e. same-lives x))
+
+-- what an answer gives begins with the next number, and the next number after it is beyond
+pub step-given : (x : Exchange) (command : Command) → isSettle command ≡ false → (k : ℕ) × (numbersGiven command (decide x command .answer) ≡ upFrom (x .next) k) × (step x command .next ≡ x .next + k)
+unfolding step
+step-given x command n =
+    decided (λ d. (k : ℕ) × (numbersGiven command (d .answer) ≡ upFrom (x .next) k) × (lastOf x (d .stages) .next ≡ x .next + k)) x command
+    (λ e. let t = kind-takes x command n in (numbersTaken command, t .0, t .1))
+    (λ e. (0, rw (ne-eqb (codeOf x command) 0 e) (unfold upFrom in refl), omega arith))
+
 -- ---- the orders of an account that a command does not name
 
 module _ (x : Exchange) (w : WellFormed x) (a : ℕ) where
@@ -212,6 +267,28 @@ module _ (x : Exchange) (a : ℕ) (there : a < length (x .accounts)) where
   pub makers-stay : (command : Command) → accountAt (step x command .accounts) a .maker ≡ accountAt (x .accounts) a .maker
   unfolding step
   makers-stay command = decided (λ d. Stays x a (lastOf x (d .stages))) x command (λ e. kind-stays command) (λ e. refl)
+
+-- ---- recorded trades
+
+module _ (x : Exchange) where
+  kind-records : (command : Command) → isSettle command ≡ false → lastOf x (kindOf x command .effect .stages) .trades ≡ x .trades ++ madeBy (kindOf x command .moves)
+  unfolding kindOf madeBy deposited withdrawn paid inserted exchangeAfter cancelled pulled removed phaseChanged exchangeMatched
+  kind-records Malformed n = sym (append-nil (x .trades))
+  kind-records (Deposit account amount) n = sym (append-nil (x .trades))
+  kind-records (Withdraw account amount) n = sym (append-nil (x .trades))
+  kind-records (Insert o) n = refl
+  kind-records (Cancel account contract operator number) n = sym (append-nil (x .trades))
+  kind-records (Pull account contract operator) n = sym (append-nil (x .trades))
+  kind-records (Phase contract phase) n = refl
+  kind-records Settle n = absurd (true≢false n)
+  kind-records (Quote account contract lots buy sell) n = quoted-records x (offered account contract lots buy sell)
+  kind-records (Change account contract number lots price) n = changed-records x (asked account contract number lots price)
+
+  -- WHAT AN ACCEPTED COMMAND RECORDS are the trades that its kind makes
+  pub trades-recorded : (command : Command) → codeOf x command ≡ 0 → isSettle command ≡ false → step x command .trades ≡ x .trades ++ madeBy (kindOf x command .moves)
+  unfolding step
+  trades-recorded command e n =
+      decided (λ d. lastOf x (d .stages) .trades ≡ x .trades ++ madeBy (kindOf x command .moves)) x command (λ q. kind-records command n) (λ r. absurd (r e))
 
 -- ---- charged margin
 

@@ -28,10 +28,13 @@ pub mod QuoteKeeps
 pub mod Singly
 pub mod QuoteAsOrders
 pub mod Makers
+pub mod AllResting
+pub mod ForLife
 pub mod Stamps
 pub mod OneOrder
 pub mod Fates
 pub mod OthersOrders
+pub mod Recorded
 pub mod MarginWithin
 pub mod SeenBalances
 pub mod EachKind
@@ -45,6 +48,7 @@ pub mod Opening
 pub mod Condition3
 pub mod SameInUse
 pub mod RestingOrders
+pub mod GivenNumbers
 pub mod RunTouches
 pub mod QueueFronts
 pub mod SweptFairly

@@ -11,7 +11,7 @@ use lib.IntN.{ℤ}
 use lib.ListN.{length, length-set}
 use lib.Seq.{getD-set-same}
 use Rattle.laws.specs.Choice.{pick, allOf, allOf-imp}
-use Rattle.rules.specs.Answers.{cancelRefusals, firstOf, listingOf, namedRefusals, notContinuous, ofAnother, ownerRefusals, removalRefused, restingOrder, takerOf}
+use Rattle.rules.specs.Answers.{cancelRefusals, firstOf, listingOf, namedRefusals, ownerRefusals, removalRefused, restingOrder, takerOf}
 use Rattle.rules.specs.Auction.{matchOf}
 use Rattle.rules.specs.Bounds.{onTick}
 use Rattle.rules.specs.Change.{Asked, arriving, changed, changeRefusals, gone, listingLessened, placeKept, placeLost, reentered, unchanged}
@@ -31,11 +31,11 @@ use Rattle.rules.proofs.AuctionSteps.{entered-either, match-either}
 use Rattle.rules.proofs.Changes.{changed-either}
 use Rattle.rules.proofs.InContract.{InContract, entered-in, matched-in, relisted-in}
 use Rattle.rules.proofs.Prices.{allowed-facts, method-rounds}
-use Rattle.rules.proofs.Refusals.{Failed, both-zero, failed, present}
+use Rattle.rules.proofs.Refusals.{Failed, both-zero, failed}
 use Rattle.rules.proofs.Sweep.{ofContract}
 use Rattle.rules.proofs.Terms.{contract-terms}
 use Rattle.rules.proofs.Touches.{none-its, of-without, relisted}
-use Rattle.invariants.proofs.ChangeKeeps.{gone-keeps}
+use Rattle.invariants.proofs.ChangeKeeps.{gone-keeps, owned, there}
 use Rattle.invariants.proofs.Clauses.{WellFormed, order-ok}
 use Rattle.invariants.proofs.Fates.{BothFates, Fate, fate-more, fate-none, fate-same, match-fate, noneOf, of-lessened, of-restLots, sweep-fate, swept-none, unmatched-fate}
 use Rattle.invariants.proofs.OneOrder.{once-in, owned-in}
@@ -222,26 +222,16 @@ module _ (a : ℕ) where
     abbrev at : ℕ
     at = placeOf (k .contract)
 
-    asked-there : at < length (x .listings)
-    unfolding changeRefusals
-    asked-there = present (k .contract) (x .listings) (both-zero (namedRefusals x notContinuous (k .account) (k .contract)) _ (omega arith) e .0 .1 .0)
-
-    asked-owned : ofAnother (placeOf (k .account)) (restingOrder (listingNamed x (k .contract)) (k .number)) ≡ false
-    unfolding changeRefusals
-    asked-owned =
-        both-zero (ownerRefusals (placeOf (k .account)) (restingOrder (listingNamed x (k .contract)) (k .number))) _ (omega arith)
-        (both-zero (namedRefusals x notContinuous (k .account) (k .contract)) _ (omega arith) e .1) .0 .1 .0
-
     spares : Spared (hasNumber (k .number)) (listingNamed x (k .contract))
-    spares = owned-in (k .number) a (placeOf (k .account)) other (listingNamed x (k .contract)) (once-in x w at (k .number)) asked-owned
+    spares = owned-in (k .number) a (placeOf (k .account)) other (listingNamed x (k .contract)) (once-in x w at (k .number)) (owned x w k e)
 
     gone-fated : Fated x (gone x k)
     unfolding gone
-    gone-fated = removed-fated x at (hasNumber (k .number)) asked-there spares
+    gone-fated = removed-fated x at (hasNumber (k .number)) (there x w k e) spares
 
     gone-there : at < length (gone x k .listings)
     unfolding gone
-    gone-there = rw (length-set (x .listings) at _) asked-there
+    gone-there = rw (length-set (x .listings) at _) (there x w k e)
 
     lost-fated : Fated (gone x k) (exchangeAfter (gone x k) (arriving x k) (reentered x k) (x .next))
     unfolding reentered arriving
@@ -251,7 +241,7 @@ module _ (a : ℕ) where
     unfolding placeKept
     kept-fated =
         fated-in at [] x _ (relisted-in at x (listingLessened k (listingNamed x (k .contract))))
-        (λ sell. rw (relisted x at (listingLessened k (listingNamed x (k .contract))) asked-there) (by-side sell))
+        (λ sell. rw (relisted x at (listingLessened k (listingNamed x (k .contract))) (there x w k e)) (by-side sell))
       where
         by-side : (sell : Bool) → Fate at sell a [] (own sell (listingNamed x (k .contract))) (own sell (listingLessened k (listingNamed x (k .contract))))
         by-side true = fate-none at true a _ _ (of-lessened a (k .number) (k .lots) (listingNamed x (k .contract) .sells) (spares true))
@@ -261,7 +251,7 @@ module _ (a : ℕ) where
     unfolding cancelled removed placeLost unchanged
     changed-fated =
         changed-either x k (λ ts f. Fated x (lastOf x (f .stages)))
-        (λ f. removed-fated x at (hasNumber (k .number)) asked-there spares)
+        (λ f. removed-fated x at (hasNumber (k .number)) (there x w k e) spares)
         (λ f. more-fated x (gone x k) _ gone-fated lost-fated)
         (λ f g. same-fated x)
         (λ f g h. kept-fated)

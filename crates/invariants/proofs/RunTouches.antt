@@ -22,11 +22,14 @@ use Rattle.rules.proofs.Holdings.{bookTrades-append}
 use Rattle.rules.proofs.Touches.{blank-is-refused, held-same, money-stays, other-contract-stays}
 use Rattle.accounting.proofs.Runs.{accepted-is, never-accepted, run-stays}
 use Rattle.invariants.proofs.Clauses.{Sound}
-use Rattle.invariants.proofs.EachKind.{step-fated}
+use Rattle.invariants.proofs.EachKind.{step-fated, step-lives}
+use Rattle.invariants.proofs.ForLife.{more-life, same-life}
+use Rattle.invariants.proofs.GivenNumbers.{given-once}
 use Rattle.invariants.proofs.MemoryKeeps.{memory-keeps, read-back, run-keeps, sound}
 use Rattle.invariants.proofs.OthersOrders.{Fated, more-fated, same-fated}
 use Rattle.invariants.proofs.RestingOrders.{orders-stay}
 use Rattle.invariants.proofs.RoomBeyond.{refusal-changes-nothing}
+use Rattle.invariants.specs.GivenNumbers.{NumbersForLife}
 use Rattle.invariants.specs.RunTouches.{BlankLeavesMemory, RefusedLeavesMemory, RunTouches, withinDay}
 
 -- ---- 1. refused
@@ -163,8 +166,15 @@ module _ (m : Memory) (cs : List Command) (day : withinDay cs ≡ true) where
             m cs (both-tests (λ k. not (isSettle k)) (λ k. not (isPayment k && names (accountField k) a)) cs day h);
         holdings =
             over-a-run HeldByTrades held-same held-more (λ k. not (isSettle k)) (λ x k s e. money-stays x k (not-true (isSettle k) e) .holdings) m cs day;
+        given = given-once m cs day;
+        life = over-a-run NumbersForLife same-life more-life (λ k. not (isSettle k)) (λ x k s e. step-lives x (s .contents) k (not-true (isSettle k) e)) m cs day;
       }
 
   -- of the memory that a call leaves, where it is that of the run
   pub touches-left : (m′ : Memory) → m′ ≡ run m cs → RunTouches m cs m′
   touches-left m′ e = subst⁻¹ (RunTouches m cs) e run-touches
+
+-- of one command, where the memory left is what the rules respond with
+pub call-touches : (m : Memory) (c : Command) → isSettle c ≡ false → (m′ : Memory) → m′ ≡ respond m c .memory → RunTouches m (c ∷ []) m′
+unfolding run allOf
+call-touches m c n m′ e = touches-left m (c ∷ []) (rw n refl) m′ e

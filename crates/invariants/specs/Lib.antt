@@ -3,6 +3,7 @@
 pub mod InUse
 pub mod ByPlace
 pub mod RestingOrders
+pub mod GivenNumbers
 pub mod RunTouches
 pub mod Throughout
 pub mod Accounts

@@ -11,6 +11,7 @@ use Rattle.rules.specs.Condition3.{balanceIn, isAccepted, run}
 use Rattle.rules.specs.Memory.{Memory, exchangeOf, respond, wellFormedMemory}
 use Rattle.rules.specs.Touches.{ContractStays, HeldByTrades, isBlank, names}
 use Rattle.rules.specs.declared.Command.{Command}
+use Rattle.invariants.specs.GivenNumbers.{GivenOnce, NumbersForLife}
 use Rattle.invariants.specs.RestingOrders.{OrdersStay}
 
 -- ---- 1. A COMMAND THAT IS REFUSED CHANGES NO WORD OF THE MEMORY; given again at once it gets the same answer; and a run leaves what it would
@@ -53,3 +54,7 @@ pub record RunTouches (m : Memory) (cs : List Command) (m′ : Memory) : Type 0 
   pub balances : (a : ℕ) → noPaymentOf a cs ≡ true → balanceIn m′ a ≡ balanceIn m a
   -- Holdings have changed by the trades that were made, and by nothing else.
   pub holdings : HeldByTrades (exchangeOf m) (exchangeOf m′)
+  -- 7. No order number and no time stamp is given twice,
+  pub given : GivenOnce m cs
+  -- and an order keeps its number for life.
+  pub life : NumbersForLife (exchangeOf m) (exchangeOf m′)

@@ -131,6 +131,9 @@ isInsert command = eqb (kindNumber command) 3
 abbrev pub isSettle : Command → Bool
 isSettle command = eqb (kindNumber command) 7
 
+abbrev pub isQuote : Command → Bool
+isQuote command = eqb (kindNumber command) 8
+
 abbrev pub isChange : Command → Bool
 isChange command = eqb (kindNumber command) 9
 
