@@ -17,7 +17,7 @@
 #![allow(dead_code)]
 
 use std::ffi::{c_char, CStr};
-use std::mem::size_of;
+use std::mem::{size_of, size_of_val};
 
 /// The version that this file belongs to. Programs go on with any library of the same major version.
 pub const VERSION: &str = "1.0.0";
@@ -801,4 +801,16 @@ pub fn engine() -> Identity {
     let text = |at: *const c_char| unsafe { CStr::from_ptr(at) }.to_str().unwrap_or("");
     let found = unsafe { linked::zelvorm_engine() };
     Identity { version: text(found.version), kit: text(found.kit), sources: text(found.sources) }
+}
+
+/// The bytes of commands, as they lie: a record is its 24 bytes, little-endian, with nothing between.
+pub fn command_bytes(commands: &[Record]) -> &[u8] {
+    const { assert!(cfg!(target_endian = "little")) };
+    unsafe { std::slice::from_raw_parts(commands.as_ptr().cast(), size_of_val(commands)) }
+}
+
+/// The words of answers, as they lie.
+pub fn answer_words(answers: &mut [Answer]) -> &mut [u32] {
+    let words = size_of_val(answers) / size_of::<u32>();
+    unsafe { std::slice::from_raw_parts_mut(answers.as_mut_ptr().cast(), words) }
 }

@@ -329,6 +329,19 @@ RUST_LINKED_IDENTITY = """\
         pub sources: *const c_char,
     }"""
 
+RUST_AS_THEY_LIE = """\
+/// The bytes of commands, as they lie: a record is its 24 bytes, little-endian, with nothing between.
+pub fn command_bytes(commands: &[Record]) -> &[u8] {
+    const { assert!(cfg!(target_endian = "little")) };
+    unsafe { std::slice::from_raw_parts(commands.as_ptr().cast(), size_of_val(commands)) }
+}
+
+/// The words of answers, as they lie.
+pub fn answer_words(answers: &mut [Answer]) -> &mut [u32] {
+    let words = size_of_val(answers) / size_of::<u32>();
+    unsafe { std::slice::from_raw_parts_mut(answers.as_mut_ptr().cast(), words) }
+}"""
+
 RUST_ENGINE = f"""\
 pub fn engine() -> Identity {{
     // The library's own texts: they end with a zero byte and are there as long as the program.
@@ -355,7 +368,7 @@ def rust_module(interface):
     yield from paragraphs(f"zelvorm.rs. {MADE}", "//! ")
     yield from ["//!", *paragraphs(ABOUT, "//! "), "//!"]
     yield from paragraphs("A slice is valid and what is written is lent to nobody else, so every call is safe.", "//! ")
-    yield from ["#![allow(dead_code)]", "", "use std::ffi::{c_char, CStr};", "use std::mem::size_of;"]
+    yield from ["#![allow(dead_code)]", "", "use std::ffi::{c_char, CStr};", "use std::mem::{size_of, size_of_val};"]
     yield from ["", *rust_comment(VERSION_WORDS), f'pub const VERSION: &str = "{interface.version}";']
     for words, constants in groups([*interface.constants, *interface.sizes]):
         yield from ["", *wrapped(words, "// ", "// ")]
@@ -378,6 +391,7 @@ def rust_module(interface):
     for call in interface.calls:
         yield from ["", *rust_call(call)]
     yield from ["", *rust_comment(ENGINE_WORDS), *RUST_ENGINE.splitlines()]
+    yield from ["", *RUST_AS_THEY_LIE.splitlines()]
 
 
 # =====================================================================================================================

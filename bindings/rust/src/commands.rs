@@ -192,7 +192,6 @@ pub enum Command {
 const NOTHING: Record = Record { kind: 0, account: 0, contract: 0, flags: 0, lots: 0, price: 0, number: 0, amount: 0 };
 
 impl From<Command> for Record {
-    #[inline]
     fn from(command: Command) -> Record {
         match command {
             Command::Deposit { account, amount } => Record { kind: raw::KIND_DEPOSIT, account, amount, ..NOTHING },
@@ -250,11 +249,11 @@ impl Record {
     /// Its 24 bytes, as they stand in a day file.
     #[inline]
     pub fn to_bytes(&self) -> [u8; raw::COMMAND_WIDTH] {
+        let head = u32::from_le_bytes([self.kind, self.account, self.contract, self.flags]);
+        let pair = |low: u32, high: u32| u64::from(low) | u64::from(high) << 32;
         let mut bytes = [0; raw::COMMAND_WIDTH];
-        bytes[..4].copy_from_slice(&[self.kind, self.account, self.contract, self.flags]);
-        bytes[4..8].copy_from_slice(&self.lots.to_le_bytes());
-        bytes[8..12].copy_from_slice(&self.price.to_le_bytes());
-        bytes[12..16].copy_from_slice(&self.number.to_le_bytes());
+        bytes[..8].copy_from_slice(&pair(head, self.lots).to_le_bytes());
+        bytes[8..16].copy_from_slice(&pair(self.price, self.number).to_le_bytes());
         bytes[16..].copy_from_slice(&self.amount.to_le_bytes());
         bytes
     }

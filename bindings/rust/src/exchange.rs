@@ -174,7 +174,7 @@ impl Exchange {
         let opened = raw::open(file);
         accepted(opened.code, || Day {
             exchange: Exchange::with(opened.state),
-            commands: records(&file[opened.first..][..raw::COMMAND_WIDTH * opened.commands]),
+            commands: records_in(&file[opened.first..][..raw::COMMAND_WIDTH * opened.commands]),
         })
     }
 
@@ -269,9 +269,9 @@ impl Exchange {
     /// # Ok::<(), zelvorm::Refusal>(())
     /// ```
     pub fn run<C: Into<Record> + Copy>(&mut self, commands: &[C]) -> Vec<Result<Answer, Refusal>> {
-        let mut answers = vec![0; raw::ANSWER_STRIDE * commands.len()];
-        self.run_bytes(&bytes_of(commands), &mut answers);
-        answers_of(&answers)
+        let mut answers = vec![NO_ANSWER; commands.len()];
+        self.run_bytes(raw::command_bytes(&records_of(commands)), raw::answer_words(&mut answers));
+        answers.into_iter().map(answer_of).collect()
     }
 
     /// The same without memory of its own: commands of 24 bytes each, four words for each answer (its code, and the fields of an
@@ -297,9 +297,9 @@ impl Exchange {
     /// # Ok::<(), zelvorm::Refusal>(())
     /// ```
     pub fn bundle<C: Into<Record> + Copy>(&mut self, commands: &[C]) -> Result<Vec<Result<Answer, Refusal>>, Refusal> {
-        let mut answers = vec![0; raw::ANSWER_STRIDE * commands.len()];
-        self.bundle_bytes(&bytes_of(commands), &mut answers)?;
-        Ok(answers_of(&answers))
+        let mut answers = vec![NO_ANSWER; commands.len()];
+        self.bundle_bytes(raw::command_bytes(&records_of(commands)), raw::answer_words(&mut answers))?;
+        Ok(answers.into_iter().map(answer_of).collect())
     }
 
     /// The same without memory of its own, as [`Exchange::run_bytes`] is of [`Exchange::run`].
@@ -419,24 +419,18 @@ impl Holding {
     }
 }
 
+#[inline]
 fn answer_of(answer: raw::Answer) -> Result<Answer, Refusal> {
     accepted(answer.code, || Answer { order: answer.number, traded: answer.traded, lots: answer.lots })
 }
 
-fn answers_of(words: &[u32]) -> Vec<Result<Answer, Refusal>> {
-    let answer = |words: &[u32]| raw::Answer { code: words[0], number: words[1], traded: words[2], lots: words[3] };
-    words.chunks_exact(raw::ANSWER_STRIDE).map(|words| answer_of(answer(words))).collect()
+const NO_ANSWER: raw::Answer = raw::Answer { code: 0, number: 0, traded: 0, lots: 0 };
+
+pub(crate) fn records_of<C: Into<Record> + Copy>(commands: &[C]) -> Vec<Record> {
+    commands.iter().map(|&command| command.into()).collect()
 }
 
-pub(crate) fn bytes_of<C: Into<Record> + Copy>(commands: &[C]) -> Vec<u8> {
-    let mut bytes = Vec::with_capacity(raw::COMMAND_WIDTH * commands.len());
-    for &command in commands {
-        bytes.extend_from_slice(&command.into().to_bytes());
-    }
-    bytes
-}
-
-fn records(bytes: &[u8]) -> Vec<Record> {
+fn records_in(bytes: &[u8]) -> Vec<Record> {
     let record = |bytes: &[u8]| Record::from_bytes(bytes.try_into().expect("as many as a command has"));
     bytes.chunks_exact(raw::COMMAND_WIDTH).map(record).collect()
 }

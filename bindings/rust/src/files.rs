@@ -2,7 +2,7 @@
 
 use crate::codes::{accepted, Refusal};
 use crate::commands::{Effect, Side};
-use crate::exchange::{bytes_of, Exchange};
+use crate::exchange::{records_of, Exchange};
 use crate::raw::{self, Record};
 
 /// How the price of a trade is found from the two orders.
@@ -107,7 +107,7 @@ impl Opening {
             file.extend((account.balance | mark).to_le_bytes());
         }
         file.extend(count(commands.len()));
-        file.extend(bytes_of(commands));
+        file.extend_from_slice(raw::command_bytes(&records_of(commands)));
         file
     }
 }
