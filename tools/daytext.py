@@ -496,6 +496,13 @@ def note_faults(name, faults):
         note(f"{name}: and {len(faults) - MOST_SHOWN:,} more")
 
 
+def note_encoding(name, content):
+    """Tells where a text has bytes that are no characters; they are read as replacement characters."""
+    fault = textfiles.encoding_fault(content) if filekinds.is_text(content) else None
+    if fault:
+        note(f"{name}: note: {fault}")
+
+
 def read_file(name, called=None):
     """A file's lesson, or None where it has none, of which all is noted."""
     content = textfiles.read(name)
@@ -506,9 +513,6 @@ def read_file(name, called=None):
     if len(content) >= filekinds.MOST_BYTES_OF_A_TEXT:
         note(f"{called or name}: {words}")
         return None
-    fault = textfiles.encoding_fault(content)
-    if fault:
-        note(f"{called or name}: note: {fault}")
     try:
         return read_lesson(textfiles.decoded(content))
     except BadText as bad:
@@ -520,6 +524,8 @@ def pack_file(arguments):
     lesson = read_file(arguments.file, arguments.called)
     if not lesson:
         return False
+    if arguments.file != "-":
+        note_encoding(arguments.called or arguments.file, textfiles.read(arguments.file))
     file = dayfile.write(lesson.day)
     if not arguments.quiet:
         # A file may be broken on purpose; its writer should know.
@@ -582,6 +588,8 @@ def check_file(name):
     lesson = read_file(name)
     if not lesson:
         return False
+    if name != "-":
+        note_encoding(name, textfiles.read(name))
     say(f"{name}: right: {', '.join(counts(lesson))}")
     for fault in dayfile.faults(dayfile.write(lesson.day)):
         say(f"{name}: broken for the day runner: {fault}")

@@ -69,8 +69,7 @@ def run(arguments):
 
 def explained(arguments):
     arguments.lesson, arguments.runner = arguments.file, None
-    explain.run(arguments, print)
-    return DONE
+    return DONE if explain.run(arguments, print) else BROKEN
 
 
 def paged(arguments):

@@ -41,6 +41,7 @@ class File:
         self.kind, self.words = filekinds.kind(self.content, daytext.LINES)
 
     def text(self):
+        daytext.note_encoding(self.name, self.content)
         return textfiles.decoded(self.content)
 
     def told(self):

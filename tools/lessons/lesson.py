@@ -80,6 +80,7 @@ def read(path):
     if what in NO_LESSONS:
         raise Unusable(f"{path}: {NO_LESSONS[what]} ({words})")
     if is_text(path, given):
+        daytext.note_encoding(path, given)
         text = textfiles.decoded(given)
         if what == "continued":
             return continued_lesson(path, text)
