@@ -68,6 +68,9 @@ def run(arguments):
 
 
 def explained(arguments):
+    file = files.File(arguments.file) if arguments.file != "-" else None
+    if file and file.kind == "calls":
+        return prompt.transcript(file.text(), write)
     arguments.lesson, arguments.runner = arguments.file, None
     return DONE if explain.run(arguments, print) else BROKEN
 

@@ -82,6 +82,20 @@ def keep_history(readline):
     atexit.register(write)
 
 
+def transcript(text, write):
+    """A whole lesson through practice: the status."""
+    practice = Practice(write)
+    from_pipe(practice, text.split("\n"))
+    practice.end()
+    return status_of(practice)
+
+
+def status_of(practice):
+    if practice.unmet:
+        return 4
+    return 2 if practice.not_understood else 0
+
+
 def run(path, write):
     """Practice to its end: the status."""
     practice = Practice(write)
@@ -94,6 +108,4 @@ def run(path, write):
     else:
         from_pipe(practice, sys.stdin)
     practice.end()
-    if practice.unmet:
-        return 4
-    return 2 if practice.not_understood and not is_keyboard else 0
+    return 0 if is_keyboard and not practice.unmet else status_of(practice)
