@@ -228,6 +228,7 @@ COMMANDS = {
 }
 
 LINES = ["contract", *ACCOUNTS, *COMMANDS, "repeat", "end"]
+ORDER_FORM = "insert 1 contract 1 {} open limit 100 lots 5 day, by account 1"
 ORDER_OF_LINES = "contracts come first, then accounts, then commands"
 
 
@@ -293,6 +294,8 @@ class Reader:
         # Of a line that is not understood anything may be expected.
         self.last_step = Step("raw", None, [])
         column = words.column()
+        if words.next() in dayfile.SIDES:
+            raise Wrong(column, f"'{words.next()}' begins no line: an order is {ORDER_FORM.format(words.next())}")
         first = words.one_of(LINES)
         self.last_step = Step(first, None, [])
         if first == "contract":

@@ -96,6 +96,9 @@ class Practice:
         if first in ("quit", "exit"):
             return False
         if first in typed.ONLY_HERE or (first == "account" and self.session):
+            if self.bundled is not None:
+                self.misunderstood(f"'{first}' within a bundle, which has commands alone; end sends it")
+                return True
             try:
                 return self.take_word(first, line)
             except Wrong as wrong:
@@ -247,7 +250,10 @@ class Practice:
             self.write("  as expected")
 
     def do_help(self, words):
-        self.write("  the lesson language's own lines (tools/daytext.py --help), and:")
+        self.write("  the lesson language's own lines:")
+        for row in typed.lesson_forms():
+            self.write(f"  {row}")
+        self.write("  behind => what you expect, as in: settle => contract 1 price 102; and")
         for word, (behind, what) in typed.FORMS.items():
             self.write(f"  {f'{word} {behind}'.strip():<48} {what}")
 
@@ -277,6 +283,7 @@ class Practice:
         words.end()
         self.session.need_library("a bundle")
         self.bundled = []
+        self.write("  commands, one on a line; end sends them in one call")
 
     def end_bundle(self, line):
         """The bundle's end: all its commands are sent in one call."""
@@ -307,7 +314,8 @@ class Practice:
     def existing(self, words, name, numbers):
         number = words.number(name, daytext.BITS_8)
         if number not in numbers:
-            raise Unusable(f"there is no {name} {number}: {listed([str(each) for each in numbers])}")
+            there = listed([str(each) for each in numbers]) if numbers else "none"
+            raise Unusable(f"there is no {name} {number}: there is {there}")
         return number
 
     def do_account(self, words):
