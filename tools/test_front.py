@@ -263,10 +263,10 @@ def wait_until_it_reads(process):
 
 
 class Completion(unittest.TestCase):
-    def completed(self, *typed):
+    def completed(self, *typed, program="./zelvorm", function="_zelvorm"):
         """What bash itself offers for these words, the last one unfinished."""
-        words = " ".join(f"'{word}'" for word in ("./zelvorm", *typed))
-        script = f"{completions.bash()}\nCOMP_WORDS=({words}); COMP_CWORD={len(typed)}; _zelvorm; printf '%s\\n' \"${{COMPREPLY[@]}}\""
+        words = " ".join(f"'{word}'" for word in (program, *typed))
+        script = f"{completions.bash()}\nCOMP_WORDS=({words}); COMP_CWORD={len(typed)}; {function}; printf '%s\\n' \"${{COMPREPLY[@]}}\""
         ended = subprocess.run(["bash", "-c", script], capture_output=True, text=True, cwd=TOP)
         self.assertEqual(ended.stderr, "")
         return ended.stdout.split()
@@ -278,6 +278,8 @@ class Completion(unittest.TestCase):
         self.assertEqual(self.completed("completion", ""), ["bash", "zsh"])
         self.assertEqual(self.completed("explain", "samples/paper"), ["samples/paper-example.txt", "samples/paper-example.day"])
         self.assertIn("samples/continued/first-day.state", self.completed("check", "samples/continued/first"))
+        run = self.completed("samples/paper", program="./run", function="_zelvorm_run")
+        self.assertEqual(run, ["samples/paper-example.txt", "samples/paper-example.day"])
 
     @unittest.skipUnless(shutil.which("zsh"), "no zsh here")
     def test_zsh(self):
