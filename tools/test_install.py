@@ -313,7 +313,7 @@ class Installed(InRoom):
         names = sorted(line.split()[2].split("@")[0] for line in lines if line.split()[1] != "A")
         self.assertEqual(names, CALLS)
 
-    @unittest.skipUnless(has("cc", "c++", "cmake", "make", "pkg-config"), "no cc, c++, cmake, make or pkg-config here")
+    @unittest.skipUnless(has("cc", "c++", "cmake", "make", "pkg-config", "cargo"), "not every compiler of the document is here")
     def test_the_document_s_programs(self):
         self.install()
         printed = None

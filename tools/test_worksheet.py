@@ -12,13 +12,13 @@ from pathlib import Path
 import browser
 import worksheet
 from lessons import lesson
-from test_page import HEAD, MODEL_AS_RUNNER, SAMPLES, pages_in
+from test_page import DAYS, HEAD, MODEL_AS_RUNNER, SAMPLES, pages_in
 
 import daytext
 import model
 
 TOOL = Path(worksheet.__file__)
-LESSONS = sorted(path.stem for path in SAMPLES.glob("[01][0-9]-*.txt"))
+LESSONS = [path.stem for path in DAYS if path.stem[:2].isdigit()]
 
 
 @cache
@@ -94,6 +94,13 @@ class Sheets(unittest.TestCase):
         blank = words_of(sheet_of_text(text, False))
         self.assertNotIn("C 1 0 0 0 0", blank)
         self.assertIn("price lots", blank)
+
+    def test_what_is_held_at_the_start(self):
+        """Of a lesson that begins from a saved state; others hold nothing."""
+        path = SAMPLES / "continued" / "second-day.txt"
+        sheet = worksheet.worksheet(lesson.read(str(path)), path.with_suffix(".out").read_text(), False)
+        self.assertIn("Held at the start: account 1 (5 short), account 2 (5 long).", words_of(sheet))
+        self.assertNotIn("Held at the start", words_of(sheet_of_sample("paper-example", False)))
 
     def test_marks_in_a_comment(self):
         sheet = sheet_of_text(HEAD + "# <b>1 & 2</b>\nsettle\n", False)
