@@ -228,6 +228,7 @@ COMMANDS = {
 }
 
 LINES = ["contract", *ACCOUNTS, *COMMANDS, "repeat", "end"]
+ORDER_FORM = "insert 1 contract 1 {} open limit 100 lots 5 day, by account 1"
 ORDER_OF_LINES = "contracts come first, then accounts, then commands"
 
 
@@ -293,6 +294,8 @@ class Reader:
         # Of a line that is not understood anything may be expected.
         self.last_step = Step("raw", None, [])
         column = words.column()
+        if words.next() in dayfile.SIDES:
+            raise Wrong(column, f"'{words.next()}' begins no line: an order is {ORDER_FORM.format(words.next())}")
         first = words.one_of(LINES)
         self.last_step = Step(first, None, [])
         if first == "contract":
@@ -496,6 +499,13 @@ def note_faults(name, faults):
         note(f"{name}: and {len(faults) - MOST_SHOWN:,} more")
 
 
+def note_encoding(name, content):
+    """Tells where a text has bytes that are no characters; they are read as replacement characters."""
+    fault = textfiles.encoding_fault(content) if filekinds.is_text(content) else None
+    if fault:
+        note(f"{name}: note: {fault}")
+
+
 def read_file(name, called=None):
     """A file's lesson, or None where it has none, of which all is noted."""
     content = textfiles.read(name)
@@ -506,9 +516,6 @@ def read_file(name, called=None):
     if len(content) >= filekinds.MOST_BYTES_OF_A_TEXT:
         note(f"{called or name}: {words}")
         return None
-    fault = textfiles.encoding_fault(content)
-    if fault:
-        note(f"{called or name}: note: {fault}")
     try:
         return read_lesson(textfiles.decoded(content))
     except BadText as bad:
@@ -520,6 +527,8 @@ def pack_file(arguments):
     lesson = read_file(arguments.file, arguments.called)
     if not lesson:
         return False
+    if arguments.file != "-":
+        note_encoding(arguments.called or arguments.file, textfiles.read(arguments.file))
     file = dayfile.write(lesson.day)
     if not arguments.quiet:
         # A file may be broken on purpose; its writer should know.
@@ -582,6 +591,8 @@ def check_file(name):
     lesson = read_file(name)
     if not lesson:
         return False
+    if name != "-":
+        note_encoding(name, textfiles.read(name))
     say(f"{name}: right: {', '.join(counts(lesson))}")
     for fault in dayfile.faults(dayfile.write(lesson.day)):
         say(f"{name}: broken for the day runner: {fault}")

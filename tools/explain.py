@@ -198,17 +198,19 @@ def check_choice(lesson, command, account):
 
 
 def run(arguments, write):
+    """Writes the explanation. Whether the file is sound."""
     lesson = read(arguments.lesson)
     printed = printed_for(lesson, arguments.runner)
     if lesson.day is None:
         check_broken(lesson, printed)
         write(f"{lesson.name}: the file is broken, so that no command of it is carried out.")
         write("\n".join(["X 20", *(INDENT + fault for fault in lesson.faults)]))
-        return
+        return False
     check_choice(lesson, arguments.command, arguments.account)
     explained, lines = explain(lesson, printed, write, arguments.command or 0, arguments.account or 0)
     commands = len(lesson.day.commands)
     write(f"Explained: {explained:,} of {commands:,} commands. The runner's {lines:,} lines are the model's too.")
+    return True
 
 
 def main():

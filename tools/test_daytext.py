@@ -584,6 +584,10 @@ class Hints(unittest.TestCase):
         self.assert_hint("deposit 1 １，０００", f"'１，０００' {number} 1,000")
         self.assert_hint("settle ＝＞ code 18", "'＝＞' is one word too many; the characters are full-width: write =>")
 
+    def test_an_order_without_insert(self):
+        form = "insert 1 contract 1 buy open limit 100 lots 5 day, by account 1"
+        self.assert_hint("buy 5 at 100", f"'buy' begins no line: an order is {form}")
+
     def test_points_between_thousands(self):
         for word in ("10.000", "10'000", "10_000"):
             self.assert_hint(

@@ -47,10 +47,10 @@ class Tables(unittest.TestCase):
         """docs/zelvorm.1 is what ./zelvorm manual prints."""
         self.assertEqual((TOP / "docs" / "zelvorm.1").read_text(), helptexts.man_page())
 
-    @unittest.skipUnless(shutil.which("man"), "no man here")
+    @unittest.skipUnless(shutil.which("groff"), "no groff here")
     def test_man_page_is_read(self):
         made = subprocess.run(
-            ["man", "--warnings", TOP / "docs" / "zelvorm.1"], capture_output=True, text=True, env={**os.environ, "MANWIDTH": "100"}
+            ["groff", "-man", "-ww", "-Tascii", "-P-cbou", "-rLL=150n", TOP / "docs" / "zelvorm.1"], capture_output=True, text=True
         )
         self.assertEqual((made.returncode, made.stderr), (0, ""))
         for command in commands.COMMANDS:
@@ -197,6 +197,11 @@ class Files(unittest.TestCase):
         self.assertEqual((status, errors), (0, ""))
         self.assertIn("102 is the middle of the buy price 104, the sell price 102 and the last price 100.", output)
         self.assertEqual(call("explain", PAPER, "--command", "30")[0], 2)
+        self.assertEqual(call("explain", SAMPLES / "broken" / "tick-0.day")[0], 20)
+        latin = self.file("latin.txt", PAPER.read_text().replace("# The example", "# Größe. The example").encode("latin-1"))
+        for name in ("run", "explain", "check"):
+            status, _, errors = call(name, latin)
+            self.assertEqual((status, errors.count("not UTF-8: a byte of line 1 is no character")), (0, 1), name)
         self.assertTrue(call("page", PAPER)[1].lower().startswith("<!doctype html>"))
         status, output, errors = call("explain", STATE)
         self.assertEqual((status, output), (2, ""))
@@ -258,10 +263,10 @@ def wait_until_it_reads(process):
 
 
 class Completion(unittest.TestCase):
-    def completed(self, *typed):
+    def completed(self, *typed, program="./zelvorm", function="_zelvorm"):
         """What bash itself offers for these words, the last one unfinished."""
-        words = " ".join(f"'{word}'" for word in ("./zelvorm", *typed))
-        script = f"{completions.bash()}\nCOMP_WORDS=({words}); COMP_CWORD={len(typed)}; _zelvorm; printf '%s\\n' \"${{COMPREPLY[@]}}\""
+        words = " ".join(f"'{word}'" for word in (program, *typed))
+        script = f"{completions.bash()}\nCOMP_WORDS=({words}); COMP_CWORD={len(typed)}; {function}; printf '%s\\n' \"${{COMPREPLY[@]}}\""
         ended = subprocess.run(["bash", "-c", script], capture_output=True, text=True, cwd=TOP)
         self.assertEqual(ended.stderr, "")
         return ended.stdout.split()
@@ -273,6 +278,8 @@ class Completion(unittest.TestCase):
         self.assertEqual(self.completed("completion", ""), ["bash", "zsh"])
         self.assertEqual(self.completed("explain", "samples/paper"), ["samples/paper-example.txt", "samples/paper-example.day"])
         self.assertIn("samples/continued/first-day.state", self.completed("check", "samples/continued/first"))
+        run = self.completed("samples/paper", program="./run", function="_zelvorm_run")
+        self.assertEqual(run, ["samples/paper-example.txt", "samples/paper-example.day"])
 
     @unittest.skipUnless(shutil.which("zsh"), "no zsh here")
     def test_zsh(self):

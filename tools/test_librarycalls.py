@@ -95,6 +95,10 @@ class Ladder(unittest.TestCase):
         ended = subprocess.run([TOP / "run", LESSONS[0]], capture_output=True, text=True)
         self.assertEqual((ended.returncode, ended.stderr), (0, ""))
         self.assertIn("6 of 9 would trade now; 3 resting orders are read to know it.", ended.stdout)
+        status, output, errors = call("explain", LESSONS[0])
+        self.assertEqual((status, errors), (0, ""))
+        self.assertIn("6 of 9 would trade now; 3 resting orders are read to know it.", output)
+        self.assertIn("which ./zelvorm run and explain take", call("page", LESSONS[0])[2])
         wrong = LESSONS[0].read_text().replace("lots 6 read 3", "lots 6 read 2")
         with tempfile.TemporaryDirectory() as folder:
             path = Path(folder, "wrong.txt")

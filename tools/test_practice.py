@@ -123,7 +123,7 @@ class Pipe(unittest.TestCase):
             "did you mean book?",
             "did you mean insert?",
             "'5' is one word too many",
-            "there is no account 7: 1 or 2",
+            "there is no account 7: there is 1 or 2",
             "did you mean tomorrow?",
             "should be in small letters: deposit",
             "write 10,000",
@@ -131,6 +131,15 @@ class Pipe(unittest.TestCase):
         ):
             self.assertTrue(any(words in answer for answer in told), words)
         self.assertIn("the end: 1 command", transcript)
+
+    def test_help_and_bundles(self):
+        status, transcript, _ = practised("help\n" + HEAD + "bundle\nundo\ndeposit 1 5\nend\n")
+        self.assertEqual(status, 2)
+        told = answered(transcript)
+        for words in ("insert 1 contract 1 sell open limit 102 lots 5 day", *typed.FORMS):
+            self.assertIn(words, told[0][1])
+        self.assertIn("'undo' within a bundle, which has commands alone; end sends it", transcript)
+        self.assertIn("1 command in one call, answered as singly", transcript)
 
     def test_usual_opening(self):
         status, transcript, _ = practised("deposit 1 500\naccount 1\nquit\nsettle\n")

@@ -21,8 +21,12 @@ _zelvorm() {{
         [ -z "$pattern" ] || compgen -d -S / -- "$word"
     )
 }}
+_zelvorm_run() {{
+    local COMP_WORDS=(zelvorm run "${{COMP_WORDS[@]:1}}") COMP_CWORD=$((COMP_CWORD + 1))
+    _zelvorm
+}}
 complete -o filenames -o nospace -F _zelvorm zelvorm ./zelvorm
-complete -f -X '!*.@(txt|day)' -o plusdirs run ./run
+complete -o filenames -o nospace -F _zelvorm_run run ./run
 """
 
 ZSH = """#compdef zelvorm

@@ -68,9 +68,11 @@ def run(arguments):
 
 
 def explained(arguments):
+    file = files.File(arguments.file) if arguments.file != "-" else None
+    if file and file.kind == "calls":
+        return prompt.transcript(file.text(), write)
     arguments.lesson, arguments.runner = arguments.file, None
-    explain.run(arguments, print)
-    return DONE
+    return DONE if explain.run(arguments, print) else BROKEN
 
 
 def paged(arguments):

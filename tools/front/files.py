@@ -18,7 +18,7 @@ NAMES = {
     "broken": ("a day file, and broken", "mend keeps what is whole"),
     "lesson": ("a lesson", "run, explain, page, check, worksheet, practice"),
     "continued": ("a lesson that begins from a saved state", "run, explain, page, check, practice"),
-    "calls": ("a lesson of library calls", "run, check, practice"),
+    "calls": ("a lesson of library calls", "run, explain, check, practice"),
     "clients": ("a broker's clients and postings", "statement"),
     "state": ("a saved state", "state, unpack, practice; write commands behind its text for a second day"),
     "state-text": ("the text of a saved state", "pack; write commands behind it for a second day"),
@@ -41,6 +41,7 @@ class File:
         self.kind, self.words = filekinds.kind(self.content, daytext.LINES)
 
     def text(self):
+        daytext.note_encoding(self.name, self.content)
         return textfiles.decoded(self.content)
 
     def told(self):

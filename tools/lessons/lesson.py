@@ -27,7 +27,7 @@ NO_LESSONS = {
     "state": "a saved state, without commands: ./zelvorm state shows it",
     "state-text": "the text of a saved state, without commands: write some behind it",
     "statement": "a client statement: ./zelvorm unpack shows it",
-    "calls": "a lesson of library calls: ./zelvorm practice < FILE plays and explains it",
+    "calls": "a lesson of library calls, which ./zelvorm run and explain take",
     "clients": "a broker's clients: ./zelvorm statement takes them with a lesson",
 }
 # How much of what is wrong in a text is told; `daytext.py check` tells all.
@@ -76,10 +76,11 @@ def read(path):
         given = textfiles.read(path)
     except OSError as error:
         raise Unusable(f"{path}: {error.strerror}") from None
-    what, words = filekinds.kind(given, daytext.LINES)
+    what, _ = filekinds.kind(given, daytext.LINES)
     if what in NO_LESSONS:
-        raise Unusable(f"{path}: {NO_LESSONS[what]} ({words})")
+        raise Unusable(f"{path}: {NO_LESSONS[what]}")
     if is_text(path, given):
+        daytext.note_encoding(path, given)
         text = textfiles.decoded(given)
         if what == "continued":
             return continued_lesson(path, text)

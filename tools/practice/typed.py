@@ -28,6 +28,13 @@ FORMS = {
 ONLY_HERE = [word for word in FORMS if word != "account"]
 
 
+def lesson_forms():
+    """The forms of a lesson's lines, as daytext.py's help has them."""
+    help_text = daytext.__doc__
+    block = help_text[help_text.index("    contract multiplier") :].partition("\n\n")[0]
+    return [row[4:] for row in block.splitlines()]
+
+
 def first_word(line):
     return (line.partition("#")[0].split() or [""])[0]
 
