@@ -99,6 +99,7 @@ codes =
     ∷ (code usedUp 1 1 1 6 110 gives 0)
     ∷ (code usedUp 1 1 1 7 110 gives 0)
     ∷ (code usedUp 1 1 1 0 110 gives 0)
+    ∷ (code usedUp 1 1 1 0 112 gives 0)
     -- two trades at 100 have room, or not, stamps before that; with all room used up an order that makes none is changed
     ∷ (code (state continuous 2 1_022 100) 1 1 1 7 100 gives 0)
     ∷ (code (state continuous 2 1_023 100) 1 1 1 7 100 gives 12)

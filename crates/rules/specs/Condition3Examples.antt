@@ -94,6 +94,9 @@ table =
     ∷ (costs 0 0 day gives 206)
     ∷ (bought 0 0 day gives 2)
     ∷ (sold 0 0 day gives 3)
+    -- in the first contract, and in no other
+    ∷ (bought 0 1 day gives 0)
+    ∷ (sold 0 1 day gives 0)
     ∷ (down (netHolding 0 0 day) gives 1)
     ∷ (up (netHolding 1 0 day) gives 1)
     -- the day's B lines: 9,980 and 10,020

@@ -13,7 +13,7 @@ use Rattle.rules.specs.Examples.{Row, _gives_, allRight}
 use Rattle.rules.specs.Exchange.{Exchange, absent, accountAt, bestPrice, holdingAt, listingAt, lotsWhere, noHolding, resting}
 use Rattle.rules.specs.Holdings.{afterLeg, bookLeg}
 use Rattle.rules.specs.Kinds.{codeOf, kindOf}
-use Rattle.rules.specs.Margin.{charged, chargedLots, chargedTo, chargedWith, chargeOf}
+use Rattle.rules.specs.Margin.{charged, chargedLots, chargedLotsWith, chargedTo, chargedWith, chargeOf, includedTo}
 use Rattle.rules.specs.Matching.{fillable, meets, methodOf, middle, pairedPrice, stays, sweep, tradePrice, tradeWith}
 use Rattle.rules.specs.declared.Account.{Account}
 use Rattle.rules.specs.declared.Command.{Command}
@@ -97,6 +97,12 @@ table =
     ∷ (chargedWith x 0 0 false 18 gives 6_750)
     ∷ (chargedWith x 0 0 false 19 gives 6_850)
     ∷ (chargedWith x 0 0 true 1 gives 6_850)
+    -- the same sums written out, over both contracts; lots of the second contract count there
+    ∷ (includedTo x 0 0 false 18 2 gives 6_750)
+    ∷ (includedTo x 0 0 false 19 2 gives 6_850)
+    ∷ (includedTo x 0 0 true 1 2 gives 6_850)
+    ∷ (includedTo x 0 1 false 3 2 gives 6_800)
+    ∷ (includedTo x 0 1 true 1 2 gives 6_800)
     -- account 1 has 7,000: with 65 lots in the first contract 6,950 are charged, with 66 lots 7,050
     ∷ (codeOf x (buyOpen 1 1 20) gives 0)
     ∷ (codeOf x (buyOpen 1 1 21) gives 9)
@@ -129,5 +135,5 @@ table =
     ∷ []
 
 pub margin-examples : allRight table ≡ true
-unfolding allRight table contract order held account x insert buyOpen sellOpen absent accountAt afterLeg allowedToday amountRefused bestPrice bookLeg chargeOf chargedLots chargedTo codeOf dayHigh dayLow fillable fillableLots firstOf holdingAt holdingRefused insertRefusals kindOf leavesTooLittle listingAt listingOf lotsWhere meets methodOf middle moneyRefused onTick lotsRefused tradesAgainst pairedPrice priceRefusedBy resting stays sumOf sweep takerOf tradePrice tradeWith tradesNeeded tradesRefused withdrawRefusals conditionsRefused takesOrders orderRefusals
+unfolding allRight table contract order held account x insert buyOpen sellOpen absent accountAt afterLeg allowedToday amountRefused bestPrice bookLeg chargeOf chargedLots chargedLotsWith chargedTo includedTo codeOf dayHigh dayLow fillable fillableLots firstOf holdingAt holdingRefused insertRefusals kindOf leavesTooLittle listingAt listingOf lotsWhere meets methodOf middle moneyRefused onTick lotsRefused tradesAgainst pairedPrice priceRefusedBy resting stays sumOf sweep takerOf tradePrice tradeWith tradesNeeded tradesRefused withdrawRefusals conditionsRefused takesOrders orderRefusals
 margin-examples = refl

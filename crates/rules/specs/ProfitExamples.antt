@@ -4,10 +4,12 @@ use mathlib.Core.Bool.{true, false}
 use mathlib.Core.List.{List, [], _∷_}
 use mathlib.Core.Path.{_≡_, refl}
 use Prim.Native.Nat.{ℕ}
+use lib.ListN.{length}
 use Rattle.laws.specs.Sums.{sumOf}
 use Rattle.rules.specs.Article32.{Figures, closedHistory, closedToday, figures, heldHistory, heldToday, thoseThat, Σover}
 use Rattle.rules.specs.Examples.{Row, _gives_, allRight, up, down}
-use Rattle.rules.specs.Settlement.{Day, Leg, leg, afterDayLeg, afterLegs, dayStart, firstLots, gain, holdingGain, otherLots}
+use Rattle.rules.specs.Settlement.{Day, Leg, leg, afterDayLeg, afterLegs, dayStart, firstLots, gain, holdingGain, legs, only, otherLots}
+use Rattle.rules.specs.declared.Trade.{Trade}
 
 -- 2 long and 1 short at the start, reference 100; 3 bought at 104 to open; 4 long sold at 105 to close: the two old ones
 -- gain 5 each, two of today's 1 each; the short one bought back at 103 loses 3; 2 sold at 106 to open
@@ -25,9 +27,23 @@ at price = figures 100 price 2 1 dayLegs
 profit : Day
 profit = afterLegs (dayStart 100 2 1) (leg false false 104 3 ∷ leg true true 105 4 ∷ [])
 
+-- account 1 sells to account 2 in the first contract, and to itself in the second
+trades : List Trade
+trades = trade 0 1 0 ∷ trade 1 0 0 ∷ []
+  where
+    trade : ℕ → ℕ → ℕ → Trade
+    trade contract buyer seller =
+        record { contract = contract; price = 100; lots = 1; buyorder = 2; sellorder = 1; buyer = buyer; seller = seller; buyclose = 0; sellclose = 0 }
+
 pub table : List Row
 table =
-    (up (profit .closing) gives 12)
+    -- an account's legs are those of its own trades in the contract
+    (length (legs 0 0 trades) gives 1)
+    ∷ (length (legs 1 0 trades) gives 1)
+    ∷ (length (legs 2 0 trades) gives 0)
+    ∷ (length (legs 0 1 trades) gives 2)
+    ∷ (length (legs 1 1 trades) gives 0)
+    ∷ (up (profit .closing) gives 12)
     ∷ (up (day .closing) gives 9)
     -- at 107 one long lot of today's gains 3, two short ones lose 1 each
     ∷ (up (holdingGain 107 day) gives 1)
@@ -52,5 +68,5 @@ table =
     ∷ []
 
 pub profit-examples : allRight table ≡ true
-unfolding allRight table dayLegs day at profit up down afterDayLeg afterLegs dayStart firstLots gain holdingGain otherLots closedHistory closedToday figures heldHistory heldToday thoseThat Σover sumOf
+unfolding allRight table dayLegs day at profit trades legs only up down afterDayLeg afterLegs dayStart firstLots gain holdingGain otherLots closedHistory closedToday figures heldHistory heldToday thoseThat Σover sumOf
 profit-examples = refl

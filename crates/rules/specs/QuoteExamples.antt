@@ -348,6 +348,10 @@ quote-places = refl
 file : ℕ → ℕ → List ℕ
 file low high = 0 ∷ 0 ∷ 0 ∷ 0 ∷ 1 ∷ 0 ∷ 0 ∷ 0 ∷ low ∷ 0 ∷ 100 ∷ 167 ∷ 179 ∷ 182 ∷ 224 ∷ high ∷ []
 
+-- the same, its balance 0 but for the last byte
+bare : ℕ → List ℕ
+bare high = 0 ∷ 0 ∷ 0 ∷ 0 ∷ 1 ∷ 0 ∷ 0 ∷ 0 ∷ 0 ∷ 0 ∷ 0 ∷ 0 ∷ 0 ∷ 0 ∷ 0 ∷ high ∷ []
+
 pub makers : List Row
 makers =
     (balanceFrom (file 0 13) 0 gives 10 ^ 18)
@@ -359,8 +363,11 @@ makers =
     ∷ (mark (accountSound (file 1 141) 0) gives 0)
     ∷ (mark (accountSound (file 0 127) 0) gives 0)
     ∷ (makerFrom (file 0 127) 0 gives 0)
+    -- a maker that opens with nothing
+    ∷ (makerFrom (bare 128) 0 gives 1)
+    ∷ (balanceFrom (bare 128) 0 gives 0)
     ∷ []
 
 pub maker-bits : allRight makers ≡ true
-unfolding allRight makers file accountPlace accountSound balanceFrom contractPlace contractsIn makerFrom u16At u32At u64At u8At
+unfolding allRight makers file bare accountPlace accountSound balanceFrom contractPlace contractsIn makerFrom u16At u32At u64At u8At
 maker-bits = refl

@@ -32,6 +32,9 @@ table =
     -- an absent contract
     ∷ (length (asked 0 455 true 0 1) gives 0)
     ∷ (length (asked 0 910 true 3 1) gives 0)
+    -- a state has places for four contracts, whatever its count says
+    ∷ (length (sideWords [] (replicate 2_300 0) true 4 5 1) gives 7)
+    ∷ (length (sideWords [] (replicate 2_300 0) true 5 5 1) gives 0)
     ∷ []
 
 pub side-examples : allRight table ≡ true

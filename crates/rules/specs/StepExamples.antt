@@ -6,18 +6,22 @@ use mathlib.Core.Path.{_≡_, refl}
 use Prim.Native.Nat.{ℕ}
 use lib.IntN.{pos}
 use lib.ListN.{length, getD}
+use Rattle.laws.specs.Choice.{allOf}
 use Rattle.laws.specs.Sums.{sumOf, sumTo}
 use Rattle.laws.specs.Tabulate.{tabulate}
+use Rattle.rules.specs.Answers.{firstOf, settleRefusals}
 use Rattle.rules.specs.Auction.{matchOf}
 use Rattle.rules.specs.Bounds.{closed, continuous}
 use Rattle.rules.specs.Examples.{Row, _gives_, allRight, up}
 use Rattle.rules.specs.Exchange.{Exchange, accountAt, contractAt, holderAt, holdingAt, listingAt, lotsWhere, noOrder}
 use Rattle.rules.specs.Holdings.{afterLeg, bookLeg, bookTrade}
-use Rattle.rules.specs.Kinds.{lastOf}
+use Rattle.rules.specs.Kinds.{codeOf, kindOf, lastOf}
+use Rattle.rules.specs.Lines.{settlementLines}
 use Rattle.rules.specs.Matching.{tradedLots}
 use Rattle.rules.specs.Settlement.{afterDayLeg, afterLegs, closingProfit, dayOf, dayStart, firstLots, gain, holdingGain, holdingProfit, legs, only, otherLots, priceFrom, settled, settledAccount, settledContract, settledListing, settlementPrice, tradedValue, tradesIn, weightedPrice}
 use Rattle.rules.specs.Step.{Effect, deposited, exchangeMatched, paid, phaseChanged, pulled, removed, without}
 use Rattle.rules.specs.declared.Account.{Account}
+use Rattle.rules.specs.declared.Command.the-variants.{Settle}
 use Rattle.rules.specs.declared.Holding.{Holding}
 use Rattle.rules.specs.declared.Order.{Order}
 use Rattle.rules.specs.declared.Trade.{Trade}
@@ -34,11 +38,11 @@ account long short = record { balance = pos 1_000; maker = 0; holdings = record 
 trade : Trade
 trade = record { contract = 0; price = 102; lots = 3; buyorder = 2; sellorder = 1; buyer = 1; seller = 0; buyclose = 0; sellclose = 0 }
 
-state : Exchange
-state =
+stateIn : ℕ → Exchange
+stateIn phase =
     record {
       listings = record {
-        contract = record { multiplier = 10; tick = 1; reference = 100; band = 10; limit = 1_000; rate = 1_000; method = 0; phase = closed; last = 103 };
+        contract = record { multiplier = 10; tick = 1; reference = 100; band = 10; limit = 1_000; rate = 1_000; method = 0; phase = phase; last = 103 };
         buys = order 3 99 0 2 ∷ order 4 98 1 4 ∷ [];
         sells = order 5 104 0 1 ∷ [];
       } ∷ [];
@@ -48,6 +52,9 @@ state =
       nextstamp = 7;
       settlements = 4;
     }
+
+state : Exchange
+state = stateIn closed
 
 after : Effect → Exchange
 after e = lastOf state (e .stages)
@@ -95,10 +102,12 @@ table =
     -- a change of state takes no order number and no time stamp
     ∷ (after (phaseChanged state 0 continuous) .next gives 6)
     ∷ (after (phaseChanged state 0 continuous) .nextstamp gives 7)
+    -- a settlement that is refused prints no lines of its own
+    ∷ (length (settlementLines (stateIn continuous) Settle) gives 0)
     -- the buyer's leg is booked first, so that the close finds the lots just bought, and nothing is left
     ∷ (holdingAt itself 0 0 .long gives 0)
     ∷ []
 
 pub step-examples : allRight table ≡ true
-unfolding allRight table order account trade state after balance holding itself up accountAt afterDayLeg afterLeg afterLegs bookLeg bookTrade closingProfit dayOf dayStart deposited exchangeMatched firstLots gain holdingAt holdingGain holdingProfit legs listingAt lotsWhere matchOf only otherLots paid phaseChanged priceFrom pulled removed settled settledAccount settledContract settledListing settlementPrice sumOf sumTo tabulate tradedLots tradedValue tradesIn weightedPrice without
+unfolding allRight table order account trade stateIn state after balance holding itself up accountAt afterDayLeg afterLeg afterLegs bookLeg bookTrade closingProfit dayOf dayStart deposited exchangeMatched firstLots gain holdingAt holdingGain holdingProfit allOf codeOf firstOf kindOf legs listingAt lotsWhere matchOf settleRefusals settlementLines only otherLots paid phaseChanged priceFrom pulled removed settled settledAccount settledContract settledListing settlementPrice sumOf sumTo tabulate tradedLots tradedValue tradesIn weightedPrice without
 step-examples = refl

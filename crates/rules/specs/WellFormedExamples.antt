@@ -17,6 +17,7 @@ use Rattle.rules.specs.Memory.{Memory, memory, countsInRange, hasRoom}
 use Rattle.rules.specs.WellFormed.{ahead, aheadOfFirst, allListed, balanceInRange, contractInRange, countersInRange, heldInRange, holdingInRange, holdingsInRange, listed, listingQuoted, markAllowed, markInRange, orderInRange, ordersInRange, queueQuoted, queuesSorted, quotes, rangesKept, replays, restingInRange, sorted, tradeInRange, uncrossed, usedOnce, wellFormedContents}
 use Rattle.rules.specs.declared.Account.{Account}
 use Rattle.rules.specs.declared.Contract.{Contract}
+use Rattle.rules.specs.declared.Holding.{Holding}
 use Rattle.rules.specs.declared.Order.{Order}
 use Rattle.rules.specs.declared.State.{State}
 use Rattle.rules.specs.declared.Trade.{Trade}
@@ -79,6 +80,12 @@ kept contract buyer seller buyorder sellorder =
     mark (tradeInRange (asked continuous 110 [] [] [] 0 8 (pos 0))
     record { contract = contract; price = 110; lots = 3; buyorder = buyorder; sellorder = sellorder; buyer = buyer; seller = seller; buyclose = 0; sellclose = 0 })
 
+-- the same by contract, price and what each leg does: 0 opens, 1 closes
+does : ℕ → ℕ → ℕ → ℕ → ℕ
+does contract price buyclose sellclose =
+    mark (tradeInRange (asked continuous 110 [] [] [] 0 8 (pos 0))
+    record { contract = contract; price = price; lots = 3; buyorder = 2; sellorder = 1; buyer = 1; seller = 0; buyclose = buyclose; sellclose = sellclose })
+
 pub table : List Row
 table =
     (test 130 buys sells trades 3 8 (negℤ (pos (10 ^ 18 + 3 * 10 ^ 15))) gives 1)
@@ -119,9 +126,15 @@ table =
     ∷ (kept 0 1 0 2 8 gives 0)
     ∷ (kept 0 1 0 8 1 gives 0)
     ∷ (kept 0 1 0 2 0 gives 0)
+    ∷ (kept 0 1 0 0 1 gives 0)
     ∷ (kept 1 1 0 2 1 gives 0)
     ∷ (kept 0 2 0 2 1 gives 0)
     ∷ (kept 0 1 2 2 1 gives 0)
+    ∷ (does 1 0 0 0 gives 0)
+    -- a leg that opens or closes, and one that does neither
+    ∷ (does 0 110 1 1 gives 1)
+    ∷ (does 0 110 2 0 gives 0)
+    ∷ (does 0 110 0 2 gives 0)
     -- holdings now that are not the trades replayed
     ∷ (test 110 buys sells trades 2 8 (pos 0) gives 0)
     -- holding and resting opens together past the limit of 10; resting closes past the holding
@@ -136,22 +149,22 @@ table =
     ∷ []
 
 pub well-formed-examples : allRight table ≡ true
-unfolding allRight table contract order stamped trade account asked buys sells trades test testIn of kept all allOf sumOf accountAt afterLeg ahead aheadOfFirst allListed allowedToday balanceInRange bookLeg bookTrade bookTrades contractInRange countersInRange dayHigh dayLow holdingAt heldInRange holdingInRange holdingsInRange legCovered listingAt rangesKept queuesSorted ordersInRange restingInRange lotsWhere neverBelowZero listed onTick orderInRange replays resting sameHoldings sameLots sorted startOfDay termsInRange tickMultiple tradeInRange uncrossed usedOnce wellFormedContents quotes markAllowed queueQuoted listingQuoted markInRange
+unfolding allRight table contract order stamped trade account asked buys sells trades test testIn of kept does all allOf sumOf accountAt afterLeg ahead aheadOfFirst allListed allowedToday balanceInRange bookLeg bookTrade bookTrades contractInRange countersInRange dayHigh dayLow holdingAt heldInRange holdingInRange holdingsInRange legCovered listingAt rangesKept queuesSorted ordersInRange restingInRange lotsWhere neverBelowZero listed onTick orderInRange replays resting sameHoldings sameLots sorted startOfDay termsInRange tickMultiple tradeInRange uncrossed usedOnce wellFormedContents quotes markAllowed queueQuoted listingQuoted markInRange
 well-formed-examples = refl
 
 -- ---- counts and room, on a state as it lies, and the replay of closes
 
--- one contract with so many sells, two accounts
-counted : ℕ → State
-counted orders =
+-- so many contracts, accounts, trades, and buys and sells of the first contract
+counts : ℕ → ℕ → ℕ → ℕ → ℕ → State
+counts contracts accounts trades buyorders sellorders =
     record {
       contracts = contract continuous 110 ∷ [];
       accounts = account (pos 0) 0 0 0 0 ∷ account (pos 0) 0 0 0 0 ∷ [];
-      buycounts = 0 ∷ [];
-      sellcounts = orders ∷ [];
-      contractcount = 1;
-      accountcount = 2;
-      tradecount = 0;
+      buycounts = buyorders ∷ [];
+      sellcounts = sellorders ∷ [];
+      contractcount = contracts;
+      accountcount = accounts;
+      tradecount = trades;
       next = 1;
       nextstamp = 1;
       settlements = 0;
@@ -159,7 +172,11 @@ counted orders =
 
 -- areas of so many words
 lying : ℕ → ℕ → Memory
-lying queue day = memory (counted 0) (replicate queue 0) (replicate queue 0) (replicate day 0)
+lying queue day = memory (counts 1 2 0 0 0) (replicate queue 0) (replicate queue 0) (replicate day 0)
+
+-- the buys' area, and the sells', of so many words
+sides : ℕ → ℕ → Memory
+sides buywords sellwords = memory (counts 1 2 0 0 0) (replicate buywords 0) (replicate sellwords 0) (replicate 9_216 0)
 
 -- account 1 starts with 2 long and 3 short and sells so many to close, account 2 buys them to open
 replayed : ℕ → Exchange
@@ -173,13 +190,45 @@ replayed lots =
       settlements = 0;
     }
 
+-- account 1 starts with 3 long and 2 short and buys so many to close, then so many more; account 2 sells them to open
+closing : ℕ → ℕ → Exchange
+closing lots more =
+    record {
+      listings = record { contract = contract continuous 110; buys = []; sells = [] } ∷ [];
+      accounts = account (pos 0) 3 0 3 2 ∷ account (pos 0) 0 (lots + more) 0 0 ∷ [];
+      trades = back lots ∷ back more ∷ [];
+      next = 3;
+      nextstamp = 3;
+      settlements = 0;
+    }
+  where
+    back : ℕ → Trade
+    back lots = record { contract = 0; price = 110; lots = lots; buyorder = 1; sellorder = 2; buyer = 0; seller = 1; buyclose = 1; sellclose = 0 }
+
+-- what two accounts hold, the second long in two contracts: 1 where another pair of accounts holds the same lots
+same : ℕ → ℕ → ℕ → ℕ → ℕ
+same long short second other = mark (sameHoldings (pair 1 2 3 4) (pair long short second other))
+  where
+    lots : ℕ → ℕ → Holding
+    lots long short = record { long = long; short = short; startlong = 0; startshort = 0 }
+
+    pair : ℕ → ℕ → ℕ → ℕ → List Account
+    pair long short second other =
+        record { balance = pos 0; maker = 0; holdings = lots long short ∷ [] }
+        ∷ record { balance = pos 0; maker = 0; holdings = lots second 0 ∷ lots other 0 ∷ [] }
+        ∷ []
+
 -- an order that is in range but for its time stamp and its quote mark
 marked : ℕ → ℕ → Order
 marked stamp quote = record { price = 110; number = 1; account = 0; lots = 1; close = 0; stamp = stamp; quote = quote }
 
--- a state of which only the two counters matter
-counting : ℕ → ℕ → Exchange
-counting next nextstamp = record { listings = []; accounts = []; trades = []; next = next; nextstamp = nextstamp; settlements = 0 }
+-- an order that is in range but for its number
+numbered : ℕ → Order
+numbered number = record { price = 110; number = number; account = 0; lots = 1; close = 0; stamp = 1; quote = 0 }
+
+-- a state of which only the two counters matter, and the count of settlements
+counting : ℕ → ℕ → ℕ → Exchange
+counting next nextstamp settlements = record { listings = []; accounts = []; trades = []; next = next; nextstamp = nextstamp; settlements = settlements }
 
 -- the terms of a contract, 1 where they keep their ranges
 terms : ℕ → ℕ → ℕ → ℕ → ℕ → ℕ → ℕ → ℕ
@@ -234,30 +283,53 @@ laid =
     ∷ (across 1 1 1 2 gives 0)
     ∷ (across 1 1 2 1 gives 0)
     -- counts and room
-    ∷ (mark (countsInRange (counted 64)) gives 1)
-    ∷ (mark (countsInRange (counted 65)) gives 0)
+    ∷ (mark (countsInRange (counts 4 32 1_024 64 64)) gives 1)
+    ∷ (mark (countsInRange (counts 5 32 1_024 64 64)) gives 0)
+    ∷ (mark (countsInRange (counts 0 32 1_024 64 64)) gives 0)
+    ∷ (mark (countsInRange (counts 4 33 1_024 64 64)) gives 0)
+    ∷ (mark (countsInRange (counts 4 0 1_024 64 64)) gives 0)
+    ∷ (mark (countsInRange (counts 4 32 1_025 64 64)) gives 0)
+    ∷ (mark (countsInRange (counts 4 32 1_024 65 64)) gives 0)
+    ∷ (mark (countsInRange (counts 4 32 1_024 64 65)) gives 0)
     -- 64 orders of seven words, 1,024 trades of nine, and a word less
     ∷ (mark (hasRoom (lying 448 9_216)) gives 1)
     ∷ (mark (hasRoom (lying 447 9_216)) gives 0)
     ∷ (mark (hasRoom (lying 448 9_215)) gives 0)
+    ∷ (mark (hasRoom (sides 447 448)) gives 0)
+    ∷ (mark (hasRoom (sides 448 447)) gives 0)
     -- a close of what is held, and of one lot more: the short lots do not cover it
     ∷ (mark (replays (replayed 2)) gives 1)
     ∷ (mark (replays (replayed 3)) gives 0)
+    ∷ (mark (replays (closing 1 1)) gives 1)
+    ∷ (mark (replays (closing 3 0)) gives 0)
+    ∷ (mark (replays (closing 1 2)) gives 0)
+    -- the same lots, long and short, of each account and in each contract
+    ∷ (same 1 2 3 4 gives 1)
+    ∷ (same 0 2 3 4 gives 0)
+    ∷ (same 1 0 3 4 gives 0)
+    ∷ (same 1 2 0 4 gives 0)
+    ∷ (same 1 2 3 0 gives 0)
     -- a time stamp from 1 and below the next one, whatever the next number; a quote mark is 0 or 1
     ∷ (mark (orderInRange 2 9 8 (contract continuous 110) (marked 7 0)) gives 1)
     ∷ (mark (orderInRange 2 9 8 (contract continuous 110) (marked 8 0)) gives 0)
     ∷ (mark (orderInRange 2 9 8 (contract continuous 110) (marked 0 0)) gives 0)
     ∷ (mark (orderInRange 2 9 8 (contract continuous 110) (marked 7 1)) gives 1)
     ∷ (mark (orderInRange 2 9 8 (contract continuous 110) (marked 7 2)) gives 0)
-    -- the next number and the next time stamp are each 1 to 1,000,000
-    ∷ (mark (countersInRange (counting 1_000_000 1_000_000)) gives 1)
-    ∷ (mark (countersInRange (counting 1_000_001 1)) gives 0)
-    ∷ (mark (countersInRange (counting 1 1_000_001)) gives 0)
-    ∷ (mark (countersInRange (counting 1 0)) gives 0)
+    -- a number from 1 and below the next one, whatever the next time stamp
+    ∷ (mark (orderInRange 2 9 8 (contract continuous 110) (numbered 8)) gives 1)
+    ∷ (mark (orderInRange 2 9 8 (contract continuous 110) (numbered 9)) gives 0)
+    ∷ (mark (orderInRange 2 9 8 (contract continuous 110) (numbered 0)) gives 0)
+    -- the next number and the next time stamp are each 1 to 1,000,000; settlements are at most 250
+    ∷ (mark (countersInRange (counting 1_000_000 1_000_000 250)) gives 1)
+    ∷ (mark (countersInRange (counting 1_000_001 1 0)) gives 0)
+    ∷ (mark (countersInRange (counting 0 1 0)) gives 0)
+    ∷ (mark (countersInRange (counting 1 1_000_001 0)) gives 0)
+    ∷ (mark (countersInRange (counting 1 0 0)) gives 0)
+    ∷ (mark (countersInRange (counting 1 1 251)) gives 0)
     ∷ []
 
 pub laid-examples : allRight laid ≡ true
-unfolding allRight laid contract account terms starting across counted lying replayed marked counting all allOf sumOf ahead aheadOfFirst allListed balanceInRange contractInRange heldInRange holdingInRange holdingsInRange listed listingAt listingQuoted lotsWhere markAllowed markInRange ordersInRange queueQuoted queuesSorted quotes rangesKept resting restingInRange sorted termsInRange tickMultiple tradeInRange uncrossed usedOnce wellFormedContents accountAt afterLeg allowedToday bookLeg bookTrade bookTrades countersInRange countsInRange dayHigh dayLow hasRoom holdingAt legCovered neverBelowZero onTick orderInRange replays sameHoldings sameLots startOfDay
+unfolding allRight laid contract account terms starting across counts lying sides replayed closing same marked numbered counting all allOf sumOf ahead aheadOfFirst allListed balanceInRange contractInRange heldInRange holdingInRange holdingsInRange listed listingAt listingQuoted lotsWhere markAllowed markInRange ordersInRange queueQuoted queuesSorted quotes rangesKept resting restingInRange sorted termsInRange tickMultiple tradeInRange uncrossed usedOnce wellFormedContents accountAt afterLeg allowedToday bookLeg bookTrade bookTrades countersInRange countsInRange dayHigh dayLow hasRoom holdingAt legCovered neverBelowZero onTick orderInRange replays sameHoldings sameLots startOfDay
 laid-examples = refl
 
 -- ---- quote marks: accounts 1 and 2, each long 2 lots, makers or not
