@@ -2,6 +2,7 @@
 
 import doctest
 import inspect
+import struct
 import typing
 import unittest
 
@@ -47,6 +48,25 @@ class Package(unittest.TestCase):
                 for wrong in (1.0, "1", None, True):
                     with self.assertRaises(TypeError):
                         command(**numbers | {name: wrong})
+
+    # Each field stands where the papers have it.
+    def test_each_kind_s_record(self):
+        z = zelvorm
+        insert = z.Insert(2, 3, z.Side.SELL, 5, z.Price.BEST, z.Effect.CLOSE, z.Time.FILL_OR_KILL)
+        for command, wanted in (
+            (z.Deposit(account=2, amount=9), (1, 2, 0, 0, 0, 0, 0, 9)),
+            (z.Withdraw(account=2, amount=9), (2, 2, 0, 0, 0, 0, 0, 9)),
+            (insert, (3, 2, 3, 1 + 2 + 8 + 32, 5, 0, 0, 0)),
+            (z.Insert(account=2, contract=3, side=z.Side.BUY, lots=5, price=6), (3, 2, 3, 0, 5, 6, 0, 0)),
+            (z.Cancel(account=2, contract=3, order=4, operator=True), (4, 2, 3, 1, 0, 0, 4, 0)),
+            (z.Pull(account=2, contract=3), (5, 2, 3, 0, 0, 0, 0, 0)),
+            (z.PhaseChange(contract=3, phase=z.Phase.AUCTION), (6, 0, 3, 4, 0, 0, 0, 0)),
+            (z.Settle(), (7, 0, 0, 0, 0, 0, 0, 0)),
+            (z.Quote(account=2, contract=3, lots=5, buy=7, sell=8), (8, 2, 3, 0, 5, 7, 8, 0)),
+            (z.Change(account=2, contract=3, order=4, lots=5, price=6), (9, 2, 3, 0, 5, 6, 4, 0)),
+        ):
+            self.assertEqual(struct.unpack("<BBBBIIIQ", command.record()), wanted)
+            self.assertEqual(z.command_of(command.record()), command)
 
     def test_what_is_no_enum_is_refused(self):
         for make in (

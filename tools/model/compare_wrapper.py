@@ -19,8 +19,10 @@ import sys
 from pathlib import Path
 
 import compare_library
+import dayfile
 import library
 import memory
+import model
 from compare_library import Comparison, hold
 from library import zelvorm
 
@@ -61,8 +63,8 @@ class Wrapper:
     def call(self, name, rng, *arguments):
         """As `Library.call`."""
         given = {argument[0]: argument[1] for argument in arguments if isinstance(argument, tuple)}
-        if name == "zelvorm_side":
-            given["side"] = arguments[-2:]
+        if name in ("zelvorm_side", "zelvorm_execute"):
+            given["last"] = arguments[-2:]
         found = self.asked(name.encode(), *map(part_of, arguments))
         return getattr(self, name.removeprefix("zelvorm_"))(given, *found)
 
@@ -71,7 +73,8 @@ class Wrapper:
     def well_formed(self, given, code):
         return code == number(0), {}
 
-    def execute(self, given, answer, report, state, *areas):
+    def execute(self, given, answer, report, sent, state, *areas):
+        hold("sent as a command", is_command(given["last"][1]), sent == b"\1")
         made = zelvorm.Response(record(zelvorm.Answer, answer), record(zelvorm.State, state), record(zelvorm.Report, report))
         return made, dict(zip(AREAS, areas))
 
@@ -88,7 +91,7 @@ class Wrapper:
 
     # The orders told have to stand in their area.
     def side(self, given, orders, state, *areas):
-        sell, contract = given["side"]
+        sell, contract = given["last"]
         first = zelvorm.QUEUE_STRIDE * (contract - 1) if orders else 0
         hold("the orders", areas[sell][4 * first :][: len(orders)], orders)
         return zelvorm.Part(first, len(orders) // 4), dict(zip(AREAS, areas))
@@ -115,6 +118,15 @@ class Wrapper:
     def mend(self, given, code, file, listed):
         made = zelvorm.Mended(int.from_bytes(code, "little"), len(file), len(listed))
         return made, {"file": given["file"], "out": over(file, given["out"]), "list": over(listed, given["list"])}
+
+
+def is_command(record):
+    """Whether a record is one that a command has: not malformed, and no price beside market or best."""
+    command = dayfile.Command(*library.values(record))
+    if model.is_malformed(command):
+        return False
+    is_priced = dayfile.KINDS[command.kind] != "insert" or dayfile.insert_flag_values(command.flags)[2] == 0
+    return is_priced or command.price == 0
 
 
 def number(value):

@@ -297,6 +297,35 @@ mod tests {
         }
     }
 
+    /// Each field stands where the papers have it.
+    #[test]
+    fn each_kind_s_record() {
+        let insert = NewOrder {
+            effect: Effect::Close,
+            price: Price::Best,
+            time: Time::FillOrKill,
+            ..NewOrder::limit(2, 3, Side::Sell, 5, 0)
+        };
+        let (account, contract, order, lots, price) = (2, 3, 4, 5, 6);
+        for (command, wanted) in [
+            (Command::Deposit { account, amount: 9 }, [1, 2, 0, 0, 0, 0, 0, 9]),
+            (Command::Withdraw { account, amount: 9 }, [2, 2, 0, 0, 0, 0, 0, 9]),
+            (Command::Insert(insert), [3, 2, 3, 1 + 2 + 8 + 32, 5, 0, 0, 0]),
+            (Command::Insert(NewOrder::limit(2, 3, Side::Buy, 5, 6)), [3, 2, 3, 0, 5, 6, 0, 0]),
+            (Command::Cancel { account, contract, order, operator: true }, [4, 2, 3, 1, 0, 0, 4, 0]),
+            (Command::Pull { account, contract, operator: false }, [5, 2, 3, 0, 0, 0, 0, 0]),
+            (Command::Phase { contract, phase: Phase::Auction }, [6, 0, 3, 4, 0, 0, 0, 0]),
+            (Command::Settle, [7, 0, 0, 0, 0, 0, 0, 0]),
+            (Command::Quote { account, contract, lots, buy: 7, sell: 8 }, [8, 2, 3, 0, 5, 7, 8, 0]),
+            (Command::Change { account, contract, order, lots, price }, [9, 2, 3, 0, 5, 6, 4, 0]),
+        ] {
+            let r = Record::from(command);
+            let head = [r.kind, r.account, r.contract, r.flags].map(u32::from);
+            assert_eq!([head[0], head[1], head[2], head[3], r.lots, r.price, r.number, r.amount as u32], wanted);
+            assert_eq!(Command::try_from(r), Ok(command));
+        }
+    }
+
     #[test]
     fn bytes_there_and_back() {
         let record = Record { kind: 1, account: 2, contract: 3, flags: 4, lots: 0x8090a0b, price: 5, number: 6, amount: u64::MAX - 9 };

@@ -58,15 +58,17 @@ def sent(record):
     return command_of(record) or record
 
 
+# It is told whether it did.
 def execute(exchange, record):
-    if isinstance(sent(record), zelvorm.Settle):
+    command = command_of(record)
+    if isinstance(command, zelvorm.Settle):
         code, settlement = tried(exchange.settle, None)
-        return [struct.pack("<4I", code, 0, 0, 0), report_bytes(settlement)]
-    if command_of(record):
-        code, answer = tried(lambda: exchange.execute(sent(record)), Answer(0, 0, 0))
-        return [struct.pack("<4I", code, answer.order, answer.traded, answer.lots), report_bytes(None)]
+        return [struct.pack("<4I", code, 0, 0, 0), report_bytes(settlement), b"\1"]
+    if command:
+        code, answer = tried(lambda: exchange.execute(command), Answer(0, 0, 0))
+        return [struct.pack("<4I", code, answer.order, answer.traded, answer.lots), report_bytes(None), b"\1"]
     response = exchange.respond(record)
-    return [answer_bytes(response.answer), report_bytes(response.settlement)]
+    return [answer_bytes(response.answer), report_bytes(response.settlement), b"\0"]
 
 
 def records(commands):

@@ -85,9 +85,10 @@ fn on_exchange(call: &[u8], mut exchange: Exchange, given: &[Vec<u8>]) -> Parts 
     result
 }
 
-// A record that is a command's goes through the command.
+// A record that is a command's goes through the command; it is told whether it did.
 fn execute(exchange: &mut Exchange, record: Record) -> Parts {
-    let response = match Command::try_from(record) {
+    let command = Command::try_from(record);
+    let response = match command {
         Ok(Command::Settle) => match exchange.settle() {
             Ok(settlement) => Response { answer: Ok(Answer::default()), settlement: Some(settlement) },
             Err(refusal) => Response { answer: Err(refusal), settlement: None },
@@ -95,7 +96,7 @@ fn execute(exchange: &mut Exchange, record: Record) -> Parts {
         Ok(command) => Response { answer: exchange.execute(command), settlement: None },
         Err(record) => exchange.respond(record),
     };
-    vec![answer_bytes(response.answer), report_bytes(response.settlement)]
+    vec![answer_bytes(response.answer), report_bytes(response.settlement), vec![command.is_ok().into()]]
 }
 
 fn asked(exchange: &Exchange, record: Record) -> Result<zelvorm::Gettable, Refusal> {
