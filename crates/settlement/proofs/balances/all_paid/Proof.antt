@@ -35,7 +35,7 @@ loop-holds c =
     let before-opened = opened .before in
     let closed = before-opened .before .before .before .before in (
       day-summed (closed .before .before .before .before .pre)
-          (record { closing = closed .add-up .ensures; opening = opened .add-up2 .ensures; due = due .put-all-due .ensures; taken = taken .take-first .ensures })
+          (record { closing = closed .add-up .ensures; opening = opened .add-up2 .ensures; due = due .put-all-due .ensures; taken = taken .take-first .ensures .0 })
           (record {
             closed-room = closed .add-up .kept .1 .1 .1 .0;
             closes-room = closed .add-up .kept .1 .1 .1 .1 .0;
