@@ -388,9 +388,9 @@ ZELVORM_ASSERT(offsetof(zelvorm_state, nextstamp) == 2780);
 ZELVORM_ASSERT(offsetof(zelvorm_state, settlements) == 2784);
 
 /* 0, or 20 where the file is broken; the place of the first command's first byte in the file, and the number of
- * commands, 24 bytes each; the state that the file's run begins with. With 20 all else is zero, and every call on that
- * state is refused. Bytes 4 to 7 are padding: no answer depends on them, and what they hold after a call is not
- * promised. */
+ * commands, 24 bytes each; the state that the file's run begins with. With 20 all else is zero, and a call that tests
+ * the state refuses it with 21. Bytes 4 to 7 are padding: no answer depends on them, and what they hold after a call is
+ * not promised. */
 typedef struct zelvorm_opened {
     uint32_t code;
     size_t first;
