@@ -6,6 +6,9 @@ use Prim.Native.Nat.{ℕ, _<_}
 use native.Mathlib.Omega.{arith}
 use lib.IntN.{ℤ}
 use lib.ListN.{getD}
+use mir.Facts.{toZ-ofZ}
+use mir.Syntax.{w64}
+use mir.Val.{SFits, ofZ, toZ}
 use Rattle.laws.specs.Choice.{pick}
 use Rattle.rules.specs.Bounds.{maxAccounts, maxContracts}
 use Rattle.rules.specs.Command.{isSettle}
@@ -43,12 +46,12 @@ place-fits {s} w number e = rw e (by-absence (isAbsent number (s .accountcount))
     by-absence true a = omega arith
     by-absence false a = omega (arith, place-below number (s .accountcount) a .1, formed w .accounts-high)
 
-pub held-at : {s : State} (command : Command) {place : ℕ} → place ≡ accountPlace (accountNumber command) (s .accountcount) → HeldBy s (accountNumber command) (getD (s .accounts) place noAccount)
-held-at {s} command e = rw e
+pub held-at : (s : State) (command : Command) {place : ℕ} → place ≡ accountPlace (accountNumber command) (s .accountcount) → HeldBy s (accountNumber command) (getD (s .accounts) place noAccount)
+held-at s command e = rw e
 
 -- a command that is told to be of a kind
-pub held-as : {s : State} {who : Account} {command told : Command} → command ≡ told → HeldBy s (accountNumber command) who → HeldBy s (accountNumber told) who
-held-as {s} {who} e h = subst (λ (c : Command). HeldBy s (accountNumber c) who) e h
+pub held-as : (s : State) {who : Account} {command told : Command} → command ≡ told → HeldBy s (accountNumber command) who → HeldBy s (accountNumber told) who
+held-as s {who} e h = subst (λ (c : Command). HeldBy s (accountNumber c) who) e h
 
 -- ---- what is decided
 
@@ -95,12 +98,18 @@ module _ {s : State} {buys sells trades : List ℕ} {command : Command} {d : Dec
     pub balance-place : a < maxAccounts
     balance-place = told e .0
 
-    pub balance-left : memory (withBalanceAt s a balance) buys′ sells′ trades′ ≡ stepIn (memory s buys sells trades) command .memory
-    balance-left = told e .1 .memory
+    -- as an i64 it is stored as it is
+    module _ (fits : SFits w64 balance) where
+      pub balance-left : memory (withBalanceAt s a (toZ w64 (ofZ w64 balance))) buys′ sells′ trades′ ≡ stepIn (memory s buys sells trades) command .memory
+      balance-left =
+          subst⁻¹ (λ (z : ℤ). memory (withBalanceAt s a z) buys′ sells′ trades′ ≡ stepIn (memory s buys sells trades) command .memory) (toZ-ofZ {w = w64} fits) (told e .1 .memory)
 
-    pub balance-responded : {o : Outcome} {r : Response} → o ≡ record { answer = d .answer; state = withBalanceAt s a balance } → r ≡ withReport o noReport
-        → ResponseIs (memory s buys sells trades) command r buys′ sells′ trades′
-    balance-responded {o} {r} f = plain-response _ command o r buys′ sells′ trades′ (plain e) (subst⁻¹ (λ (v : Outcome). OutcomeIs (stepIn (memory s buys sells trades) command) v buys′ sells′ trades′) f (told e .1))
+      pub balance-responded : {o : Outcome} {r : Response} → o ≡ record { answer = d .answer; state = withBalanceAt s a (toZ w64 (ofZ w64 balance)) } → r ≡ withReport o noReport
+          → ResponseIs (memory s buys sells trades) command r buys′ sells′ trades′
+      balance-responded {o} {r} f =
+          plain-response _ command o r buys′ sells′ trades′ (plain e)
+          (subst⁻¹ (λ (v : Outcome). OutcomeIs (stepIn (memory s buys sells trades) command) v buys′ sells′ trades′) f
+          (subst⁻¹ (λ (z : ℤ). OutcomeIs (stepIn (memory s buys sells trades) command) (record { answer = d .answer; state = withBalanceAt s a z }) buys′ sells′ trades′) (toZ-ofZ {w = w64} fits) (told e .1)))
 
   module _ {l : Listed} (e : d .update ≡ Listing l) where
     pub listing-place : l .place < maxContracts
@@ -135,5 +144,5 @@ pub settled-left : (m : Memory) {pending p : Pending} {r : Response} {buys sells
     → ResponseIs m (commandLeft pending) r buys sells trades
 settled-left m {r = r} {buys = buys} {sells = sells} {trades = trades} e k = subst⁻¹ (λ (v : Pending). ResponseIs m (commandLeft v) r buys sells trades) e k
 
-pub due-as : {s : State} {pending p : Pending} → pending ≡ p → Due s pending → Due s p
-due-as {s} e h = subst (Due s) e h
+pub due-as : (s : State) {pending p : Pending} → pending ≡ p → Due s pending → Due s p
+due-as s e h = subst (Due s) e h
