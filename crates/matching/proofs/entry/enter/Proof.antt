@@ -1,4 +1,4 @@
--- `book::entry::enter` meets its contract: the promises of its calls, put together. Assumes nothing.
+-- `matching::entry::enter` meets its contract: the promises of its calls, put together. Assumes nothing.
 use borrow.Author.Needs.{needs}
 use Rattle.matching.proofs.Entries.{traded-within, rests-ready, entered}
 use Rattle.matching.proofs.entry.enter.Statement.{statement}

@@ -1,4 +1,4 @@
--- `book::entry::remaining` meets its contract: one case for each kind of order. Assumes nothing.
+-- `matching::entry::remaining` meets its contract: one case for each kind of order. Assumes nothing.
 use borrow.Author.Needs.{needs}
 use Rattle.matching.proofs.entry.remaining.Statement.{statement}
 use Rattle.matching.proofs.entry.remaining.Tie as tie

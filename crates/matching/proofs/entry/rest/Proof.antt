@@ -1,4 +1,4 @@
--- `book::entry::rest` meets its contract: nothing rests and the queue is as it was, or the remainder goes in. Assumes nothing.
+-- `matching::entry::rest` meets its contract: nothing rests and the queue is as it was, or the remainder goes in. Assumes nothing.
 use native.Mathlib.Omega.{arith}
 use borrow.Author.Needs.{needs}
 use Rattle.matching.proofs.Entries.{none-rests, rest-room, some-rests}

@@ -1,4 +1,4 @@
--- `book::sweep::sweep` meets its contract. What the loop keeps is `Going`: what it ends with if it goes on by the rules is what
+-- `matching::sweep::sweep` meets its contract. What the loop keeps is `Going`: what it ends with if it goes on by the rules is what
 -- the whole sweep ends with. The measure is the number of orders not yet reached. Assumes nothing.
 use mathlib.Core.Logic.{⊎-elim}
 use mathlib.Core.Path.{_≡_, refl, sym, ap, _∙_}
