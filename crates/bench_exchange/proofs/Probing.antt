@@ -8,18 +8,22 @@ use Rattle.rules.specs.declared.Command.{Command}
 use Rattle.rules.specs.declared.State.{State}
 use Rattle.dayfile.specs.Opening.{openingState}
 use Rattle.exchange.specs.Run.{RanIs}
-use Rattle.bench_exchange.specs.Probes.{probeOf, ProbedIs}
+use Rattle.bench_exchange.specs.Probes.{probeOf, AreasAre, ProbedIs}
 use Rattle.bench_exchange.specs.declared.Probe.{Probe}
 
--- an answer about a memory, and the areas in it
-pub probed : {m : Memory} {state : State} {buys sells trades : List ℕ} {r : Probe} (a c : ℕ) → memory state buys sells trades ≡ m → r ≡ probeOf state a c → ProbedIs m a c r buys sells trades
-probed a c e asked =
+-- the areas of a memory
+pub areas-are : {m : Memory} {state : State} {buys sells trades : List ℕ} → memory state buys sells trades ≡ m → AreasAre m buys sells trades
+areas-are e =
     record {
-      answer = asked ∙ ap (λ (m : Memory). probeOf (m .state) a c) e;
       bids = ap (λ (m : Memory). m .buys) e;
       offers = ap (λ (m : Memory). m .sells) e;
       recorded = ap (λ (m : Memory). m .trades) e;
     }
+
+-- an answer about a memory, and the areas in it
+pub probed : {m : Memory} {state : State} {buys sells trades : List ℕ} {r : Probe} (a c : ℕ) → memory state buys sells trades ≡ m → r ≡ probeOf state a c → ProbedIs m a c r buys sells trades
+probed a c e asked =
+    record { answer = asked ∙ ap (λ (m : Memory). probeOf (m .state) a c) e; areas = areas-are e }
 
 module _ {opening state : State} {cs : List Command} {buys sells trades buys′ sells′ trades′ : List ℕ} (day : List ℕ)
     (opened : opening ≡ openingState day) (ran : RanIs (memory opening buys sells trades) cs (memory state buys′ sells′ trades′)) where

@@ -1,11 +1,12 @@
 -- What the benchmark asks about a state, and what its call gives and leaves. Assumes nothing.
+use mathlib.Core.Bool.{Bool}
 use mathlib.Core.List.{List}
 use mathlib.Core.Path.{_≡_}
 use Prim.Native.Nat.{ℕ}
 use lib.ListN.{getD}
 use Rattle.rules.specs.Condition3.{run}
 use Rattle.rules.specs.Exchange.{noAccount, noContract, noHolding}
-use Rattle.rules.specs.Memory.{Memory, memory}
+use Rattle.rules.specs.Memory.{Memory, memory, wellFormedMemory}
 use Rattle.rules.specs.declared.State.{State}
 use Rattle.dayfile.specs.Opening.{openingState}
 use Rattle.exchange.specs.Run.{wholeCommands}
@@ -33,9 +34,18 @@ probeOf s a c =
 abbrev pub ranOf : List ℕ → List ℕ → List ℕ → List ℕ → List ℕ → Memory
 ranOf day commands buys sells trades = run (memory (openingState day) buys sells trades) (wholeCommands commands)
 
--- of the state that a run leaves the answer, and all three areas
-pub record ProbedIs (ran : Memory) (a c : ℕ) (r : Probe) (buys sells trades : List ℕ) : Type 0 where
-  pub answer : r ≡ probeOf (ran .state) a c
+-- all three areas as a run leaves them
+pub record AreasAre (ran : Memory) (buys sells trades : List ℕ) : Type 0 where
   pub bids : buys ≡ ran .buys
   pub offers : sells ≡ ran .sells
   pub recorded : trades ≡ ran .trades
+
+-- whether the state that a run leaves is well formed, and all three areas
+pub record TestedIs (ran : Memory) (r : Bool) (buys sells trades : List ℕ) : Type 0 where
+  pub answer : r ≡ wellFormedMemory ran
+  pub areas : AreasAre ran buys sells trades
+
+-- of the state that a run leaves the answer, and all three areas
+pub record ProbedIs (ran : Memory) (a c : ℕ) (r : Probe) (buys sells trades : List ℕ) : Type 0 where
+  pub answer : r ≡ probeOf (ran .state) a c
+  pub areas : AreasAre ran buys sells trades

@@ -11,14 +11,14 @@ use Rattle.dayfile.specs.Opening.{openingState}
 use Rattle.exchange.specs.Response.{ExecutedIs}
 use Rattle.exchange.specs.Run.{RanIs}
 use Rattle.exchange.specs.declared.settling.Response.{Response}
-use Rattle.bench_exchange.proofs.Probing.{left, probed}
-use Rattle.bench_exchange.specs.Probes.{probeOf, ProbedIs}
+use Rattle.bench_exchange.proofs.Probing.{areas-are, left, probed}
+use Rattle.bench_exchange.specs.Probes.{probeOf, ProbedIs, TestedIs}
 use Rattle.bench_exchange.specs.declared.Probe.{Probe}
 
 module _ {opening state : State} {cs : List Command} {buys sells trades buys′ sells′ trades′ : List ℕ} (day : List ℕ)
     (opened : opening ≡ openingState day) (ran : RanIs (memory opening buys sells trades) cs (memory state buys′ sells′ trades′)) where
-  pub ran-tested : {r : Bool} → r ≡ wellFormedMemory (memory state buys′ sells′ trades′) → r ≡ wellFormedMemory (run (memory (openingState day) buys sells trades) cs)
-  ran-tested asked = asked ∙ ap wellFormedMemory (left day opened ran)
+  pub ran-tested : {r : Bool} → r ≡ wellFormedMemory (memory state buys′ sells′ trades′) → TestedIs (run (memory (openingState day) buys sells trades) cs) r buys′ sells′ trades′
+  ran-tested asked = record { answer = asked ∙ ap wellFormedMemory (left day opened ran); areas = areas-are (left day opened ran) }
 
   pub executed-probed : {command : Command} {response : Response} {buys″ sells″ trades″ : List ℕ} {r : Probe} (a c : ℕ)
       → ExecutedIs (memory state buys′ sells′ trades′) command response buys″ sells″ trades″

@@ -5,8 +5,8 @@ ghost use mathlib.Core.Path.{_≡_};
 ghost use Prim.Native.Nat.{_<_};
 ghost use Rattle.rules.specs.Bounds.{maxContracts, maxAccounts};
 ghost use Rattle.rules.specs.DayFile.{commandFrom, sound};
-ghost use Rattle.rules.specs.Memory.{respond, wellFormedMemory};
-ghost use Rattle.bench_exchange.specs.Probes.{ranOf, ProbedIs};
+ghost use Rattle.rules.specs.Memory.{respond};
+ghost use Rattle.bench_exchange.specs.Probes.{ranOf, ProbedIs, TestedIs};
 use bench_exchange::Probe;
 
 // Runs the commands, then tests the whole state that they leave.
@@ -19,7 +19,7 @@ pub extern "C" fn bench_test<'a>(
     trades: &mut [u32],
 ) -> bool
     requires { ⌜ sound (now day) ≡ true ⌝ }
-    ensures { λ r. ⌜ r ≡ wellFormedMemory (ranOf (now (day .entry)) (now (commands .entry)) (now (buys .entry)) (now (sells .entry)) (now (trades .entry))) ⌝ }
+    ensures { λ r. ⌜ TestedIs (ranOf (now (day .entry)) (now (commands .entry)) (now (buys .entry)) (now (sells .entry)) (now (trades .entry))) r (now (buys .exit)) (now (sells .exit)) (now (trades .exit)) ⌝ }
 {
     let opening = dayfile::opening::opening_state(day);
     let state = exchange::run::run(opening, buys, sells, trades, commands);

@@ -17,7 +17,7 @@ use Rattle.rules.specs.declared.Trade.{Trade}
 use Rattle.rules.proofs.Codecs.{length-trades, trade-at}
 use Rattle.dayprofit.specs.Day.{Sized, SizedTrades}
 use Rattle.dayprofit.specs.Sides.{same, lotsIf, valueIf, batchIf, batchesOf, openedToday, cost, dayLotsMost, dayValueMost}
-use Rattle.dayprofit.specs.Slots.{slotOf, partyOf, closeOf, legSlot, changed, Placed, PlacedTrades, Addable, SumsAre, UsedAre, slots, slotLotsMost, slotValueMost}
+use Rattle.dayprofit.specs.Slots.{slotOf, partyOf, closeOf, legSlot, changed, Placed, PlacedTrades, Addable, SumsAre, UsedAre, LeftAre, slots, slotLotsMost, slotValueMost}
 use Rattle.dayprofit.proofs.FirstIn.{lots-append, cost-append, first-append, first-other}
 use Rattle.dayprofit.proofs.Legs.{isKind, kind-itself, only-one, leg-lots, leg-value, value-small, legs-lots, legs-value, batches-append, batches-cost}
 use Rattle.dayprofit.proofs.Slots.{Pass, Kept, legOf, legsTo, slot-small, leg-addable, leg-more, trade-more, no-legs}
@@ -216,7 +216,9 @@ taking-none area count left vs h f =
     })
 
 pub taking-done : (area : List ℕ) (count : ℕ) (left us vs : List ℕ) (i : ℕ) → count ≤ i → Passing (Taken left) area count us vs i
-    → UsedAre (recordedTrades area count) left vs
+    → UsedAre (recordedTrades area count) left vs × LeftAre (recordedTrades area count) left us
 taking-done area count left us vs i h w =
-    let e : i ≡ count = omega (arith, w .within) in
-    record { each = λ a c short la lc. rw (← e) (w .kept .tells a c short la lc .1) }
+    let e : i ≡ count = omega (arith, w .within) in (
+      record { each = λ a c short la lc. rw (← e) (w .kept .tells a c short la lc .1) },
+      record { each = λ a c short la lc. rw (← e) (w .kept .tells a c short la lc .0) },
+    )

@@ -2,11 +2,12 @@
 use mathlib.Core.Bool.{Bool, true, false, not}
 use mathlib.Core.List.{List}
 use mathlib.Core.Path.{_≡_}
-use Prim.Native.Nat.{ℕ, _+_, _*_, _<_, _≤_}
+use Prim.Native.Nat.{ℕ, _+_, _-_, _*_, _<_, _≤_}
 use lib.Dec.{eqb}
 use lib.ListN.{length, getD, set}
 use Rattle.laws.specs.Choice.{pick}
 use Rattle.laws.specs.Sums.{sumOf}
+use Rattle.rules.specs.Article32.{lotsIn}
 use Rattle.rules.specs.Bounds.{maxContracts, maxAccounts, maxLots, maxPrice}
 use Rattle.rules.specs.Exchange.{noTrade}
 use Rattle.rules.specs.Memory.{recordedTrades}
@@ -78,6 +79,11 @@ pub record SumsAre (close : Bool) (ts : List Trade) (lots value : List ℕ) : Ty
 pub record UsedAre (ts : List Trade) (left used : List ℕ) : Type 0 where
   pub each : (a c : ℕ) (short : Bool) → a < maxAccounts → c < maxContracts
       → getD used (slotOf a c short) 0 ≡ cost (firstLots (getD left (slotOf a c short) 0) (openedToday short (legs a c ts)))
+
+-- how many of the lots that a side's slot said were never opened: none on a day whose closes are covered
+pub record LeftAre (ts : List Trade) (left left′ : List ℕ) : Type 0 where
+  pub each : (a c : ℕ) (short : Bool) → a < maxAccounts → c < maxContracts
+      → getD left′ (slotOf a c short) 0 ≡ getD left (slotOf a c short) 0 - lotsIn (openedToday short (legs a c ts))
 
 -- ---- an account's day in a contract, from its slots
 

@@ -10,7 +10,7 @@ ghost use Rattle.laws.specs.Choice.{pick};
 ghost use Rattle.rules.specs.Bounds.{maxContracts, maxAccounts};
 ghost use Rattle.rules.specs.Memory.{recordedTrades};
 ghost use Rattle.dayprofit.specs.Sides.{same};
-ghost use Rattle.dayprofit.specs.Slots.{slotOf, closeOf, legSlot, changed, Placed, PlacedTrades, Addable, SumsAre, UsedAre, slots, slotLotsMost};
+ghost use Rattle.dayprofit.specs.Slots.{slotOf, closeOf, legSlot, changed, Placed, PlacedTrades, Addable, SumsAre, UsedAre, LeftAre, slots, slotLotsMost};
 use book::trades;
 use rules::Trade;
 
@@ -123,7 +123,7 @@ fn take_leg(left: &mut [u32], used: &mut [u64], t: Trade, sell: bool)
 // "today's in trade order": what the first lots opened on each side were opened for, as many as `left` says.
 pub fn take_first(area: &[u32], count: usize, left: &mut [u32], used: &mut [u64])
     requires { ⌜ PlacedTrades (now area) count × (length (now left) ≡ slots) × (now used ≡ replicate slots 0) ⌝ }
-    ensures { λ _. ⌜ UsedAre (recordedTrades (now (area .entry)) count) (now (left .entry)) (now (used .exit)) ⌝ }
+    ensures { λ _. ⌜ UsedAre (recordedTrades (now (area .entry)) count) (now (left .entry)) (now (used .exit)) × LeftAre (recordedTrades (now (area .entry)) count) (now (left .entry)) (now (left .exit)) ⌝ }
 {
     let mut i: usize = 0;
     while i < count {

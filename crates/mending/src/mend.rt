@@ -44,30 +44,30 @@ fn count_dropped(file: &[u8], first: usize, n: usize, kept: usize) -> usize
 }
 
 // The head, the number of kept records, the kept records.
-fn put_file(file: &[u8], first: usize, n: usize, kept: usize, out: &mut [u8]) -> usize
+fn put_file(file: &[u8], first: usize, n: usize, kept: usize, out: &mut [u8])
     requires { ⌜ (headSound (now file) ≡ true) × (first ≡ commandPlace (now file) 0) ⌝ }
     requires { ⌜ (n ≡ wholeRecords (now file) first) × (kept ≡ Mend·kept (now file) first n) ⌝ }
     requires { ⌜ length (mendedFile (now file)) ≤ length (now out) ⌝ }
-    ensures { λ r. ⌜ now (out .exit) ≡ over (now (out .entry)) 0 (mendedFile (now (file .entry))) ⌝ }
+    ensures { λ _. ⌜ now (out .exit) ≡ over (now (out .entry)) 0 (mendedFile (now (file .entry))) ⌝ }
 {
     let head = put_part(out, 0, file, 0, first - rules::COUNT_WIDTH);
     let count = put_u32(out, head, kept as u32);
-    put_kept(file, first, n, out, count)
+    put_kept(file, first, n, out, count);
 }
 
 // The number of dropped records, and an entry for each.
-fn put_list(file: &[u8], first: usize, n: usize, dropped: usize, list: &mut [u8]) -> usize
+fn put_list(file: &[u8], first: usize, n: usize, dropped: usize, list: &mut [u8])
     requires { ⌜ (first ≤ length (now file)) × (n ≡ wholeRecords (now file) first) × (dropped ≡ droppedCount (now file) first) ⌝ }
     requires { ⌜ length (listFrom (now file) first) ≤ length (now list) ⌝ }
-    ensures { λ r. ⌜ now (list .exit) ≡ over (now (list .entry)) 0 (listFrom (now (file .entry)) first) ⌝ }
+    ensures { λ _. ⌜ now (list .exit) ≡ over (now (list .entry)) 0 (listFrom (now (file .entry)) first) ⌝ }
 {
     let rest = file.len() - first;
     let count = put_u64(list, 0, dropped as u64);
     let end = put_dropped(file, first, n, list, count);
     if rest % rules::COMMAND_WIDTH == 0 {
-        return end;
+        return;
     }
-    put_entry(list, end, n, 2)
+    put_entry(list, end, n, 2);
 }
 
 pub fn mend(file: &[u8], out: &mut [u8], list: &mut [u8]) -> Mended

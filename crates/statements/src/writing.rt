@@ -189,9 +189,9 @@ pub fn put_statement(
     holding: [i64; rules::MAX_ACCOUNTS],
     clients: usize,
     contracts: usize,
-) -> usize
+)
     requires { ⌜ Tellable (now area) count legs accounts closing holding clients contracts (now out) ⌝ }
-    ensures { λ r. ⌜ now (out .exit) ≡ over (now (out .entry)) 0 (told (recordedTrades (now (area .entry)) count) legs accounts closing holding clients contracts) ⌝ }
+    ensures { λ _. ⌜ now (out .exit) ≡ over (now (out .entry)) 0 (told (recordedTrades (now (area .entry)) count) legs accounts closing holding clients contracts) ⌝ }
 {
     let first = put_u32(out, 0, legs as u32);
     let second = put_trades(area, count, out, first);
@@ -199,5 +199,5 @@ pub fn put_statement(
     let third = put_u32(out, second, entries as u32);
     let fourth = put_holdings(out, third, accounts, clients, contracts);
     let fifth = put_u32(out, fourth, clients as u32);
-    put_profits(out, fifth, closing, holding, clients)
+    put_profits(out, fifth, closing, holding, clients);
 }

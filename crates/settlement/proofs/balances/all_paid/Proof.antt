@@ -87,7 +87,7 @@ total-requires c κs =
     let opened = due .before .before .before .before .before in
     let closed = opened .before .before .before .before .before in
     totallable (closed .before .before .before .before .pre)
-    (record { closing = closed .add-up .ensures; opening = opened .add-up2 .ensures; due = due .put-all-due .ensures; taken = taken .take-first .ensures })
+    (record { closing = closed .add-up .ensures; opening = opened .add-up2 .ensures; due = due .put-all-due .ensures; taken = taken .take-first .ensures .0 })
     _ (c .before .before .before .before .before .before .loop-test .taken)
     (record {
       closed-room = closed .add-up .kept .1 .1 .1 .0;
@@ -106,7 +106,7 @@ gained c =
     let opened = due .before .before .before .before .before in
     let closed = opened .before .before .before .before .before in
     total-is (closed .before .before .before .before .pre)
-    (record { closing = closed .add-up .ensures; opening = opened .add-up2 .ensures; due = due .put-all-due .ensures; taken = taken .take-first .ensures })
+    (record { closing = closed .add-up .ensures; opening = opened .add-up2 .ensures; due = due .put-all-due .ensures; taken = taken .take-first .ensures .0 })
     _ (c .before .before .before .before .before .before .before .loop-test .taken) (c .total .ensures)
 
 -- the account is one of 32
