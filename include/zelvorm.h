@@ -28,6 +28,12 @@ extern "C" {
 #define ZELVORM_ASSERT(test) _Static_assert(test, #test)
 #endif
 
+/* The version that this file belongs to. Programs go on with any library of the same major version. */
+#define ZELVORM_VERSION "1.0.0"
+#define ZELVORM_VERSION_MAJOR 1
+#define ZELVORM_VERSION_MINOR 0
+#define ZELVORM_VERSION_PATCH 0
+
 /* "Numbers that bound everything", by the names that they have in specs/ (Bounds, Memory, DayFile). */
 #define ZELVORM_MAX_CONTRACTS 4u
 #define ZELVORM_MAX_ACCOUNTS 32u
@@ -579,6 +585,17 @@ zelvorm_loaded zelvorm_read(
     const uint32_t *buys, size_t buys_words,
     const uint32_t *sells, size_t sells_words,
     const uint32_t *trades, size_t trades_words);
+
+/* Which engine this is, so that a certificate can name it: the version, the Rattle kit that proved it, and the hash of
+ * the sources that were proved, as tools/version prints it. */
+typedef struct zelvorm_identity {
+    const char *version;
+    const char *kit;
+    const char *sources;
+} zelvorm_identity;
+
+/* Which engine is linked. This call is a help: it stands beside the proved ones, in an object of its own. */
+zelvorm_identity zelvorm_engine(void);
 
 #ifdef __cplusplus
 }

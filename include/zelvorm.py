@@ -16,6 +16,9 @@ In the records a place counts from 0 and a number from 1; commands name accounts
 
 import ctypes
 
+# The version that this file belongs to. Programs go on with any library of the same major version.
+VERSION = "1.0.0"
+
 # "Numbers that bound everything", by the names that they have in specs/ (Bounds, Memory, DayFile).
 MAX_CONTRACTS = 4
 MAX_ACCOUNTS = 32
@@ -451,6 +454,16 @@ class Trade(ctypes.Structure):
 assert ctypes.sizeof(Trade) == 36
 
 
+# Which engine this is, so that a certificate can name it: the version, the Rattle kit that proved it, and the hash of
+# the sources that were proved, as tools/version prints it.
+class Identity(ctypes.Structure):
+    _fields_ = [
+        ("version", ctypes.c_char_p),
+        ("kit", ctypes.c_char_p),
+        ("sources", ctypes.c_char_p),
+    ]
+
+
 # The result and the parameters of each call.
 CALLS = {
     # Opens a day file: the state that its run begins with, and where its commands stand.
@@ -596,6 +609,8 @@ CALLS = {
         ctypes.POINTER(ctypes.c_uint32),
         ctypes.c_size_t,
     ),
+    # Which engine is linked. This call is a help: it stands beside the proved ones, in an object of its own.
+    "zelvorm_engine": (Identity,),
 }
 
 

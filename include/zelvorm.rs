@@ -16,7 +16,11 @@
 //! A slice is valid and what is written is lent to nobody else, so every call is safe.
 #![allow(dead_code)]
 
+use std::ffi::{c_char, CStr};
 use std::mem::size_of;
+
+/// The version that this file belongs to. Programs go on with any library of the same major version.
+pub const VERSION: &str = "1.0.0";
 
 // "Numbers that bound everything", by the names that they have in specs/ (Bounds, Memory, DayFile).
 pub const MAX_CONTRACTS: usize = 4;
@@ -433,10 +437,26 @@ pub struct Trade {
 
 const _: () = assert!(size_of::<Trade>() == 36);
 
+/// Which engine this is, so that a certificate can name it: the version, the Rattle kit that proved it, and the hash of
+/// the sources that were proved, as tools/version prints it.
+#[derive(Clone, Copy, Debug, PartialEq)]
+pub struct Identity {
+    pub version: &'static str,
+    pub kit: &'static str,
+    pub sources: &'static str,
+}
+
 mod linked {
     use super::*;
 
-    extern "C" {
+    #[repr(C)]
+    pub struct Identity {
+        pub version: *const c_char,
+        pub kit: *const c_char,
+        pub sources: *const c_char,
+    }
+
+    unsafe extern "C" {
         pub fn zelvorm_open(
             file: *const u8,
             file_bytes: usize,
@@ -552,6 +572,7 @@ mod linked {
             trades: *const u32,
             trades_words: usize,
         ) -> Loaded;
+        pub fn zelvorm_engine() -> Identity;
     }
 }
 
@@ -680,4 +701,12 @@ pub fn read(
     trades: &[u32],
 ) -> Loaded {
     unsafe { linked::zelvorm_read(file.as_ptr(), file.len(), state, buys.as_ptr(), buys.len(), sells.as_ptr(), sells.len(), trades.as_ptr(), trades.len()) }
+}
+
+/// Which engine is linked. This call is a help: it stands beside the proved ones, in an object of its own.
+pub fn engine() -> Identity {
+    // The library's own texts: they end with a zero byte and are there as long as the program.
+    let text = |at: *const c_char| unsafe { CStr::from_ptr(at) }.to_str().unwrap_or("");
+    let found = unsafe { linked::zelvorm_engine() };
+    Identity { version: text(found.version), kit: text(found.kit), sources: text(found.sources) }
 }

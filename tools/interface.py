@@ -123,6 +123,7 @@ class Interface:
     def __init__(self, top=TOP):
         self.top = top
         self.structs = {}
+        self.version = (top / "VERSION").read_text().strip()
         self.constants = constants_in(source_of(top, "rules"))
         self.constants += constants_in(source_of(top, "exports"), self.constants)
         self.kinds = kinds(top)

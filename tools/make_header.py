@@ -1,8 +1,10 @@
 #!/usr/bin/env python3
 """make_header.py: makes include/zelvorm.h, and the same for Rust and for Python, from the Rattle source.
 
-    tools/make_header.py            makes include/zelvorm.h, include/zelvorm.rs and include/zelvorm.py
+    tools/make_header.py            makes include/zelvorm.h, include/zelvorm.rs, include/zelvorm.py, and include/zelvorm.map
     tools/make_header.py check      tells which of them is not what this tool makes; status 1 where there is one
+
+zelvorm.map names the calls for the linker: the shared library shows them and nothing else.
 """
 
 import re
@@ -28,6 +30,16 @@ anything else that it is lent. That is all that a call asks for: on any state, a
 with a code where something is wrong, and touches nothing outside the areas.
 
 In the records a place counts from 0 and a number from 1; commands name accounts, contracts and orders by number."""
+
+# The one call that is no part of the proved source: tools/build_library writes it and links it in as an object of its own.
+ENGINE = "zelvorm_engine"
+
+IDENTITY_WORDS = "Which engine this is, so that a certificate can name it: the version, the Rattle kit that proved it, and the hash of \
+the sources that were proved, as tools/version prints it."
+
+ENGINE_WORDS = "Which engine is linked. This call is a help: it stands beside the proved ones, in an object of its own."
+
+VERSION_WORDS = "The version that this file belongs to. Programs go on with any library of the same major version."
 
 C_TYPES = {
     "bool": "bool",
@@ -127,12 +139,25 @@ def c_call(call):
     yield f"    {parameters[-1]});"
 
 
+def c_version(version):
+    yield from ["", *c_comment(VERSION_WORDS), f'#define ZELVORM_VERSION "{version}"']
+    for part, number in zip(("MAJOR", "MINOR", "PATCH"), version.split(".")):
+        yield f"#define ZELVORM_VERSION_{part} {number}"
+
+
+def c_engine():
+    yield from c_comment(IDENTITY_WORDS)
+    yield from ["typedef struct zelvorm_identity {", "    const char *version;", "    const char *kit;", "    const char *sources;"]
+    yield from ["} zelvorm_identity;", "", *c_comment(ENGINE_WORDS), f"zelvorm_identity {ENGINE}(void);"]
+
+
 def c_header(interface):
     yield from ["/*", *paragraphs(f"zelvorm.h. {MADE}", " * "), " *", *paragraphs(ABOUT, " * "), " */"]
     yield from ["#ifndef ZELVORM_H", "#define ZELVORM_H", ""]
     yield from ["#include <stdbool.h>", "#include <stddef.h>", "#include <stdint.h>", ""]
     yield from ["#ifdef __cplusplus", 'extern "C" {', "#define ZELVORM_ASSERT(test) static_assert(test, #test)"]
     yield from ["#else", "#define ZELVORM_ASSERT(test) _Static_assert(test, #test)", "#endif"]
+    yield from c_version(interface.version)
     for words, constants in groups(interface.constants):
         yield from ["", *c_comment(words)]
         yield from (f"#define ZELVORM_{constant.name} {c_value(constant)}" for constant in constants)
@@ -145,7 +170,17 @@ def c_header(interface):
         yield from ["", *c_struct(struct)]
     for call in interface.calls:
         yield from ["", *c_call(call)]
+    yield from ["", *c_engine()]
     yield from ["", "#ifdef __cplusplus", "}", "#endif", "", "#endif"]
+
+
+# What the linker lets the shared library show, each symbol with the major version.
+def linker_map(interface):
+    yield f"/* zelvorm.map. {MADE} */"
+    yield f"ZELVORM_{interface.version.split('.')[0]} {{"
+    yield "    global:"
+    yield from (f"        {name};" for name in [*(call.name for call in interface.calls), ENGINE])
+    yield from ["    local:", "        *;", "};"]
 
 
 # =====================================================================================================================
@@ -204,11 +239,37 @@ def rust_call(call):
     yield "}"
 
 
+RUST_IDENTITY = """\
+#[derive(Clone, Copy, Debug, PartialEq)]
+pub struct Identity {
+    pub version: &'static str,
+    pub kit: &'static str,
+    pub sources: &'static str,
+}"""
+
+RUST_LINKED_IDENTITY = """\
+    #[repr(C)]
+    pub struct Identity {
+        pub version: *const c_char,
+        pub kit: *const c_char,
+        pub sources: *const c_char,
+    }"""
+
+RUST_ENGINE = f"""\
+pub fn engine() -> Identity {{
+    // The library's own texts: they end with a zero byte and are there as long as the program.
+    let text = |at: *const c_char| unsafe {{ CStr::from_ptr(at) }}.to_str().unwrap_or("");
+    let found = unsafe {{ linked::{ENGINE}() }};
+    Identity {{ version: text(found.version), kit: text(found.kit), sources: text(found.sources) }}
+}}"""
+
+
 def rust_module(interface):
     yield from paragraphs(f"zelvorm.rs. {MADE}", "//! ")
     yield from ["//!", *paragraphs(ABOUT, "//! "), "//!"]
     yield from paragraphs("A slice is valid and what is written is lent to nobody else, so every call is safe.", "//! ")
-    yield from ["#![allow(dead_code)]", "", "use std::mem::size_of;"]
+    yield from ["#![allow(dead_code)]", "", "use std::ffi::{c_char, CStr};", "use std::mem::size_of;"]
+    yield from ["", *rust_comment(VERSION_WORDS), f'pub const VERSION: &str = "{interface.version}";']
     for words, constants in groups(interface.constants):
         yield from ["", *wrapped(words, "// ", "// ")]
         yield from (f"pub const {constant.name}: {constant.type} = {constant.value};" for constant in constants)
@@ -219,12 +280,14 @@ def rust_module(interface):
         yield from ["", *rust_comment(code.sentence), f"pub const CODE_{code.name}: u32 = {code.number};"]
     for struct in interface.structs.values():
         yield from ["", *rust_struct(struct)]
-    yield from ["", "mod linked {", "    use super::*;", "", '    extern "C" {']
+    yield from ["", *rust_comment(IDENTITY_WORDS), *RUST_IDENTITY.splitlines()]
+    yield from ["", "mod linked {", "    use super::*;", "", *RUST_LINKED_IDENTITY.splitlines(), "", '    unsafe extern "C" {']
     for call in interface.calls:
         yield from rust_linked(call)
-    yield from ["    }", "}"]
+    yield from [f"        pub fn {ENGINE}() -> Identity;", "    }", "}"]
     for call in interface.calls:
         yield from ["", *rust_call(call)]
+    yield from ["", *rust_comment(ENGINE_WORDS), *RUST_ENGINE.splitlines()]
 
 
 # =====================================================================================================================
@@ -299,8 +362,18 @@ def python_call(call):
     yield "    ),"
 
 
+PYTHON_IDENTITY = """\
+class Identity(ctypes.Structure):
+    _fields_ = [
+        ("version", ctypes.c_char_p),
+        ("kit", ctypes.c_char_p),
+        ("sources", ctypes.c_char_p),
+    ]"""
+
+
 def python_module(interface):
     yield from [f'"""zelvorm.py. {MADE}', "", *paragraphs(ABOUT, ""), '"""', "", "import ctypes"]
+    yield from ["", *wrapped(VERSION_WORDS, "# ", "# "), f'VERSION = "{interface.version}"']
     for words, constants in groups(interface.constants):
         yield from ["", *wrapped(words, "# ", "# ")]
         yield from (f"{constant.name} = {constant.value}" for constant in constants)
@@ -311,9 +384,11 @@ def python_module(interface):
         yield from ["", *wrapped(code.sentence, "# ", "# "), f"CODE_{code.name} = {code.number}"]
     for struct in interface.structs.values():
         yield from ["", "", *python_struct(struct)]
+    yield from ["", "", *wrapped(IDENTITY_WORDS, "# ", "# "), *PYTHON_IDENTITY.splitlines()]
     yield from ["", "", "# The result and the parameters of each call.", "CALLS = {"]
     for call in interface.calls:
         yield from python_call(call)
+    yield from [*wrapped(ENGINE_WORDS, "    # ", "    # "), f'    "{ENGINE}": (Identity,),']
     yield from ["}", "", "", PYTHON_LOADING]
 
 
@@ -323,7 +398,7 @@ def python_module(interface):
 def made_files(top=TOP):
     """The content of every file that is made, by its path."""
     interface = Interface(top)
-    makers = {"zelvorm.h": c_header, "zelvorm.rs": rust_module, "zelvorm.py": python_module}
+    makers = {"zelvorm.h": c_header, "zelvorm.rs": rust_module, "zelvorm.py": python_module, "zelvorm.map": linker_map}
     return {top / "include" / name: "\n".join(maker(interface)) + "\n" for name, maker in makers.items()}
 
 

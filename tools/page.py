@@ -3,9 +3,10 @@
 
     page.py samples/paper-example.txt > lesson.html
 
-The page steps through the lesson with the keyboard (left, right, Home, End): the command and its answer in words with
-every working, the book as a ladder, trades, holdings and balances beside it, and pictures of prices and of balances by
-day. It fetches nothing, and prints as a hand-out. Its words are those of explain.py.
+The page steps through the lesson with the keyboard (left, right, Page Up, Page Down, Home, End): the command and its
+answer in words with every working, the book as a ladder, trades, holdings and balances beside it, and pictures of
+prices and of balances by day. The key A shows each answer one step after its command, as an exercise's always is. The
+page fetches nothing, and prints as a hand-out. Its words are those of explain.py.
 
 Where the day runner and the model differ no page is made, and the status is 1; it is 2 where there is nothing to show.
 """

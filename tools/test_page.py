@@ -114,6 +114,7 @@ SHOWN = """(() => {
   const orders = (row, side) => texts(`.${side} .order`, row).map((text) => text.replace(/\\s+/g, " "));
   return {
     step: Number(document.body.dataset.step),
+    asked: document.querySelector("#words .asked") !== null,
     where: document.querySelector("#where").innerText,
     heading: document.querySelector("#words h2").innerText,
     lines: [...document.querySelectorAll("#words .line")].map((node) => node.dataset.line),
@@ -130,6 +131,26 @@ SHOWN = """(() => {
     balances: [...document.querySelectorAll("#balances svg")].map((svg) =>
       [...svg.querySelectorAll("circle")].map((node) => node.dataset.balance)),
   };
+})()"""
+
+# Where things stand in the pictures, from side to side aside: that goes by the number of commands.
+SCALES = """(() => {
+  const all = (selector, name) => [...document.querySelectorAll(selector)].map((node) => node.getAttribute(name));
+  return {
+    ladder: all(".ladder tbody tr", "data-price"),
+    axis: [...document.querySelectorAll("#prices text[text-anchor=end]")].map((node) => node.textContent),
+    heights: all("#prices circle, #balances circle", "cy"),
+    reference: all("#prices .reference, #balances .reference", "y1"),
+  };
+})()"""
+
+LIST_PLACE = """(() => {
+  const middle = ({ top, height }) => top + height / 2;
+  const list = document.querySelector("#list").getBoundingClientRect();
+  const row = document.querySelector("#list [aria-current=step]");
+  const { bottom } = row.parentNode.nextElementSibling.getBoundingClientRect();
+  const place = row.getBoundingClientRect();
+  return { middle: middle(list), current: middle(place), row: place.height, next: bottom, bottom: list.bottom };
 })()"""
 
 FIRST_TRADE = ["1", "102", "3", "A2 #2 open", "A1 #1 open"]
@@ -206,9 +227,12 @@ class InABrowser(unittest.TestCase):
         self.assertEqual(self.browser.errors, [])
 
     def open(self, name, step=None):
+        return self.open_page(name, lambda: page_of_sample(name), step)
+
+    def open_page(self, name, made, step=None):
         path = Path(self.folder.name, f"{name}.html")
         if not path.exists():
-            path.write_text(page_of_sample(name), encoding="utf-8")
+            path.write_text(made(), encoding="utf-8")
         self.browser.call("Page.navigate", url="about:blank")
         self.browser.open(path, step)
         return path
@@ -246,6 +270,9 @@ class InABrowser(unittest.TestCase):
         self.assert_paper_step(8)
         self.browser.press("Home")
         self.assert_paper_step(0)
+        for key, step in (("PageDown", 1), ("PageDown", 2), ("PageUp", 1)):
+            self.browser.press(key)
+            self.assert_paper_step(step)
         # The page itself is all that was asked for.
         self.assertEqual(
             [url.split("#")[0] for url in self.browser.requests if url.startswith("file:")], [path.as_uri()]
@@ -310,6 +337,81 @@ class InABrowser(unittest.TestCase):
         self.browser.press("ArrowRight")
         self.assertEqual(self.browser.value(refused), ["12"])
 
+    def test_scales_know_nothing_of_what_lies_ahead(self):
+        """The ladder's rows, the axis of prices and the heights in the pictures are those of a lesson that ends here."""
+        text = (SAMPLES / "profit-of-five-days.txt").read_text()
+        whole = lesson.lesson_of("lesson.txt", daytext.pack(text), text)
+        for step in (3, 7, 13, 20):
+            day = whole.day._replace(commands=whole.day.commands[:step])
+            first = whole._replace(day=day, comments={**whole.comments, "command": whole.comments["command"][:step]})
+            lines = lesson.lines_by_command(model.run(whole.file).decode())[: step + 1]
+            printed = "".join(f"{line}\n" for group in lines for line in group)
+            self.open_page(f"first-{step}", lambda: page.page(first, printed), step)
+            alone = self.browser.value(SCALES)
+            self.open("profit-of-five-days", step)
+            self.assertEqual(self.browser.value(SCALES), alone, f"step {step}")
+
+    def test_balances_begin_in_the_middle(self):
+        self.open("profit-of-five-days", 1)
+        heights = "[...document.querySelectorAll('#balances circle')].map((node) => node.getAttribute('cy'))"
+        self.assertEqual(len(set(self.browser.value(heights))), 1)
+
+    def test_the_next_commands_are_in_sight(self):
+        self.open("full-day")
+        for step in (300, 700, 640):
+            self.browser.value(f"go({step})")
+            place = self.browser.value(LIST_PLACE)
+            self.assertLess(abs(place["middle"] - place["current"]), place["row"], f"step {step}")
+            self.assertLess(place["next"], place["bottom"])
+
+    def assert_asked(self, step, asked):
+        shown = self.shown()
+        self.assertEqual((shown["step"], shown["asked"]), (step, asked))
+        self.assertEqual(bool(shown["lines"]), not asked and step > 0)
+        return shown
+
+    def test_an_exercise_shows_its_command_first(self):
+        self.open("14-quotes", step=12)
+        book = self.shown()["ladder"]
+        self.browser.press("ArrowRight")
+        asked = self.assert_asked(13, True)
+        self.assertIn("Which orders of its own rest then", asked["words"])
+        self.assertEqual(asked["ladder"], book)
+        self.browser.wait_for("location.hash === '#13?'")
+        self.browser.press("ArrowRight")
+        answered = self.assert_asked(13, False)
+        self.assertNotEqual(answered["ladder"], book)
+        self.browser.press("ArrowRight")
+        self.assertIn("Which orders of its own rest then", self.assert_asked(14, True)["words"])
+        self.assertNotIn("Answer: order 9", self.shown()["words"])
+        self.browser.press("ArrowRight")
+        self.assertIn("Answer: order 9", self.assert_asked(14, False)["words"])
+        for step, is_asked in ((14, True), (13, False), (13, True), (12, False), (11, False)):
+            self.browser.press("ArrowLeft")
+            self.assert_asked(step, is_asked)
+        self.browser.click("#list [data-step='13']")
+        self.assert_asked(13, True)
+
+    def test_command_then_answer(self):
+        self.addCleanup(self.browser.value, "chooseAnswers('with')")
+        self.open("paper-example")
+        self.browser.press("a")
+        for step in range(1, 9):
+            before = self.shown()
+            self.browser.press("PageDown")
+            asked = self.assert_asked(step, True)
+            for part in ("ladder", "accounts", "trades", "prices", "balances"):
+                self.assertEqual(asked[part], before[part])
+            self.browser.press("PageDown")
+            self.assert_paper_step(step)
+        self.browser.press("PageDown")
+        self.assert_paper_step(8)
+        self.open("paper-example", "3?")
+        self.assert_asked(3, True)
+        self.assertEqual(self.browser.value("document.querySelector('#answers').value"), "after")
+        self.browser.press("a")
+        self.assert_paper_step(3)
+
     def test_a_refusal_and_two_contracts(self):
         self.open("margin-of-three-days", step=12)
         shown = self.shown()
@@ -349,14 +451,37 @@ class InABrowser(unittest.TestCase):
         self.browser.value("document.querySelector('#paper').value = 'step'")
         one = self.browser.paper()
         self.assertTrue(whole.startswith(b"%PDF") and one.startswith(b"%PDF"))
-        self.assertGreaterEqual(pages_in(whole), 3)
+        self.assertEqual(pages_in(whole), 3)
         self.assertEqual(pages_in(one), 1)
         self.assert_paper_step(6)
+
+    def test_the_pages_of_a_print(self):
+        """Their number is told, and many are printed only if they are asked for."""
+        self.browser.value("document.querySelector('#paper').value = 'all'")
+        for name in ("paper-example", "14-quotes", "profit-of-five-days"):
+            self.open(name)
+            told = int(self.browser.value("document.querySelector('#paper option').innerText").split()[1])
+            self.assertEqual(self.browser.value("document.querySelector('#paper').value"), "all")
+            made = pages_in(self.browser.paper())
+            self.assertLessEqual(abs(told - made), 1 + made // 10, f"{name}: {told} told, {made} made")
+        self.open("full-day", 600)
+        self.assertRegex(self.browser.value("document.querySelector('#paper option').innerText"), r"all, \d\d\d pages")
+        self.browser.value("fillHandout()")
+        printed = self.browser.value("document.querySelector('#handout').textContent")
+        self.assertIn("This is one step of 1,049 commands. The whole lesson takes about", printed)
+        self.assertEqual(pages_in(self.browser.paper()), 1)
 
     def test_nothing_sticks_out(self):
         """At the widths of a projector, a small screen and a telephone. A balance of 10^18 may need scrolling."""
         self.addCleanup(self.resize, 1280, 900)
-        for name, step in (("paper-example", 8), ("margin-of-three-days", 17), ("largest-file", 8), ("every-code", 200)):
+        for name, step in (
+            ("paper-example", 8),
+            ("margin-of-three-days", 17),
+            ("largest-file", 8),
+            ("auction-examples", 34),
+            ("full-day", 1040),
+            ("every-code", 200),
+        ):
             self.open(name, step)
             for width, height in ((1920, 1080), (1280, 720), (1024, 768), (800, 600), (400, 800)):
                 self.resize(width, height)
@@ -367,6 +492,20 @@ class InABrowser(unittest.TestCase):
                     )
                     reach = max(reach, *self.browser.value(parts))
                 self.assertLessEqual(reach, width + 0.5, f"{name} at {width}")
+
+    def test_on_a_telephone(self):
+        """The header is one row, and the list stands behind what a step changes."""
+        self.addCleanup(self.resize, 1280, 900)
+        self.open("paper-example", 3)
+        self.resize(400, 800)
+        tops = self.browser.value(
+            "['words', 'book', 'accounts', 'trades', 'prices', 'list'].map((id) =>"
+            " document.getElementById(id).getBoundingClientRect().top)"
+        )
+        self.assertEqual(tops, sorted(tops))
+        self.assertLess(self.browser.value("document.querySelector('header').offsetHeight"), 50)
+        self.browser.click("#next")
+        self.assert_paper_step(4)
 
     def resize(self, width, height):
         self.browser.call(

@@ -14,10 +14,11 @@ const FIELDS = {
 };
 const COLOURS = ["#1766a8", "#b34a0e", "#19703f", "#7a3e9d", "#a8201a", "#00767a", "#8a6d00", "#4b5563"];
 
-// A ladder shows every tick between the prices of the day if there are no more than this, and otherwise those with
-// orders. So many ticks are shown beyond the day's outermost prices.
+// A ladder shows every tick between the prices that the day has had so far if there are no more than this, and
+// otherwise those with orders. So many ticks are shown beyond the outermost prices, and so many around the reference.
 const MOST_ROWS = 25;
 const ROWS_AROUND = 2;
+const ROWS_AROUND_REFERENCE = 5;
 // Prices on a side, orders at a price, trades of a day: what is more is left out and counted.
 const MOST_LEVELS = 12;
 const MOST_ORDERS = 4;
@@ -27,6 +28,8 @@ const MOST_OPEN = 4;
 // Pictures of more days than these have smaller marks, and no figures.
 const MANY_DAYS = 40;
 const MOST_DAYS_WITH_FIGURES = 12;
+// A print of more pages than this is made only when it is asked for.
+const MANY_PAGES = 20;
 
 // The state after each step, the opening at 0. A step holds only the books and accounts that it changed.
 const states = [lesson.opening];
@@ -41,6 +44,11 @@ steps.forEach(({ day }, place) => {
   if (days[days.length - 1]?.day !== day) days.push({ day, from: place });
   days[days.length - 1].to = place + 1;
 });
+
+// The exercise that each step is a part of: the comment that asks, up to the next comment above a command.
+const asks = (paragraphs) => paragraphs.some((text) => /^exercise\b/i.test(text) || text.endsWith("?"));
+let question = [];
+const questions = steps.map(({ above }) => (question = above.length ? (asks(above) ? above : []) : question));
 
 const stateBefore = (at) => states[Math.max(at - 1, 0)];
 const dayOf = (at) => (at === 0 ? 1 : steps[at - 1].day);
@@ -75,6 +83,8 @@ const note = (text) => element("p", { class: "key" }, text);
 const figure = (number) => number.toLocaleString("en-US");
 const lots = (count) => (count === 1 ? "1 lot" : `${figure(count)} lots`);
 const sums = (text) => text.replaceAll(" x ", " \u00d7 ");
+const least = (numbers) => numbers.reduce((one, other) => Math.min(one, other));
+const most = (numbers) => numbers.reduce((one, other) => Math.max(one, other));
 const colour = (account) => COLOURS[(account - 1) % COLOURS.length];
 
 // --- The words of a step ---
@@ -83,16 +93,27 @@ function wordsOf(at, onPaper) {
   if (at === 0) return openingWords();
   const step = steps[at - 1];
   return [
-    element("p", { class: "where" }, `Day ${step.day}, command ${at} of ${steps.length}`),
-    ...comments(step.above),
-    element("h2", {}, step.heading),
+    ...commandWords(at, step.above),
     ...comments(step.beside ? [step.beside] : []),
     ...step.said.map((said) => saidWords(step, said, onPaper)),
   ];
 }
 
+function commandWords(at, above) {
+  const step = steps[at - 1];
+  const where = element("p", { class: "where" }, `Day ${step.day}, command ${at} of ${steps.length}`);
+  return [where, ...comments(above), element("h2", {}, step.heading)];
+}
+
+// The command without its answer, which the next key shows. What is written beside a command may tell the answer.
+function askedWords(at) {
+  const above = questions[at - 1].length ? questions[at - 1] : steps[at - 1].above;
+  return [...commandWords(at, above), element("p", { class: "asked" }, "What is the answer? Next shows it.")];
+}
+
 function openingWords() {
-  const keys = "Arrow keys: left and right go back and on, Home and End to the first and the last step";
+  const keys = "Keys: right arrow or Page Down goes on, left arrow or Page Up back, Home and End to the first and the last"
+    + " step; A shows answers at once or a step later";
   const choice = contracts.length > 1 ? `; 1 to ${contracts.length} choose a contract.` : ".";
   return [
     element("p", { class: "where" }, "The opening"),
@@ -104,16 +125,38 @@ function openingWords() {
   ];
 }
 
-// Rows of a table, which are set in, stay one under another.
+// Lines that are set in are the rows of a table, or stay one under another.
 function comments(paragraphs) {
   const blocks = [];
   for (const text of paragraphs) {
     const isRow = text.startsWith(" ");
     const last = blocks[blocks.length - 1];
-    if (isRow && last?.tagName === "PRE") last.append(`\n${text.slice(2)}`);
-    else blocks.push(element(isRow ? "pre" : "p", { class: "comment" }, isRow ? text.slice(2) : text));
+    if (isRow && last?.rows) last.rows.push(text.slice(2));
+    else blocks.push(isRow ? { rows: [text.slice(2)] } : { text });
   }
-  return blocks;
+  return blocks.map(({ rows, text }) => (rows ? rowsOfComment(rows) : element("p", { class: "comment" }, text)));
+}
+
+function rowsOfComment(rows) {
+  const starts = columnStarts(rows);
+  if (starts.length === 1) return element("pre", { class: "comment" }, rows.join("\n"));
+  const cells = (row, tag) => starts.map((start, place) => element(tag, {}, row.slice(start, starts[place + 1]).trim()));
+  const [head, ...body] = rows;
+  return element("div", { class: "comment" }, element("table", {},
+    element("thead", {}, element("tr", {}, ...cells(head, "th"))),
+    element("tbody", {}, ...body.map((row) => element("tr", {}, ...cells(row, "td"))))));
+}
+
+// Where the columns of rows begin: behind two spaces or more that all of them have at the same place.
+function columnStarts(rows) {
+  const isBlank = (place) => rows.every((row) => (row[place] ?? " ") === " ");
+  const width = most(rows.map(({ length }) => length));
+  const starts = [0];
+  for (let place = 2; place < width; place += 1) {
+    const isStart = isBlank(place - 2) && isBlank(place - 1) && !isBlank(place);
+    if (isStart && rows.some((row) => row.slice(0, place).trim())) starts.push(place);
+  }
+  return starts;
 }
 
 function saidWords(step, said, onPaper) {
@@ -175,8 +218,8 @@ function ladder(at, contract, prices) {
   return table(["to buy", "price", "to sell"], rows, { class: "ladder" });
 }
 
-// The prices from the top: every tick in the reach of the day, so that they stay where they are from step to step; or,
-// if those are too many, the prices with orders, the last price and the reference.
+// The prices from the top: every tick in the reach of the day so far, so that they stay where they are from step to
+// step; or, if those are too many, the prices with orders, the last price and the reference.
 function ladderPrices(at, contract) {
   const book = states[at].books[contract];
   const [lowest, highest] = reachOfDay(at, contract);
@@ -187,29 +230,27 @@ function ladderPrices(at, contract) {
   return [...prices].sort((one, other) => other - one);
 }
 
-// The lowest and the highest price that the ladder has to show on the day that the state belongs to. The state after a
-// settlement belongs to the next day.
-const reaches = new Map();
+// The lowest and the highest price that the ladder shows: around the reference, and as far as the prices and orders of
+// the day have reached up to now. The state after a settlement belongs to the next day.
 function reachOfDay(at, contract) {
-  const day = days.find(({ to }) => at < to || (at === to && !isSettlement(to)));
-  const first = isSettlement(at) ? at : day?.from ?? 0;
-  const key = `${first} ${contract}`;
-  if (!reaches.has(key)) reaches.set(key, reachFrom(first, contract));
-  return reaches.get(key);
+  const first = firstOfDay(at);
+  const { tick, low, high, reference } = states[first].books[contract];
+  const prices = [];
+  for (let step = first; step <= at; step += 1) {
+    const { last, buys, sells } = states[step].books[contract];
+    prices.push(last, ...[...buys, ...sells].map(([price]) => price));
+  }
+  const lowest = least([reference, ...prices]), highest = most([reference, ...prices]);
+  const below = Math.min(lowest - ROWS_AROUND * tick, reference - ROWS_AROUND_REFERENCE * tick);
+  const above = Math.max(highest + ROWS_AROUND * tick, reference + ROWS_AROUND_REFERENCE * tick);
+  return [Math.min(lowest, Math.max(below, low)), Math.max(highest, Math.min(above, high))];
 }
 
-function reachFrom(first, contract) {
-  const { tick, low, high } = states[first].books[contract];
-  let lowest = Infinity, highest = -Infinity;
-  for (let at = first; at <= steps.length && (at === first || !isSettlement(at)); at += 1) {
-    const { last, reference, buys, sells } = states[at].books[contract];
-    for (const price of [last, reference, ...[...buys, ...sells].map(([resting]) => resting)]) {
-      lowest = Math.min(lowest, price);
-      highest = Math.max(highest, price);
-    }
-  }
-  const around = ROWS_AROUND * tick;
-  return [Math.min(lowest, Math.max(lowest - around, low)), Math.max(highest, Math.min(highest + around, high))];
+// The first state of the day that a state belongs to.
+function firstOfDay(at) {
+  let first = at;
+  while (first > 0 && !isSettlement(first)) first -= 1;
+  return first;
 }
 
 function ladderRow(book, before, price) {
@@ -291,7 +332,7 @@ const PRICES = { width: 360, height: 210, left: 62, right: 12, top: 8, bottom: 2
 
 function pricePicture(at, contract) {
   const { width, height, left, right, top, bottom } = PRICES;
-  const [low, high] = priceRange(contract);
+  const [low, high] = priceRange(at, contract);
   const x = (step) => left + (step / Math.max(steps.length, 1)) * (width - left - right);
   const y = (price) => top + ((high - Math.min(Math.max(price, low), high)) / (high - low)) * (height - top - bottom);
   const upright = (name, place) => drawn("line", { class: name, x1: place, x2: place, y1: top, y2: height - bottom });
@@ -307,16 +348,14 @@ function pricePicture(at, contract) {
     ...settlementPrices(at, contract, x, y));
 }
 
-// From the least to the largest price of the lesson, with the first day's limits where they are near.
-function priceRange(contract) {
+// From the least to the largest price so far, with the first day's limits where they are near.
+function priceRange(at, contract) {
   const { tick, low, high } = states[0].books[contract];
-  const prices = states.flatMap(({ books }) => [books[contract].reference, books[contract].last]);
-  for (const step of steps) prices.push(...pricesOf(step, contract).map(({ price }) => price));
+  const prices = states.slice(0, at + 1).flatMap(({ books }) => [books[contract].reference, books[contract].last]);
+  for (const step of steps.slice(0, at)) prices.push(...pricesOf(step, contract).map(({ price }) => price));
   if ((high - low) / tick <= MOST_ROWS) prices.push(low, high);
-  const least = prices.reduce((one, other) => Math.min(one, other));
-  const most = prices.reduce((one, other) => Math.max(one, other));
-  const margin = Math.max(tick, (most - least) * 0.08);
-  return [least - margin, most + margin];
+  const margin = Math.max(ROWS_AROUND * tick, (most(prices) - least(prices)) * 0.08);
+  return [least(prices) - margin, most(prices) + margin];
 }
 
 // What a step traded in a contract.
@@ -399,26 +438,25 @@ function settlementPrices(at, contract, x, y) {
 
 // --- The pictures of balances ---
 
-// A small picture for each account: the opening balance and the balance after each settlement so far. All have the
-// same scale, so that what one gains can be seen to be what others lose.
+// A small picture for each account: the opening balance in the middle, and the balance after each settlement so far.
+// All have the same scale, so that what one gains can be seen to be what others lose; what lies ahead has no part in it.
 function balancePictures(at) {
   const settled = steps.map((step, place) => (step.settled ? place + 1 : 0)).filter(Boolean);
-  const ranges = lesson.active.map((account) => {
-    const values = [0, ...settled].map((step) => states[step].accounts[account].value);
-    return { account, least: Math.min(...values), most: Math.max(...values) };
-  });
-  const span = Math.max(1, ...ranges.map(({ least, most }) => most - least));
-  return ranges.map(({ account, least, most }) => balancePicture(at, account, settled, (least + most) / 2, span));
+  const reached = settled.filter((step) => step <= at);
+  const gains = lesson.active.flatMap((account) => reached.map((step) => gain(step, account)));
+  const furthest = most([1, ...gains.map(Math.abs)]);
+  return lesson.active.map((account) => balancePicture(at, account, settled, furthest));
 }
 
-function balancePicture(at, account, settled, middle, span) {
+const gain = (step, account) => states[step].accounts[account].value - states[0].accounts[account].value;
+
+function balancePicture(at, account, settled, furthest) {
   const width = 170, height = 92, left = 8, right = 12, top = 26, bottom = 20;
   const x = (day) => left + (day / Math.max(settled.length, 1)) * (width - left - right);
-  const y = (value) => top + (0.5 - (value - middle) / span) * (height - top - bottom);
-  const opening = y(states[0].accounts[account].value);
+  const y = (value) => top + (1 - value / furthest) / 2 * (height - top - bottom);
+  const opening = y(0);
   const points = [0, ...settled.filter((step) => step <= at)].map((step, day) => {
-    const { value, balance } = states[step].accounts[account];
-    return { day, balance, cx: x(day), cy: y(value) };
+    return { day, balance: states[step].accounts[account].balance, cx: x(day), cy: y(gain(step, account)) };
   });
   const path = points.map(({ cx, cy }) => `${cx},${cy}`).join(" ");
   const lastDay = { x: width - right, y: height - 3, "text-anchor": "end" };
@@ -442,6 +480,7 @@ function balancePoint({ day, balance, cx, cy }, account, count) {
 // --- The page ---
 
 let current = 0;
+let isAsked = false; // the command of the current step is shown, and its answer is not yet
 let chosen = null; // the contract asked for; otherwise that of the last command that named one
 
 function contractAt(at) {
@@ -449,11 +488,31 @@ function contractAt(at) {
   return contracts[0];
 }
 
-function go(to) {
+// A step that is a part of an exercise shows its command first, and every step does where that is chosen.
+const isInTwo = (at) => at > 0 && at <= steps.length && (byId("answers").value === "after" || questions[at - 1].length > 0);
+
+function go(to, toCommand = false) {
   current = Math.min(Math.max(to, 0), steps.length);
+  isAsked = toCommand && current > 0;
   chosen = null;
   show();
 }
+
+function goOn() {
+  if (isAsked) go(current);
+  else if (current < steps.length) go(current + 1, isInTwo(current + 1));
+}
+
+function goBack() {
+  if (!isAsked && isInTwo(current)) go(current, true);
+  else go(current - 1);
+}
+
+// To a step of the list: an answer that has not been reached is not shown at once.
+const goTo = (at) => go(at, at > reached() && isInTwo(at));
+
+// The last step whose answer is shown.
+const reached = () => (isAsked ? current - 1 : current);
 
 function choose(contract) {
   chosen = contract;
@@ -462,32 +521,70 @@ function choose(contract) {
 
 function show() {
   const contract = chosen ?? contractAt(current);
-  const isFirst = current === 0, isLast = current === steps.length;
-  byId("words").replaceChildren(...wordsOf(current));
-  byId("book").replaceChildren(...bookCard(current, contract));
-  byId("accounts").replaceChildren(...accountCard(current));
-  byId("trades").replaceChildren(...tradeCard(current));
-  byId("prices").replaceChildren(pricePicture(current, contract));
-  byId("balances").replaceChildren(...balancePictures(current));
+  const at = reached();
+  byId("words").replaceChildren(...(isAsked ? askedWords(current) : wordsOf(current)));
+  byId("book").replaceChildren(...bookCard(at, contract));
+  byId("accounts").replaceChildren(...accountCard(at));
+  byId("trades").replaceChildren(...tradeCard(at));
+  byId("prices").replaceChildren(pricePicture(at, contract));
+  byId("balances").replaceChildren(...balancePictures(at));
+  showWhere();
+  showList();
+  keepAddress();
+}
+
+function showWhere() {
+  const isFirst = current === 0, isLast = current === steps.length && !isAsked;
   byId("where").textContent = isFirst
     ? `Opening, ${steps.length} steps` : `Step ${current} of ${steps.length}, day ${dayOf(current)}`;
   byId("slider").value = current;
   byId("first").disabled = byId("back").disabled = isFirst;
   byId("next").disabled = byId("last").disabled = isLast;
   document.body.dataset.step = current;
-  showList();
-  keepAddress();
+  document.body.classList.toggle("asking", isAsked);
 }
 
-// The step stands in the address, for a link or a reload. A key held down changes it once, at the end.
-let addressTimer;
+// The step stands in the address, with a question mark where its answer is not shown yet, for a link or a reload. A key
+// held down changes it at its first stroke and once more at the end, since browsers limit how often it may change.
+const ADDRESS_PAUSE = 200;
+let addressTimer, addressTime = -ADDRESS_PAUSE;
 function keepAddress() {
   clearTimeout(addressTimer);
-  addressTimer = setTimeout(() => history.replaceState(null, "", `#${current}`), 200);
+  const wait = addressTime + ADDRESS_PAUSE - performance.now();
+  if (wait <= 0) writeAddress();
+  else addressTimer = setTimeout(writeAddress, wait);
 }
 
-function stepInAddress() {
-  return Math.trunc(Number(location.hash.slice(1))) || 0;
+function writeAddress() {
+  addressTime = performance.now();
+  history.replaceState(null, "", `#${current}${isAsked ? "?" : ""}`);
+}
+
+function goToAddress() {
+  const [, step, mark] = /^#(-?[\d.]+)(\??)$/.exec(location.hash) ?? [];
+  go(Math.trunc(Number(step)) || 0, mark === "?");
+}
+
+// Whether answers come with their commands or after them is kept for other lessons, where the browser keeps anything.
+const ANSWERS_KEY = "zelvorm answers";
+function keepAnswers() {
+  try {
+    localStorage.setItem(ANSWERS_KEY, byId("answers").value);
+  } catch { /* a browser may forbid it to a page in a file */ }
+}
+
+function chooseAnswers(value) {
+  byId("answers").value = value;
+  keepAnswers();
+  if (isAsked && !isInTwo(current)) go(current);
+}
+
+function answersKept() {
+  try {
+    return localStorage.getItem(ANSWERS_KEY) === "after" ? "after" : "with";
+  } catch {
+    return "with";
+  }
 }
 
 // The list names every command, but tells an answer only once it has been reached.
@@ -495,21 +592,21 @@ function showList() {
   for (const button of byId("list").querySelectorAll("button")) {
     const at = Number(button.dataset.step);
     button.classList.toggle("later", at > current);
-    button.classList.toggle("refused", at > 0 && at <= current && steps[at - 1].code !== 0);
+    button.classList.toggle("refused", at > 0 && at <= reached() && steps[at - 1].code !== 0);
     if (at !== current) button.removeAttribute("aria-current");
     else {
       button.setAttribute("aria-current", "step");
-      bringIntoList(button);
+      bringToMiddle(button);
     }
   }
 }
 
-// The list alone is scrolled, never the page.
-function bringIntoList(button) {
+// The current command stands in the middle of the list, so that the next ones are seen. The list alone is scrolled,
+// never the page.
+function bringToMiddle(button) {
   const list = byId("list");
-  const above = button.offsetTop - list.offsetTop, below = above + button.offsetHeight;
-  if (above < list.scrollTop) list.scrollTop = above;
-  if (below > list.scrollTop + list.clientHeight) list.scrollTop = below - list.clientHeight;
+  const above = button.offsetTop - list.offsetTop;
+  list.scrollTop = above - (list.clientHeight - button.offsetHeight) / 2;
 }
 
 function listEntries() {
@@ -524,15 +621,19 @@ function listEntries() {
 function entry(at, text) {
   const number = element("span", { class: "number" }, at ? String(at) : "");
   const button = element("button", { "data-step": at, tabindex: -1 }, number, text);
-  button.addEventListener("click", () => go(at));
+  button.addEventListener("click", () => goTo(at));
   return element("li", {}, button);
 }
 
+// Page Down and Page Up are what a presenter's remote control sends.
 const KEYS = {
-  ArrowRight: () => go(current + 1),
-  ArrowLeft: () => go(current - 1),
+  ArrowRight: goOn,
+  PageDown: goOn,
+  ArrowLeft: goBack,
+  PageUp: goBack,
   Home: () => go(0),
   End: () => go(steps.length),
+  a: () => chooseAnswers(byId("answers").value === "with" ? "after" : "with"),
 };
 
 function onKey(event) {
@@ -545,17 +646,65 @@ function onKey(event) {
 
 // --- On paper: the steps one under another, and the pictures at the end ---
 
+// The steps that are printed, by the choice.
+function stepsOnPaper(choice) {
+  if (choice === "all") return [...states.keys()];
+  if (choice === "step") return [current];
+  const { from, to } = days.find(({ day }) => day === dayOf(current)) ?? { from: 0, to: 0 };
+  return Array.from({ length: to - from }, (_, place) => from + 1 + place);
+}
+
 function fillHandout() {
-  const wanted = byId("paper").value === "step" ? [current] : [...states.keys()];
+  const choice = byId("paper").value;
+  const wanted = stepsOnPaper(choice);
   const last = wanted[wanted.length - 1];
-  const prices = contracts.flatMap((contract) =>
-    [heading(`Prices of contract ${contract}`), pricePicture(last, contract)]);
-  const balances = element("div", { class: "balances" }, ...balancePictures(last));
   byId("handout").replaceChildren(
     ...(wanted[0] === 0 ? [] : [element("h1", {}, lesson.title)]),
+    ...(choice === "all" || pagesOfAll <= MANY_PAGES ? [] : [note(notAllWords(choice))]),
     ...wanted.map(handoutStep),
-    element("section", { class: "wide pictures" }, ...prices),
-    element("section", { class: "wide pictures" }, heading("Balances by day"), balances));
+    handoutPictures(last));
+}
+
+function notAllWords(choice) {
+  const part = choice === "step" ? "This is one step" : "This is one day";
+  return `${part} of ${figure(steps.length)} commands. The whole lesson takes about ${figure(pagesOfAll)} pages: choose it`
+    + " beside \"On paper\" if you want it.";
+}
+
+function handoutPictures(last) {
+  const prices = contracts.map((contract) =>
+    element("div", {}, heading(`Prices of contract ${contract}`), pricePicture(last, contract)));
+  const balances = element("div", { class: "balances" }, ...balancePictures(last));
+  return element("section", { class: "wide pictures" },
+    element("div", { class: "prices" }, ...prices), heading("Balances by day"), balances);
+}
+
+// How many pages of A4 the whole lesson takes, by the height of some of its steps as they are laid out on paper.
+const PAGE_WIDTH = "180mm", PAGE_HEIGHT_MM = 267, MEASURED_STEPS = 60, SPACE_LOST = 1.06;
+function countPages() {
+  const every = Math.ceil(states.length / MEASURED_STEPS);
+  const measured = [...states.keys()].filter((at) => at % every === 0);
+  const paper = element("div", { class: "handout", style: `width: ${PAGE_WIDTH}` }, ...measured.map(handoutStep));
+  const pictures = element("div", { class: "handout", style: `width: ${PAGE_WIDTH}` }, handoutPictures(steps.length));
+  const page = element("div", { style: `height: ${PAGE_HEIGHT_MM}mm` });
+  const desk = element("div", { class: "desk" }, paper, pictures, page);
+  document.documentElement.classList.add("measuring");
+  document.body.append(desk);
+  const all = paper.offsetHeight * (states.length / measured.length) + pictures.offsetHeight;
+  const pages = Math.max(1, Math.ceil((all / page.offsetHeight) * SPACE_LOST));
+  desk.remove();
+  document.documentElement.classList.remove("measuring");
+  return pages;
+}
+
+// Choices with their sizes. A lesson of many pages prints the step that is shown unless all of it is asked for.
+function offerPaper() {
+  const about = pagesOfAll === 1 ? "1 page" : `${figure(pagesOfAll)} pages`;
+  byId("paper").replaceChildren(
+    element("option", { value: "all" }, `all, ${about}`),
+    ...(days.length > 1 ? [element("option", { value: "day" }, "this day")] : []),
+    element("option", { value: "step" }, "this step"));
+  byId("paper").value = pagesOfAll > MANY_PAGES ? "step" : "all";
 }
 
 // A step's words, and beside them what it changed: the orders of a book, accounts.
@@ -585,9 +734,11 @@ function changedBooks(at) {
 // --- Start ---
 
 byId("name").textContent = lesson.title;
+byId("answers").value = answersKept();
 byId("list").querySelector("ol").replaceChildren(...listEntries());
 byId("slider").max = steps.length;
-byId("slider").addEventListener("input", (event) => go(Number(event.target.value)));
+byId("slider").addEventListener("input", (event) => goTo(Number(event.target.value)));
+byId("answers").addEventListener("change", (event) => chooseAnswers(event.target.value));
 byId("first").addEventListener("click", KEYS.Home);
 byId("back").addEventListener("click", KEYS.ArrowLeft);
 byId("next").addEventListener("click", KEYS.ArrowRight);
@@ -595,5 +746,7 @@ byId("last").addEventListener("click", KEYS.End);
 addEventListener("keydown", onKey);
 addEventListener("beforeprint", fillHandout);
 addEventListener("afterprint", () => byId("handout").replaceChildren());
-addEventListener("hashchange", () => go(stepInAddress()));
-go(stepInAddress());
+addEventListener("hashchange", goToAddress);
+const pagesOfAll = countPages();
+offerPaper();
+goToAddress();
