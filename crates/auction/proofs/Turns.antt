@@ -2,7 +2,7 @@
 -- Assumes nothing.
 use mathlib.Core.Bool.{true, false, _&&_}
 use mathlib.Core.List.{List, [], _∷_}
-use mathlib.Core.Path.{_≡_, refl, sym, ap, _∙_}
+use mathlib.Core.Path.{_≡_, refl, sym, ap, subst, _∙_}
 use Prim.Native.Nat.{ℕ, _+_, _-_, _*_, _≤_, _<_, min}
 use native.Mathlib.Omega.{arith}
 use borrow.Author.Tests.{leb-true, ltb-true, le-leb}
@@ -27,7 +27,7 @@ use Rattle.holdings.proofs.Bookings.{held-more, held-trade}
 use Rattle.book.proofs.Queues.{next-order, no-more}
 use Rattle.book.proofs.Trading.{Booked, booked, booked-trade, all-booked, still-made}
 use Rattle.auction.specs.Matched.{FilledIs, MatchReady, MatchParties, fits}
-use Rattle.auction.proofs.Filling.{Side, left-in, side-begins, side-filled, left-filled, side-part, left-part}
+use Rattle.auction.proofs.Filling.{Side, Stands, left-in, side-begins, side-filled, left-filled, stands-filled, side-part, left-part, stands-part}
 
 -- ---- why a match stops
 
@@ -94,6 +94,10 @@ pub record Going
   pub parties : MatchParties (1_000_000 + done + done) c held (drop i (queueIn buys c bought)) (drop j (queueIn sells c sold))
   pub answer : finish done made latest held area (matchAt c price (drop i (queueIn buys c bought)) (drop j (queueIn sells c sold)))
       ≡ finish 0 before last held₀ area₀ (matchAt c price (queueIn buys₀ c bought) (queueIn sells₀ c sold))
+  pub buys-stand : Stands (queueIn buys₀ c bought) (matchAt c price (queueIn buys₀ c bought) (queueIn sells₀ c sold) .trades) (queueIn buys c bought) i
+      (matchAt c price (drop i (queueIn buys c bought)) (drop j (queueIn sells c sold)) .trades)
+  pub sells-stand : Stands (queueIn sells₀ c sold) (matchAt c price (queueIn buys₀ c bought) (queueIn sells₀ c sold) .trades) (queueIn sells c sold) j
+      (matchAt c price (drop i (queueIn buys c bought)) (drop j (queueIn sells c sold)) .trades)
 
 -- it begins; the contract's place is c
 pub going : {c contract price : ℕ} {held : List Account} {buys : List ℕ} {bought : ℕ} {sells : List ℕ} {sold : ℕ} {area : List ℕ} {before : ℕ} (last : ℕ) → c ≡ contract
@@ -110,6 +114,8 @@ going last ec ready =
           let p = ready .parties in
           record { used = p .used; few = p .few; buyers = p .buyers; sellers = p .sellers; holdings = held-more (p .holdings) (omega arith) };
       answer = refl;
+      buys-stand = record { stands = refl };
+      sells-stand = record { stands = refl };
     })
 
 module _
@@ -133,8 +139,8 @@ module _
       let o : finish done made latest held area (unmatched (drop i bids) (drop j asks)) ≡ finish 0 before last held₀ area₀ all = ap (finish done made latest held area) (sym e) ∙ g .answer in
       record {
         booked = all-booked (all .trades) (ap (λ x. x .booked) o);
-        bought = left-in (g .buying) (ap (λ x. x .buys) o);
-        sold = left-in (g .selling) (ap (λ x. x .sells) o);
+        bought = left-in (g .buying) (rw e at (g .buys-stand)) (ap (λ x. x .buys) o);
+        sold = left-in (g .selling) (rw e at (g .sells-stand)) (ap (λ x. x .sells) o);
       }
 
   -- the loop is left before a trade, in the terms of the contract whose place is c
@@ -207,6 +213,18 @@ module _
         ∙ ap (λ (t : Trade). afterMatch t (matchAt c price (lessFirst (paired b s) b (drop (i + 1) bids)) (lessFirst (paired b s) s (drop (j + 1) asks)))) (sym et)
         ∙ ap (λ (n : ℕ). afterMatch tr (matchAt c price (lessFirst n b (drop (i + 1) bids)) (lessFirst n s (drop (j + 1) asks)))) (sym trade-size))
 
+    -- what is still to come behind this trade
+    still : Matched
+    still = matchAt c price (lessFirst (tr .lots) b (drop (i + 1) bids)) (lessFirst (tr .lots) s (drop (j + 1) asks))
+
+    buys-stood : Stands (queueIn buys₀ c bought) (all .trades) bids i (tr ∷ still .trades)
+    unfolding still
+    buys-stood = rw turn at (g .buys-stand)
+
+    sells-stood : Stands (queueIn sells₀ c sold) (all .trades) asks j (tr ∷ still .trades)
+    unfolding still
+    sells-stood = rw turn at (g .sells-stand)
+
     -- the area has room for it
     pub trade-room : {contract : ℕ} → c ≡ contract → MatchReady (matchAt contract price (queueIn buys₀ contract bought) (queueIn sells₀ contract sold)) contract held₀ buys₀ bought sells₀ sold area₀ before → tradeStride * made + tradeStride ≤ length area
     unfolding finish
@@ -218,10 +236,12 @@ module _
       -- it goes on with the two sides as they are then
       on : {buys′ sells′ : List ℕ} {i′ j′ : ℕ} → Side buys₀ c bought buys′ i′ → Side sells₀ c sold sells′ j′ → i + j < i′ + j′
           → drop i′ (queueIn buys′ c bought) ≡ lessFirst (tr .lots) b (drop (i + 1) bids) → drop j′ (queueIn sells′ c sold) ≡ lessFirst (tr .lots) s (drop (j + 1) asks)
+          → Stands (queueIn buys₀ c bought) (all .trades) (queueIn buys′ c bought) i′ (still .trades) → Stands (queueIn sells₀ c sold) (all .trades) (queueIn sells′ c sold) j′ (still .trades)
           → Going c price last held₀ buys₀ bought sells₀ sold area₀ before buys′ sells′ area′ held′ price (made + 1) i′ j′ (done + tr .lots)
-      on buying selling more lb ls =
+      unfolding still
+      on {buys′} {sells′} {i′} {j′} buying selling more lb ls bought′ sold′ =
           let u = g .parties .used in
-          let still : Matched = matchAt c price (lessFirst (tr .lots) b (drop (i + 1) bids)) (lessFirst (tr .lots) s (drop (j + 1) asks)) in
+          let next : still ≡ matchAt c price (drop i′ (queueIn buys′ c bought)) (drop j′ (queueIn sells′ c sold)) = rw (lb, ls) in
           record {
             buying = buying;
             selling = selling;
@@ -241,6 +261,8 @@ module _
                 ∙ sym (finish-trade done made latest held area tr still (omega arith))
                 ∙ ap (finish done made latest held area) (sym turn)
                 ∙ g .answer);
+            buys-stand = subst (λ (m : Matched). Stands (queueIn buys₀ c bought) (all .trades) (queueIn buys′ c bought) i′ (m .trades)) next bought′;
+            sells-stand = subst (λ (m : Matched). Stands (queueIn sells₀ c sold) (all .trades) (queueIn sells′ c sold) j′ (m .trades)) next sold′;
           }
 
       -- the sell is filled, the buy is, or both are
@@ -250,6 +272,7 @@ module _
       on-sell part same written =
           on (side-part (g .buying) (m .buy-here) (m .buy) (tr .lots) part same written) (side-filled (g .selling) (m .sell-here) (m .sell)) (omega arith)
           (left-part (g .buying) (m .buy-here) (m .buy) (tr .lots) part same written) (left-filled (g .selling) (m .sell-here) (m .sell) (tr .lots) (omega (arith, trade-size)))
+          (stands-part (g .buying) (m .buy-here) (m .buy) (tr .lots) part same written tr refl buys-stood) (stands-filled (g .selling) (m .sell-here) (m .sell) tr (omega (arith, trade-size)) sells-stood)
 
       pub on-buy : b .lots ≤ tr .lots → tr .lots < s .lots → {sells′ : List ℕ} → length sells′ ≡ length sells
           → sells′ ≡ putQueue sells c sold (set asks j (withLots (getD asks j noOrder) (s .lots - tr .lots)))
@@ -257,9 +280,11 @@ module _
       on-buy full part same written =
           on (side-filled (g .buying) (m .buy-here) (m .buy)) (side-part (g .selling) (m .sell-here) (m .sell) (tr .lots) part same written) (omega arith)
           (left-filled (g .buying) (m .buy-here) (m .buy) (tr .lots) full) (left-part (g .selling) (m .sell-here) (m .sell) (tr .lots) part same written)
+          (stands-filled (g .buying) (m .buy-here) (m .buy) tr full buys-stood) (stands-part (g .selling) (m .sell-here) (m .sell) (tr .lots) part same written tr refl sells-stood)
 
       pub on-both : b .lots ≤ tr .lots → s .lots ≤ tr .lots
           → Going c price last held₀ buys₀ bought sells₀ sold area₀ before buys sells area′ held′ price (made + 1) (i + 1) (j + 1) (done + tr .lots)
       on-both full filled =
           on (side-filled (g .buying) (m .buy-here) (m .buy)) (side-filled (g .selling) (m .sell-here) (m .sell)) (omega arith)
           (left-filled (g .buying) (m .buy-here) (m .buy) (tr .lots) full) (left-filled (g .selling) (m .sell-here) (m .sell) (tr .lots) filled)
+          (stands-filled (g .buying) (m .buy-here) (m .buy) tr full buys-stood) (stands-filled (g .selling) (m .sell-here) (m .sell) tr filled sells-stood)
