@@ -65,7 +65,7 @@ pub extern "C" fn bench_run<'a>(
     requires { ⌜ (sound (now day) ≡ true) × (account < maxAccounts) × (contract < maxContracts) ⌝ }
     ensures { λ r. ⌜ ProbedIs (ranOf (now (day .entry)) (now (commands .entry)) (now (buys .entry)) (now (sells .entry)) (now (trades .entry))) account contract r (now (buys .exit)) (now (sells .exit)) (now (trades .exit)) ⌝ }
 {
-    let opening = dayfile::opening::opening_state(day);
+    let opening = dayfile::open::opening_state(day);
     let state = exchange::run::run(opening, buys, sells, trades, commands);
     probed(state, account, contract)
 }

@@ -21,7 +21,7 @@ pub extern "C" fn bench_test<'a>(
     requires { ⌜ sound (now day) ≡ true ⌝ }
     ensures { λ r. ⌜ TestedIs (ranOf (now (day .entry)) (now (commands .entry)) (now (buys .entry)) (now (sells .entry)) (now (trades .entry))) r (now (buys .exit)) (now (sells .exit)) (now (trades .exit)) ⌝ }
 {
-    let opening = dayfile::opening::opening_state(day);
+    let opening = dayfile::open::opening_state(day);
     let state = exchange::run::run(opening, buys, sells, trades, commands);
     audit::well_formed(state, &buys[..], &sells[..], &trades[..])
 }
@@ -47,7 +47,7 @@ pub extern "C" fn bench_execute<'a>(
     requires { ⌜ (sound (now day) ≡ true) × (account < maxAccounts) × (contract < maxContracts) ⌝ }
     ensures { λ r. ⌜ ProbedIs (respond (ranOf (now (day .entry)) (now (commands .entry)) (now (buys .entry)) (now (sells .entry)) (now (trades .entry))) (commandFrom (single .bytes) 0) .memory) account contract r (now (buys .exit)) (now (sells .exit)) (now (trades .exit)) ⌝ }
 {
-    let opening = dayfile::opening::opening_state(day);
+    let opening = dayfile::open::opening_state(day);
     let state = exchange::run::run(opening, buys, sells, trades, commands);
     let bytes = single.bytes;
     let response = exchange::execute::execute(state, buys, sells, trades, bytes);

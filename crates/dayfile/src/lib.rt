@@ -2,4 +2,4 @@
 pub mod bytes;
 pub mod file;
 pub mod head;
-pub mod opening;
+pub mod open;

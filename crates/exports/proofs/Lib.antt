@@ -1,3 +1,2 @@
 -- The laws that the proofs of this crate apply. Assumes nothing.
-pub mod Opened
 pub mod Parts

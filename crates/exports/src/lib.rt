@@ -16,9 +16,11 @@ ghost use Rattle.mending.specs.Mend.{MendIs};
 ghost use Rattle.statements.specs.Parts.{broker};
 ghost use Rattle.statements.specs.Statement.{StatementIs};
 ghost use Rattle.saved.specs.Saved.{WrittenIs, ReadIs};
-ghost use Rattle.exports.specs.Calls.{SideIs, openedFrom};
+ghost use Rattle.dayfile.specs.Opened.{openedFrom};
+ghost use Rattle.exports.specs.Calls.{SideIs};
 use baskets::basket::Receipt;
 use baskets::list::Ran;
+use dayfile::open::Opened;
 use exchange::settling::Response;
 use mending::mend::Mended;
 use query::Reading;
@@ -28,10 +30,8 @@ use saving::Loaded;
 use saving::Saved;
 use statements::Statement;
 
-pub mod day;
 pub mod side;
 
-use crate::day::Opened;
 use crate::side::Part;
 
 // The flags of an insert: what is not set is a buy, an open, limit and good for day.
@@ -55,7 +55,7 @@ pub const FLAG_OPERATOR: u8 = 1;
 pub extern "C" fn zelvorm_open(file: &[u8]) -> Opened
     ensures { λ r. ⌜ r ≡ openedFrom (now (file .entry)) ⌝ }
 {
-    day::open_day(file)
+    dayfile::open::open_day(file)
 }
 
 // Whether a state and the areas lent with it are well formed. Every other call that has code 21 makes this test itself.

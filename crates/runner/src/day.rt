@@ -11,7 +11,7 @@ ghost use Rattle.rules.specs.Memory.{memory};
 ghost use Rattle.runner.specs.Day.{Ready, DayIs, PrintedIs, linesTo};
 use crate::play::play;
 use dayfile::file;
-use dayfile::opening::opening_state;
+use dayfile::open::opening_state;
 use lines::line::BROKEN_LINE_MOST;
 use lines::line::put_broken;
 use rules::State;

@@ -1,10 +1,10 @@
--- `dayfile::opening::opening_state` meets its contract, field by field. Assumes nothing.
+-- `dayfile::open::opening_state` meets its contract, field by field. Assumes nothing.
 use native.Mathlib.Omega.{arith}
 use borrow.Author.Needs.{needs}
 use Rattle.dayfile.specs.Opening.{openingState}
 use Rattle.dayfile.proofs.Places.{account-place, sound-layout}
-use Rattle.dayfile.proofs.opening.opening_state.Statement.{statement}
-use Rattle.dayfile.proofs.opening.opening_state.Tie as tie
+use Rattle.dayfile.proofs.open.opening_state.Statement.{statement}
+use Rattle.dayfile.proofs.open.opening_state.Tie as tie
 
 contract-count-requires : tie.Need-contract-count-requires
 contract-count-requires c κs = let l = sound-layout _ (c .before .pre) in omega arith

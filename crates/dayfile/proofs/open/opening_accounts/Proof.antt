@@ -1,4 +1,4 @@
--- `dayfile::opening::opening_accounts` meets its contract. The places below a are filled; the measure is what is left.
+-- `dayfile::open::opening_accounts` meets its contract. The places below a are filled; the measure is what is left.
 -- Assumes nothing.
 use mathlib.Core.Path.{_≡_, sym, _∙_, ap₂}
 use Prim.Native.Nat.{_≤_, _-_}
@@ -6,8 +6,8 @@ use native.Mathlib.Omega.{arith}
 use Rattle.dayfile.specs.Opening.{accountWith, openingHolder, openingAccounts}
 use Rattle.dayfile.proofs.Filled.{filled, filled-none, fill}
 use Rattle.dayfile.proofs.Places.{account-place, balance-read, balance-most, maker-read, sound-layout}
-use Rattle.dayfile.proofs.opening.opening_accounts.Statement.{statement}
-use Rattle.dayfile.proofs.opening.opening_accounts.Tie as tie
+use Rattle.dayfile.proofs.open.opening_accounts.Statement.{statement}
+use Rattle.dayfile.proofs.open.opening_accounts.Tie as tie
 
 abbrev Inv-loop : tie.InvT-loop
 Inv-loop file start accounts places₀ a₀ places a = (a ≤ accounts) × (places ≡ filled 32 (accountWith 0 0) (openingHolder file) a)

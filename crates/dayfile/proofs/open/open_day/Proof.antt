@@ -1,10 +1,10 @@
--- `day::open_day` meets its contract: 20 by the file's own test, or the opening state and the commands' place. Assumes nothing.
+-- `dayfile::open::open_day` meets its contract: 20 by the file's own test, or the opening state and the commands' place. Assumes nothing.
 use mathlib.Core.Path.{sym, _∙_}
 use borrow.Author.Tests.{not-true, not-false}
 use borrow.Author.Needs.{needs}
-use Rattle.exports.proofs.Opened.{opened-broken, opened-sound}
-use Rattle.exports.proofs.day.open_day.Statement.{statement}
-use Rattle.exports.proofs.day.open_day.Tie as tie
+use Rattle.dayfile.proofs.Opened.{opened-broken, opened-sound}
+use Rattle.dayfile.proofs.open.open_day.Statement.{statement}
+use Rattle.dayfile.proofs.open.open_day.Tie as tie
 
 sound-requires : tie.Need-sound-requires
 sound-requires c κs = search needs

@@ -5,8 +5,8 @@ use mathlib.Core.Path.{_≡_}
 use Prim.Native.Nat.{ℕ}
 use Rattle.rules.specs.DayFile.{commandPlace, commandsIn, sound}
 use Rattle.rules.specs.declared.State.{State}
 use Rattle.dayfile.specs.Opening.{openingState}
-use Rattle.exports.specs.Calls.{noState, openedFrom}
+use Rattle.dayfile.specs.Opened.{noState, openedFrom}
 
 module _ (file : List ℕ) {state : State} where
   pub opened-broken : sound file ≡ false → state ≡ noState → record { code = 20; first = 0; commands = 0; state = state } ≡ openedFrom file

@@ -1,9 +1,9 @@
--- `dayfile::opening::account_with` meets its contract: a balance so small is the same number signed. Assumes nothing.
+-- `dayfile::open::account_with` meets its contract: a balance so small is the same number signed. Assumes nothing.
 use native.Mathlib.Omega.{arith}
 use borrow.Author.Needs.{needs}
 use Rattle.laws.proofs.Signed.{read-pos}
-use Rattle.dayfile.proofs.opening.account_with.Statement.{statement}
-use Rattle.dayfile.proofs.opening.account_with.Tie as tie
+use Rattle.dayfile.proofs.open.account_with.Statement.{statement}
+use Rattle.dayfile.proofs.open.account_with.Tie as tie
 
 cast-t5 : tie.Need-cast-t5
 cast-t5 c = search needs
