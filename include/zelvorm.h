@@ -92,15 +92,47 @@ extern "C" {
 /* The flag of a cancel and of a pull. The flags of a phase command are the phase. */
 #define ZELVORM_FLAG_OPERATOR 1u
 
-/* The kinds of a command. */
+/* How many bytes are enough for any day file, for any saved state (write) and for any client statement. */
+#define ZELVORM_DAY_FILE_BYTES 48348u
+#define ZELVORM_SAVED_BYTES 1428u
+#define ZELVORM_STATEMENT_BYTES 33548u
+
+/* How many commands a bundle may have, and how many clients a statement. */
+#define ZELVORM_MAX_BUNDLE 100u
+#define ZELVORM_MAX_CLIENTS 16u
+
+/* How many bytes are enough for the list of what a mended file lost, by the bytes of the file. */
+#define ZELVORM_LIST_BYTES(file_bytes) (8u + 9u * ((file_bytes) / 24u + 1u))
+
+/* The kinds of a command. The fields of its record that a kind does not use are 0: otherwise the code is 1. */
+
+/* uses account, amount */
 #define ZELVORM_KIND_DEPOSIT 1u
+
+/* uses account, amount */
 #define ZELVORM_KIND_WITHDRAW 2u
+
+/* uses account, contract, flags, lots, price. The flags are those of an insert; a market and a best order have price 0. */
 #define ZELVORM_KIND_INSERT 3u
+
+/* uses account, contract, flags, number. `number` is the order's; the flags are 0, or 1 for the operator. */
 #define ZELVORM_KIND_CANCEL 4u
+
+/* uses account, contract, flags. The flags are 0, or 1 for the operator. */
 #define ZELVORM_KIND_PULL 5u
+
+/* uses contract, flags. The flags are the phase that the contract goes to. */
 #define ZELVORM_KIND_PHASE 6u
+
+/* uses no field */
 #define ZELVORM_KIND_SETTLE 7u
+
+/* uses account, contract, lots, price, number. `price` is the buy price and `number` the sell price. The answer has the
+ * buy's order number; the sell's is 1 more. */
 #define ZELVORM_KIND_QUOTE 8u
+
+/* uses account, contract, lots, price, number. `number` is the order's, `lots` its new remaining lots (0 removes it),
+ * `price` its new price. */
 #define ZELVORM_KIND_CHANGE 9u
 
 /* The codes. Where several apply, the first one in the papers' order is given. */
@@ -204,6 +236,76 @@ extern "C" {
 /* a saved state: a contract's long and short lots are not equal */
 #define ZELVORM_CODE_TOTALS_DIFFER 30u
 
+/* The words of a code, as they stand above it. */
+static inline const char *zelvorm_code_words(uint32_t code) {
+    switch (code) {
+    case ZELVORM_CODE_ACCEPTED:
+        return "accepted";
+    case ZELVORM_CODE_MALFORMED:
+        return "the kind, a flag or an unused field of the command is wrong";
+    case ZELVORM_CODE_NO_ACCOUNT:
+        return "no such account";
+    case ZELVORM_CODE_NO_CONTRACT:
+        return "no such contract";
+    case ZELVORM_CODE_PHASE_FORBIDS:
+        return "the contract's state does not permit it now";
+    case ZELVORM_CODE_LOTS:
+        return "fewer than 1 or more than 1,000 lots (a change to 0 lots removes the order)";
+    case ZELVORM_CODE_CONDITIONS:
+        return "a market or best order must not be good for day; in auction, every order must be limit good for day";
+    case ZELVORM_CODE_PRICE:
+        return "the limit is off the tick or outside the day's low to high; or a market or best order names a price";
+    case ZELVORM_CODE_HOLDING:
+        return "an open would pass the holding limit; or a close is for more lots than are held and not yet offered";
+    case ZELVORM_CODE_MARGIN:
+        return "an open: all charged margin, its lots included, would be above the balance; a withdrawal: less than the charged margin would be left";
+    case ZELVORM_CODE_NUMBERS_USED_UP:
+        return "the day's order numbers are used up, or its time stamps (of a change, the time stamps alone; a quote needs two of each)";
+    case ZELVORM_CODE_NOT_FILLABLE:
+        return "fill or kill: not all lots can be filled";
+    case ZELVORM_CODE_NO_ROOM_FOR_TRADES:
+        return "it would make more trades than the day has room for: an order, or the match when a contract leaves auction";
+    case ZELVORM_CODE_SIDE_FULL:
+        return "the order would have to rest, and its side is full (in auction every order rests)";
+    case ZELVORM_CODE_NO_ORDER:
+        return "no such order rests in that contract";
+    case ZELVORM_CODE_ORDER_OF_ANOTHER:
+        return "the order belongs to another account";
+    case ZELVORM_CODE_AMOUNT:
+        return "the amount is not 1 to 10^15; or the deposit would lift the balance above 10^18";
+    case ZELVORM_CODE_PHASE_CHANGE:
+        return "the contract cannot go from its state to that one";
+    case ZELVORM_CODE_NOT_CLOSED:
+        return "settle: a contract is not closed";
+    case ZELVORM_CODE_SETTLEMENTS_USED_UP:
+        return "settle: 250 settlements are made already";
+    case ZELVORM_CODE_BROKEN_FILE:
+        return "the day file or the file of a saved state is broken (of a day file printed as X 20, and no command is carried out); a file to be mended: its contracts or its accounts are not whole and in range, or the four bytes of its command count are not whole";
+    case ZELVORM_CODE_NOT_WELL_FORMED:
+        return "the state is not well formed (cannot happen in a day file's run)";
+    case ZELVORM_CODE_BUNDLE:
+        return "a bundle has more than 100 commands, or the area for their answers is too short";
+    case ZELVORM_CODE_NOT_A_MAKER:
+        return "a quote: the account is no market maker";
+    case ZELVORM_CODE_QUOTE_PRICES:
+        return "a quote: its buy price is not below its sell price";
+    case ZELVORM_CODE_CLIENTS:
+        return "a client statement: more than 16 clients, or their starting lots do not add up to the account's";
+    case ZELVORM_CODE_POSTINGS:
+        return "a client statement: an order of the account that traded is posted to no client, twice, or to an unknown one";
+    case ZELVORM_CODE_CLIENT_HOLDING:
+        return "a client statement: a client would close more than it holds";
+    case ZELVORM_CODE_NOT_WRITABLE:
+        return "the state cannot be saved: a contract is not in pre-open, orders or trades exist, an order number or time stamp is used, or a contract's long and short lots are not equal";
+    case ZELVORM_CODE_AREA_TOO_SHORT:
+        return "the area for a client statement, for a mended file, for the list of what it lost or for a saved state is too short; or an area lent for a state to be read has no room for it";
+    case ZELVORM_CODE_TOTALS_DIFFER:
+        return "a saved state: a contract's long and short lots are not equal";
+    default:
+        return "no such code";
+    }
+}
+
 /* A contract's terms for the day, with the number of its pairing method, its phase (the paper's contract state) and its
  * last price. Rate and method are as wide as in the day file: four contracts then take 128 bytes, which a compiler
  * still copies in place. */
@@ -258,7 +360,8 @@ ZELVORM_ASSERT(offsetof(zelvorm_account, maker) == 72);
 
 /* All of the state that does not lie in lent areas. The areas hold the queues and the day's trades, the counts here say
  * how many of each are in use: orders by contract, contracts, accounts, trades of the day. `next` is the next order
- * number, `nextstamp` the next time stamp. */
+ * number, `nextstamp` the next time stamp. Bytes 2788 to 2791 are padding: no answer depends on them, and what they
+ * hold after a call is not promised. */
 typedef struct zelvorm_state {
     zelvorm_contract contracts[4];
     zelvorm_account accounts[32];
@@ -286,7 +389,8 @@ ZELVORM_ASSERT(offsetof(zelvorm_state, settlements) == 2784);
 
 /* 0, or 20 where the file is broken; the place of the first command's first byte in the file, and the number of
  * commands, 24 bytes each; the state that the file's run begins with. With 20 all else is zero, and every call on that
- * state is refused. */
+ * state is refused. Bytes 4 to 7 are padding: no answer depends on them, and what they hold after a call is not
+ * promised. */
 typedef struct zelvorm_opened {
     uint32_t code;
     size_t first;
@@ -374,7 +478,8 @@ ZELVORM_ASSERT(sizeof(zelvorm_ran) == 2800);
 ZELVORM_ASSERT(offsetof(zelvorm_ran, played) == 0);
 ZELVORM_ASSERT(offsetof(zelvorm_ran, state) == 8);
 
-/* 0, or the code that refuses the whole bundle, and the state after it. */
+/* 0, or the code that refuses the whole bundle, and the state after it. Bytes 4 to 7 are padding: no answer depends on
+ * them, and what they hold after a call is not promised. */
 typedef struct zelvorm_receipt {
     uint32_t code;
     zelvorm_state state;
@@ -406,7 +511,8 @@ ZELVORM_ASSERT(sizeof(zelvorm_part) == 16);
 ZELVORM_ASSERT(offsetof(zelvorm_part, first) == 0);
 ZELVORM_ASSERT(offsetof(zelvorm_part, words) == 8);
 
-/* 0, or the code that refuses, and how many bytes of the two areas are written. */
+/* 0, or the code that refuses, and how many bytes of the two areas are written. Bytes 4 to 7 are padding: no answer
+ * depends on them, and what they hold after a call is not promised. */
 typedef struct zelvorm_mended {
     uint32_t code;
     size_t length;
@@ -418,7 +524,8 @@ ZELVORM_ASSERT(offsetof(zelvorm_mended, code) == 0);
 ZELVORM_ASSERT(offsetof(zelvorm_mended, length) == 8);
 ZELVORM_ASSERT(offsetof(zelvorm_mended, listed) == 16);
 
-/* 0, or the code that refuses, and how many bytes are written. */
+/* 0, or the code that refuses, and how many bytes are written. Bytes 4 to 7 are padding: no answer depends on them, and
+ * what they hold after a call is not promised. */
 typedef struct zelvorm_statement {
     uint32_t code;
     size_t length;
@@ -428,7 +535,8 @@ ZELVORM_ASSERT(sizeof(zelvorm_statement) == 16);
 ZELVORM_ASSERT(offsetof(zelvorm_statement, code) == 0);
 ZELVORM_ASSERT(offsetof(zelvorm_statement, length) == 8);
 
-/* 0, or the code that refuses, and how many bytes are written. */
+/* 0, or the code that refuses, and how many bytes are written. Bytes 4 to 7 are padding: no answer depends on them, and
+ * what they hold after a call is not promised. */
 typedef struct zelvorm_saved {
     uint32_t code;
     size_t length;
@@ -438,7 +546,8 @@ ZELVORM_ASSERT(sizeof(zelvorm_saved) == 16);
 ZELVORM_ASSERT(offsetof(zelvorm_saved, code) == 0);
 ZELVORM_ASSERT(offsetof(zelvorm_saved, length) == 8);
 
-/* 0, or the code that refuses, and the state: the file's, or the one given where the file is refused. */
+/* 0, or the code that refuses, and the state: the file's, or the one given where the file is refused. Bytes 4 to 7 are
+ * padding: no answer depends on them, and what they hold after a call is not promised. */
 typedef struct zelvorm_loaded {
     uint32_t code;
     zelvorm_state state;
@@ -494,7 +603,10 @@ ZELVORM_ASSERT(offsetof(zelvorm_trade, seller) == 24);
 ZELVORM_ASSERT(offsetof(zelvorm_trade, buyclose) == 28);
 ZELVORM_ASSERT(offsetof(zelvorm_trade, sellclose) == 32);
 
-/* Opens a day file: the state that its run begins with, and where its commands stand. */
+/* Opens a day file: the state that its run begins with, and where its commands stand. The sections of a day file, each
+ * after its count of 4 bytes, little-endian: contracts of 20 bytes (multiplier 2, tick 2, reference 4, band 4, limit 4,
+ * rate 2, pairing method 2), accounts of 8 (opening balance, with bit 63 set for a market maker), commands of 24. The
+ * state has no orders and no trades, so the areas lent with it may hold anything. */
 zelvorm_opened zelvorm_open(
     const uint8_t *file, size_t file_bytes);
 
@@ -505,7 +617,10 @@ bool zelvorm_well_formed(
     const uint32_t *sells, size_t sells_words,
     const uint32_t *trades, size_t trades_words);
 
-/* Carries out one command. A refusal leaves the state and the areas as they were. */
+/* Carries out one command. A refusal leaves the state and the areas as they were. The whole state is tested first, for
+ * code 21. That costs more than most commands do by themselves, tens of thousands of instructions on an opening state
+ * and hundreds of thousands on a full one: it grows with the resting orders and the day's trades. `zelvorm_run` and
+ * `zelvorm_bundle` test once for all their commands. */
 zelvorm_response zelvorm_execute(
     zelvorm_state state,
     uint32_t *buys, size_t buys_words,
@@ -515,7 +630,8 @@ zelvorm_response zelvorm_execute(
 
 /* Carries out a list of commands, 24 bytes each, and writes the answer to each, four words, one after the other. It
  * plays as many commands as there are places for answers, and says how many. A settlement's report is given by
- * `zelvorm_execute` alone. */
+ * `zelvorm_execute` alone. Fewer than 24 bytes at the end of `commands` are no command and are passed over, as are
+ * fewer than four words at the end of `answers`. Where the state is not well formed, each answer is 21. */
 zelvorm_ran zelvorm_run(
     zelvorm_state state,
     uint32_t *buys, size_t buys_words,
@@ -524,7 +640,8 @@ zelvorm_ran zelvorm_run(
     const uint8_t *commands, size_t commands_bytes,
     uint32_t *answers, size_t answers_words);
 
-/* Carries out a bundle of up to 100 commands, or refuses it whole: 21, then 22. */
+/* Carries out a bundle of up to 100 commands, or refuses it whole: 21, then 22. Fewer than 24 bytes at the end of
+ * `commands` are passed over. Words of `answers` behind the last answer stay. */
 zelvorm_receipt zelvorm_bundle(
     zelvorm_state state,
     uint32_t *buys, size_t buys_words,
@@ -550,14 +667,22 @@ zelvorm_part zelvorm_side(
     bool sell,
     size_t contract);
 
-/* Mends a day file: what is kept goes into `out`, the list of what is dropped into `list`. */
+/* Mends a day file: what is kept goes into `out`, the list of what is dropped into `list`. As many bytes as the file
+ * has are enough for `out`, and LIST_BYTES for `list`. The list is a count of 8 bytes, then 9 bytes for each command
+ * that is dropped, in the file's order: its place among the commands, from 1 (8), and the reason (1): 1 malformed, 2
+ * partial, at the end of the file, 3 beyond the most commands of a day file. */
 zelvorm_mended zelvorm_mend(
     const uint8_t *file, size_t file_bytes,
     uint8_t *out, size_t out_bytes,
     uint8_t *list, size_t list_bytes);
 
 /* A statement of an account's clients. `starts` has eight words for each client: long and short lots at the start of
- * the day in each of four contracts. `postings` has two words for each posting: an order's number and a client's. */
+ * the day in each of four contracts. `postings` has two words for each posting: an order's number and a client's.
+ * STATEMENT_BYTES are enough for `out`; 12 + 32 x trades of the day + clients x (16 + 8 x contracts) are too. Written
+ * are three sections, each after its count of 4 bytes: the account's legs in the order of the trades, the buyer's
+ * first, of 16 bytes (client 1, contract 1, a mark for a sell 1, a mark for a close 1, price 4, lots 4, order number
+ * 4); holdings now by client, then contract, of 8 (long 4, short 4); profit by client, of 16 (closing 8, holding 8,
+ * both signed). Words that `starts` lacks are 0; a single word at the end of `postings` is passed over. */
 zelvorm_statement zelvorm_client_statement(
     zelvorm_state state,
     const uint32_t *buys, size_t buys_words,
@@ -569,7 +694,10 @@ zelvorm_statement zelvorm_client_statement(
     const uint32_t *postings, size_t postings_words,
     uint8_t *out, size_t out_bytes);
 
-/* Writes a state after its settlement, to be read tomorrow. */
+/* Writes a state after its settlement, to be read tomorrow. SAVED_BYTES are enough for `out`; it takes 20 + 24 x
+ * contracts + accounts x (9 + 8 x contracts). The sections, each after its count of 4 bytes: contracts of 24 bytes (the
+ * day file's 20, last price 4), accounts of 9 (signed balance 8, a mark for a market maker 1), holdings by account,
+ * then contract, of 8 (long 4, short 4), and one of 4, the settlement count. */
 zelvorm_saved zelvorm_write(
     zelvorm_state state,
     const uint32_t *buys, size_t buys_words,

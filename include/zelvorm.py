@@ -77,15 +77,44 @@ FLAG_FILL_OR_KILL = 32
 # The flag of a cancel and of a pull. The flags of a phase command are the phase.
 FLAG_OPERATOR = 1
 
-# The kinds of a command.
+# How many bytes are enough for any day file, for any saved state (write) and for any client statement.
+DAY_FILE_BYTES = 48348
+SAVED_BYTES = 1428
+STATEMENT_BYTES = 33548
+
+# How many commands a bundle may have, and how many clients a statement.
+MAX_BUNDLE = 100
+MAX_CLIENTS = 16
+
+# The kinds of a command. The fields of its record that a kind does not use are 0: otherwise the code is 1.
+
+# uses account, amount
 KIND_DEPOSIT = 1
+
+# uses account, amount
 KIND_WITHDRAW = 2
+
+# uses account, contract, flags, lots, price. The flags are those of an insert; a market and a best order have price 0.
 KIND_INSERT = 3
+
+# uses account, contract, flags, number. `number` is the order's; the flags are 0, or 1 for the operator.
 KIND_CANCEL = 4
+
+# uses account, contract, flags. The flags are 0, or 1 for the operator.
 KIND_PULL = 5
+
+# uses contract, flags. The flags are the phase that the contract goes to.
 KIND_PHASE = 6
+
+# uses no field
 KIND_SETTLE = 7
+
+# uses account, contract, lots, price, number. `price` is the buy price and `number` the sell price. The answer has the
+# buy's order number; the sell's is 1 more.
 KIND_QUOTE = 8
+
+# uses account, contract, lots, price, number. `number` is the order's, `lots` its new remaining lots (0 removes it),
+# `price` its new price.
 KIND_CHANGE = 9
 
 # The codes. Where several apply, the first one in the papers' order is given.
@@ -188,6 +217,41 @@ CODE_AREA_TOO_SHORT = 29
 
 # a saved state: a contract's long and short lots are not equal
 CODE_TOTALS_DIFFER = 30
+
+# The words of a code, as they stand above it.
+CODE_WORDS = {
+    CODE_ACCEPTED: "accepted",
+    CODE_MALFORMED: "the kind, a flag or an unused field of the command is wrong",
+    CODE_NO_ACCOUNT: "no such account",
+    CODE_NO_CONTRACT: "no such contract",
+    CODE_PHASE_FORBIDS: "the contract's state does not permit it now",
+    CODE_LOTS: "fewer than 1 or more than 1,000 lots (a change to 0 lots removes the order)",
+    CODE_CONDITIONS: "a market or best order must not be good for day; in auction, every order must be limit good for day",
+    CODE_PRICE: "the limit is off the tick or outside the day's low to high; or a market or best order names a price",
+    CODE_HOLDING: "an open would pass the holding limit; or a close is for more lots than are held and not yet offered",
+    CODE_MARGIN: "an open: all charged margin, its lots included, would be above the balance; a withdrawal: less than the charged margin would be left",
+    CODE_NUMBERS_USED_UP: "the day's order numbers are used up, or its time stamps (of a change, the time stamps alone; a quote needs two of each)",
+    CODE_NOT_FILLABLE: "fill or kill: not all lots can be filled",
+    CODE_NO_ROOM_FOR_TRADES: "it would make more trades than the day has room for: an order, or the match when a contract leaves auction",
+    CODE_SIDE_FULL: "the order would have to rest, and its side is full (in auction every order rests)",
+    CODE_NO_ORDER: "no such order rests in that contract",
+    CODE_ORDER_OF_ANOTHER: "the order belongs to another account",
+    CODE_AMOUNT: "the amount is not 1 to 10^15; or the deposit would lift the balance above 10^18",
+    CODE_PHASE_CHANGE: "the contract cannot go from its state to that one",
+    CODE_NOT_CLOSED: "settle: a contract is not closed",
+    CODE_SETTLEMENTS_USED_UP: "settle: 250 settlements are made already",
+    CODE_BROKEN_FILE: "the day file or the file of a saved state is broken (of a day file printed as X 20, and no command is carried out); a file to be mended: its contracts or its accounts are not whole and in range, or the four bytes of its command count are not whole",
+    CODE_NOT_WELL_FORMED: "the state is not well formed (cannot happen in a day file's run)",
+    CODE_BUNDLE: "a bundle has more than 100 commands, or the area for their answers is too short",
+    CODE_NOT_A_MAKER: "a quote: the account is no market maker",
+    CODE_QUOTE_PRICES: "a quote: its buy price is not below its sell price",
+    CODE_CLIENTS: "a client statement: more than 16 clients, or their starting lots do not add up to the account's",
+    CODE_POSTINGS: "a client statement: an order of the account that traded is posted to no client, twice, or to an unknown one",
+    CODE_CLIENT_HOLDING: "a client statement: a client would close more than it holds",
+    CODE_NOT_WRITABLE: "the state cannot be saved: a contract is not in pre-open, orders or trades exist, an order number or time stamp is used, or a contract's long and short lots are not equal",
+    CODE_AREA_TOO_SHORT: "the area for a client statement, for a mended file, for the list of what it lost or for a saved state is too short; or an area lent for a state to be read has no room for it",
+    CODE_TOTALS_DIFFER: "a saved state: a contract's long and short lots are not equal",
+}
 
 
 # A contract's terms for the day, with the number of its pairing method, its phase (the paper's contract state) and its
@@ -466,7 +530,10 @@ class Identity(ctypes.Structure):
 
 # The result and the parameters of each call.
 CALLS = {
-    # Opens a day file: the state that its run begins with, and where its commands stand.
+    # Opens a day file: the state that its run begins with, and where its commands stand. The sections of a day file,
+    # each after its count of 4 bytes, little-endian: contracts of 20 bytes (multiplier 2, tick 2, reference 4, band 4,
+    # limit 4, rate 2, pairing method 2), accounts of 8 (opening balance, with bit 63 set for a market maker), commands
+    # of 24. The state has no orders and no trades, so the areas lent with it may hold anything.
     "zelvorm_open": (
         Opened,
         ctypes.POINTER(ctypes.c_uint8),
@@ -484,7 +551,10 @@ CALLS = {
         ctypes.POINTER(ctypes.c_uint32),
         ctypes.c_size_t,
     ),
-    # Carries out one command. A refusal leaves the state and the areas as they were.
+    # Carries out one command. A refusal leaves the state and the areas as they were. The whole state is tested first,
+    # for code 21. That costs more than most commands do by themselves, tens of thousands of instructions on an opening
+    # state and hundreds of thousands on a full one: it grows with the resting orders and the day's trades.
+    # `zelvorm_run` and `zelvorm_bundle` test once for all their commands.
     "zelvorm_execute": (
         Response,
         State,
@@ -498,7 +568,8 @@ CALLS = {
     ),
     # Carries out a list of commands, 24 bytes each, and writes the answer to each, four words, one after the other. It
     # plays as many commands as there are places for answers, and says how many. A settlement's report is given by
-    # `zelvorm_execute` alone.
+    # `zelvorm_execute` alone. Fewer than 24 bytes at the end of `commands` are no command and are passed over, as are
+    # fewer than four words at the end of `answers`. Where the state is not well formed, each answer is 21.
     "zelvorm_run": (
         Ran,
         State,
@@ -513,7 +584,8 @@ CALLS = {
         ctypes.POINTER(ctypes.c_uint32),
         ctypes.c_size_t,
     ),
-    # Carries out a bundle of up to 100 commands, or refuses it whole: 21, then 22.
+    # Carries out a bundle of up to 100 commands, or refuses it whole: 21, then 22. Fewer than 24 bytes at the end of
+    # `commands` are passed over. Words of `answers` behind the last answer stay.
     "zelvorm_bundle": (
         Receipt,
         State,
@@ -552,7 +624,10 @@ CALLS = {
         ctypes.c_bool,
         ctypes.c_size_t,
     ),
-    # Mends a day file: what is kept goes into `out`, the list of what is dropped into `list`.
+    # Mends a day file: what is kept goes into `out`, the list of what is dropped into `list`. As many bytes as the file
+    # has are enough for `out`, and LIST_BYTES for `list`. The list is a count of 8 bytes, then 9 bytes for each command
+    # that is dropped, in the file's order: its place among the commands, from 1 (8), and the reason (1): 1 malformed, 2
+    # partial, at the end of the file, 3 beyond the most commands of a day file.
     "zelvorm_mend": (
         Mended,
         ctypes.POINTER(ctypes.c_uint8),
@@ -564,6 +639,12 @@ CALLS = {
     ),
     # A statement of an account's clients. `starts` has eight words for each client: long and short lots at the start of
     # the day in each of four contracts. `postings` has two words for each posting: an order's number and a client's.
+    # STATEMENT_BYTES are enough for `out`; 12 + 32 x trades of the day + clients x (16 + 8 x contracts) are too.
+    # Written are three sections, each after its count of 4 bytes: the account's legs in the order of the trades, the
+    # buyer's first, of 16 bytes (client 1, contract 1, a mark for a sell 1, a mark for a close 1, price 4, lots 4,
+    # order number 4); holdings now by client, then contract, of 8 (long 4, short 4); profit by client, of 16 (closing
+    # 8, holding 8, both signed). Words that `starts` lacks are 0; a single word at the end of `postings` is passed
+    # over.
     "zelvorm_client_statement": (
         Statement,
         State,
@@ -582,7 +663,10 @@ CALLS = {
         ctypes.POINTER(ctypes.c_uint8),
         ctypes.c_size_t,
     ),
-    # Writes a state after its settlement, to be read tomorrow.
+    # Writes a state after its settlement, to be read tomorrow. SAVED_BYTES are enough for `out`; it takes 20 + 24 x
+    # contracts + accounts x (9 + 8 x contracts). The sections, each after its count of 4 bytes: contracts of 24 bytes
+    # (the day file's 20, last price 4), accounts of 9 (signed balance 8, a mark for a market maker 1), holdings by
+    # account, then contract, of 8 (long 4, short 4), and one of 4, the settlement count.
     "zelvorm_write": (
         Saved,
         State,
@@ -612,6 +696,11 @@ CALLS = {
     # Which engine is linked. This call is a help: it stands beside the proved ones, in an object of its own.
     "zelvorm_engine": (Identity,),
 }
+
+
+def list_bytes(file_bytes):
+    """How many bytes are enough for the list of what a mended file lost, by the bytes of the file."""
+    return 8 + 9 * (file_bytes // 24 + 1)
 
 
 # An area of so many words, or of so many bytes, zero at first; `lent` has what a call takes of it.

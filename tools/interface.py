@@ -75,6 +75,15 @@ class Call:
 
 
 @dataclass
+class Kind:
+    """A command's kind, and the fields of its record that it uses."""
+
+    name: str
+    number: int
+    uses: list
+
+
+@dataclass
 class Code:
     number: int
     name: str
@@ -126,6 +135,7 @@ class Interface:
         self.version = (top / "VERSION").read_text().strip()
         self.constants = constants_in(source_of(top, "rules"))
         self.constants += constants_in(source_of(top, "exports"), self.constants)
+        self.sizes = sizes(self.constants)
         self.kinds = kinds(top)
         self.codes = codes(top)
         self.calls = self.exported_calls()
@@ -252,11 +262,57 @@ def value_of(form, constants):
     return value
 
 
+# "Take up to 100 commands in one call" (document 02, ticket 1); "one of up to 16 clients" (ticket 9).
+MAX_BUNDLE, MAX_CLIENTS = 100, 16
+
+# Ticket 9's sections: "trades (client 1, contract 1, sell mark 1, close mark 1, price 4, lots 4, order number 4)", "holdings now
+# (long 4, short 4, ..)", "profit (signed closing 8, signed holding 8, ..)".
+LEG_WIDTH, HOLDING_WIDTH, PROFIT_WIDTH = 16, 8, 16
+
+# Ticket 10's: "contracts (the day file's 20 bytes, then last price 4)", "accounts (signed balance 8, maker mark 1, ..)", "holdings
+# (long 4, short 4, ..)", "the settlement count (4)".
+SAVED_CONTRACT_WIDTH, SAVED_ACCOUNT_WIDTH, SETTLEMENTS_WIDTH = 24, 9, 4
+
+
+def sizes(known):
+    """How many bytes are enough for each file that a call writes, and what else bounds a call."""
+    of = {constant.name: constant.value for constant in known}
+    contracts, accounts = of["MAX_CONTRACTS"], of["MAX_ACCOUNTS"]
+    day = (contracts * of["CONTRACT_WIDTH"], accounts * of["ACCOUNT_WIDTH"], of["MAX_COMMANDS"] * of["COMMAND_WIDTH"])
+    saved = (contracts * SAVED_CONTRACT_WIDTH, accounts * SAVED_ACCOUNT_WIDTH, accounts * contracts * HOLDING_WIDTH, SETTLEMENTS_WIDTH)
+    statement = (2 * of["MAX_TRADES"] * LEG_WIDTH, MAX_CLIENTS * contracts * HOLDING_WIDTH, MAX_CLIENTS * PROFIT_WIDTH)
+    # Each section stands after its count.
+    needed = [sum(sections) + of["COUNT_WIDTH"] * len(sections) for sections in (day, saved, statement)]
+    words = "How many bytes are enough for any day file, for any saved state (write) and for any client statement."
+    return [
+        Constant("DAY_FILE_BYTES", "usize", needed[0], [words]),
+        Constant("SAVED_BYTES", "usize", needed[1], []),
+        Constant("STATEMENT_BYTES", "usize", needed[2], []),
+        Constant("MAX_BUNDLE", "usize", MAX_BUNDLE, ["How many commands a bundle may have, and how many clients a statement."]),
+        Constant("MAX_CLIENTS", "u32", MAX_CLIENTS, []),
+    ]
+
+
+# The table's second column: the fields of its record that each kind uses.
+USED = {
+    "deposit": ["account", "amount"],
+    "withdraw": ["account", "amount"],
+    "insert": ["account", "contract", "flags", "lots", "price"],
+    "cancel": ["account", "contract", "flags", "number"],
+    "pull": ["account", "contract", "flags"],
+    "phase": ["contract", "flags"],
+    "settle": [],
+    "quote": ["account", "contract", "lots", "price", "number"],
+    "change": ["account", "contract", "lots", "price", "number"],
+}
+
+
 def kinds(top):
-    """The numbers of a command's kinds by name, as the reading of a record has them."""
+    """The kinds of a command, as the reading of a record has them."""
     text = source_of(top, "commands").text
     body = text[text.index("pub fn command_of") :]
-    return {name: int(number) for number, name in re.findall(r"^ +(\d+) => (\w+)_of\(r\),$", body, re.MULTILINE)}
+    rows = re.findall(r"^ +(\d+) => (\w+)_of\(r\),$", body, re.MULTILINE)
+    return [Kind(name, int(number), USED[name]) for number, name in rows]
 
 
 def codes(top):

@@ -11,7 +11,7 @@ import re
 import sys
 import textwrap
 
-from interface import TOP, Array, Interface, Slice
+from interface import TOP, Array, Interface, Slice, size_of
 
 FOLDER = TOP / "include"
 
@@ -39,6 +39,47 @@ the sources that were proved, as tools/version prints it."
 
 ENGINE_WORDS = "Which engine is linked. This call is a help: it stands beside the proved ones, in an object of its own."
 
+KINDS_WORDS = "The kinds of a command. The fields of its record that a kind does not use are 0: otherwise the code is 1."
+
+KIND_WORDS = {
+    "insert": "The flags are those of an insert; a market and a best order have price 0.",
+    "cancel": "`number` is the order's; the flags are 0, or 1 for the operator.",
+    "pull": "The flags are 0, or 1 for the operator.",
+    "phase": "The flags are the phase that the contract goes to.",
+    "quote": "`price` is the buy price and `number` the sell price. The answer has the buy's order number; the sell's is 1 more.",
+    "change": "`number` is the order's, `lots` its new remaining lots (0 removes it), `price` its new price.",
+}
+
+# What a caller has to know beside the words of the source: sizes, layouts, costs.
+CALL_WORDS = {
+    "zelvorm_open": "The sections of a day file, each after its count of 4 bytes, little-endian: contracts of 20 bytes (multiplier 2, \
+tick 2, reference 4, band 4, limit 4, rate 2, pairing method 2), accounts of 8 (opening balance, with bit 63 set for a market maker), \
+commands of 24. The state has no orders and no trades, so the areas lent with it may hold anything.",
+    "zelvorm_execute": "The whole state is tested first, for code 21. That costs more than most commands do by themselves, tens of \
+thousands of instructions on an opening state and hundreds of thousands on a full one: it grows with the resting orders and the day's \
+trades. `zelvorm_run` and `zelvorm_bundle` test once for all their commands.",
+    "zelvorm_run": "Fewer than 24 bytes at the end of `commands` are no command and are passed over, as are fewer than four words at \
+the end of `answers`. Where the state is not well formed, each answer is 21.",
+    "zelvorm_bundle": "Fewer than 24 bytes at the end of `commands` are passed over. Words of `answers` behind the last answer stay.",
+    "zelvorm_mend": "As many bytes as the file has are enough for `out`, and LIST_BYTES for `list`. The list is a count of 8 bytes, then 9 \
+bytes for each command that is dropped, in the file's order: its place among the commands, from 1 (8), and the reason (1): 1 malformed, \
+2 partial, at the end of the file, 3 beyond the most commands of a day file.",
+    "zelvorm_client_statement": "STATEMENT_BYTES are enough for `out`; 12 + 32 x trades of the day + clients x (16 + 8 x contracts) are too. \
+Written are three sections, each after its count of 4 bytes: the account's legs in the order of the trades, the buyer's first, of 16 \
+bytes (client 1, contract 1, a mark for a sell 1, a mark for a close 1, price 4, lots 4, order number 4); holdings now by client, then \
+contract, of 8 (long 4, short 4); profit by client, of 16 (closing 8, holding 8, both signed). Words that `starts` lacks are 0; a \
+single word at the end of `postings` is passed over.",
+    "zelvorm_write": "SAVED_BYTES are enough for `out`; it takes 20 + 24 x contracts + accounts x (9 + 8 x contracts). The sections, each \
+after its count of 4 bytes: contracts of 24 bytes (the day file's 20, last price 4), accounts of 9 (signed balance 8, a mark for a \
+market maker 1), holdings by account, then contract, of 8 (long 4, short 4), and one of 4, the settlement count.",
+}
+
+LIST_WORDS = "How many bytes are enough for the list of what a mended file lost, by the bytes of the file."
+
+CODE_WORDS_WORDS = "The words of a code, as they stand above it."
+
+NO_CODE = "no such code"
+
 VERSION_WORDS = "The version that this file belongs to. Programs go on with any library of the same major version."
 
 C_TYPES = {
@@ -54,6 +95,16 @@ C_TYPES = {
 C_KEYWORDS = {"long", "short"}
 
 ELEMENTS = {"u8": "bytes", "u32": "words"}
+
+
+# What stands above a kind, and above a call.
+def words_of_kind(kind):
+    uses = f"uses {', '.join(kind.uses) or 'no field'}"
+    return f"{uses}. {KIND_WORDS[kind.name]}" if kind.name in KIND_WORDS else uses
+
+
+def words_of_call(call):
+    return [*call.words, *([CALL_WORDS[call.name]] if call.name in CALL_WORDS else [])]
 
 
 def snake(name):
@@ -112,9 +163,21 @@ def c_field(field):
     return f"{c_type(field.type)} {c_name(field.name)};"
 
 
+# Where a record has bytes that belong to no field: the first and the last of each row of them.
+def padding(struct):
+    ends = [field.offset + size_of(field.type)[0] for field in struct.fields]
+    begins = [*(field.offset for field in struct.fields[1:]), struct.size]
+    return [(end, begin - 1) for end, begin in zip(ends, begins) if end < begin]
+
+
+def c_padding(struct):
+    rows = " and ".join(f"{first} to {last}" for first, last in padding(struct))
+    return [f"Bytes {rows} are padding: no answer depends on them, and what they hold after a call is not promised."] if rows else []
+
+
 def c_struct(struct):
     name = c_type(struct)
-    yield from c_comment(struct.words)
+    yield from c_comment([*struct.words, *c_padding(struct)])
     yield f"typedef struct {name} {{"
     yield from ("    " + c_field(field) for field in struct.fields)
     yield f"}} {name};"
@@ -132,7 +195,7 @@ def c_parameter(name, made):
 
 
 def c_call(call):
-    yield from c_comment(call.words)
+    yield from c_comment(words_of_call(call))
     yield f"{c_type(call.result)} {call.name}("
     parameters = [c_parameter(*parameter) for parameter in call.parameters]
     yield from (f"    {parameter}," for parameter in parameters[:-1])
@@ -151,6 +214,14 @@ def c_engine():
     yield from ["} zelvorm_identity;", "", *c_comment(ENGINE_WORDS), f"zelvorm_identity {ENGINE}(void);"]
 
 
+def c_code_words(codes):
+    yield from c_comment(CODE_WORDS_WORDS)
+    yield from ["static inline const char *zelvorm_code_words(uint32_t code) {", "    switch (code) {"]
+    for code in codes:
+        yield from [f"    case ZELVORM_CODE_{code.name}:", f'        return "{code.sentence}";']
+    yield from ["    default:", f'        return "{NO_CODE}";', "    }", "}"]
+
+
 def c_header(interface):
     yield from ["/*", *paragraphs(f"zelvorm.h. {MADE}", " * "), " *", *paragraphs(ABOUT, " * "), " */"]
     yield from ["#ifndef ZELVORM_H", "#define ZELVORM_H", ""]
@@ -158,14 +229,17 @@ def c_header(interface):
     yield from ["#ifdef __cplusplus", 'extern "C" {', "#define ZELVORM_ASSERT(test) static_assert(test, #test)"]
     yield from ["#else", "#define ZELVORM_ASSERT(test) _Static_assert(test, #test)", "#endif"]
     yield from c_version(interface.version)
-    for words, constants in groups(interface.constants):
+    for words, constants in groups([*interface.constants, *interface.sizes]):
         yield from ["", *c_comment(words)]
         yield from (f"#define ZELVORM_{constant.name} {c_value(constant)}" for constant in constants)
-    yield from ["", *c_comment("The kinds of a command.")]
-    yield from (f"#define ZELVORM_KIND_{name.upper()} {number}u" for name, number in interface.kinds.items())
+    yield from ["", *c_comment(LIST_WORDS), "#define ZELVORM_LIST_BYTES(file_bytes) (8u + 9u * ((file_bytes) / 24u + 1u))"]
+    yield from ["", *c_comment(KINDS_WORDS)]
+    for kind in interface.kinds:
+        yield from ["", *c_comment(words_of_kind(kind)), f"#define ZELVORM_KIND_{kind.name.upper()} {kind.number}u"]
     yield from ["", *c_comment("The codes. Where several apply, the first one in the papers' order is given.")]
     for code in interface.codes:
         yield from ["", *c_comment(code.sentence), f"#define ZELVORM_CODE_{code.name} {code.number}u"]
+    yield from ["", *c_code_words(interface.codes)]
     for struct in interface.structs.values():
         yield from ["", *c_struct(struct)]
     for call in interface.calls:
@@ -229,7 +303,7 @@ def rust_call(call):
             parameters.append(f"{name}: {rust_type(made)}")
             given.append(name)
     name = call.name.removeprefix("zelvorm_")
-    yield from rust_comment(call.words)
+    yield from rust_comment(words_of_call(call))
     if len(parameters) > 7:
         yield "#[allow(clippy::too_many_arguments)]"
     yield f"pub fn {name}("
@@ -264,20 +338,36 @@ pub fn engine() -> Identity {{
 }}"""
 
 
+RUST_LIST_BYTES = """\
+pub const fn list_bytes(file_bytes: usize) -> usize {
+    8 + 9 * (file_bytes / 24 + 1)
+}"""
+
+
+def rust_code_words(codes):
+    yield from rust_comment(CODE_WORDS_WORDS)
+    yield from ["pub const fn code_words(code: u32) -> &'static str {", "    match code {"]
+    yield from (f'        CODE_{code.name} => "{code.sentence}",' for code in codes)
+    yield from [f'        _ => "{NO_CODE}",', "    }", "}"]
+
+
 def rust_module(interface):
     yield from paragraphs(f"zelvorm.rs. {MADE}", "//! ")
     yield from ["//!", *paragraphs(ABOUT, "//! "), "//!"]
     yield from paragraphs("A slice is valid and what is written is lent to nobody else, so every call is safe.", "//! ")
     yield from ["#![allow(dead_code)]", "", "use std::ffi::{c_char, CStr};", "use std::mem::size_of;"]
     yield from ["", *rust_comment(VERSION_WORDS), f'pub const VERSION: &str = "{interface.version}";']
-    for words, constants in groups(interface.constants):
+    for words, constants in groups([*interface.constants, *interface.sizes]):
         yield from ["", *wrapped(words, "// ", "// ")]
         yield from (f"pub const {constant.name}: {constant.type} = {constant.value};" for constant in constants)
-    yield from ["", "// The kinds of a command."]
-    yield from (f"pub const KIND_{name.upper()}: u8 = {number};" for name, number in interface.kinds.items())
+    yield from ["", *rust_comment(LIST_WORDS), *RUST_LIST_BYTES.splitlines()]
+    yield from ["", *wrapped(KINDS_WORDS, "// ", "// ")]
+    for kind in interface.kinds:
+        yield from ["", *rust_comment(words_of_kind(kind)), f"pub const KIND_{kind.name.upper()}: u8 = {kind.number};"]
     yield from ["", "// The codes. Where several apply, the first one in the papers' order is given."]
     for code in interface.codes:
         yield from ["", *rust_comment(code.sentence), f"pub const CODE_{code.name}: u32 = {code.number};"]
+    yield from ["", *rust_code_words(interface.codes)]
     for struct in interface.structs.values():
         yield from ["", *rust_struct(struct)]
     yield from ["", *rust_comment(IDENTITY_WORDS), *RUST_IDENTITY.splitlines()]
@@ -304,7 +394,13 @@ PYTHON_TYPES = {
     "i64": "c_int64",
 }
 
-PYTHON_LOADING = '''\
+PYTHON_LOADING = f'''\
+def list_bytes(file_bytes):
+    """{LIST_WORDS}"""
+    return 8 + 9 * (file_bytes // 24 + 1)
+
+
+''' + '''\
 # An area of so many words, or of so many bytes, zero at first; `lent` has what a call takes of it.
 def words(count):
     return (ctypes.c_uint32 * count)()
@@ -349,7 +445,7 @@ def python_struct(struct):
 
 
 def python_call(call):
-    yield from wrapped(call.words, "    # ", "    # ")
+    yield from wrapped(words_of_call(call), "    # ", "    # ")
     parameters = []
     for _, made in call.parameters:
         if isinstance(made, Slice):
@@ -374,14 +470,18 @@ class Identity(ctypes.Structure):
 def python_module(interface):
     yield from [f'"""zelvorm.py. {MADE}', "", *paragraphs(ABOUT, ""), '"""', "", "import ctypes"]
     yield from ["", *wrapped(VERSION_WORDS, "# ", "# "), f'VERSION = "{interface.version}"']
-    for words, constants in groups(interface.constants):
+    for words, constants in groups([*interface.constants, *interface.sizes]):
         yield from ["", *wrapped(words, "# ", "# ")]
         yield from (f"{constant.name} = {constant.value}" for constant in constants)
-    yield from ["", "# The kinds of a command."]
-    yield from (f"KIND_{name.upper()} = {number}" for name, number in interface.kinds.items())
+    yield from ["", *wrapped(KINDS_WORDS, "# ", "# ")]
+    for kind in interface.kinds:
+        yield from ["", *wrapped(words_of_kind(kind), "# ", "# "), f"KIND_{kind.name.upper()} = {kind.number}"]
     yield from ["", "# The codes. Where several apply, the first one in the papers' order is given."]
     for code in interface.codes:
         yield from ["", *wrapped(code.sentence, "# ", "# "), f"CODE_{code.name} = {code.number}"]
+    yield from ["", *wrapped(CODE_WORDS_WORDS, "# ", "# "), "CODE_WORDS = {"]
+    yield from (f'    CODE_{code.name}: "{code.sentence}",' for code in interface.codes)
+    yield "}"
     for struct in interface.structs.values():
         yield from ["", "", *python_struct(struct)]
     yield from ["", "", *wrapped(IDENTITY_WORDS, "# ", "# "), *PYTHON_IDENTITY.splitlines()]

@@ -9,6 +9,14 @@ from pathlib import Path
 
 import interface
 import make_header
+
+sys.path[:0] = [str(interface.TOP / "tools" / "model"), str(interface.TOP / "include")]
+
+import dayfile
+import mending
+import saved
+import statements
+import zelvorm
 from interface import TOP, Array, Interface, Slice, Unknown
 
 LIBRARY = TOP / "target" / "library"
@@ -47,9 +55,6 @@ class Made(unittest.TestCase):
         self.assertEqual((checked.returncode, checked.stderr), (0, ""))
 
     def test_python_knows_every_call(self):
-        sys.path.insert(0, str(TOP / "include"))
-        import zelvorm
-
         self.assertEqual(list(zelvorm.CALLS), [*(call.name for call in Interface().calls), make_header.ENGINE])
 
 
@@ -81,8 +86,40 @@ class Source(unittest.TestCase):
         self.assertTrue(all(code.sentence for code in self.found.codes))
 
     def test_kinds(self):
-        self.assertEqual(self.found.kinds["deposit"], 1)
-        self.assertEqual(self.found.kinds["change"], 9)
+        numbers = {kind.name: kind.number for kind in self.found.kinds}
+        self.assertEqual((numbers["deposit"], numbers["change"]), (1, 9))
+
+    # The fields that the model's table has for each kind.
+    def test_fields_of_a_kind(self):
+        names = {"state": "phase", "order_number": "number"}
+        told = {names.get(kind, kind): {names.get(field, field) for field in used} for kind, used in dayfile.FIELDS_USED.items()}
+        self.assertEqual({kind.name: set(kind.uses) for kind in self.found.kinds}, told)
+
+    # What the model writes at most.
+    def test_sizes(self):
+        count, held = dayfile.COUNT.size, 32 * 4 * saved.HOLDING.size
+        sizes = {size.name: size.value for size in self.found.sizes}
+        day = 3 * count + 4 * dayfile.CONTRACT.size + 32 * dayfile.ACCOUNT.size + 2000 * dayfile.COMMAND.size
+        state = 4 * count + 4 * saved.CONTRACT.size + 32 * saved.ACCOUNT.size + held + saved.SETTLEMENTS.size
+        legs, clients = 2 * 1024 * statements.TRADE.size, 16 * (4 * statements.HOLDING.size + statements.PROFIT.size)
+        self.assertEqual(sizes["DAY_FILE_BYTES"], day)
+        self.assertEqual(sizes["SAVED_BYTES"], state)
+        self.assertEqual(sizes["STATEMENT_BYTES"], 3 * count + legs + clients)
+        self.assertEqual((sizes["MAX_BUNDLE"], sizes["MAX_CLIENTS"]), (100, statements.MOST_CLIENTS))
+
+    # Every byte behind the head is a command that is dropped; with a head as short as may be the bound is nearly met.
+    def test_list_of_a_mended_file(self):
+        head = dayfile.COUNT.pack(1) + dayfile.CONTRACT.pack(10, 1, 100, 10, 1000, 1000, 0) + dayfile.COUNT.pack(1) + dayfile.ACCOUNT.pack(5)
+        for length in (0, 1, 23, 24, 25, 24 * 100, 24 * 100 + 7):
+            file = head + dayfile.COUNT.pack(0) + b"\xff" * length
+            mended = mending.mend(file, len(file), zelvorm.list_bytes(len(file)))
+            self.assertEqual(mended.code, 0)
+            self.assertLessEqual(zelvorm.list_bytes(len(file)) - len(mended.list), 3 * mending.DROPPED.size)
+
+    def test_padding(self):
+        self.assertEqual(make_header.padding(self.found.structs["State"]), [(2788, 2791)])
+        self.assertEqual(make_header.padding(self.found.structs["Receipt"]), [(4, 7)])
+        self.assertEqual(make_header.padding(self.found.structs["Record"]), [])
 
     def test_layout(self):
         with crates(exports=HEAD + "#[repr(C)]\npub struct Small {\n    pub a: u8,\n    pub b: u64,\n    pub c: [u16; 3],\n}\n") as top:
@@ -100,6 +137,49 @@ class Source(unittest.TestCase):
         with crates(exports="pub struct Small {\n    pub a: u8,\n}\n") as top:
             with self.assertRaises(Unknown):
                 Interface.struct(Bare(top), "Small", interface.source_of(top, "exports"))
+
+
+class CodeWords(unittest.TestCase):
+    """Each language has README's words for each code, and the same sizes."""
+
+    def setUp(self):
+        folder = tempfile.TemporaryDirectory()
+        self.addCleanup(folder.cleanup)
+        self.room = Path(folder.name)
+        codes = {code.number: code.sentence for code in Interface().codes}
+        self.wanted = "".join(f"{codes.get(number, make_header.NO_CODE)}\n" for number in range(32)) + "1428 9008\n"
+
+    def assert_tells(self, made):
+        self.assertEqual((made.returncode, made.stderr), (0, ""))
+        self.assertEqual(compiled(self.room / "told").stdout, self.wanted)
+
+    C = """#include <stdio.h>
+#include "zelvorm.h"
+int main(void) {
+    for (uint32_t code = 0; code < 32; code++) puts(zelvorm_code_words(code));
+    printf("%u %zu\\n", ZELVORM_SAVED_BYTES, (size_t)ZELVORM_LIST_BYTES((size_t)24 * 999));
+    return 0;
+}
+"""
+
+    @needs("cc")
+    def test_c(self):
+        (self.room / "told.c").write_text(self.C)
+        options = ("-std=c11", "-Wall", "-Wextra", "-Wpedantic", "-Werror", "-I", TOP / "include")
+        self.assert_tells(compiled("cc", *options, self.room / "told.c", "-o", self.room / "told"))
+
+    @needs("rustc")
+    def test_rust(self):
+        (self.room / "told.rs").write_text(
+            f'#[path = "{TOP}/include/zelvorm.rs"]\nmod zelvorm;\nfn main() {{\n'
+            '    (0..32).for_each(|code| println!("{}", zelvorm::code_words(code)));\n'
+            '    println!("{} {}", zelvorm::SAVED_BYTES, zelvorm::list_bytes(24 * 999));\n}\n'
+        )
+        self.assert_tells(compiled("rustc", "--edition", "2021", "-D", "warnings", self.room / "told.rs", "-o", self.room / "told"))
+
+    def test_python(self):
+        told = "".join(f"{zelvorm.CODE_WORDS.get(number, make_header.NO_CODE)}\n" for number in range(32))
+        self.assertEqual(told + f"{zelvorm.SAVED_BYTES} {zelvorm.list_bytes(24 * 999)}\n", self.wanted)
 
 
 HEAD = "// A file.\n\n"
