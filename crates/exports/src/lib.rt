@@ -30,6 +30,7 @@ use saving::Loaded;
 use saving::Saved;
 use statements::Statement;
 
+pub mod flags;
 pub mod side;
 
 use crate::side::Part;

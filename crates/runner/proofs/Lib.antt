@@ -5,4 +5,4 @@ pub mod ReadEnough
 pub mod Recorded
 pub mod Responded
 pub mod Tables
-pub mod WholeDay
+pub mod WholeOutput

@@ -6,12 +6,12 @@ use Prim.Native.Nat.{ℕ, _<_, _≤_}
 use native.Mathlib.Omega.{arith}
 use borrow.Author.Tests.{leb-true, leb-false}
 use lib.Dec.{leb}
-use lib.ListN.{length, take}
+use lib.ListN.{length, take, replicate, length-replicate}
 use lib.Seq.{take-all, length-take-le}
 use Rattle.rules.specs.DayFile.{fileMost, sound}
 use Rattle.rules.specs.Lines.{brokenLine, output}
 use Rattle.dayfile.proofs.Places.{sound-layout}
-use Rattle.runner.specs.Reading.{Enough, ReadIs}
+use Rattle.runner.specs.Output.{Enough}
 
 too-long : (file : List ℕ) → fileMost < length file → sound file ≡ false
 too-long file h = by-sound (sound file) refl
@@ -34,5 +34,6 @@ enough room h input = by-length (leb (length input) room) refl
         broken-prints (take room input) (too-long (take room input) (omega (arith, length-take-le room input (omega arith))))
         ∙ sym (broken-prints input (too-long input (omega arith)))
 
-pub read-is : {bytes : List ℕ} {read : ℕ} → read ≤ length bytes → fileMost < length bytes → ReadIs bytes read
-read-is {bytes} {read} h k = record { within = h; front = sym (length-take-le read bytes h); enough = enough (length bytes) k }
+-- zeros for room
+pub room-enough : (n : ℕ) → fileMost < n → (replicate {A = ℕ} n 0 ≡ replicate {A = ℕ} (length (replicate {A = ℕ} n 0)) 0) × Enough (length (replicate {A = ℕ} n 0))
+room-enough n h = rw (length-replicate {A = ℕ} n 0) (refl, enough n h)

@@ -1,13 +1,15 @@
-// A day file read from a file descriptor. No promise can tell what is read; what is promised is that there is room enough to tell a
-// broken file from a sound one, whatever is read.
-ghost use Rattle.runner.specs.Reading.{ReadIs};
+// The room that a day file is read into.
+ghost use mathlib.Core.Path.{_≡_};
+ghost use lib.ListN.{length, replicate};
+ghost use Rattle.runner.specs.Output.{Enough};
+ghost use Rattle.rules.specs.DayFile.{fileMost};
 
-// One byte more than the largest sound file, so that a longer one is seen to be too long without being read to its end.
+// One byte more than the largest sound file, so that a longer one is seen to be broken without being read to its end.
 pub const READ_MOST: usize = rules::sizes::FILE_MOST + 1;
 
-// How many bytes were read: all there are, or the first that fit. A call for users: it answers on anything.
-pub fn read_file(fd: i32, file: &mut [u8; READ_MOST]) -> usize
-    ensures { λ r. ⌜ ReadIs (now (file .exit)) r ⌝ }
+// Room enough, whatever is read into it. A call for users.
+pub fn room() -> [u8; READ_MOST]
+    ensures { λ r. ⌜ (r ≡ replicate (length r) 0) × Enough (length r) ⌝ }
 {
-    io::read_full(fd, file)
+    [0u8; READ_MOST]
 }
