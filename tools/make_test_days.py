@@ -26,7 +26,7 @@ def made_files():
     names += name + "\n"
     wanted += name.encode() + b"\nX 20\n"
     for name in UNWRITABLE:
-        wanted += b"not written: " + name.encode() + b"\n"
+        wanted += name.encode() + b": write failed\n"
     files[DATA / "list"] = names.encode()
     files[CRATE / "stdout"] = wanted
     return files

@@ -7,7 +7,7 @@ use libc::STDOUT_FILENO;
 fn main() {
     let mut file = runner::reading::room();
     let read = io::read_full(STDIN_FILENO, &mut file);
-    let note = runner::day::print_file(STDOUT_FILENO, &file[..read]);
+    let note = writer::print_file(STDOUT_FILENO, &file[..read]);
     let bytes = note.bytes;
     let length = note.length;
     io::write_all(STDERR_FILENO, &bytes[..length]);

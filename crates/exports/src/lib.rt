@@ -17,6 +17,7 @@ ghost use Rattle.statements.specs.Parts.{broker};
 ghost use Rattle.statements.specs.Statement.{StatementIs};
 ghost use Rattle.saved.specs.Saved.{WrittenIs, ReadIs};
 ghost use Rattle.dayfile.specs.Opened.{openedFrom};
+ghost use Rattle.runner.specs.Output.{LinesIs};
 ghost use Rattle.exports.specs.Calls.{SideIs};
 use baskets::basket::Receipt;
 use baskets::list::Ran;
@@ -26,6 +27,7 @@ use mending::mend::Mended;
 use query::Reading;
 use rules::Record;
 use rules::State;
+use runner::output::Printed;
 use saving::Loaded;
 use saving::Saved;
 use statements::Statement;
@@ -210,4 +212,22 @@ pub extern "C" fn zelvorm_read(
     ensures { λ r. ⌜ ReadIs (memory state (now (buys .entry)) (now (sells .entry)) (now (trades .entry))) (now (file .entry)) (r .code) (r .state) ⌝ }
 {
     saving::read_state(file, state, buys, sells, trades)
+}
+
+// The next part of a day file's lines, in the buffer `out`: what a day runner prints of it. The first call takes the state of
+// `zelvorm_open` and `next` 0; each call gives the state and `next` for the following one, as long as it tells of more. A buffer of
+// `OUTPUT_BYTES` is enough, and a longer one takes fewer calls.
+#[no_mangle]
+pub extern "C" fn zelvorm_lines(
+    file: &[u8],
+    state: State,
+    next: usize,
+    buys: &mut [u32],
+    sells: &mut [u32],
+    trades: &mut [u32],
+    out: &mut [u8],
+) -> Printed
+    ensures { λ r. ⌜ LinesIs (now (file .entry)) next (memory state (now (buys .entry)) (now (sells .entry)) (now (trades .entry))) (now (out .entry)) r (memory (r .state) (now (buys .exit)) (now (sells .exit)) (now (trades .exit))) (now (out .exit)) ⌝ }
+{
+    runner::output::lines(file, state, next, buys, sells, trades, out)
 }

@@ -3,7 +3,7 @@
 use mathlib.Core.Bool.{Bool, true, false, not, _&&_, true≢false}
 use mathlib.Core.List.{List, [], _∷_, _++_, append-assoc, append-nil}
 use mathlib.Core.Path.{_≡_, refl, sym, ap, _∙_, subst⁻¹}
-use Prim.Native.Nat.{ℕ, zero, suc, _+_, _<_, _≤_}
+use Prim.Native.Nat.{ℕ, zero, suc, _+_, _-_, _<_, _≤_}
 use native.Mathlib.Nat.{le-refl}
 use native.Mathlib.Omega.{arith}
 use borrow.Author.Tests.{eqb-true, eqb-false, ltb-true, ltb-false, le-ltb, lt-ltb, not-true, not-false}
@@ -26,9 +26,10 @@ use Rattle.dayfile.specs.Opening.{openingMemory}
 use Rattle.dayfile.proofs.Start.{opening-exchange}
 use Rattle.invariants.proofs.Condition3.{money-left}
 use Rattle.invariants.proofs.MemoryKeeps.{run-keeps}
-use Rattle.runner.specs.Output.{Asked, Call, LinesIs, PartIs, Ready, linesRefusals, outputFrom, playedIn, together, untouched}
+use Rattle.runner.specs.Output.{Asked, Call, LinesIs, PartIs, Ready, linesRefusals, noteOf, outputFrom, playedIn, together, untouched}
 use Rattle.runner.specs.Parts.{part, Playable, PlayedIs}
 use Rattle.runner.specs.Turns.{commandMost}
+use Rattle.runner.specs.declared.output.Note.{Note}
 use Rattle.runner.specs.declared.output.Printed.{Printed}
 use Rattle.runner.specs.declared.play.Played.{Played}
 use Rattle.runner.proofs.Opened.{opens-formed}
@@ -222,6 +223,15 @@ module _ {file : List ℕ} {k : ℕ} {m m′ : Memory} {out out′ : List ℕ} {
       (λ e. absurd (true≢false (sym more ∙ ap (λ (v : Printed). v .more) e)))
       (eqb (r .code) 0) refl
 
+-- whoever asks again only then has fewer commands left
+pub fewer-left : {more again now : Bool} (written : Bool) {n k next : ℕ} → (more ≡ true → (k < next) × (next < n)) → again ≡ (more && written) → now ≡ true
+    → pick again (1 + (n - next)) 0 < pick now (1 + (n - k)) 0
+fewer-left {more} {again} {now} written {n} {k} {next} further e here = rw here (by-again again refl)
+  where
+    by-again : (b : Bool) → again ≡ b → pick again (1 + (n - next)) 0 < 1 + (n - k)
+    by-again true q = let f = further (both-true more written (sym e ∙ q) .0) in rw q (omega (arith, f .0, f .1))
+    by-again false q = rw q (omega arith)
+
 -- ---- all parts
 
 -- WHAT A CALLER GETS WHO ASKS UNTIL THERE IS NO MORE is all that was left to print
@@ -265,3 +275,9 @@ never-refused {file} {k} {m} {m′} {out} {out′} {r} w l is =
     let none : r .code ≡ 0 = is .code ∙ rw (w, and-false (sound file), le-ltb (length out) commandMost l) in
     let part : PartIs file k m out r m′ out′ = is .printed none in
     (part, rw (part .memory) (run-keeps m (playedIn file k (r .next)) w))
+
+-- a note is no longer than its bytes
+pub note-within : {note : Note} (written : Bool) → note ≡ noteOf written → note .length ≤ 13
+unfolding noteOf
+note-within {note} true e = rw e (omega arith)
+note-within {note} false e = rw e (omega arith)

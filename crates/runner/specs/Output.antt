@@ -102,8 +102,3 @@ failedNote = 119 ∷ 114 ∷ 105 ∷ 116 ∷ 101 ∷ 32 ∷ 102 ∷ 97 ∷ 105 �
 
 unfoldable pub noteOf : Bool → Note
 noteOf written = record { bytes = failedNote; length = pick written 0 (length failedNote) }
-
--- one of the two notes
-pub record ANote (note : Note) : Type 0 where
-  pub written : Bool
-  pub is : note ≡ noteOf written

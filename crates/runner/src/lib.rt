@@ -1,5 +1,4 @@
 // The day runner: a day file's commands played in turn, and the lines that they print.
-pub mod day;
 pub mod output;
 pub mod play;
 pub mod printing;

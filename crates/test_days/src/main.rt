@@ -1,38 +1,34 @@
 // A test of the day runner: for each file that `list` names in the data folder, the name and then all that the runner prints; then
-// what it tells of writes that fail. What must come out was made by the model (`tools/make_test_days.py`).
+// what is said of writes that fail. What must come out was made by the model (`tools/make_test_days.py`).
 ghost use Prim.Native.Nat.{_≤_};
 ghost use lib.ListN.{length};
 use libc::STDOUT_FILENO;
 
-// What the runner prints of a file, to the descriptor `out`, and whether it tells that all was written.
-fn print_named(name: &[u8], out: i32) -> bool {
+// What the runner prints of a file, to the descriptor `out`; what is to be said of the last write, to standard output.
+fn print_named(name: &[u8], out: i32) {
     let fd = os::open_read(name);
-    let mut file = [0u8; runner::reading::READ_MOST];
-    let n = runner::reading::read_file(fd, &mut file);
+    let mut file = runner::reading::room();
+    let n = io::read_full(fd, &mut file);
     libc::close(fd);
-    let printed = runner::day::print_file(out, &file[..n]);
-    printed.whole
+    let note = writer::print_file(out, &file[..n]);
+    let bytes = note.bytes;
+    let length = note.length;
+    io::write_all(STDOUT_FILENO, &bytes[..length]);
 }
 
 fn run_case(name: &[u8]) {
     io::write_all(STDOUT_FILENO, name);
     io::write_all(STDOUT_FILENO, b"\n");
-    if !print_named(name, STDOUT_FILENO) {
-        io::write_all(STDOUT_FILENO, b"not written\n");
-    }
+    print_named(name, STDOUT_FILENO);
 }
 
 // A file printed to a descriptor that is open for reading only: no write to it can succeed.
 fn run_unwritable(name: &[u8]) {
     let out = os::open_read(b"list");
-    if print_named(name, out) {
-        io::write_all(STDOUT_FILENO, b"written to a file open for reading: ");
-    } else {
-        io::write_all(STDOUT_FILENO, b"not written: ");
-    }
-    libc::close(out);
     io::write_all(STDOUT_FILENO, name);
-    io::write_all(STDOUT_FILENO, b"\n");
+    io::write_all(STDOUT_FILENO, b": ");
+    print_named(name, out);
+    libc::close(out);
 }
 
 // The end of the line that begins at `start`.

@@ -1,11 +1,11 @@
-// A day file's output written to a file descriptor, part by part: the loop of our programs, which leaves every choice to `output`. No
-// promise can tell what a write does with its bytes; which bytes they are is what `output::lines` promises.
-ghost use Rattle.runner.specs.Output.{ANote};
-use crate::output::BUFFER;
-use crate::output::Note;
-use crate::output::goes_on;
-use crate::output::lines;
-use crate::output::note_of;
+// A day file's output written to a file descriptor, part by part: the loop of our programs, which leaves every choice to the library. No
+// promise can tell what a write does with its bytes; which bytes they are is what `runner::output::lines` promises.
+ghost use Rattle.writer.specs.Notes.{ANote};
+use runner::output::BUFFER;
+use runner::output::Note;
+use runner::output::goes_on;
+use runner::output::lines;
+use runner::output::note_of;
 
 // What is to be said of the last write, made or failed: the rules leave open which.
 pub fn print_file(fd: i32, file: &[u8]) -> Note
